@@ -1,0 +1,11 @@
+-- A record of the trace: when it was made, and its bytes.
+use Rattle.std.specs.Prelude.{◌≡◌, ℕ, ◌%◌, List, length}
+
+-- The bytes are as they stand in a page: their number is a multiple of 4 (docs/FORMATS.md, "Record words").
+pub record Record : Type 0 where
+  pub moment : ℕ
+  pub bytes : List ℕ
+
+-- a record whose bytes fill whole words
+abbrev pub IsRecord : Record → Type 0
+IsRecord r = length r.bytes % 4 ≡ 0

@@ -1,0 +1,2 @@
+//! Laws over the definitions: each is the contract of a function with an empty body.
+ghost use Rattle.std.specs.Prelude.{◌≡◌, ℕ, List};

@@ -1,0 +1,15 @@
+//! The plain types that every crate speaks of, and the definitions that their contracts cite.
+//!
+//! The definitions stand in `specs/`, one module a subject; the laws over them are the contracts
+//! of the functions of `laws`.
+#![tactic(auto)]
+
+pub mod laws;
+pub mod limits;
+pub mod numbers;
+
+pub use limits::{
+    MAX_COLLECTORS, MAX_CPUS, MAX_FRAMES, MAX_IMAGE, MAX_INPUT, MAX_PAGES, MAX_SIZE, MIN_PAGES,
+    MIN_SIZE, MOMENT_LIMIT, START_FILL,
+};
+pub use numbers::{CpuId, FillNo, Moment, NoMemory, RecordNo};

@@ -1,0 +1,34 @@
+//! The limits of a ring and of what is read.
+
+/// The fewest pages of a ring.
+pub const MIN_PAGES: usize = 2;
+
+/// The most pages of a ring.
+pub const MAX_PAGES: usize = 1024;
+
+/// The smallest data size of a page, in bytes.
+pub const MIN_SIZE: usize = 32;
+
+/// The largest data size of a page, in bytes. A data size is a multiple of 4.
+pub const MAX_SIZE: usize = 4080;
+
+/// The longest page image that is read, in bytes.
+pub const MAX_IMAGE: usize = 4096;
+
+/// The most CPUs; a CPU's number is below this.
+pub const MAX_CPUS: u32 = 64;
+
+/// The most collectors of a script.
+pub const MAX_COLLECTORS: usize = 16;
+
+/// The most frames that stand on the writer's stack of one ring at a time.
+pub const MAX_FRAMES: usize = 4;
+
+/// The longest input of the program, in bytes: 2^28.
+pub const MAX_INPUT: usize = 268_435_456;
+
+/// A moment that is written is below this: 2^59.
+pub const MOMENT_LIMIT: u64 = 576_460_752_303_423_488;
+
+/// The number of a ring's first fill.
+pub const START_FILL: u64 = 0;
