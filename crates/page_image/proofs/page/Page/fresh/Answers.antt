@@ -1,0 +1,6 @@
+use Rattle.std.proofs.Common.{arith}
+use Rattle.page_image.proofs.Blank.{blank_page}
+use Rattle.page_image.proofs.page.Page.fresh.Goals as goal
+
+pub invariant_of-result : goal.invariant_of-result
+invariant_of-result c = (omega arith, blank_page _ _ _ c.into_bytes.ensures.limit)

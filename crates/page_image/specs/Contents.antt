@@ -1,0 +1,34 @@
+-- What contracts see of a page.
+use Rattle.std.specs.Prelude.{◌≡◌, ℕ, ◌+◌, ◌*◌, ◌^◌, ◌<◌, ◌≤◌, Bool, true, false, List, [], ◌∷◌, length}
+use Rattle.trace_model.specs.Record.{Record}
+use Rattle.trace_model.specs.Words.{Decodes}
+use Rattle.trace_model.specs.Reading.{records_in}
+use Rattle.trace_model.specs.declared.limits.TheConstants.{MAX_SIZE}
+
+-- A page: its time, the number of its first record, how many records it holds, its fill, its data size in
+-- bytes, and its data up to the real end.
+pub record Contents : Type 0 where
+  pub time : ℕ
+  pub first : ℕ
+  pub count : ℕ
+  pub fill : ℕ
+  pub size : ℕ
+  pub bytes : List ℕ
+
+-- the records of the page, in order
+abbrev pub records_of_page : Contents → List Record
+records_of_page page = records_in page.time page.bytes
+
+-- the data is empty: the next record is the page's first
+abbrev pub is_blank : List ℕ → Bool
+is_blank [] = true
+is_blank (byte ∷ bytes) = false
+
+-- What holds of every page: its data reads, is no longer than its size, and its records are counted.
+pub record IsPage (page : Contents) : Type 0 where
+  pub reads : Decodes page.bytes page.time (records_of_page page)
+  pub counted : page.count ≡ length (records_of_page page)
+  pub room : length page.bytes ≤ page.size
+  pub limit : page.size ≤ MAX_SIZE
+  pub few : 4 * page.count ≤ length page.bytes
+  pub in_time : page.time < 2 ^ 64

@@ -1,0 +1,12 @@
+//! Pages of a trace ring: a header and the data that holds the records.
+//!
+//! The layout is that of the kernel's `struct buffer_data_page`, told in `docs/FORMATS.md`.
+#![tactic(auto)]
+
+mod body;
+mod page;
+mod put;
+
+pub use body::Body;
+pub use page::Page;
+pub use record_words::Place;

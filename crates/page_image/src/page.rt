@@ -1,0 +1,166 @@
+//! A page: the records of one fill, as they stand in its body.
+use crate::body::Body;
+use crate::put::put_behind;
+use record_words::Place;
+use std::marker::Model;
+use trace_model::{FillNo, RecordNo};
+
+/// The records of one fill of a ring, in the layout of the kernel's pages.
+#[derive(Debug, Drop)]
+pub struct Page {
+    body: Vec<u8>,
+    time: u64,
+    end: usize,
+    first: RecordNo,
+    count: u64,
+    fill: FillNo,
+}
+
+impl Model for Page {
+    ghost use Rattle.std.specs.Prelude.{◌≤◌, length, take};
+    ghost use Rattle.page_image.specs.Contents.{Contents, IsPage};
+
+    ghost Value = { Contents };
+
+    ghost view = { λ p. record { time = p.time; first = p.first.0; count = p.count; fill = p.fill.0; size = length p.body.items; bytes = take p.end p.body.items } };
+
+    ghost invariant = { λ p. (p.end ≤ length p.body.items) × IsPage (record { time = p.time; first = p.first.0; count = p.count; fill = p.fill.0; size = length p.body.items; bytes = take p.end p.body.items }) };
+}
+
+impl Page {
+    ghost use Rattle.std.specs.Prelude.{◌≡◌, ◌+◌, ◌-◌, ◌≤◌, ◌<◌, ◌^◌, [], ◌∷◌, ◌++◌, length, replicate, if◌then◌else◌, IfSome};
+    ghost use Rattle.trace_model.specs.Words.{encoded_len, encoding, slot_len};
+    ghost use Rattle.trace_model.specs.Reading.{EndsInRecord, IsPlaceIn};
+    ghost use Rattle.trace_model.specs.Order.{moment_of_last};
+    ghost use Rattle.page_image.specs.Contents.{records_of_page, is_blank, IsPage};
+
+    /// A page without a record, its time 0, in this body.
+    pub fn fresh(body: Body, first: RecordNo, fill: FillNo) -> Page
+        ensures blank { result ≡ record { time = 0; first = first.0; count = 0; fill = fill.0; size = length body; bytes = [] } }
+    {
+        Page {
+            body: body.into_bytes(),
+            time: 0,
+            end: 0,
+            first,
+            count: 0,
+            fill,
+        }
+    }
+
+    /// The moment of the first record; 0 where there is none.
+    pub fn time(&self) -> u64
+        ensures { result ≡ self.now.time }
+    {
+        self.time
+    }
+
+    /// How many bytes of the body the records take.
+    pub fn end(&self) -> usize
+        ensures { result ≡ length self.now.bytes }
+    {
+        self.end
+    }
+
+    /// The number of the first record.
+    pub fn first(&self) -> RecordNo
+        ensures { result.0 ≡ self.now.first }
+    {
+        self.first
+    }
+
+    /// How many records the page holds.
+    pub fn count(&self) -> u64
+        ensures count { result ≡ self.now.count }
+        ensures records { result ≡ length (records_of_page self.now) }
+    {
+        self.count
+    }
+
+    /// Which fill of its ring the page is.
+    pub fn fill(&self) -> FillNo
+        ensures { result.0 ≡ self.now.fill }
+    {
+        self.fill
+    }
+
+    /// How many bytes the page has for records.
+    pub fn size(&self) -> usize
+        ensures { result ≡ self.now.size }
+    {
+        self.body.len()
+    }
+
+    /// The bytes of the records, up to the real end. They read as the page's records.
+    pub fn data(&self) -> &[u8]
+        ensures bytes { result.now ≡ self.now.bytes }
+        ensures page { IsPage self.now }
+    {
+        &self.body[..self.end]
+    }
+
+    /// Adds a record of this moment with a zeroed payload of `len` bytes, rounded up to whole words, behind the
+    /// others, and answers where its payload lies. `prev` is the moment of the last record, if there is one.
+    pub fn put(&mut self, prev: u64, moment: u64, len: usize) -> Place
+        requires room { length self.old.bytes + encoded_len len (moment - prev) (is_blank self.old.bytes) ≤ self.old.size }
+        requires order { prev ≤ moment }
+        requires moment { moment < 2 ^ 59 }
+        requires last { IfSome (moment_of_last (records_of_page self.old)) (λ last. last ≡ prev) }
+        requires open { EndsInRecord self.old.bytes }
+        ensures records { records_of_page self.new ≡ records_of_page self.old ++ record { moment = moment; bytes = replicate (slot_len len) 0 } ∷ [] }
+        ensures bytes { self.new.bytes ≡ self.old.bytes ++ encoding (moment - prev) (is_blank self.old.bytes) (replicate (slot_len len) 0) }
+        ensures time { self.new.time ≡ (if is_blank self.old.bytes then moment else self.old.time) }
+        ensures count { self.new.count ≡ self.old.count + 1 }
+        ensures first { self.new.first ≡ self.old.first }
+        ensures fill { self.new.fill ≡ self.old.fill }
+        ensures size { self.new.size ≡ self.old.size }
+        ensures open { EndsInRecord self.new.bytes }
+        ensures place { IsPlaceIn self.new.bytes result.start result.len }
+        ensures end { result.start + result.len ≡ length self.new.bytes }
+        ensures len { result.len ≡ slot_len len }
+    {
+        let is_first = self.end == 0;
+        let place = put_behind(&mut self.body, self.end, moment - prev, is_first, len);
+        self.time = if is_first { moment } else { self.time };
+        self.end = place.start + place.len;
+        self.count += 1;
+        place
+    }
+
+    /// The same page under another first number and fill.
+    pub fn numbered(self, first: RecordNo, fill: FillNo) -> Page
+        ensures { result ≡ record self { first = first.0; fill = fill.0 } }
+    {
+        let Page {
+            body,
+            time,
+            end,
+            first: _,
+            count,
+            fill: _,
+        } = self;
+        Page {
+            body,
+            time,
+            end,
+            first,
+            count,
+            fill,
+        }
+    }
+
+    /// The page's body, of the page's size.
+    pub fn into_body(self) -> Body
+        ensures { length result ≡ self.size }
+    {
+        let Page {
+            body,
+            time: _,
+            end: _,
+            first: _,
+            count: _,
+            fill: _,
+        } = self;
+        Body::of_bytes(body)
+    }
+}

@@ -1,0 +1,5 @@
+pub mod Lengths
+pub mod OneWord
+pub mod Unique
+pub mod Appended
+pub mod ReadBack

@@ -1,0 +1,24 @@
+-- The laws over record words, as statements: each is the contract of a function of src/laws.rt.
+use Rattle.std.specs.Prelude.{◌≡◌, ℕ, Bool, List, length}
+use Rattle.std.specs.List.{AllByRecursion}
+use Rattle.trace_model.specs.Record.{Record}
+use Rattle.trace_model.specs.Words.{Decodes, slot_len, encoding, encoded_len, page_encoding}
+use Rattle.trace_model.specs.Reading.{records_in}
+use Rattle.trace_model.specs.Order.{first_moment_or, NeverFalls, IsWritable}
+
+-- a payload that fills the slot of len bytes is written in as many bytes as the writer reckons
+abbrev pub EncodingHasItsLength : Type 0
+EncodingHasItsLength = (len delta : ℕ) (first : Bool) (payload : List ℕ) → length payload ≡ slot_len len → length (encoding delta first payload) ≡ encoded_len len delta first
+
+-- records whose moments never fall, written as the data of a page with the first one's moment as its
+-- time, are read back; where there are none, at any time
+abbrev pub EncodingsReadBack : Type 0
+EncodingsReadBack = (records : List Record) (time : ℕ) → NeverFalls records → AllByRecursion IsWritable records → Decodes (page_encoding records) (first_moment_or time records) records
+
+-- data with a time reads as one list of records at most
+abbrev pub ReadingIsUnique : Type 0
+ReadingIsUnique = (bytes : List ℕ) (time : ℕ) (records others : List Record) → Decodes bytes time records → Decodes bytes time others → records ≡ others
+
+-- what data reads as is what the reader word by word finds
+abbrev pub PlainReaderAgrees : Type 0
+PlainReaderAgrees = (bytes : List ℕ) (time : ℕ) (records : List Record) → Decodes bytes time records → records_in time bytes ≡ records
