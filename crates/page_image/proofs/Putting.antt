@@ -4,10 +4,10 @@ use Rattle.std.specs.List.{AllByRecursion}
 use Rattle.std.proofs.lemmas.List.{append-nil, length-replicate}
 use Rattle.std.proofs.lemmas.List.Concat.{flat_map-append}
 use Rattle.trace_model.specs.Record.{Record}
-use Rattle.trace_model.specs.Words.{Word, short_data, long_data, time_extend, bytes_of_word, IsWord, joined, data_word, written_words, encoding, slot_len, Decodes, IsJoined, records_of, moment_after, delta_of}
+use Rattle.trace_model.specs.Words.{Word, short_data, long_data, time_extend, bytes_of_word, IsWord, joined, data_word, written_words, encoding, encoded_len, slot_len, Decodes, IsJoined, records_of, moment_after, delta_of}
 use Rattle.trace_model.specs.Reading.{IsData, payload_of, records_in, EndsInRecord, IsPlaceIn}
 use Rattle.trace_model.specs.Order.{moment_of_last, EndsAt}
-use Rattle.trace_model.proofs.Lengths.{slot_len_ge_four, slot_len-mod, length-encoding}
+use Rattle.trace_model.proofs.Lengths.{slot_len_ge_four, slot_len-mod}
 use Rattle.trace_model.proofs.Unique.{records_in-Decodes}
 use Rattle.trace_model.proofs.Appended.{Decodes-first, Decodes-appended, EndsInRecord-first, EndsInRecord-appended, moment_of_last-push, IsJoined-whole, ReadsAs-Decodes, records_of-push_data, each-append, written-each, data_word-IsWord}
 use Rattle.page_image.specs.Contents.{Contents, IsPage, records_of_page, is_blank}
@@ -56,12 +56,6 @@ last_place bytes front w start len whole each holds len_is end_is = record {
   len_is = len_is;
 }
 
--- What the data becomes when a record with a payload of zeros is put behind it.
-pub record PutData (bytes : List ℕ) (time prev moment slot : ℕ) : Type 0 where
-  pub reads : Decodes (bytes ++ encoding (moment - prev) (is_blank bytes) (replicate slot 0)) (cond (is_blank bytes) moment time) (records_in time bytes ++ record { moment = moment; bytes = replicate slot 0 } ∷ [])
-  pub ends : EndsInRecord (bytes ++ encoding (moment - prev) (is_blank bytes) (replicate slot 0))
-  pub place : (start : ℕ) → start + slot ≡ length (bytes ++ encoding (moment - prev) (is_blank bytes) (replicate slot 0)) → IsPlaceIn (bytes ++ encoding (moment - prev) (is_blank bytes) (replicate slot 0)) start slot
-
 -- the place of the payload that was written behind whole words
 place_behind : (bytes : List ℕ) (words : List Word) (delta : ℕ) (first : Bool) (slot start : ℕ) → bytes ≡ joined words → AllByRecursion IsWord (words ++ written_words delta first (replicate slot 0)) → start + slot ≡ length (bytes ++ encoding delta first (replicate slot 0)) → IsPlaceIn (bytes ++ encoding delta first (replicate slot 0)) start slot
 place_behind bytes words delta first slot start whole each end_is =
@@ -98,89 +92,87 @@ ends_at byte bytes time prev ends reads behind = ⊎_elim
     subst Q (sym push) (has_last (records_of time last.0) _ prev (subst P push behind)))
     ends.last
 
-pub put_data : (bytes : List ℕ) (time prev moment len : ℕ) → EndsInRecord bytes → Decodes bytes time (records_in time bytes) → IfSome (moment_of_last (records_in time bytes)) (λ last. last ≡ prev) → prev ≤ moment → moment < 2 ^ 59 → len ≤ 2 ^ 30 → PutData bytes time prev moment (slot_len len)
+-- What the data becomes when a record with a payload of zeros is put behind it: where it ends, and where the payload lies.
+pub record PutEnd (bytes : List ℕ) (prev moment slot : ℕ) : Type 0 where
+  pub ends : EndsInRecord (bytes ++ encoding (moment - prev) (is_blank bytes) (replicate slot 0))
+  pub place : (start : ℕ) → start + slot ≡ length (bytes ++ encoding (moment - prev) (is_blank bytes) (replicate slot 0)) → IsPlaceIn (bytes ++ encoding (moment - prev) (is_blank bytes) (replicate slot 0)) start slot
+
+-- a payload of zeros can be written
+pub record IsSlot (payload : List ℕ) : Type 0 where
+  pub whole : length payload % 4 ≡ 0
+  pub some : 4 ≤ length payload
+  pub fits : length payload + 4 < 2 ^ 32
+
+zeros_fit : (len : ℕ) → len ≤ 2 ^ 30 → IsSlot (replicate (slot_len len) 0)
+zeros_fit len limit =
+    let size : length (replicate {A = ℕ} (slot_len len) 0) ≡ slot_len len = length-replicate (slot_len len) 0 in
+    record { whole = ap (λ (n : ℕ). n % 4) size ∙ slot_len-mod len; some = omega (arith, slot_len_ge_four len); fits = omega arith }
+
+pub put_end : (bytes : List ℕ) (prev moment len : ℕ) → EndsInRecord bytes → moment < 2 ^ 59 → len ≤ 2 ^ 30 → PutEnd bytes prev moment (slot_len len)
+put_end [] prev moment len ends small limit =
+    let payload : List ℕ = replicate (slot_len len) 0 in
+    let slot = zeros_fit len limit in
+    record {
+      ends = EndsInRecord-first (moment - prev) payload slot.whole slot.some slot.fits;
+      place = λ start end_is. place_behind [] [] (moment - prev) true (slot_len len) start refl (data_word-IsWord 0 payload (omega arith) slot.whole slot.some slot.fits, tt) end_is;
+    }
+put_end (byte ∷ bytes) prev moment len ends small limit =
+    let payload : List ℕ = replicate (slot_len len) 0 in
+    let slot = zeros_fit len limit in
+    record {
+      ends = EndsInRecord-appended (byte ∷ bytes) (moment - prev) payload ends (omega arith) slot.whole slot.some slot.fits;
+      place = λ start end_is. place_behind (byte ∷ bytes) ends.words (moment - prev) false (slot_len len) start ends.whole (each-append ends.words _ ends.each (written-each (moment - prev) payload (omega arith) slot.whole slot.some slot.fits)) end_is;
+    }
+
+pub put_data : (bytes : List ℕ) (time prev moment len : ℕ) → EndsInRecord bytes → Decodes bytes time (records_in time bytes) → IfSome (moment_of_last (records_in time bytes)) (λ last. last ≡ prev) → prev ≤ moment → moment < 2 ^ 59 → len ≤ 2 ^ 30
+    → Decodes (bytes ++ encoding (moment - prev) (is_blank bytes) (replicate (slot_len len) 0)) (cond (is_blank bytes) moment time) (records_in time bytes ++ record { moment = moment; bytes = replicate (slot_len len) 0 } ∷ [])
 put_data [] time prev moment len ends reads behind order small limit =
     let payload : List ℕ = replicate (slot_len len) 0 in
-    let size : length payload ≡ slot_len len = length-replicate (slot_len len) 0 in
-    let whole : length payload % 4 ≡ 0 = ap (λ (n : ℕ). n % 4) size ∙ slot_len-mod len in
-    let some : 4 ≤ length payload = omega (arith, slot_len_ge_four len) in
-    let fits : length payload + 4 < 2 ^ 32 = omega arith in
-    record {
-      reads = subst (λ (rs : List Record). Decodes (encoding (moment - prev) true payload) moment (rs ++ record { moment = moment; bytes = payload } ∷ [])) (sym (records_in-blank time)) (Decodes-first moment (moment - prev) payload (omega arith) whole some fits);
-      ends = EndsInRecord-first (moment - prev) payload whole some fits;
-      place = λ start end_is. place_behind [] [] (moment - prev) true (slot_len len) start refl (data_word-IsWord 0 payload (omega arith) whole some fits, tt) end_is;
-    }
+    let slot = zeros_fit len limit in
+    subst (λ (rs : List Record). Decodes (encoding (moment - prev) true payload) moment (rs ++ record { moment = moment; bytes = payload } ∷ [])) (sym (records_in-blank time)) (Decodes-first moment (moment - prev) payload (omega arith) slot.whole slot.some slot.fits)
 put_data (byte ∷ bytes) time prev moment len ends reads behind order small limit =
     let payload : List ℕ = replicate (slot_len len) 0 in
-    let size : length payload ≡ slot_len len = length-replicate (slot_len len) 0 in
-    let whole : length payload % 4 ≡ 0 = ap (λ (n : ℕ). n % 4) size ∙ slot_len-mod len in
-    let some : 4 ≤ length payload = omega (arith, slot_len_ge_four len) in
-    let fits : length payload + 4 < 2 ^ 32 = omega arith in
+    let slot = zeros_fit len limit in
     let there : prev + (moment - prev) ≡ moment = omega arith in
-    let small_delta : moment - prev < 2 ^ 59 = omega arith in
-    record {
-      reads = subst (λ (m : ℕ). Decodes ((byte ∷ bytes) ++ encoding (moment - prev) false payload) time (records_in time (byte ∷ bytes) ++ record { moment = m; bytes = payload } ∷ [])) there
-          (Decodes-appended (byte ∷ bytes) time (records_in time (byte ∷ bytes)) prev (moment - prev) payload ends reads (ends_at byte bytes time prev ends reads behind) small_delta (omega arith) whole some fits);
-      ends = EndsInRecord-appended (byte ∷ bytes) (moment - prev) payload ends small_delta whole some fits;
-      place = λ start end_is. place_behind (byte ∷ bytes) ends.words (moment - prev) false (slot_len len) start ends.whole (each-append ends.words _ ends.each (written-each (moment - prev) payload small_delta whole some fits)) end_is;
-    }
+    subst (λ (m : ℕ). Decodes ((byte ∷ bytes) ++ encoding (moment - prev) false payload) time (records_in time (byte ∷ bytes) ++ record { moment = m; bytes = payload } ∷ [])) there
+    (Decodes-appended (byte ∷ bytes) time (records_in time (byte ∷ bytes)) prev (moment - prev) payload ends reads (ends_at byte bytes time prev ends reads behind) (omega arith) (omega arith) slot.whole slot.some slot.fits)
 
 pub blank_is : (bytes : List ℕ) → nat_eq (length bytes) 0 ≡ is_blank bytes
 blank_is [] = refl
 blank_is (byte ∷ bytes) = eqb-suc-zero (length bytes)
 
 -- a record's encoding has more than four bytes
-encoding_ge : (len delta : ℕ) (first : Bool) → 4 ≤ length (encoding delta first (replicate (slot_len len) 0))
-encoding_ge len delta first = omega (arith, length-encoding len delta first (replicate (slot_len len) 0) (length-replicate (slot_len len) 0), slot_len_ge_four len)
+pub encoded_len_ge : (len delta : ℕ) (first : Bool) → 4 ≤ encoded_len len delta first
+encoded_len_ge len delta first = omega (arith, slot_len_ge_four len)
 
 fits_either : (first : Bool) (time moment old : ℕ) → time ≡ cond first moment old → moment < 2 ^ 64 → old < 2 ^ 64 → time < 2 ^ 64
 fits_either true time moment old time_is small page = omega arith
 fits_either false time moment old time_is small page = omega arith
 
-pub put_reads : (old : Contents) (prev moment len : ℕ) (bytes : List ℕ) (time : ℕ) → PutData old.bytes old.time prev moment (slot_len len)
-    → bytes ≡ old.bytes ++ encoding (moment - prev) (is_blank old.bytes) (replicate (slot_len len) 0) → time ≡ cond (is_blank old.bytes) moment old.time
-    → Decodes bytes time (records_of_page old ++ record { moment = moment; bytes = replicate (slot_len len) 0 } ∷ [])
-put_reads old prev moment len bytes time put bytes_is time_is =
-    let r : Record = record { moment = moment; bytes = replicate (slot_len len) 0 } in
-    subst (λ (t : ℕ). Decodes bytes t (records_of_page old ++ r ∷ [])) (sym time_is)
-    (subst (λ (b : List ℕ). Decodes b (cond (is_blank old.bytes) moment old.time) (records_of_page old ++ r ∷ [])) (sym bytes_is) put.reads)
-
--- the page after a record was put
-pub put_page : (old : Contents) (prev moment len : ℕ) (bytes : List ℕ) (time size : ℕ) → IsPage old → PutData old.bytes old.time prev moment (slot_len len) → moment < 2 ^ 59
-    → bytes ≡ old.bytes ++ encoding (moment - prev) (is_blank old.bytes) (replicate (slot_len len) 0) → time ≡ cond (is_blank old.bytes) moment old.time → size ≡ old.size → length bytes ≤ size
-    → IsPage (record { time = time; first = old.first; count = old.count + 1; fill = old.fill; size = size; bytes = bytes })
-put_page old prev moment len bytes time size page put small bytes_is time_is size_is room =
-    let r : Record = record { moment = moment; bytes = replicate (slot_len len) 0 } in
-    let reads : Decodes bytes time (records_of_page old ++ r ∷ []) = put_reads old prev moment len bytes time put bytes_is time_is in
-    let now : records_in time bytes ≡ records_of_page old ++ r ∷ [] = records_in-Decodes bytes time (records_of_page old ++ r ∷ []) reads in
-    let more : length bytes ≡ length old.bytes + length (encoding (moment - prev) (is_blank old.bytes) (replicate (slot_len len) 0)) = ap length bytes_is ∙ length-append old.bytes _ in
-    record {
-      reads = subst (Decodes bytes time) (sym now) reads;
-      counted = let one : length (records_in time bytes) ≡ length (records_of_page old) + 1 = ap length now ∙ length-append (records_of_page old) (r ∷ []) in omega (arith, page.counted);
-      room = room;
-      limit = omega (arith, page.limit);
-      few = omega (arith, page.few, encoding_ge len (moment - prev) (is_blank old.bytes));
-      in_time = fits_either (is_blank old.bytes) time moment old.time time_is (omega arith) page.in_time;
-    }
-
--- All that put makes of a page.
+-- The page after a record was put, whatever else of it has changed.
 pub record PutPage (old new : Contents) (prev moment len start : ℕ) : Type 0 where
-  pub page : IsPage new
-  pub records : records_of_page new ≡ records_of_page old ++ record { moment = moment; bytes = replicate (slot_len len) 0 } ∷ []
+  pub page : IsPage old → IsPage new
+  pub records : IsPage old → records_of_page new ≡ records_of_page old ++ record { moment = moment; bytes = replicate (slot_len len) 0 } ∷ []
   pub ends : EndsInRecord new.bytes
   pub place : IsPlaceIn new.bytes start (slot_len len)
-  pub within : start + slot_len len ≤ new.size
 
-pub put_whole : (old : Contents) (prev moment len start n : ℕ) (bytes items written : List ℕ) (time size : ℕ) → IsPage old → PutData old.bytes old.time prev moment (slot_len len) → moment < 2 ^ 59
-    → bytes ≡ take n items → items ≡ written → take n written ≡ old.bytes ++ encoding (moment - prev) (is_blank old.bytes) (replicate (slot_len len) 0) → time ≡ cond (is_blank old.bytes) moment old.time → size ≡ old.size → length items ≡ size → n ≤ size → start + slot_len len ≡ n
-    → PutPage old (record { time = time; first = old.first; count = old.count + 1; fill = old.fill; size = size; bytes = bytes }) prev moment len start
-put_whole old prev moment len start n bytes items written time size page put small bytes_is items_is written_is time_is size_is items_len room end_is =
-    let all : bytes ≡ old.bytes ++ encoding (moment - prev) (is_blank old.bytes) (replicate (slot_len len) 0) = bytes_is ∙ ap (take n) items_is ∙ written_is in
-    let end : length bytes ≡ n = ap length bytes_is ∙ length-take-le n items (omega arith) in
+pub put_page : (old new : Contents) (prev moment len start : ℕ) → EndsInRecord old.bytes → IfSome (moment_of_last (records_of_page old)) (λ last. last ≡ prev) → prev ≤ moment → moment < 2 ^ 59 → len ≤ 2 ^ 30
+    → new.bytes ≡ old.bytes ++ encoding (moment - prev) (is_blank old.bytes) (replicate (slot_len len) 0) → new.time ≡ cond (is_blank old.bytes) moment old.time → new.count ≡ old.count + 1 → start + slot_len len ≡ length new.bytes
+    → PutPage old new prev moment len start
+put_page old new prev moment len start ends last order small limit bytes_is time_is count_is end_is =
+    let r : Record = record { moment = moment; bytes = replicate (slot_len len) 0 } in
+    let end = put_end old.bytes prev moment len ends small limit in
+    let reads : IsPage old → Decodes new.bytes new.time (records_of_page old ++ r ∷ []) = λ page.
+      subst (λ (t : ℕ). Decodes new.bytes t (records_of_page old ++ r ∷ [])) (sym time_is)
+      (subst (λ (b : List ℕ). Decodes b (cond (is_blank old.bytes) moment old.time) (records_of_page old ++ r ∷ [])) (sym bytes_is) (put_data old.bytes old.time prev moment len ends page.reads last order small limit)) in
+    let now : IsPage old → records_of_page new ≡ records_of_page old ++ r ∷ [] = λ page. records_in-Decodes new.bytes new.time (records_of_page old ++ r ∷ []) (reads page) in
     record {
-      page = put_page old prev moment len bytes time size page put small all time_is size_is (omega arith);
-      records = records_in-Decodes bytes time _ (put_reads old prev moment len bytes time put all time_is);
-      ends = subst EndsInRecord (sym all) put.ends;
-      place = subst (λ (b : List ℕ). IsPlaceIn b start (slot_len len)) (sym all) (put.place start (end_is ∙ sym end ∙ ap length all));
-      within = omega arith;
+      page = λ page. record {
+        reads = subst (Decodes new.bytes new.time) (sym (now page)) (reads page);
+        counted = let one : length (records_of_page new) ≡ length (records_of_page old) + 1 = ap length (now page) ∙ length-append (records_of_page old) (r ∷ []) in omega (arith, page.counted);
+        in_time = fits_either (is_blank old.bytes) new.time moment old.time time_is (omega arith) page.in_time;
+      };
+      records = now;
+      ends = subst EndsInRecord (sym bytes_is) end.ends;
+      place = subst (λ (b : List ℕ). IsPlaceIn b start (slot_len len)) (sym bytes_is) (end.place start (end_is ∙ ap length bytes_is));
     }

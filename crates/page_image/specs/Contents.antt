@@ -3,7 +3,6 @@ use Rattle.std.specs.Prelude.{◌≡◌, ℕ, ◌+◌, ◌*◌, ◌^◌, ◌<◌
 use Rattle.trace_model.specs.Record.{Record}
 use Rattle.trace_model.specs.Words.{Decodes}
 use Rattle.trace_model.specs.Reading.{records_in}
-use Rattle.trace_model.specs.declared.limits.TheConstants.{MAX_SIZE}
 
 -- A page: its time, the number of its first record, how many records it holds, its fill, its data size in
 -- bytes, and its data up to the real end.
@@ -24,11 +23,8 @@ abbrev pub is_blank : List ℕ → Bool
 is_blank [] = true
 is_blank (byte ∷ bytes) = false
 
--- What holds of every page: its data reads, is no longer than its size, and its records are counted.
+-- What holds of every page that this crate makes: its data reads, and its records are counted.
 pub record IsPage (page : Contents) : Type 0 where
   pub reads : Decodes page.bytes page.time (records_of_page page)
   pub counted : page.count ≡ length (records_of_page page)
-  pub room : length page.bytes ≤ page.size
-  pub limit : page.size ≤ MAX_SIZE
-  pub few : 4 * page.count ≤ length page.bytes
   pub in_time : page.time < 2 ^ 64

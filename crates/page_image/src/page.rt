@@ -17,18 +17,21 @@ pub struct Page {
 }
 
 impl Model for Page {
-    ghost use Rattle.std.specs.Prelude.{◌≤◌, length, take};
-    ghost use Rattle.page_image.specs.Contents.{Contents, IsPage};
+    ghost use Rattle.std.specs.Prelude.{◌*◌, ◌≤◌, length, take};
+    ghost use Rattle.trace_model.specs.declared.limits.TheConstants.{MAX_SIZE};
+    ghost use Rattle.page_image.specs.Contents.{Contents};
 
     ghost Value = { Contents };
 
     ghost view = { λ p. record { time = p.time; first = p.first.0; count = p.count; fill = p.fill.0; size = length p.body.items; bytes = take p.end p.body.items } };
 
-    ghost invariant = { λ p. (p.end ≤ length p.body.items) × IsPage (record { time = p.time; first = p.first.0; count = p.count; fill = p.fill.0; size = length p.body.items; bytes = take p.end p.body.items }) };
+    ghost invariant = { λ p. (p.end ≤ length p.body.items) × (length p.body.items ≤ MAX_SIZE) × (4 * p.count ≤ p.end) };
 }
 
 impl Page {
-    ghost use Rattle.std.specs.Prelude.{◌≡◌, ◌+◌, ◌-◌, ◌≤◌, ◌<◌, ◌^◌, [], ◌∷◌, ◌++◌, length, replicate, if◌then◌else◌, IfSome};
+    ghost use Rattle.std.specs.Prelude.{◌≡◌, ◌+◌, ◌-◌, ◌≤◌, ◌<◌, ◌^◌, [], ◌∷◌, ◌++◌, length, replicate, if◌then◌else◌, IfSome, slice_range};
+    ghost use Rattle.std.specs.Borrow.{sem};
+    ghost use Rattle.page_image.specs.Lending.{LendsPayload};
     ghost use Rattle.trace_model.specs.Words.{encoded_len, encoding, slot_len};
     ghost use Rattle.trace_model.specs.Reading.{EndsInRecord, IsPlaceIn};
     ghost use Rattle.trace_model.specs.Order.{moment_of_last};
@@ -36,6 +39,7 @@ impl Page {
 
     /// A page without a record, its time 0, in this body.
     pub fn fresh(body: Body, first: RecordNo, fill: FillNo) -> Page
+        ensures page { IsPage result }
         ensures blank { result ≡ record { time = 0; first = first.0; count = 0; fill = fill.0; size = length body; bytes = [] } }
     {
         Page {
@@ -71,8 +75,7 @@ impl Page {
 
     /// How many records the page holds.
     pub fn count(&self) -> u64
-        ensures count { result ≡ self.now.count }
-        ensures records { result ≡ length (records_of_page self.now) }
+        ensures { result ≡ self.now.count }
     {
         self.count
     }
@@ -91,10 +94,9 @@ impl Page {
         self.body.len()
     }
 
-    /// The bytes of the records, up to the real end. They read as the page's records.
+    /// The bytes of the records, up to the real end.
     pub fn data(&self) -> &[u8]
-        ensures bytes { result.now ≡ self.now.bytes }
-        ensures page { IsPage self.now }
+        ensures { result.now ≡ self.now.bytes }
     {
         &self.body[..self.end]
     }
@@ -107,7 +109,8 @@ impl Page {
         requires moment { moment < 2 ^ 59 }
         requires last { IfSome (moment_of_last (records_of_page self.old)) (λ last. last ≡ prev) }
         requires open { EndsInRecord self.old.bytes }
-        ensures records { records_of_page self.new ≡ records_of_page self.old ++ record { moment = moment; bytes = replicate (slot_len len) 0 } ∷ [] }
+        ensures page { IsPage self.old → IsPage self.new }
+        ensures records { IsPage self.old → records_of_page self.new ≡ records_of_page self.old ++ record { moment = moment; bytes = replicate (slot_len len) 0 } ∷ [] }
         ensures bytes { self.new.bytes ≡ self.old.bytes ++ encoding (moment - prev) (is_blank self.old.bytes) (replicate (slot_len len) 0) }
         ensures time { self.new.time ≡ (if is_blank self.old.bytes then moment else self.old.time) }
         ensures count { self.new.count ≡ self.old.count + 1 }
@@ -125,6 +128,16 @@ impl Page {
         self.end = place.start + place.len;
         self.count += 1;
         place
+    }
+
+    /// The payload at this place, to be written. All other bytes of the page stay as they are.
+    pub fn payload_mut(&mut self, place: Place) -> &mut [u8]
+        requires { IsPlaceIn self.old.bytes place.start place.len }
+        ensures* lends { sem 𝓛 (LendsPayload self.entry place.start result) }
+        ensures payload { result.now ≡ slice_range self.old.bytes place.start (place.start + place.len) }
+    {
+        let end = place.start + place.len;
+        self.body.slice_mut(place.start..end)
     }
 
     /// The same page under another first number and fill.

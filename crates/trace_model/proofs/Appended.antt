@@ -276,7 +276,7 @@ pub EndsInRecord-nil : EndsInRecord []
 EndsInRecord-nil = record { words = []; whole = refl; each = tt; last = inl refl }
 
 -- the words of an encoding end in its data
-written-last : (words : List Word) (delta : ℕ) (payload : List ℕ) (first : Bool) → (front : List Word) × (w : Word) × (words ++ written_words delta first payload ≡ front ++ w ∷ []) × IsData w
+pub written-last : (words : List Word) (delta : ℕ) (payload : List ℕ) (first : Bool) → (front : List Word) × (w : Word) × (words ++ written_words delta first payload ≡ front ++ w ∷ []) × IsData w
 written-last words delta payload true = (words, data_word 0 payload, refl, data_word-IsData 0 payload)
 written-last words delta payload false = cond_both (ltb delta (2 ^ 27)) _ _ (λ (ws : List Word). (front : List Word) × (w : Word) × (words ++ ws ≡ front ++ w ∷ []) × IsData w)
     (λ short. (words, data_word delta payload, refl, data_word-IsData delta payload))
@@ -337,7 +337,7 @@ Decodes-appended bytes time records prev delta payload ends reads at small room 
     Decodes-ReadsAs (bytes ++ encoding delta false payload) time (records ++ one_record (prev + delta) payload) (ends.words ++ written_words delta false payload)
     (ReadsAs-behind bytes time records prev delta payload ends reads at small room whole some fits)
 
-written-each : (delta : ℕ) (payload : List ℕ) → delta < 2 ^ 59 → length payload % 4 ≡ 0 → 4 ≤ length payload → length payload + 4 < 2 ^ 32 → AllByRecursion IsWord (written_words delta false payload)
+pub written-each : (delta : ℕ) (payload : List ℕ) → delta < 2 ^ 59 → length payload % 4 ≡ 0 → 4 ≤ length payload → length payload + 4 < 2 ^ 32 → AllByRecursion IsWord (written_words delta false payload)
 written-each delta payload small whole some fits = cond_both (ltb delta (2 ^ 27)) _ _ (AllByRecursion IsWord)
     (λ short. (data_word-IsWord delta payload (ltb-true delta (2 ^ 27) short) whole some fits, tt))
     (λ long. (small, (data_word-IsWord 0 payload (omega arith) whole some fits, tt)))

@@ -3,3 +3,5 @@ pub mod OneWord
 pub mod Unique
 pub mod Appended
 pub mod ReadBack
+pub mod Overwritten
+pub mod Places

@@ -1,6 +1,7 @@
 pub mod Record
 pub mod Words
 pub mod Reading
-pub mod Order
 pub mod History
+pub mod Order
+pub mod Overwriting
 pub mod Laws
