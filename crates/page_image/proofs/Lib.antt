@@ -1,3 +1,4 @@
 mod Blank
 mod Behind
 mod Putting
+mod Overwriting

@@ -136,8 +136,8 @@ impl Page {
         ensures* lends { sem 𝓛 (LendsPayload self.entry place.start result) }
         ensures payload { result.now ≡ slice_range self.old.bytes place.start (place.start + place.len) }
     {
-        let end = place.start + place.len;
-        self.body.slice_mut(place.start..end)
+        let body = &mut self.body;
+        body.slice_mut(place.start..place.start + place.len)
     }
 
     /// The same page under another first number and fill.

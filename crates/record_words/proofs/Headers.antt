@@ -1,5 +1,5 @@
 -- The words in front of a payload, and two writes one behind the other.
-use Rattle.std.proofs.Common.{◌≡◌, ℕ, ◌+◌, ◌-◌, ◌*◌, ◌/◌, ◌≤◌, ◌<◌, ◌^◌, Bool, true, false, cond, leb, ltb, List, [], ◌∷◌, ◌++◌, length, take, drop, replicate, suc, refl, sym, ap, ◌∙◌, subst, arith, rules, length-append, append_assoc, length-drop}
+use Rattle.std.proofs.Common.{◌≡◌, ℕ, ◌+◌, ◌-◌, ◌*◌, ◌/◌, ◌≤◌, ◌<◌, ◌^◌, Bool, true, false, cond, leb, List, [], ◌∷◌, ◌++◌, length, take, drop, replicate, suc, refl, sym, ap, ◌∙◌, arith, length-append, append_assoc, length-drop}
 use Rattle.std.proofs.lemmas.List.{take_at, drop_at, drop-drop, append-nil, drop_all, take_rest, length-replicate}
 use Rattle.std.proofs.lemmas.Bool.{lt-leb, true≢false}
 use borrow.Rule.Slice.PartMut.{put_mid}

@@ -4,8 +4,13 @@
 //! `docs/FORMATS.md`, "Record words".
 #![tactic(auto)]
 
+mod next;
 mod put;
 mod size;
 
+pub use next::{Word, WordFault, next_word};
 pub use put::{Place, put_record};
 pub use size::size_of;
+
+#[cfg(test)]
+mod tests;

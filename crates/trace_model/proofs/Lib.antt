@@ -5,3 +5,6 @@ pub mod Appended
 pub mod ReadBack
 pub mod Overwritten
 pub mod Places
+pub mod Stepped
+pub mod Walked
+pub mod WordFaults

@@ -1,16 +1,15 @@
 -- A payload overwritten where it stands: the words are the same but for that payload, and so are the records.
-use Rattle.std.proofs.Common.{◌≡◌, ◌⊎◌, inl, inr, ℕ, zero, suc, ◌+◌, ◌-◌, ◌*◌, ◌/◌, ◌%◌, ◌^◌, ◌<◌, ◌≤◌, Bool, true, false, cond, ◌||◌, List, [], ◌∷◌, ◌++◌, length, map, take, drop, Option, Some, None, unwrap_or, sum_by, refl, sym, ap, ◌∙◌, subst, ⊎_elim, arith, append_assoc, append-nil, length-append}
+use Rattle.std.proofs.Common.{◌≡◌, ℕ, ◌+◌, ◌*◌, ◌/◌, ◌^◌, ◌<◌, ◌≤◌, Bool, true, false, cond, ◌||◌, List, [], ◌∷◌, ◌++◌, length, map, take, drop, Option, unwrap_or, sum_by, refl, sym, ap, ◌∙◌, subst, arith, append_assoc, length-append}
 use Rattle.std.specs.List.{AllByRecursion, list_any}
-use Rattle.std.proofs.lemmas.List.{take_at, drop_at, map-append, same_from_push}
+use Rattle.std.proofs.lemmas.List.{take_at, drop_at, map-append}
 use Rattle.std.proofs.lemmas.List.Concat.{flat_map-append}
 use Rattle.std.proofs.lemmas.List.Sums.{sum_by-cons}
 use Rattle.trace_model.specs.Record.{Record}
-use Rattle.trace_model.specs.Words.{first_word, le32, Word, short_data, long_data, padding, time_extend, time_stamp, bytes_of_word, IsWord, IsEnding, joined, delta_of, stamp_of, is_stamp, last_stamp, since_stamp, moment_after, records_at, records_behind, records_of, MovesTime, FitsTime, IsJoined, Decodes}
-use Rattle.trace_model.specs.Reading.{IsData, payload_of, records_in, words_in, EndsInRecord, IsPlaceIn}
-use Rattle.trace_model.specs.Overwriting.{bytes_at, overwritten, IsReplacedAt, IsPlaceOf}
-use Rattle.trace_model.proofs.Lengths.{length-le32, bytes_of_word_ge}
-use Rattle.trace_model.proofs.Unique.{words_in-IsJoined, IsJoined-words_unique, IsJoined-rest_unique, records_in-Decodes}
-use Rattle.trace_model.proofs.Appended.{records_of-append, records_at-data, each-append, last_of, IsJoined-whole}
+use Rattle.trace_model.specs.Words.{first_word, le32, Word, short_data, long_data, padding, time_extend, time_stamp, bytes_of_word, IsWord, joined, delta_of, stamp_of, is_stamp, last_stamp, since_stamp, moment_after, records_at, records_behind, records_of, MovesTime, FitsTime, IsJoined}
+use Rattle.trace_model.specs.Reading.{IsData, payload_of, IsPlaceIn}
+use Rattle.trace_model.specs.Overwriting.{bytes_at, overwritten}
+use Rattle.trace_model.proofs.Lengths.{length-le32}
+use Rattle.trace_model.proofs.Appended.{records_of-append, records_at-data}
 
 -- ---- a word with another payload
 
@@ -191,7 +190,7 @@ FitsTime-same time words others same fits front w behind e moves =
     let h = unmapped bare words (map bare front) (bare w) (map bare behind) cut in
     let alike : map bare (h.before ++ h.here ∷ []) ≡ map bare (front ++ w ∷ []) = map-append bare h.before (h.here ∷ []) ∙ (λ i. h.fronts i ++ h.at i ∷ []) ∙ sym (map-append bare front (w ∷ [])) in
     subst (λ (m : ℕ). m < 2 ^ 64) (moment_after-same time (h.before ++ h.here ∷ []) (front ++ w ∷ []) alike)
-      (fits h.before h.here h.after h.cut (MovesTime-from_bare h.here (subst MovesTime (sym h.at) (MovesTime-bare w moves))))
+    (fits h.before h.here h.after h.cut (MovesTime-from_bare h.here (subst MovesTime (sym h.at) (MovesTime-bare w moves))))
 
 -- the records of words don't see the payloads in front
 records_at-same : (time : ℕ) (front others : List Word) (w : Word) → map bare front ≡ map bare others → records_at time front w ≡ records_at time others w
@@ -199,6 +198,7 @@ records_at-same time front others w same = by_word w
   where
     later : (v : Word) → moment_after time (front ++ v ∷ []) ≡ moment_after time (others ++ v ∷ [])
     later v = moment_after-same time (front ++ v ∷ []) (others ++ v ∷ []) (map-append bare front (v ∷ []) ∙ ap (λ (ws : List Word). ws ++ bare v ∷ []) same ∙ sym (map-append bare others (v ∷ [])))
+
     by_word : (v : Word) → records_at time front v ≡ records_at time others v
     by_word (short_data delta payload) = ap (λ (m : ℕ). let r : Record = record { moment = m; bytes = payload } in r ∷ []) (later (short_data delta payload))
     by_word (long_data delta payload) = ap (λ (m : ℕ). let r : Record = record { moment = m; bytes = payload } in r ∷ []) (later (long_data delta payload))
@@ -287,10 +287,10 @@ module _ (bytes : List ℕ) (start len : ℕ) (p : IsPlaceIn bytes start len) (n
   -- the bytes overwritten are the same words, with only that payload changed
   pub overwritten-IsJoined : IsJoined (overwritten bytes start new) (p.front ++ with_payload p.word new ∷ p.behind) p.rest
   overwritten-IsJoined = record {
-      whole = overwritten-joined;
-      each = each-replaced p.front p.word (with_payload p.word new) p.behind (IsWord-with_payload p.word new p.holds as_long (each-at p.front p.word p.behind p.cut.each)) p.cut.each;
-      ending = p.cut.ending;
-    }
+    whole = overwritten-joined;
+    each = each-replaced p.front p.word (with_payload p.word new) p.behind (IsWord-with_payload p.word new p.holds as_long (each-at p.front p.word p.behind p.cut.each)) p.cut.each;
+    ending = p.cut.ending;
+  }
 
   pub length-overwritten : length (overwritten bytes start new) ≡ length bytes
   length-overwritten =

@@ -1,17 +1,17 @@
 -- The records of data with one payload overwritten; which record a place is of; places that stay.
-use Rattle.std.proofs.Common.{◌≡◌, ◌⊎◌, inl, inr, ℕ, zero, suc, ◌+◌, ◌-◌, ◌*◌, ◌/◌, ◌%◌, ◌^◌, ◌<◌, ◌≤◌, Bool, true, false, cond, List, [], ◌∷◌, ◌++◌, length, map, take, drop, set, get_or, Option, Some, None, refl, sym, ap, ◌∙◌, subst, ⊎_elim, arith, append_assoc, append-nil, length-append, length-drop}
+use Rattle.std.proofs.Common.{◌≡◌, ◌⊎◌, inr, ℕ, suc, ◌+◌, ◌-◌, ◌%◌, ◌^◌, ◌<◌, ◌≤◌, true, false, ltb, List, [], ◌∷◌, ◌++◌, length, refl, sym, ap, ◌∙◌, subst, ⊎_elim, arith, append_assoc, append-nil, length-append, length-drop}
 use Rattle.std.specs.List.{AllByRecursion}
-use Rattle.std.proofs.lemmas.List.{take_at, drop_at, map-append, same_from_push, nil_from_length}
+use Rattle.std.proofs.lemmas.List.{same_from_push, nil_from_length}
 use Rattle.std.proofs.lemmas.List.Concat.{flat_map-append}
-use Rattle.std.proofs.lemmas.Bool.{cases_order}
+use Rattle.std.proofs.lemmas.Bool.{cond_both}
 use Rattle.trace_model.specs.Record.{Record}
-use Rattle.trace_model.specs.Words.{Word, short_data, long_data, padding, time_extend, time_stamp, bytes_of_word, IsWord, IsEnding, joined, moment_after, records_at, records_behind, records_of, FitsTime, IsJoined, Decodes, data_word, written_words, encoding}
+use Rattle.trace_model.specs.Words.{Word, short_data, long_data, padding, time_extend, time_stamp, bytes_of_word, IsWord, joined, moment_after, records_at, records_behind, records_of, FitsTime, IsJoined, Decodes, data_word, written_words, encoding}
 use Rattle.trace_model.specs.Reading.{IsData, payload_of, records_in, words_in, EndsInRecord, IsPlaceIn}
-use Rattle.trace_model.specs.Order.{moment_of_last, EndsAt}
+use Rattle.trace_model.specs.Order.{moment_of_last}
 use Rattle.trace_model.specs.Overwriting.{bytes_at, overwritten, IsReplacedAt, IsPlaceOf}
 use Rattle.trace_model.proofs.Lengths.{bytes_of_word_ge}
-use Rattle.trace_model.proofs.Unique.{words_in-IsJoined, IsJoined-words_unique, IsJoined-rest_unique, records_in-Decodes, Decodes-unique}
-use Rattle.trace_model.proofs.Appended.{one_record, records_of-append, records_at-data, last_of, IsJoined-whole, each-append, written-each, written-last}
+use Rattle.trace_model.proofs.Unique.{words_in-IsJoined, IsJoined-words_unique, IsJoined-rest_unique, records_in-Decodes}
+use Rattle.trace_model.proofs.Appended.{one_record, last_of, IsJoined-whole, each-append, written-each, data_word-IsData, data_word-IsWord, data_word-payload, records_of-push_extend}
 use Rattle.trace_model.proofs.Overwritten.{with_payload, head_of, bytes_of_word-data, head_of_ge, length-head, IsData-with_payload, payload_of-with_payload, FitsTime-replaced, records_of-around, records_of-replaced, after_place, place-drop, place-payload, length-bytes_changed, overwritten-IsJoined}
 
 -- ---- how many records words hold
@@ -44,8 +44,8 @@ Decodes-overwritten bytes time records number start len new place fills reads =
     let words : List Word = p.front ++ p.word ∷ p.behind in
     let same : reads.words ≡ words = IsJoined-words_unique bytes reads.words words reads.rest p.rest reads.cut p.cut in
     let was : records ≡ records_of time words = reads.read ∙ ap (records_of time) same in
-    let replaced : List Word = p.front ++ with_payload p.word new ∷ p.behind in
-    (records_of time replaced,
+    let replaced : List Word = p.front ++ with_payload p.word new ∷ p.behind in (
+      records_of time replaced,
       record {
         words = replaced;
         rest = p.rest;
@@ -60,7 +60,8 @@ Decodes-overwritten bytes time records number start len new place fills reads =
         at = records_of-count time 0 p.front ∙ sym place.number_is;
         was = was ∙ records_of-around time p.front p.word p.behind p.holds ∙ ap (λ (b : List ℕ). records_of time p.front ++ record { moment = moment_after time (p.front ++ p.word ∷ []); bytes = b } ∷ records_behind time (p.front ++ p.word ∷ []) p.behind) (sym (place-payload bytes start len p));
         is = records_of-replaced time p.front p.word p.behind new p.holds;
-      })
+      },
+    )
 
 -- each place is that of a record
 pub IsPlaceOf-from : (bytes : List ℕ) (start len : ℕ) → (p : IsPlaceIn bytes start len) → IsPlaceOf bytes (length (records_of 0 p.front)) start len
@@ -80,12 +81,17 @@ last_kept : (front : List Word) (w v : Word) (behind : List Word) → IsData v
     → (before : List Word) × (x : Word) × (front ++ v ∷ behind ≡ before ++ x ∷ []) × IsData x
 last_kept front w v behind is ends = ⊎_elim
     (λ none. (front, v, ap (λ (ws : List Word). front ++ v ∷ ws) none, is))
-    (λ last. (front ++ v ∷ last.0, last.1, ap (λ (ws : List Word). front ++ v ∷ ws) last.2 ∙ sym (append_assoc front (v ∷ last.0) (last.1 ∷ [])), ⊎_elim
-      (λ empty. absurd (no_words front empty))
-      (λ end.
-        let whole : (front ++ w ∷ last.0) ++ last.1 ∷ [] ≡ end.0 ++ end.1 ∷ [] = append_assoc front (w ∷ last.0) (last.1 ∷ []) ∙ ap (λ (ws : List Word). front ++ w ∷ ws) (sym last.2) ∙ end.2 in
-        subst IsData (sym (same_from_push (front ++ w ∷ last.0) end.0 last.1 end.1 whole).1) end.3)
-      ends))
+    (λ last. (
+      front ++ v ∷ last.0,
+      last.1,
+      ap (λ (ws : List Word). front ++ v ∷ ws) last.2 ∙ sym (append_assoc front (v ∷ last.0) (last.1 ∷ [])),
+      ⊎_elim
+          (λ empty. absurd (no_words front empty))
+          (λ end.
+          let whole : (front ++ w ∷ last.0) ++ last.1 ∷ [] ≡ end.0 ++ end.1 ∷ [] = append_assoc front (w ∷ last.0) (last.1 ∷ []) ∙ ap (λ (ws : List Word). front ++ w ∷ ws) (sym last.2) ∙ end.2 in
+          subst IsData (sym (same_from_push (front ++ w ∷ last.0) end.0 last.1 end.1 whole).1) end.3)
+          ends,
+    ))
     (last_of behind)
   where
     no_words : (xs : List Word) → xs ++ w ∷ behind ≡ [] → ⊥
@@ -104,7 +110,7 @@ EndsInRecord-overwritten bytes start len new p fills ends =
       whole = cut.whole ∙ ap (λ (b : List ℕ). joined replaced ++ b) none ∙ append-nil (joined replaced);
       each = cut.each;
       last = inr (last_kept p.front p.word (with_payload p.word new) p.behind (IsData-with_payload p.word new p.holds)
-        (subst (λ (ws : List Word). (ws ≡ []) ⊎ ((before : List Word) × (x : Word) × (ws ≡ before ++ x ∷ []) × IsData x)) same ends.last));
+          (subst (λ (ws : List Word). (ws ≡ []) ⊎ ((before : List Word) × (x : Word) × (ws ≡ before ++ x ∷ []) × IsData x)) same ends.last));
     }
 
 -- ---- the last record
@@ -131,13 +137,16 @@ place-last bytes start len p ends =
 -- the last record's payload overwritten: the records are the old ones with the last one's bytes replaced
 pub Decodes-overwritten_last : (bytes : List ℕ) (time : ℕ) (records : List Record) (start len : ℕ) (new : List ℕ) → IsPlaceIn bytes start len → start + len ≡ length bytes → length new ≡ len → Decodes bytes time records
     → (front : List Record) × (moment : ℕ) × (records ≡ front ++ record { moment = moment; bytes = bytes_at start len bytes } ∷ [])
-        × Decodes (overwritten bytes start new) time (front ++ record { moment = moment; bytes = new } ∷ [])
+    × Decodes (overwritten bytes start new) time (front ++ record { moment = moment; bytes = new } ∷ [])
 unfolding Decodes-overwritten IsPlaceOf-from
 Decodes-overwritten_last bytes time records start len new p ends fills reads =
     let h = Decodes-overwritten bytes time records (length (records_of 0 p.front)) start len new (IsPlaceOf-from bytes start len p) fills reads in
-    let none : h.2.behind ≡ [] = ap (λ (ws : List Word). records_behind time (p.front ++ p.word ∷ []) ws) (place-last bytes start len p ends).0 in
-    (h.2.front, h.2.moment, h.2.was ∙ ap (λ (rs : List Record). h.2.front ++ record { moment = h.2.moment; bytes = bytes_at start len bytes } ∷ rs) none,
-      subst (Decodes (overwritten bytes start new) time) (h.2.is ∙ ap (λ (rs : List Record). h.2.front ++ record { moment = h.2.moment; bytes = new } ∷ rs) none) h.1)
+    let none : h.2.behind ≡ [] = ap (λ (ws : List Word). records_behind time (p.front ++ p.word ∷ []) ws) (place-last bytes start len p ends).0 in (
+      h.2.front,
+      h.2.moment,
+      h.2.was ∙ ap (λ (rs : List Record). h.2.front ++ record { moment = h.2.moment; bytes = bytes_at start len bytes } ∷ rs) none,
+      subst (Decodes (overwritten bytes start new) time) (h.2.is ∙ ap (λ (rs : List Record). h.2.front ++ record { moment = h.2.moment; bytes = new } ∷ rs) none) h.1,
+    )
 
 -- the same, where the records in front of the last one are known
 pub Decodes-overwritten_end : (bytes : List ℕ) (time : ℕ) (front : List Record) (r : Record) (start len : ℕ) (new : List ℕ) → IsPlaceIn bytes start len → start + len ≡ length bytes → length new ≡ len → Decodes bytes time (front ++ r ∷ [])
@@ -147,12 +156,12 @@ Decodes-overwritten_end bytes time front r start len new p ends fills reads =
     let same = same_from_push front h.0 r record { moment = h.1; bytes = bytes_at start len bytes } h.2 in
     let moment_is : r.moment ≡ h.1 = ap (λ (x : Record). x.moment) same.1 in
     subst (λ (m : ℕ). Decodes (overwritten bytes start new) time (front ++ one_record m new)) (sym moment_is)
-      (subst (λ (rs : List Record). Decodes (overwritten bytes start new) time (rs ++ one_record h.1 new)) (sym same.0) h.3)
+    (subst (λ (rs : List Record). Decodes (overwritten bytes start new) time (rs ++ one_record h.1 new)) (sym same.0) h.3)
 
 -- ---- two places
 
 -- where a list is split twice: at one element, or the first in front of the second, or the other way
-data SplitsTwice {X : Type 0} (xs : List X) (x : X) (ys : List X) (zs : List X) (z : X) (ws : List X) : Type 0 where
+pub data SplitsTwice {X : Type 0} (xs : List X) (x : X) (ys : List X) (zs : List X) (z : X) (ws : List X) : Type 0 where
   at_one : (xs ≡ zs) → (x ≡ z) → (ys ≡ ws) → SplitsTwice xs x ys zs z ws
   in_front : (more : List X) → (zs ≡ xs ++ x ∷ more) → (ys ≡ more ++ z ∷ ws) → SplitsTwice xs x ys zs z ws
   behind_it : (more : List X) → (xs ≡ zs ++ z ∷ more) → (ws ≡ more ++ x ∷ ys) → SplitsTwice xs x ys zs z ws
@@ -162,7 +171,7 @@ under {X = X} y xs x ys zs z ws (at_one p q r) = at_one (ap (λ (l : List X). y 
 under {X = X} y xs x ys zs z ws (in_front more p q) = in_front more (ap (λ (l : List X). y ∷ l) p) q
 under {X = X} y xs x ys zs z ws (behind_it more p q) = behind_it more (ap (λ (l : List X). y ∷ l) p) q
 
-splits_twice : {X : Type 0} (xs : List X) (x : X) (ys : List X) (zs : List X) (z : X) (ws : List X) → xs ++ x ∷ ys ≡ zs ++ z ∷ ws → SplitsTwice xs x ys zs z ws
+pub splits_twice : {X : Type 0} (xs : List X) (x : X) (ys : List X) (zs : List X) (z : X) (ws : List X) → xs ++ x ∷ ys ≡ zs ++ z ∷ ws → SplitsTwice xs x ys zs z ws
 splits_twice [] x ys [] z ws e = at_one refl (cc) (cc)
 splits_twice {X = X} [] x ys (a ∷ zs) z ws e = in_front zs (let h : x ≡ a = cc in ap (λ (b : X). b ∷ zs) (sym h)) (cc)
 splits_twice {X = X} (a ∷ xs) x ys [] z ws e = behind_it xs (let h : a ≡ z = cc in ap (λ (b : X). b ∷ xs) h) (let h : xs ++ x ∷ ys ≡ ws = cc in sym h)
@@ -178,7 +187,7 @@ place-start bytes start len p = (let at = p.start_is in let spelled = ap length 
 pub place-stop : (bytes : List ℕ) (start len : ℕ) → (p : IsPlaceIn bytes start len) → start + len ≡ length (joined p.front) + length (bytes_of_word p.word)
 place-stop bytes start len p = ap (λ (n : ℕ). start + n) p.len_is ∙ p.start_is
 
-length-joined_split : (front : List Word) (w : Word) (more : List Word) → length (joined (front ++ w ∷ more)) ≡ length (joined front) + (length (bytes_of_word w) + length (joined more))
+pub length-joined_split : (front : List Word) (w : Word) (more : List Word) → length (joined (front ++ w ∷ more)) ≡ length (joined front) + (length (bytes_of_word w) + length (joined more))
 length-joined_split front w more =
     ap length (flat_map-append bytes_of_word front (w ∷ more)) ∙ length-append (joined front) (bytes_of_word w ++ joined more) ∙ ap (λ (n : ℕ). length (joined front) + n) (length-append (bytes_of_word w) (joined more))
 
@@ -216,43 +225,53 @@ places-apart bytes number start len other_number other_start other_len place oth
     let p = place.place in
     let q = other.place in
     elim (place-order bytes start len p other_start other_len q) [
-      at_one fronts words behinds ↦ same_place
-        (place.number_is ∙ ap (λ (ws : List Word). length (records_of 0 ws)) fronts ∙ sym other.number_is)
-        (place-start bytes start len p ∙ (λ i. length (joined (fronts i)) + length (head_of (words i))) ∙ sym (place-start bytes other_start other_len q))
-        (p.len_is ∙ ap (λ (w : Word). length (payload_of w)) words ∙ sym q.len_is)
-    | in_front more cut rest ↦
-        (let h = ordered_before p.front p.word more q.front q.word start len other_start p.holds q.holds cut (place-stop bytes start len p) (place-start bytes other_start other_len q) in
-        let one = place.number_is in let two = other.number_is in earlier (let a = h.0 in omega arith) h.1)
-    | behind_it more cut rest ↦
-        (let h = ordered_before q.front q.word more p.front p.word other_start other_len start q.holds p.holds cut (place-stop bytes other_start other_len q) (place-start bytes start len p) in
-        let one = place.number_is in let two = other.number_is in later (let a = h.0 in omega arith) h.1)
+      | at_one fronts words behinds ↦ same_place
+          (place.number_is ∙ ap (λ (ws : List Word). length (records_of 0 ws)) fronts ∙ sym other.number_is)
+          (place-start bytes start len p ∙ (λ i. length (joined (fronts i)) + length (head_of (words i))) ∙ sym (place-start bytes other_start other_len q))
+          (p.len_is ∙ ap (λ (w : Word). length (payload_of w)) words ∙ sym q.len_is)
+      | in_front more cut rest ↦
+          (let h = ordered_before p.front p.word more q.front q.word start len other_start p.holds q.holds cut (place-stop bytes start len p) (place-start bytes other_start other_len q) in
+          let one = place.number_is in let two = other.number_is in earlier (let a = h.0 in omega arith) h.1)
+      | behind_it more cut rest ↦
+          (let h = ordered_before q.front q.word more p.front p.word other_start other_len start q.holds p.holds cut (place-stop bytes other_start other_len q) (place-start bytes start len p) in
+          let one = place.number_is in let two = other.number_is in later (let a = h.0 in omega arith) h.1)
     ]
 
 -- where a payload starts decides its record and its length
 pub IsPlaceOf-by_start : (bytes : List ℕ) (number start len other_number other_len : ℕ) → IsPlaceOf bytes number start len → IsPlaceOf bytes other_number start other_len → (number ≡ other_number) × (len ≡ other_len)
 IsPlaceOf-by_start bytes number start len other_number other_len place other =
     elim (places-apart bytes number start len other_number start other_len place other) [
-      same_place n s l ↦ (n, l)
-    | earlier n s ↦ absurd (omega arith)
-    | later n s ↦ absurd (omega arith)
+      | same_place n s l ↦ (n, l)
+      | earlier n s ↦ absurd (omega arith)
+      | later n s ↦ absurd (omega arith)
     ]
 
 -- a record has one place
 pub IsPlaceOf-by_number : (bytes : List ℕ) (number start len other_start other_len : ℕ) → IsPlaceOf bytes number start len → IsPlaceOf bytes number other_start other_len → (start ≡ other_start) × (len ≡ other_len)
 IsPlaceOf-by_number bytes number start len other_start other_len place other =
     elim (places-apart bytes number start len number other_start other_len place other) [
-      same_place n s l ↦ (s, l)
-    | earlier n s ↦ absurd (omega arith)
-    | later n s ↦ absurd (omega arith)
+      | same_place n s l ↦ (s, l)
+      | earlier n s ↦ absurd (omega arith)
+      | later n s ↦ absurd (omega arith)
+    ]
+
+-- both ways at once
+pub places_unique : (bytes : List ℕ) (number start len other_number other_start other_len : ℕ) → IsPlaceOf bytes number start len → IsPlaceOf bytes other_number other_start other_len
+    → (number ≡ other_number) ⊎ (start ≡ other_start) → (number ≡ other_number) × (start ≡ other_start) × (len ≡ other_len)
+places_unique bytes number start len other_number other_start other_len place other alike =
+    elim (places-apart bytes number start len other_number other_start other_len place other) [
+      | same_place n s l ↦ (n, s, l)
+      | earlier n s ↦ absurd (⊎_elim {C = ⊥} (λ e. omega arith) (λ e. omega arith) alike)
+      | later n s ↦ absurd (⊎_elim {C = ⊥} (λ e. omega arith) (λ e. omega arith) alike)
     ]
 
 -- a payload's place determines its word, and what stands in front and behind
 pub IsPlaceIn-unique : (bytes : List ℕ) (start len other_len : ℕ) → (p : IsPlaceIn bytes start len) → (q : IsPlaceIn bytes start other_len) → (p.front ≡ q.front) × (p.word ≡ q.word) × (p.behind ≡ q.behind)
 IsPlaceIn-unique bytes start len other_len p q =
     elim (place-order bytes start len p start other_len q) [
-      at_one fronts words behinds ↦ (fronts, words, behinds)
-    | in_front more cut rest ↦ absurd (let h = ordered_before p.front p.word more q.front q.word start len start p.holds q.holds cut (place-stop bytes start len p) (place-start bytes start other_len q) in let a = h.1 in omega arith)
-    | behind_it more cut rest ↦ absurd (let h = ordered_before q.front q.word more p.front p.word start other_len start q.holds p.holds cut (place-stop bytes start other_len q) (place-start bytes start len p) in let a = h.1 in omega arith)
+      | at_one fronts words behinds ↦ (fronts, words, behinds)
+      | in_front more cut rest ↦ absurd (let h = ordered_before p.front p.word more q.front q.word start len start p.holds q.holds cut (place-stop bytes start len p) (place-start bytes start other_len q) in let a = h.1 in omega arith)
+      | behind_it more cut rest ↦ absurd (let h = ordered_before q.front q.word more p.front p.word start other_len start q.holds p.holds cut (place-stop bytes start other_len q) (place-start bytes start len p) in let a = h.1 in omega arith)
     ]
 
 -- the words that the reader finds are those around the place
@@ -263,18 +282,18 @@ words_in-IsPlaceIn bytes start len p = words_in-IsJoined bytes (p.front ++ p.wor
 pub IsPlaceOf-made : (bytes : List ℕ) (front : List Word) (w : Word) (behind : List Word) (rest : List ℕ) (number start len : ℕ) → IsJoined bytes (front ++ w ∷ behind) rest → IsData w
     → number ≡ length (records_of 0 front) → start ≡ length (joined front) + length (head_of w) → len ≡ length (payload_of w) → IsPlaceOf bytes number start len
 IsPlaceOf-made bytes front w behind rest number start len cut is count at long = record {
-    place = record {
-      front = front;
-      word = w;
-      behind = behind;
-      rest = rest;
-      cut = cut;
-      holds = is;
-      start_is = (let spelled = ap length (bytes_of_word-data w is) in omega (arith, length-append (head_of w) (payload_of w)));
-      len_is = long;
-    };
-    number_is = count;
-  }
+  place = record {
+    front = front;
+    word = w;
+    behind = behind;
+    rest = rest;
+    cut = cut;
+    holds = is;
+    start_is = (let spelled = ap length (bytes_of_word-data w is) in omega (arith, length-append (head_of w) (payload_of w)));
+    len_is = long;
+  };
+  number_is = count;
+}
 
 -- ---- what stays where a payload is overwritten
 
@@ -321,9 +340,9 @@ pub IsPlaceOf-overwritten_same : (bytes : List ℕ) (number start len : ℕ) (ne
 IsPlaceOf-overwritten_same bytes number start len new place fills =
     let p = place.place in
     IsPlaceOf-made (overwritten bytes start new) p.front (with_payload p.word new) p.behind p.rest number start len
-      (overwritten-IsJoined bytes start len p new fills) (IsData-with_payload p.word new p.holds) place.number_is
-      (place-start bytes start len p ∙ ap (λ (n : ℕ). length (joined p.front) + n) (sym (length-head p.word new p.holds)))
-      (sym (ap length (payload_of-with_payload p.word new p.holds) ∙ fills))
+    (overwritten-IsJoined bytes start len p new fills) (IsData-with_payload p.word new p.holds) place.number_is
+    (place-start bytes start len p ∙ ap (λ (n : ℕ). length (joined p.front) + n) (sym (length-head p.word new p.holds)))
+    (sym (ap length (payload_of-with_payload p.word new p.holds) ∙ fills))
 
 length-joined_changed : (front : List Word) (w v : Word) (more : List Word) → length (bytes_of_word v) ≡ length (bytes_of_word w) → length (joined (front ++ v ∷ more)) ≡ length (joined (front ++ w ∷ more))
 length-joined_changed front w v more same = length-joined_split front v more ∙ ap (λ (n : ℕ). length (joined front) + (n + length (joined more))) same ∙ sym (length-joined_split front w more)
@@ -342,19 +361,19 @@ IsPlaceOf-overwritten bytes number start len at size new place q fills =
     let is : IsData v = IsData-with_payload q.word new q.holds in
     let alike : length (bytes_of_word v) ≡ length (bytes_of_word q.word) = length-bytes_changed q.word new q.holds as_long in
     elim (place-order bytes start len p at size q) [
-      at_one fronts words behinds ↦ IsPlaceOf-made (overwritten bytes at new) q.front v q.behind q.rest number start len cut is
-        (place.number_is ∙ ap (λ (ws : List Word). length (records_of 0 ws)) fronts)
-        (place-start bytes start len p ∙ (λ i. length (joined (fronts i)) + length (head_of (words i))) ∙ ap (λ (n : ℕ). length (joined q.front) + n) (sym (length-head q.word new q.holds)))
-        (p.len_is ∙ ap (λ (w : Word). length (payload_of w)) words ∙ sym as_long ∙ sym (ap length (payload_of-with_payload q.word new q.holds)))
-    | in_front more split rest ↦ IsPlaceOf-made (overwritten bytes at new) p.front p.word (more ++ v ∷ q.behind) q.rest number start len
-        (subst (λ (ws : List Word). IsJoined (overwritten bytes at new) ws q.rest) (ap (λ (ws : List Word). ws ++ v ∷ q.behind) split ∙ append_assoc p.front (p.word ∷ more) (v ∷ q.behind)) cut)
-        p.holds place.number_is (place-start bytes start len p) p.len_is
-    | behind_it more split rest ↦ IsPlaceOf-made (overwritten bytes at new) (q.front ++ v ∷ more) p.word p.behind q.rest number start len
-        (subst (λ (ws : List Word). IsJoined (overwritten bytes at new) ws q.rest) (ap (λ (ws : List Word). q.front ++ v ∷ ws) rest ∙ sym (append_assoc q.front (v ∷ more) (p.word ∷ p.behind))) cut)
-        p.holds
-        (place.number_is ∙ ap (λ (ws : List Word). length (records_of 0 ws)) split ∙ sym (count_changed q.front q.word v more q.holds is))
-        (place-start bytes start len p ∙ ap (λ (ws : List Word). length (joined ws) + length (head_of p.word)) split ∙ ap (λ (n : ℕ). n + length (head_of p.word)) (sym (length-joined_changed q.front q.word v more alike)))
-        p.len_is
+      | at_one fronts words behinds ↦ IsPlaceOf-made (overwritten bytes at new) q.front v q.behind q.rest number start len cut is
+          (place.number_is ∙ ap (λ (ws : List Word). length (records_of 0 ws)) fronts)
+          (place-start bytes start len p ∙ (λ i. length (joined (fronts i)) + length (head_of (words i))) ∙ ap (λ (n : ℕ). length (joined q.front) + n) (sym (length-head q.word new q.holds)))
+          (p.len_is ∙ ap (λ (w : Word). length (payload_of w)) words ∙ sym as_long ∙ sym (ap length (payload_of-with_payload q.word new q.holds)))
+      | in_front more split rest ↦ IsPlaceOf-made (overwritten bytes at new) p.front p.word (more ++ v ∷ q.behind) q.rest number start len
+          (subst (λ (ws : List Word). IsJoined (overwritten bytes at new) ws q.rest) (ap (λ (ws : List Word). ws ++ v ∷ q.behind) split ∙ append_assoc p.front (p.word ∷ more) (v ∷ q.behind)) cut)
+          p.holds place.number_is (place-start bytes start len p) p.len_is
+      | behind_it more split rest ↦ IsPlaceOf-made (overwritten bytes at new) (q.front ++ v ∷ more) p.word p.behind q.rest number start len
+          (subst (λ (ws : List Word). IsJoined (overwritten bytes at new) ws q.rest) (ap (λ (ws : List Word). q.front ++ v ∷ ws) rest ∙ sym (append_assoc q.front (v ∷ more) (p.word ∷ p.behind))) cut)
+          p.holds
+          (place.number_is ∙ ap (λ (ws : List Word). length (records_of 0 ws)) split ∙ sym (count_changed q.front q.word v more q.holds is))
+          (place-start bytes start len p ∙ ap (λ (ws : List Word). length (joined ws) + length (head_of p.word)) split ∙ ap (λ (n : ℕ). n + length (head_of p.word)) (sym (length-joined_changed q.front q.word v more alike)))
+          p.len_is
     ]
 
 -- ---- what stays where a record is appended, and the new one's place
@@ -376,6 +395,45 @@ IsPlaceOf-appended bytes number start len delta payload ends place small whole s
     let more : List Word = written_words delta false payload in
     let same : ends.words ≡ p.front ++ p.word ∷ p.behind = EndsInRecord-words bytes (p.front ++ p.word ∷ p.behind) p.rest ends p.cut in
     IsPlaceOf-made (bytes ++ encoding delta false payload) p.front p.word (p.behind ++ more) [] number start len
-      (subst (λ (ws : List Word). IsJoined (bytes ++ joined more) ws []) (ap (λ (ws : List Word). ws ++ more) same ∙ append_assoc p.front (p.word ∷ p.behind) more)
-        (joined-behind bytes more ends (written-each delta payload small whole some fits)))
-      p.holds place.number_is (place-start bytes start len p) p.len_is
+    (subst (λ (ws : List Word). IsJoined (bytes ++ joined more) ws []) (ap (λ (ws : List Word). ws ++ more) same ∙ append_assoc p.front (p.word ∷ p.behind) more)
+    (joined-behind bytes more ends (written-each delta payload small whole some fits)))
+    p.holds place.number_is (place-start bytes start len p) p.len_is
+
+-- a data word at the end of the data
+place_at_end : (bytes : List ℕ) (front : List Word) (w : Word) (number start len : ℕ) → IsJoined bytes (front ++ w ∷ []) [] → IsData w
+    → number ≡ length (records_of 0 front) → len ≡ length (payload_of w) → start + len ≡ length bytes → IsPlaceOf bytes number start len
+place_at_end bytes front w number start len cut is count long ends =
+    let whole = ap length cut.whole in
+    let spelled = ap length (bytes_of_word-data w is) in
+    IsPlaceOf-made bytes front w [] [] number start len cut is count
+    (start_at start len (length bytes) (length (joined front)) (length (head_of w)) (length (payload_of w)) (length (bytes_of_word w)) ends long
+    (whole ∙ ap length (append-nil (joined (front ++ w ∷ []))) ∙ length-joined_split front w []) (spelled ∙ length-append (head_of w) (payload_of w)))
+    long
+  where
+    start_at : (s l b f h p x : ℕ) → s + l ≡ b → l ≡ p → b ≡ f + (x + 0) → x ≡ h + p → s ≡ f + h
+    start_at s l b f h p x e1 e2 e3 e4 = omega arith
+
+-- the place of the first record of a page
+pub IsPlaceOf-first : (delta : ℕ) (payload : List ℕ) (start : ℕ) → length payload % 4 ≡ 0 → 4 ≤ length payload → length payload + 4 < 2 ^ 32 → start + length payload ≡ length (encoding delta true payload)
+    → IsPlaceOf (encoding delta true payload) 0 start (length payload)
+IsPlaceOf-first delta payload start whole some fits ends =
+    place_at_end (encoding delta true payload) [] (data_word 0 payload) 0 start (length payload)
+    (IsJoined-whole (encoding delta true payload) (data_word 0 payload ∷ []) refl (data_word-IsWord 0 payload (omega arith) whole some fits, tt))
+    (data_word-IsData 0 payload) refl (ap length (sym (data_word-payload 0 payload))) ends
+
+-- the place of a record behind others: its number is how many they are
+pub IsPlaceOf-new : (bytes : List ℕ) (time : ℕ) (records : List Record) (delta : ℕ) (payload : List ℕ) (start : ℕ) → EndsInRecord bytes → Decodes bytes time records
+    → delta < 2 ^ 59 → length payload % 4 ≡ 0 → 4 ≤ length payload → length payload + 4 < 2 ^ 32 → start + length payload ≡ length (bytes ++ encoding delta false payload)
+    → IsPlaceOf (bytes ++ encoding delta false payload) (length records) start (length payload)
+IsPlaceOf-new bytes time records delta payload start ends reads small whole some fits stop =
+    cond_both (ltb delta (2 ^ 27)) _ _ (λ (ws : List Word). AllByRecursion IsWord ws → start + length payload ≡ length (bytes ++ joined ws) → IsPlaceOf (bytes ++ joined ws) (length records) start (length payload))
+    (λ short each at_end. place_at_end (bytes ++ joined (data_word delta payload ∷ [])) ends.words (data_word delta payload) (length records) start (length payload)
+    (joined-behind bytes (data_word delta payload ∷ []) ends each) (data_word-IsData delta payload) count (ap length (sym (data_word-payload delta payload))) at_end)
+    (λ long each at_end. place_at_end (bytes ++ joined (time_extend delta ∷ data_word 0 payload ∷ [])) (ends.words ++ time_extend delta ∷ []) (data_word 0 payload) (length records) start (length payload)
+    (subst (λ (ws : List Word). IsJoined (bytes ++ joined (time_extend delta ∷ data_word 0 payload ∷ [])) ws []) (sym (append_assoc ends.words (time_extend delta ∷ []) (data_word 0 payload ∷ [])))
+    (joined-behind bytes (time_extend delta ∷ data_word 0 payload ∷ []) ends each))
+    (data_word-IsData 0 payload) (count ∙ sym (ap length (records_of-push_extend 0 ends.words delta))) (ap length (sym (data_word-payload 0 payload))) at_end)
+    (written-each delta payload small whole some fits) stop
+  where
+    count : length records ≡ length (records_of 0 ends.words)
+    count = ap length reads.read ∙ records_of-count time 0 reads.words ∙ ap (λ (ws : List Word). length (records_of 0 ws)) (sym (EndsInRecord-words bytes reads.words reads.rest ends reads.cut))

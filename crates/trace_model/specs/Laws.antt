@@ -1,10 +1,11 @@
 -- The laws over record words, as statements: each is the contract of a function of src/laws.rt.
-use Rattle.std.specs.Prelude.{◌≡◌, ℕ, Bool, List, length}
+use Rattle.std.specs.Prelude.{◌≡◌, ◌⊎◌, ℕ, Bool, List, length}
 use Rattle.std.specs.List.{AllByRecursion}
 use Rattle.trace_model.specs.Record.{Record}
 use Rattle.trace_model.specs.Words.{Decodes, slot_len, encoding, encoded_len, page_encoding}
 use Rattle.trace_model.specs.Reading.{records_in}
 use Rattle.trace_model.specs.Order.{first_moment_or, NeverFalls, IsWritable}
+use Rattle.trace_model.specs.Overwriting.{bytes_at, overwritten, IsReplacedAt, IsPlaceOf}
 
 -- a payload that fills the slot of len bytes is written in as many bytes as the writer reckons
 abbrev pub EncodingHasItsLength : Type 0
@@ -22,3 +23,14 @@ ReadingIsUnique = (bytes : List ℕ) (time : ℕ) (records others : List Record)
 -- what data reads as is what the reader word by word finds
 abbrev pub PlainReaderAgrees : Type 0
 PlainReaderAgrees = (bytes : List ℕ) (time : ℕ) (records : List Record) → Decodes bytes time records → records_in time bytes ≡ records
+
+-- where the payload of a record is overwritten by as many bytes, the data reads as the same records but
+-- for that one's bytes
+abbrev pub OverwritingChangesOneRecord : Type 0
+OverwritingChangesOneRecord = (bytes : List ℕ) (time : ℕ) (records : List Record) (number start len : ℕ) (new : List ℕ) → IsPlaceOf bytes number start len → length new ≡ len → Decodes bytes time records
+    → (others : List Record) × Decodes (overwritten bytes start new) time others × IsReplacedAt number records others (bytes_at start len bytes) new
+
+-- a record has one place, and a payload's start decides whose it is
+abbrev pub PlacesAreUnique : Type 0
+PlacesAreUnique = (bytes : List ℕ) (number start len other_number other_start other_len : ℕ) → IsPlaceOf bytes number start len → IsPlaceOf bytes other_number other_start other_len
+    → (number ≡ other_number) ⊎ (start ≡ other_start) → (number ≡ other_number) × (start ≡ other_start) × (len ≡ other_len)

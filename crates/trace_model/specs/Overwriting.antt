@@ -1,5 +1,5 @@
 -- A payload of a page's data, overwritten where it stands, and the number of its record.
-use Rattle.std.specs.Prelude.{◌≡◌, ℕ, ◌+◌, List, [], ◌∷◌, ◌++◌, length, take, drop}
+use Rattle.std.specs.Prelude.{◌≡◌, ℕ, ◌+◌, List, ◌∷◌, ◌++◌, length, take, drop}
 use Rattle.trace_model.specs.Record.{Record}
 use Rattle.trace_model.specs.Words.{records_of}
 use Rattle.trace_model.specs.Reading.{IsPlaceIn}
@@ -12,7 +12,7 @@ bytes_at start len bytes = take len (drop start bytes)
 abbrev pub overwritten : List ℕ → ℕ → List ℕ → List ℕ
 overwritten bytes start new = take start bytes ++ (new ++ drop (start + length new) bytes)
 
--- Both lists have the same records but for the bytes of one, which in front of it has so many.
+-- Both lists have the same records but for the bytes of one: the one with so many in front of it.
 pub record IsReplacedAt (number : ℕ) (records others : List Record) (old new : List ℕ) : Type 0 where
   pub front : List Record
   pub moment : ℕ

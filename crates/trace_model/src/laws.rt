@@ -1,5 +1,7 @@
 //! Laws over the definitions: each is the contract of a function with an empty body.
-ghost use Rattle.trace_model.specs.Laws.{EncodingHasItsLength, EncodingsReadBack, PlainReaderAgrees, ReadingIsUnique};
+ghost use Rattle.std.specs.Prelude.{◌≡◌, ℕ, ◌≤◌, ◌⊎◌, List, length};
+ghost use Rattle.trace_model.specs.Faults.{Cause, IsWordFault, HasWord, HasEnding, HasFault};
+ghost use Rattle.trace_model.specs.Laws.{EncodingHasItsLength, EncodingsReadBack, OverwritingChangesOneRecord, PlacesAreUnique, PlainReaderAgrees, ReadingIsUnique};
 
 /// A payload that fills its slot takes just the bytes that the writer reckons with.
 pub fn encoding_len()
@@ -19,4 +21,26 @@ pub fn reading_is_unique()
 /// Where data reads as records, the reader that goes word by word finds those records.
 pub fn plain_reader_agrees()
     ensures agrees { PlainReaderAgrees }
+{}
+
+/// Bytes written over a record's payload change that record's bytes and nothing else of what is read.
+pub fn overwriting_changes_one_record()
+    ensures replaced { OverwritingChangesOneRecord }
+{}
+
+/// A record has one place in the data, and where a payload starts decides which record's it is.
+pub fn places_are_unique()
+    ensures unique { PlacesAreUnique }
+{}
+
+/// What stands at the front of data that isn't empty: a whole word, an ending padding or a fault,
+/// one of the three and only one, and only one fault.
+pub fn front_of_data()
+    ensures one { (bytes : List ℕ) → 1 ≤ length bytes
+        → HasWord bytes ⊎ (HasEnding bytes ⊎ HasFault bytes) }
+    ensures word_is_no_ending { (bytes : List ℕ) → HasWord bytes → ¬ HasEnding bytes }
+    ensures word_is_no_fault { (bytes : List ℕ) → HasWord bytes → ¬ HasFault bytes }
+    ensures ending_is_no_fault { (bytes : List ℕ) → HasEnding bytes → ¬ HasFault bytes }
+    ensures one_fault { (bytes : List ℕ) (cause other : Cause) → IsWordFault bytes cause
+        → IsWordFault bytes other → cause ≡ other }
 {}

@@ -1,4 +1,4 @@
-use Rattle.std.proofs.Common.{◌≡◌, ℕ, sym, refl, rules, arith, replicate, ◌∙◌}
+use Rattle.std.proofs.Common.{◌≡◌, ℕ, sym, rules, arith, replicate, ◌∙◌}
 use Rattle.std.proofs.lemmas.List.{places, length-replicate}
 use Rattle.record_words.proofs.Headers.{bytes-data_word, length-data_header, puts_part}
 use Rattle.record_words.proofs.put.put_data.Goals as goal

@@ -1,4 +1,4 @@
-use Rattle.std.proofs.Common.{sym, refl, rules}
+use Rattle.std.proofs.Common.{sym, refl}
 use Rattle.record_words.proofs.Headers.{length-le32, puts_behind, data_header-long}
 use Rattle.record_words.proofs.put.put_header.Goals as goal
 

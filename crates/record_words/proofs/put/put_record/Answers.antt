@@ -1,4 +1,4 @@
-use Rattle.std.proofs.Common.{◌≡◌, ℕ, ◌+◌, length, sym, refl, rules, arith, length-append}
+use Rattle.std.proofs.Common.{◌≡◌, length, refl, length-append}
 use Rattle.trace_model.specs.Words.{bytes_of_word, time_extend}
 use Rattle.record_words.proofs.Headers.{encoding-extended, puts_behind, length-le32}
 use Rattle.record_words.proofs.put.put_record.Goals as goal

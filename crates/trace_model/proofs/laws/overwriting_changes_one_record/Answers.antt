@@ -1,0 +1,5 @@
+use Rattle.trace_model.proofs.laws.overwriting_changes_one_record.Goals as goal
+use Rattle.trace_model.proofs.Places.{Decodes-overwritten}
+
+pub returns : goal.returns
+returns c = record { replaced = Decodes-overwritten }
