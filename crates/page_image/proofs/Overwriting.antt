@@ -1,10 +1,18 @@
 -- A part of a body written anew, as a page's data sees it.
-use Rattle.std.proofs.Common.{◌≡◌, ℕ, ◌+◌, ◌-◌, ◌≤◌, ◌<◌, List, [], ◌∷◌, ◌++◌, length, take, drop, get_or, refl, sym, ap, ◌∙◌, arith, rules, length-append, length-take, length-drop}
-use Rattle.std.proofs.lemmas.List.{same_lists, places, take-append-le, take-take, take_at, drop-take, append_assoc}
-use Rattle.page_image.specs.Lending.{overwritten_within}
+use Rattle.std.proofs.Common.{◌≡◌, ℕ, ◌+◌, ◌-◌, ◌≤◌, ◌<◌, List, [], ◌∷◌, ◌++◌, length, take, drop, get_or, refl, sym, ap, ◌∙◌, subst, arith, rules, length-append, length-take, length-drop}
+use Rattle.std.proofs.lemmas.List.{same_lists, places, take-append-le, take-take, take_at, drop-take, append_assoc, take_all}
+use Rattle.trace_model.specs.Record.{Record}
+use Rattle.trace_model.specs.Words.{Decodes, records_of}
+use Rattle.trace_model.specs.Reading.{IsPlaceIn, EndsInRecord, records_in}
+use Rattle.trace_model.specs.Overwriting.{overwritten, bytes_at, IsReplacedAt, IsPlaceOf}
+use Rattle.trace_model.proofs.Unique.{records_in-Decodes}
+use Rattle.trace_model.proofs.Overwritten.{length-overwritten}
+use Rattle.trace_model.proofs.Places.{overwritten-reads, EndsInRecord-overwritten, IsPlaceOf-from, IsPlaceOf-overwritten_same, Decodes-overwritten, records_in-overwritten_end}
+use Rattle.page_image.specs.Contents.{Contents, IsPage, records_of_page}
+use Rattle.page_image.specs.Lending.{with_payload, PayloadWritten}
 
 pub written_within : (items part : List ℕ) (end start n : ℕ) → start ≤ end → end ≤ length items → n ≡ length items →
-    take end (take n ((take start items ++ (part ++ drop (length part) (drop start items))) ++ drop (length (take start items ++ (part ++ drop (length part) (drop start items)))) items)) ≡ overwritten_within (take end items) start part
+    take end (take n ((take start items ++ (part ++ drop (length part) (drop start items))) ++ drop (length (take start items ++ (part ++ drop (length part) (drop start items)))) items)) ≡ take (length (take end items)) (overwritten (take end items) start part)
 written_within items part end start n low high n_is =
     same_lists _ _ (search (rules, places)) (λ k d h. grind (arith, places))
 
@@ -12,3 +20,31 @@ written_within items part end start n low high n_is =
 pub range_within : (items : List ℕ) (end start len : ℕ) → start + len ≤ end → take (start + len - start) (drop start items) ≡ take (start + len - start) (drop start (take end items))
 range_within items end start len within =
     same_lists _ _ (search (rules, places)) (λ k d h. grind (arith, places))
+
+-- a payload of the right length written anew
+pub payload_written : (page : Contents) (start len : ℕ) (part : List ℕ) → IsPlaceIn page.bytes start len → length part ≡ len → PayloadWritten page start part
+payload_written page start len part p fills =
+    let bytes : List ℕ = page.bytes in
+    let new : List ℕ = overwritten bytes start part in
+    let kept : length new ≡ length bytes = length-overwritten bytes start len p part fills in
+    let same : take (length bytes) new ≡ new = take_all (length bytes) new (omega arith) in
+    let number : ℕ = length (records_of 0 p.front) in
+    let place : IsPlaceOf bytes number start len = IsPlaceOf-from bytes start len p in
+    record {
+      bytes = same;
+      page_reads = λ is. let h = overwritten-reads bytes page.time (records_of_page page) start len part p fills is.reads in record {
+        reads = subst (λ (b : List ℕ). Decodes b page.time (records_in page.time b)) (sym same) h.0;
+        counted = is.counted ∙ sym h.1 ∙ ap (λ (b : List ℕ). length (records_in page.time b)) (sym same);
+        in_time = is.in_time;
+      };
+      open_stays = λ ends. subst EndsInRecord (sym same) (EndsInRecord-overwritten bytes start len part p fills ends);
+      place_stays = subst (λ (b : List ℕ). IsPlaceIn b start (length part)) (sym same) (subst (IsPlaceIn new start) (sym fills) (IsPlaceOf-overwritten_same bytes number start len part place fills).place);
+      one_record = λ is.
+        let h = Decodes-overwritten bytes page.time (records_of_page page) number start len part place fills is.reads in
+        let found : records_in page.time (take (length bytes) new) ≡ h.0 = ap (records_in page.time) same ∙ records_in-Decodes new page.time h.0 h.1 in
+        (number, subst (λ (n : ℕ). IsReplacedAt number (records_of_page page) (records_in page.time (take (length bytes) new)) (bytes_at start n bytes) part) (sym fills)
+          (subst (λ (rs : List Record). IsReplacedAt number (records_of_page page) rs (bytes_at start len bytes) part) (sym found) h.2));
+      last_record = λ is ends front r was.
+        ap (records_in page.time) same
+        ∙ records_in-overwritten_end bytes page.time front r start len part p (ap (λ (n : ℕ). start + n) (sym fills) ∙ ends) fills (subst (Decodes bytes page.time) was is.reads);
+    }

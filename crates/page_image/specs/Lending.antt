@@ -1,14 +1,26 @@
 -- A payload that a page lends out to be written.
-use Rattle.std.specs.Prelude.{ℕ, List, length, take}
+use Rattle.std.specs.Prelude.{◌≡◌, ℕ, ◌+◌, List, [], ◌∷◌, ◌++◌, length, take}
 use Rattle.std.specs.Borrow.{Lends, MutBor, Fml, Array, u8}
-use Rattle.trace_model.specs.Overwriting.{overwritten}
-use Rattle.page_image.specs.Contents.{Contents}
+use Rattle.trace_model.specs.Record.{Record}
+use Rattle.trace_model.specs.Reading.{EndsInRecord, IsPlaceIn}
+use Rattle.trace_model.specs.Overwriting.{overwritten, bytes_at, IsReplacedAt}
+use Rattle.page_image.specs.Contents.{Contents, IsPage, records_of_page}
 use Rattle.page_image.specs.contracts.page.Page.{the_row}
 
--- the bytes from start on are these, as far as the data reaches
-abbrev pub overwritten_within : List ℕ → ℕ → List ℕ → List ℕ
-overwritten_within bytes start part = take (length bytes) (overwritten bytes start part)
+-- the page whose bytes from start on are these, as far as the data reaches
+abbrev pub with_payload : Contents → ℕ → List ℕ → Contents
+with_payload page start part = record page { bytes = take (length page.bytes) (overwritten page.bytes start part) }
 
 -- the page ends with the payload from start on set to the last bytes behind the result
 abbrev pub LendsPayload : MutBor Contents → ℕ → MutBor (List ℕ) → Fml
-LendsPayload page start result = Lends the_row (Array u8 0) page result (λ part. record page.now { bytes = overwritten_within page.now.bytes start part })
+LendsPayload page start result = Lends the_row (Array u8 0) page result (with_payload page.now start)
+
+-- What a payload written anew makes of its page: it still reads, the one record has these bytes, and all
+-- others are as they were.
+pub record PayloadWritten (page : Contents) (start : ℕ) (part : List ℕ) : Type 0 where
+  pub bytes : (with_payload page start part).bytes ≡ overwritten page.bytes start part
+  pub page_reads : IsPage page → IsPage (with_payload page start part)
+  pub open_stays : EndsInRecord page.bytes → EndsInRecord (with_payload page start part).bytes
+  pub place_stays : IsPlaceIn (with_payload page start part).bytes start (length part)
+  pub one_record : IsPage page → (number : ℕ) × IsReplacedAt number (records_of_page page) (records_of_page (with_payload page start part)) (bytes_at start (length part) page.bytes) part
+  pub last_record : IsPage page → start + length part ≡ length page.bytes → (front : List Record) (r : Record) → records_of_page page ≡ front ++ r ∷ [] → records_of_page (with_payload page start part) ≡ front ++ record { moment = r.moment; bytes = part } ∷ []

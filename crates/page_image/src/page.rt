@@ -29,9 +29,9 @@ impl Model for Page {
 }
 
 impl Page {
-    ghost use Rattle.std.specs.Prelude.{◌≡◌, ◌+◌, ◌-◌, ◌≤◌, ◌<◌, ◌^◌, [], ◌∷◌, ◌++◌, length, replicate, if◌then◌else◌, IfSome, slice_range};
+    ghost use Rattle.std.specs.Prelude.{◌≡◌, ◌+◌, ◌-◌, ◌≤◌, ◌<◌, ◌^◌, [], ◌∷◌, ◌++◌, length, replicate, if◌then◌else◌, IfSome, slice_range, ℕ, List};
     ghost use Rattle.std.specs.Borrow.{sem};
-    ghost use Rattle.page_image.specs.Lending.{LendsPayload};
+    ghost use Rattle.page_image.specs.Lending.{LendsPayload, PayloadWritten};
     ghost use Rattle.trace_model.specs.Words.{encoded_len, encoding, slot_len};
     ghost use Rattle.trace_model.specs.Reading.{EndsInRecord, IsPlaceIn};
     ghost use Rattle.trace_model.specs.Order.{moment_of_last};
@@ -135,6 +135,7 @@ impl Page {
         requires { IsPlaceIn self.old.bytes place.start place.len }
         ensures* lends { sem 𝓛 (LendsPayload self.entry place.start result) }
         ensures payload { result.now ≡ slice_range self.old.bytes place.start (place.start + place.len) }
+        ensures written { (part : List ℕ) → length part ≡ place.len → PayloadWritten self.old place.start part }
     {
         let body = &mut self.body;
         body.slice_mut(place.start..place.start + place.len)

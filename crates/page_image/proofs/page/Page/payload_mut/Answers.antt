@@ -3,8 +3,7 @@ use Rattle.std.specs.List.{length_refill}
 use Rattle.trace_model.specs.Reading.{IsPlaceIn}
 use Rattle.trace_model.proofs.Overwritten.{place-within}
 use Rattle.page_image.specs.Contents.{Contents}
-use Rattle.page_image.specs.Lending.{overwritten_within}
-use Rattle.page_image.proofs.Overwriting.{written_within, range_within}
+use Rattle.page_image.proofs.Overwriting.{written_within, range_within, payload_written}
 use Rattle.page_image.proofs.page.Page.payload_mut.Goals as goal
 
 pub overflow_add-place : goal.overflow_add-place
@@ -38,5 +37,9 @@ returns c =
         size = (sym (length_refill v.body.len v.body.items (take c.args.place.start v.body.items ++ (w ++ drop (length w) (drop c.args.place.start v.body.items))) v.body.ok.0) ∙ v.body.ok.0) i;
         bytes = written_within v.body.items w v.end c.args.place.start v.body.len (omega arith) c.self.invariant.0 v.body.ok.0 i;
       }),
-      record { lends = tt; payload = c.slice_mut.ensures.value ∙ range_within v.body.items v.end c.args.place.start c.args.place.len (omega arith) },
+      record {
+        lends = tt;
+        payload = c.slice_mut.ensures.value ∙ range_within v.body.items v.end c.args.place.start c.args.place.len (omega arith);
+        written = λ part fills. payload_written _ c.args.place.start c.args.place.len part (subst (λ (p : Contents). IsPlaceIn p.bytes c.args.place.start c.args.place.len) (sym c.self.view_is) c.requires) fills;
+      },
     )
