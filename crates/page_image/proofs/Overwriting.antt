@@ -40,11 +40,13 @@ payload_written page start len part p fills =
       open_stays = λ ends. subst EndsInRecord (sym same) (EndsInRecord-overwritten bytes start len part p fills ends);
       place_stays = subst (λ (b : List ℕ). IsPlaceIn b start (length part)) (sym same) (subst (IsPlaceIn new start) (sym fills) (IsPlaceOf-overwritten_same bytes number start len part place fills).place);
       one_record = λ is.
-        let h = Decodes-overwritten bytes page.time (records_of_page page) number start len part place fills is.reads in
-        let found : records_in page.time (take (length bytes) new) ≡ h.0 = ap (records_in page.time) same ∙ records_in-Decodes new page.time h.0 h.1 in
-        (number, subst (λ (n : ℕ). IsReplacedAt number (records_of_page page) (records_in page.time (take (length bytes) new)) (bytes_at start n bytes) part) (sym fills)
-          (subst (λ (rs : List Record). IsReplacedAt number (records_of_page page) rs (bytes_at start len bytes) part) (sym found) h.2));
+          let h = Decodes-overwritten bytes page.time (records_of_page page) number start len part place fills is.reads in
+          let found : records_in page.time (take (length bytes) new) ≡ h.0 = ap (records_in page.time) same ∙ records_in-Decodes new page.time h.0 h.1 in (
+            number,
+            subst (λ (n : ℕ). IsReplacedAt number (records_of_page page) (records_in page.time (take (length bytes) new)) (bytes_at start n bytes) part) (sym fills)
+                (subst (λ (rs : List Record). IsReplacedAt number (records_of_page page) rs (bytes_at start len bytes) part) (sym found) h.2),
+          );
       last_record = λ is ends front r was.
-        ap (records_in page.time) same
-        ∙ records_in-overwritten_end bytes page.time front r start len part p (ap (λ (n : ℕ). start + n) (sym fills) ∙ ends) fills (subst (Decodes bytes page.time) was is.reads);
+          ap (records_in page.time) same
+          ∙ records_in-overwritten_end bytes page.time front r start len part p (ap (λ (n : ℕ). start + n) (sym fills) ∙ ends) fills (subst (Decodes bytes page.time) was is.reads);
     }

@@ -163,8 +163,8 @@ put_page old new prev moment len start ends last order small limit bytes_is time
     let r : Record = record { moment = moment; bytes = replicate (slot_len len) 0 } in
     let end = put_end old.bytes prev moment len ends small limit in
     let reads : IsPage old → Decodes new.bytes new.time (records_of_page old ++ r ∷ []) = λ page.
-      subst (λ (t : ℕ). Decodes new.bytes t (records_of_page old ++ r ∷ [])) (sym time_is)
-      (subst (λ (b : List ℕ). Decodes b (cond (is_blank old.bytes) moment old.time) (records_of_page old ++ r ∷ [])) (sym bytes_is) (put_data old.bytes old.time prev moment len ends page.reads last order small limit)) in
+    subst (λ (t : ℕ). Decodes new.bytes t (records_of_page old ++ r ∷ [])) (sym time_is)
+    (subst (λ (b : List ℕ). Decodes b (cond (is_blank old.bytes) moment old.time) (records_of_page old ++ r ∷ [])) (sym bytes_is) (put_data old.bytes old.time prev moment len ends page.reads last order small limit)) in
     let now : IsPage old → records_of_page new ≡ records_of_page old ++ r ∷ [] = λ page. records_in-Decodes new.bytes new.time (records_of_page old ++ r ∷ []) (reads page) in
     record {
       page = λ page. record {

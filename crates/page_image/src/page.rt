@@ -1,4 +1,6 @@
 //! A page: the records of one fill, as they stand in its body.
+mod header;
+
 use crate::body::Body;
 use crate::put::put_behind;
 use record_words::Place;
@@ -52,55 +54,6 @@ impl Page {
         }
     }
 
-    /// The moment of the first record; 0 where there is none.
-    pub fn time(&self) -> u64
-        ensures { result ≡ self.now.time }
-    {
-        self.time
-    }
-
-    /// How many bytes of the body the records take.
-    pub fn end(&self) -> usize
-        ensures { result ≡ length self.now.bytes }
-    {
-        self.end
-    }
-
-    /// The number of the first record.
-    pub fn first(&self) -> RecordNo
-        ensures { result.0 ≡ self.now.first }
-    {
-        self.first
-    }
-
-    /// How many records the page holds.
-    pub fn count(&self) -> u64
-        ensures { result ≡ self.now.count }
-    {
-        self.count
-    }
-
-    /// Which fill of its ring the page is.
-    pub fn fill(&self) -> FillNo
-        ensures { result.0 ≡ self.now.fill }
-    {
-        self.fill
-    }
-
-    /// How many bytes the page has for records.
-    pub fn size(&self) -> usize
-        ensures { result ≡ self.now.size }
-    {
-        self.body.len()
-    }
-
-    /// The bytes of the records, up to the real end.
-    pub fn data(&self) -> &[u8]
-        ensures { result.now ≡ self.now.bytes }
-    {
-        &self.body[..self.end]
-    }
-
     /// Adds a record of this moment with a zeroed payload of `len` bytes, rounded up to whole words, behind the
     /// others, and answers where its payload lies. `prev` is the moment of the last record, if there is one.
     pub fn put(&mut self, prev: u64, moment: u64, len: usize) -> Place
@@ -145,21 +98,10 @@ impl Page {
     pub fn numbered(self, first: RecordNo, fill: FillNo) -> Page
         ensures { result ≡ record self { first = first.0; fill = fill.0 } }
     {
-        let Page {
-            body,
-            time,
-            end,
-            first: _,
-            count,
-            fill: _,
-        } = self;
         Page {
-            body,
-            time,
-            end,
             first,
-            count,
             fill,
+            ..self
         }
     }
 
@@ -167,14 +109,7 @@ impl Page {
     pub fn into_body(self) -> Body
         ensures { length result ≡ self.size }
     {
-        let Page {
-            body,
-            time: _,
-            end: _,
-            first: _,
-            count: _,
-            fill: _,
-        } = self;
+        let Page { body, .. } = self;
         Body::of_bytes(body)
     }
 }

@@ -17,6 +17,9 @@ const TIME_EXTEND: u32 = 30;
 /// The type of an absolute stamp.
 const TIME_STAMP: u32 = 31;
 
+/// The least length that a word can state, in bytes: that of the stated number itself.
+const LEAST_LENGTH: usize = 4;
+
 /// A word of the data of a page. `next` is the offset behind it, in bytes.
 #[derive(Clone, Copy, Debug, PartialEq, Eq)]
 pub enum Word {
@@ -86,7 +89,7 @@ fn end_of_stated(data: &[u8], at: usize) -> Result<usize, WordFault>
     ensures fault { IfErr result (λ f. IsFaultAt «data».now at f) }
 {
     let len = number_behind(data, at)? as usize;
-    if len < 4 || !len.is_multiple_of(4) {
+    if len < LEAST_LENGTH || !len.is_multiple_of(4) {
         return Err(WordFault::BadLength(at));
     }
     if data.len() - at - 4 < len {

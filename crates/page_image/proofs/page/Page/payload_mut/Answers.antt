@@ -29,14 +29,17 @@ returns c =
     let bytes_is = ap (λ (p : Contents). length p.bytes) c.self.view_is in
     let end_len = length-take-le v.end v.body.items c.self.invariant.0 in
     rw (← c.self.view_is) (
-      (refl, λ w i. record {
-        time = v.time;
-        first = v.first.0;
-        count = v.count;
-        fill = v.fill.0;
-        size = (sym (length_refill v.body.len v.body.items (take c.args.place.start v.body.items ++ (w ++ drop (length w) (drop c.args.place.start v.body.items))) v.body.ok.0) ∙ v.body.ok.0) i;
-        bytes = written_within v.body.items w v.end c.args.place.start v.body.len (omega arith) c.self.invariant.0 v.body.ok.0 i;
-      }),
+      (
+        refl,
+        λ w i. record {
+          time = v.time;
+          first = v.first.0;
+          count = v.count;
+          fill = v.fill.0;
+          size = (sym (length_refill v.body.len v.body.items (take c.args.place.start v.body.items ++ (w ++ drop (length w) (drop c.args.place.start v.body.items))) v.body.ok.0) ∙ v.body.ok.0) i;
+          bytes = written_within v.body.items w v.end c.args.place.start v.body.len (omega arith) c.self.invariant.0 v.body.ok.0 i;
+        },
+      ),
       record {
         lends = tt;
         payload = c.slice_mut.ensures.value ∙ range_within v.body.items v.end c.args.place.start c.args.place.len (omega arith);

@@ -42,24 +42,24 @@ wrote c =
     let v = c.self.inside in
     let same : was c ≡ c.args.self.now = c.self.view_is in
     let room : length (was c).bytes + encoded_len c.args.len (c.args.moment - c.args.prev) (is_blank (was c).bytes) ≤ (was c).size =
-      subst (λ (p : Contents). length p.bytes + encoded_len c.args.len (c.args.moment - c.args.prev) (is_blank p.bytes) ≤ p.size) (sym same) c.requires.room in
+    subst (λ (p : Contents). length p.bytes + encoded_len c.args.len (c.args.moment - c.args.prev) (is_blank p.bytes) ≤ p.size) (sym same) c.requires.room in
     let items_len : v.body.len ≡ length v.body.items = v.body.ok.0 in
     let body_len : length c.put_behind-place.new.body ≡ v.body.len = omega arith in
     let items_is : (with_items v.body c.put_behind-place.new.body).items ≡ c.put_behind-place.new.body = with_items_is v.body c.put_behind-place.new.body body_len in
     let end_len : length (take v.end v.body.items) ≡ v.end = length-take-le v.end v.body.items c.self.invariant.0 in
     let blank : nat_eq v.end 0 ≡ is_blank (was c).bytes = ap (λ (n : ℕ). nat_eq n 0) (sym end_len) ∙ blank_is (take v.end v.body.items) in
     let time_is : c.if-is_first.self ≡ cond (nat_eq v.end 0) c.args.moment v.time =
-      elim c.if-is_first.branch [ then-is_first w ↦ w.self-is ∙ sym (cond-true (nat_eq v.end 0) _ _ (search rules)) | else-is_first w ↦ w.self-is ∙ sym (cond-false (nat_eq v.end 0) _ _ (search rules)) ] in
+    elim c.if-is_first.branch [ then-is_first w ↦ w.self-is ∙ sym (cond-true (nat_eq v.end 0) _ _ (search rules)) | else-is_first w ↦ w.self-is ∙ sym (cond-false (nat_eq v.end 0) _ _ (search rules)) ] in
     let end_is : c.put_behind-place.result.start + c.put_behind-place.result.len ≡ length (was c).bytes + encoded_len c.args.len (c.args.moment - c.args.prev) (is_blank (was c).bytes) =
-      c.put_behind-place.ensures.end ∙ ap (λ (b : Bool). v.end + encoded_len c.args.len (c.args.moment - c.args.prev) b) blank ∙ ap (λ (n : ℕ). n + encoded_len c.args.len (c.args.moment - c.args.prev) (is_blank (was c).bytes)) (sym end_len) in
+    c.put_behind-place.ensures.end ∙ ap (λ (b : Bool). v.end + encoded_len c.args.len (c.args.moment - c.args.prev) b) blank ∙ ap (λ (n : ℕ). n + encoded_len c.args.len (c.args.moment - c.args.prev) (is_blank (was c).bytes)) (sym end_len) in
     record {
       same = same;
       items = ap length items_is ∙ body_len ∙ items_len;
       end = end_is;
       room = omega arith;
       bytes = ap (take (c.put_behind-place.result.start + c.put_behind-place.result.len)) items_is ∙ c.put_behind-place.ensures.bytes
-        ∙ ap (λ (items : List ℕ). take v.end items ++ encoding (c.args.moment - c.args.prev) (nat_eq v.end 0) (replicate (slot_len c.args.len) 0)) c.deref_mut.ensures.value
-        ∙ ap (λ (b : Bool). (was c).bytes ++ encoding (c.args.moment - c.args.prev) b (replicate (slot_len c.args.len) 0)) blank;
+          ∙ ap (λ (items : List ℕ). take v.end items ++ encoding (c.args.moment - c.args.prev) (nat_eq v.end 0) (replicate (slot_len c.args.len) 0)) c.deref_mut.ensures.value
+          ∙ ap (λ (b : Bool). (was c).bytes ++ encoding (c.args.moment - c.args.prev) b (replicate (slot_len c.args.len) 0)) blank;
       time = time_is ∙ ap (λ (b : Bool). cond b c.args.moment v.time) blank;
     }
 
@@ -71,7 +71,7 @@ whole c =
     let limit = c.self.invariant.1 in
     let short : c.args.len ≤ 2 ^ 30 = omega (arith, slot_len_ge c.args.len, w.end, w.room) in
     let end_is : c.put_behind-place.result.start + slot_len c.args.len ≡ length (now c).bytes =
-      ap (λ (n : ℕ). c.put_behind-place.result.start + n) (sym c.put_behind-place.ensures.len) ∙ sym (length-take-le _ (with_items c.self.inside.body c.put_behind-place.new.body).items (omega (arith, w.room, w.items))) in
+    ap (λ (n : ℕ). c.put_behind-place.result.start + n) (sym c.put_behind-place.ensures.len) ∙ sym (length-take-le _ (with_items c.self.inside.body c.put_behind-place.new.body).items (omega (arith, w.room, w.items))) in
     put_page (was c) (now c) c.args.prev c.args.moment c.args.len c.put_behind-place.result.start ends last c.requires.order c.requires.moment short w.bytes w.time refl end_is
 
 pub invariant_of-self : goal.invariant_of-self

@@ -1,0 +1,56 @@
+//! What a page tells of itself.
+use crate::page::Page;
+use trace_model::{FillNo, RecordNo};
+
+impl Page {
+    ghost use Rattle.std.specs.Prelude.{◌≡◌, length};
+
+    /// The moment of the first record; 0 where there is none.
+    pub fn time(&self) -> u64
+        ensures { result ≡ self.now.time }
+    {
+        self.time
+    }
+
+    /// How many bytes of the body the records take.
+    pub fn end(&self) -> usize
+        ensures { result ≡ length self.now.bytes }
+    {
+        self.end
+    }
+
+    /// The number of the first record.
+    pub fn first(&self) -> RecordNo
+        ensures { result.0 ≡ self.now.first }
+    {
+        self.first
+    }
+
+    /// How many records the page holds.
+    pub fn count(&self) -> u64
+        ensures { result ≡ self.now.count }
+    {
+        self.count
+    }
+
+    /// Which fill of its ring the page is.
+    pub fn fill(&self) -> FillNo
+        ensures { result.0 ≡ self.now.fill }
+    {
+        self.fill
+    }
+
+    /// How many bytes the page has for records.
+    pub fn size(&self) -> usize
+        ensures { result ≡ self.now.size }
+    {
+        self.body.len()
+    }
+
+    /// The bytes of the records, up to the real end.
+    pub fn data(&self) -> &[u8]
+        ensures { result.now ≡ self.now.bytes }
+    {
+        &self.body[..self.end]
+    }
+}

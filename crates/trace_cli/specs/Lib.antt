@@ -1,0 +1,6 @@
+pub mod Failing
+pub mod Ends
+pub mod Answer
+pub mod Told
+pub mod Replay
+pub mod CommandLine

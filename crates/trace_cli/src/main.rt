@@ -1,0 +1,54 @@
+//! The program `tracering`: replays scripts of writers, readers and collectors of a trace ring.
+#![tactic(auto)]
+
+pub mod answer;
+pub mod command;
+pub mod ends;
+pub mod input;
+pub mod output;
+pub mod replay;
+pub mod status;
+pub mod words;
+
+use crate::command::tell_no_memory;
+use crate::ends::Std;
+use crate::replay::replay_to;
+use crate::status::USAGE;
+use crate::words::{Call, CallFault, call_of};
+use std::alloc::{AllocError, Global};
+use std::io::ErrorKind;
+use std::process::ExitCode;
+use std::rt::Env;
+use std::{env, io};
+
+// The words of the command line, as they were given to the process.
+fn given_words<R: Env + AllocGlobal>(rt: &R) -> Result<Vec<String>, CallFault> {
+    match env::args(rt) {
+        Ok(words) => Ok(words.collect(rt.alloc())?),
+        Err(error) if error.kind() == ErrorKind::OutOfMemory => Err(CallFault::NoMemory),
+        Err(_) => Err(CallFault::Usage),
+    }
+}
+
+// What the process's command line asks for.
+fn given_call<R: Env + AllocGlobal>(rt: &R) -> Result<Call, CallFault> {
+    let words = given_words(rt)?;
+    call_of(rt.alloc(), words.as_slice())
+}
+
+fn main(rt: HostRuntime) -> ExitCode {
+    let mut input = Std::new(rt.stdin());
+    let mut output = Std::new(rt.stdout());
+    let status = match given_call(&rt) {
+        Ok(Call::Replay) => replay_to(rt.alloc(), &mut input, &mut output),
+        Err(CallFault::NoMemory) => tell_no_memory(&mut output),
+        Err(CallFault::Usage) => {
+            let _ = eprintln!(rt; "usage: tracering replay");
+            USAGE
+        }
+    };
+    ExitCode::from(status)
+}
+
+#[cfg(test)]
+mod tests;
