@@ -2,3 +2,5 @@ mod Blank
 mod Behind
 mod Putting
 mod Overwriting
+mod Sought
+mod Running

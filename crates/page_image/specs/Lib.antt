@@ -1,2 +1,4 @@
 pub mod Contents
 pub mod Lending
+pub mod Copies
+pub mod Walk

@@ -4,7 +4,9 @@
 #![tactic(auto)]
 
 mod body;
+mod copies;
 mod page;
+mod places;
 mod put;
 
 pub use body::Body;

@@ -1,1 +1,6 @@
 pub mod CommandLineLemmas
+pub mod Parts
+pub mod FieldLemmas
+pub mod ValueLemmas
+pub mod HexText
+pub mod ReadingLemmas

@@ -1,5 +1,5 @@
 -- The program's command line as `clap` parses it.
-use Rattle.std.specs.Prelude.{◌≡◌, ℕ, List, Option, codes}
+use Rattle.std.specs.Prelude.{List, Option, codes}
 use Rattle.std.specs.Option.{option_map}
 use Rattle.clap.specs.Words.{App, Text, new_app, subcommand_of, with_subcommand}
 use Rattle.clap.specs.declared.error.ErrorKind.{ErrorKind}
@@ -12,7 +12,7 @@ abbrev pub command_line : App
 command_line = with_subcommand (new_app (codes "tracering")) (new_app (codes "replay")).top
 
 -- the command that the words name
-abbrev pub names_command : List Text → Option Text
+unfoldable pub names_command : List Text → Option Text
 names_command words = option_map (λ p. p.0) (subcommand_of command_line words)
 
 -- the parse fails for want of memory or at the words

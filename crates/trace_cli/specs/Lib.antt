@@ -4,3 +4,6 @@ pub mod Answer
 pub mod Told
 pub mod Replay
 pub mod CommandLine
+pub mod ScriptFaults
+pub mod ScriptFields
+pub mod ScriptTypes

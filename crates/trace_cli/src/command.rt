@@ -3,7 +3,7 @@
 ghost use Rattle.std.specs.Prelude.{◌≡◌, ℕ, ◌⊎◌, ◌↔◌, false, true, List, Err, IfOk};
 ghost use Rattle.std.specs.Io.KnownBytes.{Appends, Keeps};
 ghost use Rattle.trace_cli.specs.Answer.{bytes_of, status_of};
-ghost use Rattle.trace_cli.specs.Told.{AppendsPart, IsAnswerTo, TakesMoreThan, TellsAnswer, TellsPart};
+ghost use Rattle.trace_cli.specs.Told.{AppendsPart, IsAnswerTo, TakesAtMost, TakesMoreThan, TellsAnswer, TellsPart};
 
 use crate::answer::Answer;
 use crate::ends::{Sink, Source};
@@ -39,6 +39,8 @@ fn answer_read<A: Answers, R: Source>(
     ensures read_fault { (R.failed reader.new ≡ true) ↔ (result ≡ Err InputFault.Read) }
     ensures too_long { result ≡ Err InputFault.TooLong
         → TakesMoreThan MAX_INPUT (R.remaining reader.old) (R.remaining reader.new) }
+    ensures no_memory { result ≡ Err InputFault.NoMemory
+        → TakesAtMost MAX_INPUT (R.remaining reader.old) (R.remaining reader.new) }
 {
     let text = read_all(alloc, reader)?;
     match answers.answer(alloc, text.as_slice()) {
@@ -90,7 +92,8 @@ pub fn answer_to<A: Answers, R: Source, W: Sink>(
         → TellsAnswer (A.gives answers.now) (R.remaining reader.old) (R.remaining reader.new)
         (W.contents writer.old) (W.contents writer.new) result }
     ensures memory { result ≡ NO_MEMORY
-        → Appends (W.contents writer.old) (W.contents writer.new) MEMORY_LINE }
+        → Appends (W.contents writer.old) (W.contents writer.new) MEMORY_LINE
+        × TakesAtMost MAX_INPUT (R.remaining reader.old) (R.remaining reader.new) }
 
     // Status 4 has one of three causes, and the first two always give it.
     ensures read_fault { R.failed reader.new ≡ true

@@ -1,6 +1,6 @@
 //! Reads all of a source, up to a limit.
 ghost use Rattle.std.specs.Prelude.{◌≡◌, ◌≢◌, ◌↔◌, ◌+◌, ◌<◌, ◌≤◌, ◌++◌, false, true, vec_len, length, IfOk, IfErr, OnOk, OnErr, Err};
-ghost use Rattle.trace_cli.specs.Told.{ReadsAll, TakesMoreThan};
+ghost use Rattle.trace_cli.specs.Told.{ReadsAll, TakesAtMost, TakesMoreThan};
 
 use crate::ends::Source;
 use std::alloc::Global;
@@ -57,6 +57,8 @@ pub fn read_all<R: Source>(alloc: Global, reader: &mut R) -> Result<Vec<u8>, Inp
     ensures read_fault { (R.failed reader.new ≡ true) ↔ (result ≡ Err InputFault.Read) }
     ensures too_long { result ≡ Err InputFault.TooLong
         → TakesMoreThan MAX_INPUT (R.remaining reader.old) (R.remaining reader.new) }
+    ensures no_memory { result ≡ Err InputFault.NoMemory
+        → TakesAtMost MAX_INPUT (R.remaining reader.old) (R.remaining reader.new) }
 {
     let mut piece = new_piece(alloc)?;
     let mut text = Vec::new(alloc);

@@ -7,6 +7,7 @@ pub mod ends;
 pub mod input;
 pub mod output;
 pub mod replay;
+pub mod script;
 pub mod status;
 pub mod words;
 

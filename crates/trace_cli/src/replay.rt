@@ -3,7 +3,7 @@ ghost use Rattle.std.specs.Prelude.{◌≡◌, ◌⊎◌, false, true, IfOk};
 ghost use Rattle.std.specs.Io.KnownBytes.{Appends, Keeps};
 ghost use Rattle.trace_cli.specs.Answer.{bytes_of, status_of};
 ghost use Rattle.trace_cli.specs.Replay.{ReplayGives};
-ghost use Rattle.trace_cli.specs.Told.{TakesMoreThan, TellsAnswer, TellsPart};
+ghost use Rattle.trace_cli.specs.Told.{TakesAtMost, TakesMoreThan, TellsAnswer, TellsPart};
 
 use crate::answer::Answer;
 use crate::command::{Answers, MEMORY_LINE, answer_to};
@@ -47,7 +47,8 @@ pub fn replay_to<R: Source, W: Sink>(alloc: Global, reader: &mut R, writer: &mut
         → TellsAnswer ReplayGives (R.remaining reader.old) (R.remaining reader.new)
         (W.contents writer.old) (W.contents writer.new) result }
     ensures memory { result ≡ NO_MEMORY
-        → Appends (W.contents writer.old) (W.contents writer.new) MEMORY_LINE }
+        → Appends (W.contents writer.old) (W.contents writer.new) MEMORY_LINE
+        × TakesAtMost MAX_INPUT (R.remaining reader.old) (R.remaining reader.new) }
 
     // Status 4 has one of three causes, and the first two always give it.
     ensures read_fault { R.failed reader.new ≡ true

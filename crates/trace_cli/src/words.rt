@@ -1,5 +1,5 @@
 //! The program's command line.
-ghost use Rattle.std.specs.Prelude.{◌≡◌, ◌≢◌, ℕ, List, ◌∷◌, [], map, codes, Some, None, Ok, Err, true};
+ghost use Rattle.std.specs.Prelude.{◌≡◌, ◌≢◌, ℕ, List, ◌∷◌, [], map, codes, Some, Ok, Err, true};
 ghost use Rattle.clap.specs.Words.{kind_of, takes};
 ghost use Rattle.trace_cli.specs.CommandLine.{command_line, fault_of_kind, names_command};
 ghost use Rattle.trace_cli.specs.declared.words.CallFault.TheVariants.{NoMemory};
@@ -47,20 +47,14 @@ impl From<Error> for CallFault {
 /// What these words ask for. The first is the program's own name, whatever it is.
 pub fn call_of<S: AsStr>(alloc: Global, words: &[S]) -> Result<Call, CallFault>
     // Memory aside, the answer is the parse's.
-    ensures taken {
-        result ≡ Ok Call.Replay → names_command (map S.text words.now) ≡ Some (codes "replay")
-    }
-    ensures refused {
-        result ≡ Err CallFault.Usage
+    ensures taken { result ≡ Ok Call.Replay → names_command (map S.text words.now) ≡ Some (codes "replay") }
+    ensures refused { result ≡ Err CallFault.Usage
         → takes command_line (map S.text words.now) ≡ true
-        → names_command (map S.text words.now) ≡ None
-    }
+        → names_command (map S.text words.now) ≢ Some (codes "replay") }
 
     // Such as the two words of the program and its command.
-    ensures replay {
-        (first : List ℕ) → map S.text words.now ≡ first ∷ codes "replay" ∷ []
-        → result ≢ Err CallFault.Usage
-    }
+    ensures replay { (first : List ℕ) → map S.text words.now ≡ first ∷ codes "replay" ∷ []
+        → result ≢ Err CallFault.Usage }
 {
     let replay = Command::new(alloc, "replay");
     let bare = Command::new(alloc, "tracering");

@@ -8,3 +8,9 @@ pub mod Places
 pub mod Stepped
 pub mod Walked
 pub mod WordFaults
+pub mod HistoryFronts
+pub mod Histories
+pub mod Sublists
+pub mod TextLemmas
+pub mod ScriptLemmas
+pub mod ScriptReads

@@ -122,7 +122,7 @@ time_cut bytes long short high =
     let past : length (drop 4 bytes) < 4 = omega (arith, length-drop 4 bytes) in
     front_is bytes long ∙ ⊎_elim
     (λ (less : type_at_front bytes < 31). let is : type_at_front bytes ≡ 30 = omega arith in
-        extend_behind (type_at_front bytes) d (drop 4 bytes) is ∙ part_of-cut 4 (drop 4 bytes) (λ high. time_extend (from_le32 high * 2 ^ 27 + d)) past)
+    extend_behind (type_at_front bytes) d (drop 4 bytes) is ∙ part_of-cut 4 (drop 4 bytes) (λ high. time_extend (from_le32 high * 2 ^ 27 + d)) past)
     (λ more. stamp_behind (type_at_front bytes) d (drop 4 bytes) more ∙ part_of-cut 4 (drop 4 bytes) (λ high. time_stamp (from_le32 high * 2 ^ 27 + d)) past)
     (cases_lt (type_at_front bytes) 31)
 
@@ -246,12 +246,12 @@ stated_cases bytes long states =
     ⊎_elim (λ less. faulty bad_length (head_whole bytes head, (head, states, inl less))) (λ least.
     ⊎_elim (λ whole.
     ⊎_elim (λ past. faulty cut (inr (length_good bytes least whole, inr (head, states, past)))) (λ fits.
-        good (record { head = head; least = least; whole = whole; fits = fits }))
-      (cases_lt (length bytes) (4 + number_behind bytes)))
-      (λ odd. faulty bad_length (head_whole bytes head, (head, states, inr odd)))
-      (cases_eq (number_behind bytes % 4) 0))
-      (cases_lt (number_behind bytes) 4))
-      (cases_lt (length bytes) 8)
+    good (record { head = head; least = least; whole = whole; fits = fits }))
+    (cases_lt (length bytes) (4 + number_behind bytes)))
+    (λ odd. faulty bad_length (head_whole bytes head, (head, states, inr odd)))
+    (cases_eq (number_behind bytes % 4) 0))
+    (cases_lt (number_behind bytes) 4))
+    (cases_lt (length bytes) 8)
 
 Front : List ℕ → Type 0
 Front bytes = HasWord bytes ⊎ (HasEnding bytes ⊎ HasFault bytes)
@@ -273,9 +273,9 @@ unfolding Front
 from_time bytes long high = ⊎_elim
     (λ short. inr (inr (cut, inl (inr (long, short, inr high)))))
     (λ head. inl (⊎_elim
-      (λ (less : type_at_front bytes < 31). HasWord-some bytes _ _ (front-extend bytes (let is : type_at_front bytes ≡ 30 = omega arith in is) head))
-      (λ more. HasWord-some bytes _ _ (front-stamp bytes more head))
-      (cases_lt (type_at_front bytes) 31)))
+    (λ (less : type_at_front bytes < 31). HasWord-some bytes _ _ (front-extend bytes (let is : type_at_front bytes ≡ 30 = omega arith in is) head))
+    (λ more. HasWord-some bytes _ _ (front-stamp bytes more head))
+    (cases_lt (type_at_front bytes) 31)))
     (cases_lt (length bytes) 8)
 
 from_padding : (bytes : List ℕ) → 4 ≤ length bytes → type_at_front bytes ≡ 29 → Front bytes
@@ -288,12 +288,12 @@ from_padding bytes long is = ⊎_elim
 from_head : (bytes : List ℕ) → 4 ≤ length bytes → Front bytes
 from_head bytes long =
     ⊎_elim (λ (less : type_at_front bytes < 1). let is : type_at_front bytes ≡ 0 = omega arith in
-        from_stated bytes (λ has. HasWord-some bytes _ _ (front-long bytes is has)) (stated_cases bytes long (inl is))) (λ some.
+    from_stated bytes (λ has. HasWord-some bytes _ _ (front-long bytes is has)) (stated_cases bytes long (inl is))) (λ some.
     ⊎_elim (λ (less : type_at_front bytes < 29). let high : type_at_front bytes ≤ 28 = omega arith in from_short bytes long (some, high)) (λ more.
     ⊎_elim (λ (less : type_at_front bytes < 30). let is : type_at_front bytes ≡ 29 = omega arith in from_padding bytes long is) (λ high. from_time bytes long high)
-      (cases_lt (type_at_front bytes) 30))
-      (cases_lt (type_at_front bytes) 29))
-      (cases_lt (type_at_front bytes) 1)
+    (cases_lt (type_at_front bytes) 30))
+    (cases_lt (type_at_front bytes) 29))
+    (cases_lt (type_at_front bytes) 1)
 
 -- where some byte is left, one of the three stands at the front
 pub front_cases : (bytes : List ℕ) → 1 ≤ length bytes → HasWord bytes ⊎ (HasEnding bytes ⊎ HasFault bytes)

@@ -5,4 +5,10 @@ pub mod Faults
 pub mod Order
 pub mod Overwriting
 pub mod History
+pub mod Sublist
+pub mod Text
+pub mod Script
+pub mod ScriptReading
+pub mod Replay
+pub mod Printing
 pub mod Laws

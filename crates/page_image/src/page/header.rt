@@ -5,7 +5,8 @@ use trace_model::{FillNo, RecordNo};
 impl Page {
     ghost use Rattle.std.specs.Prelude.{◌≡◌, length};
 
-    /// The moment of the first record; 0 where there is none.
+    /// The time from which the moments of the records are counted: in a page filled by `put` the first record's moment, and 0
+    /// before there is one.
     pub fn time(&self) -> u64
         ensures { result ≡ self.now.time }
     {

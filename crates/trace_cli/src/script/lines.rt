@@ -1,0 +1,112 @@
+//! A text, line by line.
+ghost use Rattle.std.specs.Prelude.{◌≡◌, ◌+◌, ◌-◌, ◌^◌, ◌<◌, ◌≤◌, ◌==◌, ⊤, [], ◌∷◌, length, position, MatchOption};
+ghost use Rattle.std.specs.List.{slice_split};
+ghost use Rattle.trace_model.specs.Text.{lines_of};
+ghost use Rattle.trace_model.specs.Script.{is_counted};
+ghost use Rattle.trace_model.specs.ScriptReading.{counted_behind, end_behind};
+
+/// The place of the first separator, if there is one.
+fn place_of(bytes: &[u8], separator: u8) -> Option<usize>
+    ensures { result ≡ position (λ b. b == separator) bytes.now }
+{
+    bytes.iter().position(|b| *b == separator)
+}
+
+/// What stands in front of the first separator, and what stands behind it, if there is one.
+pub fn cut_at(bytes: &[u8], separator: u8) -> (&[u8], Option<&[u8]>)
+    ensures parts { MatchOption result.1
+        (slice_split (λ b. b == separator) bytes.now ≡ result.0.now ∷ [])
+        (λ rest. slice_split (λ b. b == separator) bytes.now
+        ≡ result.0.now ∷ slice_split (λ b. b == separator) rest.now) }
+    ensures whole { MatchOption result.1 (result.0.now ≡ bytes.now) (λ rest. ⊤) }
+    ensures len { MatchOption result.1 ⊤ (λ rest. length rest.now < length bytes.now) }
+{
+    match place_of(bytes, separator) {
+        Some(at) => (&bytes[..at], Some(&bytes[at + 1..])),
+        None => (bytes, None),
+    }
+}
+
+/// A line of a text, without its line feed.
+#[derive(Clone, Copy)]
+pub struct Line<'a> {
+    /// Its place among all lines of the text, from 1.
+    pub number: u64,
+    pub text: &'a [u8],
+}
+
+/// The lines of a text that are still to be read.
+#[derive(Drop)]
+pub struct Lines<'a> {
+    /// The text from the next line on.
+    pub rest: &'a [u8],
+    /// How many lines stand in front of it.
+    pub passed: u64,
+    ghost bounded: { passed + length rest.now < 2 ^ 63 },
+}
+
+/// Whether the line says something: it is neither empty nor begins with `#`.
+fn is_counted(line: &[u8]) -> bool
+    ensures { result ≡ is_counted line.now }
+{
+    match line {
+        [] => false,
+        [first, ..] => *first != b'#',
+    }
+}
+
+impl<'a> Lines<'a> {
+    /// All lines of a text.
+    pub fn of(text: &'a [u8]) -> Lines<'a>
+        ensures rest { result.rest.now ≡ text.now }
+        ensures passed { result.passed ≡ 0 }
+    {
+        Lines {
+            rest: text,
+            passed: 0,
+        }
+    }
+
+    /// The next line.
+    fn next_line(&mut self) -> Option<Line<'a>>
+        ensures lines { MatchOption result (lines_of self.old.rest.now ≡ []) (λ line.
+            lines_of self.old.rest.now ≡ line.text.now ∷ lines_of self.new.rest.now) }
+        ensures number { MatchOption result
+            ((self.new.passed ≡ self.old.passed) × (self.new.rest.now ≡ self.old.rest.now)) (λ line.
+            (line.number ≡ self.old.passed + 1) × (self.new.passed ≡ self.old.passed + 1)) }
+        ensures shorter { MatchOption result ⊤ (λ line.
+            length self.new.rest.now < length self.old.rest.now) }
+    {
+        if self.rest.is_empty() {
+            return None;
+        }
+        let (text, rest) = cut_at(self.rest, b'\n');
+        self.rest = rest.unwrap_or(&[]);
+        self.passed += 1;
+        Some(Line {
+            number: self.passed,
+            text,
+        })
+    }
+
+    /// The next line that says something.
+    pub fn next_counted(&mut self) -> Option<Line<'a>>
+        ensures left { MatchOption result
+            (counted_behind self.old.passed self.old.rest.now ≡ [])
+            (λ line. counted_behind self.old.passed self.old.rest.now
+            ≡ (line.number, line.text.now) ∷ counted_behind self.new.passed self.new.rest.now) }
+        ensures end { end_behind self.new.passed self.new.rest.now
+            ≡ end_behind self.old.passed self.old.rest.now }
+        ensures passed { MatchOption result
+            (end_behind self.new.passed self.new.rest.now ≡ self.new.passed + 1) (λ line. ⊤) }
+        ensures shorter { MatchOption result ⊤ (λ line.
+            length self.new.rest.now < length self.old.rest.now) }
+    {
+        while let Some(line) = self.next_line() {
+            if is_counted(line.text) {
+                return Some(line);
+            }
+        }
+        None
+    }
+}

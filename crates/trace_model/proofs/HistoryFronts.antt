@@ -1,0 +1,101 @@
+-- The records reserved in a settled front of a history are a front of all that it reserves.
+use Rattle.std.proofs.Common.{◌≡◌, ◌⊎◌, inl, inr, ⊎_elim, ℕ, zero, suc, ◌+◌, ◌≤◌, ◌<◌, Bool, true, false, cond, List, [], ◌∷◌, ◌++◌, length, take, drop, fold, Option, Some, None, refl, sym, ap, ◌∙◌, arith, append_assoc, append-nil, take-append-drop, length-append}
+use Rattle.std.specs.List.{AllByRecursion}
+use Rattle.trace_model.specs.History.{Action, push, push_close, open_fill, reserve, leave, Reserved, Frame, Written, reserved_for, finished_at, acted, written_by, reserved_records, is_settled, settled_front_within, settled_front}
+use Rattle.trace_model.specs.Sublist.{IsFront}
+
+-- a frame that has no record yet, or one behind the first n
+abbrev pub HasNumberFrom : ℕ → Option ℕ → Type 0
+HasNumberFrom n None = Unit {0}
+HasNumberFrom n (Some number) = n ≤ number
+
+abbrev pub AreFramesFrom : ℕ → List Frame → Type 0
+AreFramesFrom n [] = Unit {0}
+AreFramesFrom n (f ∷ stack) = HasNumberFrom n f.number × AreFramesFrom n stack
+
+finished_behind : (xs ys : List Reserved) (number : ℕ) (payload : List ℕ) → length xs ≤ number → IsFront xs (finished_at (Some number) (Some payload) (xs ++ ys))
+finished_behind [] ys number payload h = (finished_at (Some number) (Some payload) ys, refl)
+finished_behind (x ∷ xs) ys zero payload h = absurd (omega arith)
+finished_behind (x ∷ xs) ys (suc number) payload h =
+    let below = finished_behind xs ys number payload (omega arith) in
+    (below.0, ap (λ (zs : List Reserved). x ∷ zs) below.1)
+
+finished_keeps : (xs records : List Reserved) (number : Option ℕ) (payload : Option (List ℕ)) → HasNumberFrom (length xs) number → IsFront xs records → IsFront xs (finished_at number payload records)
+finished_keeps xs records None payload h front = front
+finished_keeps xs records (Some number) None h front = front
+finished_keeps xs records (Some number) (Some payload) h front =
+    rw front.1 (finished_behind xs front.0 number payload h)
+
+reserved_above : (xs records : List Reserved) → IsFront xs records → length xs ≤ length records
+reserved_above xs records front = omega (arith, ap length front.1, length-append xs front.0)
+
+reserved_keeps : (xs records : List Reserved) (r : Reserved) → IsFront xs records → IsFront xs (records ++ r ∷ [])
+reserved_keeps xs records r front =
+    (front.0 ++ r ∷ [], ap (λ (zs : List Reserved). zs ++ r ∷ []) front.1 ∙ append_assoc xs front.0 (r ∷ []))
+
+-- what one action keeps
+record IsBehind (xs : List Reserved) (w : Written) : Type 0 where
+  frames : AreFramesFrom (length xs) w.stack
+  front : IsFront xs w.records
+
+acted_keeps : (xs : List Reserved) (stack : List Frame) (records : List Reserved) (a : Action) → AreFramesFrom (length xs) stack → IsFront xs records → IsBehind xs (acted stack records a)
+acted_keeps xs stack records (push moment len) f h = record { frames = (tt, f); front = h }
+acted_keeps xs stack records push_close f h = record { frames = (tt, f); front = h }
+acted_keeps xs stack records open_fill f h = record { frames = f; front = h }
+acted_keeps xs [] records reserve f h = record { frames = tt; front = h }
+acted_keeps xs (top ∷ stack) records reserve f h =
+    record {
+      frames = (reserved_above xs records h, f.1);
+      front = reserved_keeps xs records (reserved_for top records) h;
+    }
+acted_keeps xs [] records (leave payload) f h = record { frames = tt; front = h }
+acted_keeps xs (top ∷ stack) records (leave payload) f h =
+    record { frames = f.1; front = finished_keeps xs records top.number payload f.0 h }
+
+fold_keeps : (xs : List Reserved) (w : Written) (history : List Action) → IsBehind xs w → IsBehind xs (fold (λ v a. acted v.stack v.records a) w history)
+fold_keeps xs w [] h = h
+fold_keeps xs w (a ∷ history) h =
+    fold_keeps xs (acted w.stack w.records a) history (acted_keeps xs w.stack w.records a h.frames h.front)
+
+pub written-append : (w : Written) (front behind : List Action) → fold (λ v a. acted v.stack v.records a) w (front ++ behind) ≡ fold (λ v a. acted v.stack v.records a) (fold (λ v a. acted v.stack v.records a) w front) behind
+written-append w [] behind = refl
+written-append w (a ∷ front) behind = written-append (acted w.stack w.records a) front behind
+
+-- where no frame stands, all that follows keeps the records
+stack_cases : (stack : List Frame) → (stack ≡ []) ⊎ ((f : Frame) × (below : List Frame) × (stack ≡ f ∷ below))
+stack_cases [] = inl refl
+stack_cases (f ∷ stack) = inr (f, stack, refl)
+
+none_stands : (history : List Action) → is_settled history ≡ true → (written_by history).stack ≡ []
+none_stands history h =
+    ⊎_elim (λ e. e) (λ some. let wrong : false ≡ true = rw some.2 at h in cc) (stack_cases (written_by history).stack)
+
+written_keeps : (front behind : List Action) → is_settled front ≡ true → IsFront (reserved_records front) (reserved_records (front ++ behind))
+written_keeps front behind h =
+    let w = written_by front in
+    let none : w.stack ≡ [] = none_stands front h in
+    let frames : AreFramesFrom (length w.records) w.stack = rw none tt in
+    let kept = fold_keeps w.records w behind record { frames = frames; front = ([], sym (append-nil w.records)) } in
+    let start : Written = record { stack = []; records = [] } in
+    (kept.front.0, ap (λ (v : Written). v.records) (written-append start front behind) ∙ kept.front.1)
+
+cond_either : {A : Type 0} (P : A → Type 0) (b : Bool) (x y : A) → (b ≡ true → P x) → P y → P (cond b x y)
+cond_either P true x y first second = first refl
+cond_either P false x y first second = second
+
+-- a settled front of the history
+record IsSettledFront (history front : List Action) : Type 0 where
+  settled : is_settled front ≡ true
+  is_front : IsFront front history
+
+settled_within : (n : ℕ) (history : List Action) → IsSettledFront history (settled_front_within n history)
+settled_within zero history = record { settled = refl; is_front = (history, refl) }
+settled_within (suc n) history =
+    cond_either (IsSettledFront history) (is_settled (take (suc n) history)) (take (suc n) history) (settled_front_within n history) (λ h. record { settled = h; is_front = (drop (suc n) history, sym (take-append-drop (suc n) history)) }) (settled_within n history)
+
+-- the records of the settled front are a front of the history's
+pub settled_records_front : (history : List Action) → IsFront (reserved_records (settled_front history)) (reserved_records history)
+settled_records_front history =
+    let front = settled_within (length history) history in
+    let kept = written_keeps (settled_front history) front.is_front.0 front.settled in
+    (kept.0, ap reserved_records front.is_front.1 ∙ kept.1)

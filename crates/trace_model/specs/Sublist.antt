@@ -1,0 +1,12 @@
+-- Lists of which one has, in order, some elements of the other.
+use Rattle.std.specs.Prelude.{◌≡◌, List, [], ◌∷◌, ◌++◌}
+
+-- the elements of the first list are, in order, some of those of the second
+pub data IsSublist {A : Type 0} : List A → List A → Type 0 where
+  ended : IsSublist [] []
+  kept : (x : A) {xs ys : List A} → IsSublist xs ys → IsSublist (x ∷ xs) (x ∷ ys)
+  skipped : (y : A) {xs ys : List A} → IsSublist xs ys → IsSublist xs (y ∷ ys)
+
+-- the first list is a front of the second
+abbrev pub IsFront : {A : Type 0} → List A → List A → Type 0
+IsFront {A} front whole = (rest : List A) × (whole ≡ front ++ rest)

@@ -1,0 +1,54 @@
+-- Texts: their lines, the fields of a line, and what a field spells: a number or bytes.
+-- After docs/FORMATS.md, "Script".
+use Rattle.std.specs.Prelude.{ℕ, ◌+◌, ◌*◌, ◌/◌, ◌%◌, ◌^◌, Bool, ◌&&◌, ◌||◌, if◌then◌else◌, ◌==◌, nat_lt, nat_le, List, [], ◌∷◌, length, flat_map, codes, bytes_eq}
+use Rattle.std.specs.Char.{digit_value, digit_char, is_digit}
+use Rattle.std.specs.List.{slice_split, list_all}
+use Rattle.std.specs.Str.{all_ascii_digits}
+use Rattle.std.specs.Str.Parse.{digits_value}
+
+-- the parts of a text without the empty one behind a last line feed
+abbrev pub without_empty_end : List (List ℕ) → List (List ℕ)
+without_empty_end [] = []
+without_empty_end (part ∷ []) = if length part == 0 then [] else part ∷ []
+without_empty_end (part ∷ next ∷ parts) = part ∷ without_empty_end (next ∷ parts)
+
+-- The lines of a text: what stands between its line feeds, which are byte 10. The last line feed may
+-- lack, and begins no line. A carriage return is a byte of its line.
+abbrev pub lines_of : List ℕ → List (List ℕ)
+lines_of text = without_empty_end (slice_split (λ b. b == 10) text)
+
+-- The fields of a line: what stands between its spaces, which are byte 32. A space too many leaves an
+-- empty field.
+abbrev pub fields_of : List ℕ → List (List ℕ)
+fields_of line = slice_split (λ b. b == 32) line
+
+-- exactly one space stands between two fields, and none at either end: no field is empty
+abbrev pub is_well_spaced : List (List ℕ) → Bool
+is_well_spaced fields = list_all (λ field. nat_lt 0 (length field)) fields
+
+-- a decimal number: 1 to 20 digits of a value below 2^64, leading zeros allowed
+unfoldable pub is_decimal : List ℕ → Bool
+is_decimal text = nat_lt 0 (length text) && nat_le (length text) 20 && all_ascii_digits text && nat_lt (digits_value 10 text) (2 ^ 64)
+
+-- the bytes that pairs of hexadecimal digits of either case spell, the high digit first
+abbrev pub bytes_of_pairs : List ℕ → List ℕ
+bytes_of_pairs [] = []
+bytes_of_pairs (digit ∷ []) = []
+bytes_of_pairs (high ∷ low ∷ digits) = (16 * digit_value high + digit_value low) ∷ bytes_of_pairs digits
+
+-- the text that stands for no byte
+abbrev pub no_bytes_text : List ℕ
+no_bytes_text = codes "-"
+
+-- bytes as text: an even number of hexadecimal digits of either case, two at least, or `-` for no byte
+unfoldable pub is_hex : List ℕ → Bool
+is_hex text = bytes_eq text no_bytes_text || (nat_lt 0 (length text) && (length text % 2 == 0) && list_all (λ c. is_digit c 16) text)
+
+-- the bytes that such a text spells; `-` is half a pair, and so none
+abbrev pub hex_bytes : List ℕ → List ℕ
+hex_bytes text = bytes_of_pairs text
+
+-- bytes in lower case digits, and no byte as `-`
+abbrev pub hex_text : List ℕ → List ℕ
+hex_text [] = no_bytes_text
+hex_text (b ∷ bytes) = flat_map (λ byte. digit_char (byte / 16) ∷ digit_char (byte % 16) ∷ []) (b ∷ bytes)
