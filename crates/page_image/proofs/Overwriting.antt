@@ -7,7 +7,7 @@ use Rattle.trace_model.specs.Reading.{IsPlaceIn, EndsInRecord, records_in}
 use Rattle.trace_model.specs.Overwriting.{overwritten, bytes_at, IsReplacedAt, IsPlaceOf}
 use Rattle.trace_model.proofs.Unique.{records_in-Decodes}
 use Rattle.trace_model.proofs.Overwritten.{length-overwritten}
-use Rattle.trace_model.proofs.Places.{overwritten-reads, EndsInRecord-overwritten, IsPlaceOf-from, IsPlaceOf-overwritten_same, Decodes-overwritten, records_in-overwritten_end}
+use Rattle.trace_model.proofs.Places.{overwritten-reads, EndsInRecord-overwritten, IsPlaceOf-overwritten, Decodes-overwritten, records_in-overwritten_end}
 use Rattle.page_image.specs.Contents.{Contents, IsPage, records_of_page}
 use Rattle.page_image.specs.Lending.{with_payload, PayloadWritten}
 
@@ -28,8 +28,6 @@ payload_written page start len part p fills =
     let new : List ℕ = overwritten bytes start part in
     let kept : length new ≡ length bytes = length-overwritten bytes start len p part fills in
     let same : take (length bytes) new ≡ new = take_all (length bytes) new (omega arith) in
-    let number : ℕ = length (records_of 0 p.front) in
-    let place : IsPlaceOf bytes number start len = IsPlaceOf-from bytes start len p in
     record {
       bytes = same;
       page_reads = λ is. let h = overwritten-reads bytes page.time (records_of_page page) start len part p fills is.reads in record {
@@ -38,14 +36,13 @@ payload_written page start len part p fills =
         in_time = is.in_time;
       };
       open_stays = λ ends. subst EndsInRecord (sym same) (EndsInRecord-overwritten bytes start len part p fills ends);
-      place_stays = subst (λ (b : List ℕ). IsPlaceIn b start (length part)) (sym same) (subst (IsPlaceIn new start) (sym fills) (IsPlaceOf-overwritten_same bytes number start len part place fills).place);
-      one_record = λ is.
-          let h = Decodes-overwritten bytes page.time (records_of_page page) number start len part place fills is.reads in
-          let found : records_in page.time (take (length bytes) new) ≡ h.0 = ap (records_in page.time) same ∙ records_in-Decodes new page.time h.0 h.1 in (
-            number,
-            subst (λ (n : ℕ). IsReplacedAt number (records_of_page page) (records_in page.time (take (length bytes) new)) (bytes_at start n bytes) part) (sym fills)
-                (subst (λ (rs : List Record). IsReplacedAt number (records_of_page page) rs (bytes_at start len bytes) part) (sym found) h.2),
-          );
+      places_stay = λ number at size there. subst (λ (b : List ℕ). IsPlaceOf b number at size) (sym same) (IsPlaceOf-overwritten bytes number at size start len part there p fills);
+      one_record = λ is number there.
+        let place : IsPlaceOf bytes number start len = subst (IsPlaceOf bytes number start) fills there in
+        let h = Decodes-overwritten bytes page.time (records_of_page page) number start len part place fills is.reads in
+        let found : records_in page.time (take (length bytes) new) ≡ h.0 = ap (records_in page.time) same ∙ records_in-Decodes new page.time h.0 h.1 in
+        subst (λ (n : ℕ). IsReplacedAt number (records_of_page page) (records_in page.time (take (length bytes) new)) (bytes_at start n bytes) part) (sym fills)
+          (subst (λ (rs : List Record). IsReplacedAt number (records_of_page page) rs (bytes_at start len bytes) part) (sym found) h.2);
       last_record = λ is ends front r was.
           ap (records_in page.time) same
           ∙ records_in-overwritten_end bytes page.time front r start len part p (ap (λ (n : ℕ). start + n) (sym fills) ∙ ends) fills (subst (Decodes bytes page.time) was is.reads);

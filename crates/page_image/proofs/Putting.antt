@@ -7,9 +7,11 @@ use Rattle.trace_model.specs.Record.{Record}
 use Rattle.trace_model.specs.Words.{Word, short_data, long_data, time_extend, bytes_of_word, IsWord, joined, data_word, written_words, encoding, encoded_len, slot_len, Decodes, IsJoined, records_of, moment_after, delta_of}
 use Rattle.trace_model.specs.Reading.{IsData, payload_of, records_in, EndsInRecord, IsPlaceIn}
 use Rattle.trace_model.specs.Order.{moment_of_last, EndsAt}
-use Rattle.trace_model.proofs.Lengths.{slot_len_ge_four, slot_len-mod}
+use Rattle.trace_model.proofs.Lengths.{slot_len_ge_four, slot_len-mod, bytes_of_word_ge}
 use Rattle.trace_model.proofs.Unique.{records_in-Decodes}
 use Rattle.trace_model.proofs.Appended.{Decodes-first, Decodes-appended, EndsInRecord-first, EndsInRecord-appended, moment_of_last-push, IsJoined-whole, ReadsAs-Decodes, records_of-push_data, each-append, written-each, data_word-IsWord}
+use Rattle.trace_model.specs.Overwriting.{IsPlaceOf}
+use Rattle.trace_model.proofs.Places.{IsPlaceOf-appended, IsPlaceOf-first, IsPlaceOf-new}
 use Rattle.page_image.specs.Contents.{Contents, IsPage, records_of_page, is_blank}
 use Rattle.std.proofs.Math.Dec.{eqb-suc-zero}
 use Rattle.page_image.proofs.Blank.{records_in-blank}
@@ -149,12 +151,47 @@ fits_either : (first : Bool) (time moment old : ℕ) → time ≡ cond first mom
 fits_either true time moment old time_is small page = omega arith
 fits_either false time moment old time_is small page = omega arith
 
+-- no payload lies in no bytes
+no_place : (number start len : ℕ) → IsPlaceOf [] number start len → ⊥
+no_place number start len there =
+    let p = there.place in
+    let some = bytes_of_word_ge p.word in
+    let none : 0 ≡ length (joined (p.front ++ p.word ∷ p.behind) ++ p.rest) = ap length p.cut.whole in
+    let split : length (joined (p.front ++ p.word ∷ p.behind)) ≡ length (joined p.front) + (length (bytes_of_word p.word) + length (joined p.behind)) =
+      ap length (flat_map-append bytes_of_word p.front (p.word ∷ p.behind)) ∙ length-append (joined p.front) (bytes_of_word p.word ++ joined p.behind) ∙ ap (λ (n : ℕ). length (joined p.front) + n) (length-append (bytes_of_word p.word) (joined p.behind)) in
+    absurd (omega (arith, length-append (joined (p.front ++ p.word ∷ p.behind)) p.rest))
+
+put_places_stay : (bytes : List ℕ) (prev moment len : ℕ) → EndsInRecord bytes → moment < 2 ^ 59 → len ≤ 2 ^ 30 → (number at size : ℕ) → IsPlaceOf bytes number at size
+    → IsPlaceOf (bytes ++ encoding (moment - prev) (is_blank bytes) (replicate (slot_len len) 0)) number at size
+put_places_stay [] prev moment len ends small limit number at size there = absurd (no_place number at size there)
+put_places_stay (byte ∷ bytes) prev moment len ends small limit number at size there =
+    let slot = zeros_fit len limit in
+    IsPlaceOf-appended (byte ∷ bytes) number at size (moment - prev) (replicate (slot_len len) 0) ends there (omega arith) slot.whole slot.some slot.fits
+
+put_number : (bytes : List ℕ) (time prev moment len start : ℕ) → EndsInRecord bytes → Decodes bytes time (records_in time bytes) → moment < 2 ^ 59 → len ≤ 2 ^ 30
+    → start + slot_len len ≡ length (bytes ++ encoding (moment - prev) (is_blank bytes) (replicate (slot_len len) 0))
+    → IsPlaceOf (bytes ++ encoding (moment - prev) (is_blank bytes) (replicate (slot_len len) 0)) (length (records_in time bytes)) start (slot_len len)
+put_number [] time prev moment len start ends reads small limit end_is =
+    let payload : List ℕ = replicate (slot_len len) 0 in
+    let slot = zeros_fit len limit in
+    let size : length payload ≡ slot_len len = length-replicate (slot_len len) 0 in
+    subst (λ (n : ℕ). IsPlaceOf (encoding (moment - prev) true payload) n start (slot_len len)) (sym (ap length (records_in-blank time)))
+    (subst (IsPlaceOf (encoding (moment - prev) true payload) 0 start) size (IsPlaceOf-first (moment - prev) payload start slot.whole slot.some slot.fits (ap (λ (n : ℕ). start + n) size ∙ end_is)))
+put_number (byte ∷ bytes) time prev moment len start ends reads small limit end_is =
+    let payload : List ℕ = replicate (slot_len len) 0 in
+    let slot = zeros_fit len limit in
+    let size : length payload ≡ slot_len len = length-replicate (slot_len len) 0 in
+    subst (IsPlaceOf ((byte ∷ bytes) ++ encoding (moment - prev) false payload) (length (records_in time (byte ∷ bytes))) start) size
+    (IsPlaceOf-new (byte ∷ bytes) time (records_in time (byte ∷ bytes)) (moment - prev) payload start ends reads (omega arith) slot.whole slot.some slot.fits (ap (λ (n : ℕ). start + n) size ∙ end_is))
+
 -- The page after a record was put, whatever else of it has changed.
 pub record PutPage (old new : Contents) (prev moment len start : ℕ) : Type 0 where
   pub page : IsPage old → IsPage new
   pub records : IsPage old → records_of_page new ≡ records_of_page old ++ record { moment = moment; bytes = replicate (slot_len len) 0 } ∷ []
   pub ends : EndsInRecord new.bytes
   pub place : IsPlaceIn new.bytes start (slot_len len)
+  pub number : IsPage old → IsPlaceOf new.bytes old.count start (slot_len len)
+  pub places_stay : (number at size : ℕ) → IsPlaceOf old.bytes number at size → IsPlaceOf new.bytes number at size
 
 pub put_page : (old new : Contents) (prev moment len start : ℕ) → EndsInRecord old.bytes → IfSome (moment_of_last (records_of_page old)) (λ last. last ≡ prev) → prev ≤ moment → moment < 2 ^ 59 → len ≤ 2 ^ 30
     → new.bytes ≡ old.bytes ++ encoding (moment - prev) (is_blank old.bytes) (replicate (slot_len len) 0) → new.time ≡ cond (is_blank old.bytes) moment old.time → new.count ≡ old.count + 1 → start + slot_len len ≡ length new.bytes
@@ -175,4 +212,8 @@ put_page old new prev moment len start ends last order small limit bytes_is time
       records = now;
       ends = subst EndsInRecord (sym bytes_is) end.ends;
       place = subst (λ (b : List ℕ). IsPlaceIn b start (slot_len len)) (sym bytes_is) (end.place start (end_is ∙ ap length bytes_is));
+      number = λ page. subst (λ (b : List ℕ). IsPlaceOf b old.count start (slot_len len)) (sym bytes_is)
+        (subst (λ (n : ℕ). IsPlaceOf (old.bytes ++ encoding (moment - prev) (is_blank old.bytes) (replicate (slot_len len) 0)) n start (slot_len len)) (sym page.counted)
+          (put_number old.bytes old.time prev moment len start ends page.reads small limit (end_is ∙ ap length bytes_is)));
+      places_stay = λ number at size there. subst (λ (b : List ℕ). IsPlaceOf b number at size) (sym bytes_is) (put_places_stay old.bytes prev moment len ends small limit number at size there);
     }

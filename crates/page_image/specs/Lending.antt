@@ -2,8 +2,8 @@
 use Rattle.std.specs.Prelude.{◌≡◌, ℕ, ◌+◌, List, [], ◌∷◌, ◌++◌, length, take}
 use Rattle.std.specs.Borrow.{Lends, MutBor, Fml, Array, u8}
 use Rattle.trace_model.specs.Record.{Record}
-use Rattle.trace_model.specs.Reading.{EndsInRecord, IsPlaceIn}
-use Rattle.trace_model.specs.Overwriting.{overwritten, bytes_at, IsReplacedAt}
+use Rattle.trace_model.specs.Reading.{EndsInRecord}
+use Rattle.trace_model.specs.Overwriting.{overwritten, bytes_at, IsReplacedAt, IsPlaceOf}
 use Rattle.page_image.specs.Contents.{Contents, IsPage, records_of_page}
 use Rattle.page_image.specs.contracts.page.Page.{the_row}
 
@@ -16,11 +16,11 @@ abbrev pub LendsPayload : MutBor Contents → ℕ → MutBor (List ℕ) → Fml
 LendsPayload page start result = Lends the_row (Array u8 0) page result (with_payload page.now start)
 
 -- What a payload written anew makes of its page: it still reads, the one record has these bytes, and all
--- others are as they were.
+-- others are as they were, in their places.
 pub record PayloadWritten (page : Contents) (start : ℕ) (part : List ℕ) : Type 0 where
   pub bytes : (with_payload page start part).bytes ≡ overwritten page.bytes start part
   pub page_reads : IsPage page → IsPage (with_payload page start part)
   pub open_stays : EndsInRecord page.bytes → EndsInRecord (with_payload page start part).bytes
-  pub place_stays : IsPlaceIn (with_payload page start part).bytes start (length part)
-  pub one_record : IsPage page → (number : ℕ) × IsReplacedAt number (records_of_page page) (records_of_page (with_payload page start part)) (bytes_at start (length part) page.bytes) part
+  pub places_stay : (number at len : ℕ) → IsPlaceOf page.bytes number at len → IsPlaceOf (with_payload page start part).bytes number at len
+  pub one_record : IsPage page → (number : ℕ) → IsPlaceOf page.bytes number start (length part) → IsReplacedAt number (records_of_page page) (records_of_page (with_payload page start part)) (bytes_at start (length part) page.bytes) part
   pub last_record : IsPage page → start + length part ≡ length page.bytes → (front : List Record) (r : Record) → records_of_page page ≡ front ++ r ∷ [] → records_of_page (with_payload page start part) ≡ front ++ record { moment = r.moment; bytes = part } ∷ []

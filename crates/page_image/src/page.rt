@@ -37,6 +37,7 @@ impl Page {
     ghost use Rattle.trace_model.specs.Words.{encoded_len, encoding, slot_len};
     ghost use Rattle.trace_model.specs.Reading.{EndsInRecord, IsPlaceIn};
     ghost use Rattle.trace_model.specs.Order.{moment_of_last};
+    ghost use Rattle.trace_model.specs.Overwriting.{IsPlaceOf};
     ghost use Rattle.page_image.specs.Contents.{records_of_page, is_blank, IsPage};
 
     /// A page without a record, its time 0, in this body.
@@ -72,6 +73,10 @@ impl Page {
         ensures size { self.new.size ≡ self.old.size }
         ensures open { EndsInRecord self.new.bytes }
         ensures place { IsPlaceIn self.new.bytes result.start result.len }
+        ensures number { IsPage self.old
+            → IsPlaceOf self.new.bytes self.old.count result.start result.len }
+        ensures places_stay { (number start len : ℕ) → IsPlaceOf self.old.bytes number start len
+            → IsPlaceOf self.new.bytes number start len }
         ensures end { result.start + result.len ≡ length self.new.bytes }
         ensures len { result.len ≡ slot_len len }
     {

@@ -6,6 +6,7 @@ use Rattle.trace_model.specs.Record.{Record}
 use Rattle.trace_model.specs.Words.{encoding, encoded_len, slot_len}
 use Rattle.trace_model.proofs.Lengths.{slot_len_ge}
 use Rattle.trace_model.specs.Reading.{EndsInRecord, IsPlaceIn}
+use Rattle.trace_model.specs.Overwriting.{IsPlaceOf}
 use Rattle.trace_model.specs.Order.{moment_of_last}
 use Rattle.page_image.specs.Contents.{Contents, IsPage, is_blank, records_of_page}
 use Rattle.trace_model.specs.declared.limits.TheConstants.{MAX_SIZE}
@@ -94,3 +95,10 @@ returns-clause-open c = (whole c).ends
 
 pub returns-clause-place : goal.returns-clause-place
 returns-clause-place c = subst (λ (n : ℕ). IsPlaceIn (now c).bytes c.put_behind-place.result.start n) (sym c.put_behind-place.ensures.len) (whole c).place
+
+pub returns-clause-number : goal.returns-clause-number
+returns-clause-number c = λ page. subst (IsPlaceOf (now c).bytes c.args.self.now.count c.put_behind-place.result.start) (sym c.put_behind-place.ensures.len)
+    (subst (λ (n : ℕ). IsPlaceOf (now c).bytes n c.put_behind-place.result.start (slot_len c.args.len)) (ap (λ (p : Contents). p.count) c.self.view_is) ((whole c).number (subst IsPage (sym c.self.view_is) page)))
+
+pub returns-clause-places_stay : goal.returns-clause-places_stay
+returns-clause-places_stay c = λ number start len there. (whole c).places_stay number start len (subst (λ (p : Contents). IsPlaceOf p.bytes number start len) (sym c.self.view_is) there)
