@@ -2,8 +2,12 @@ pub mod Failing
 pub mod Ends
 pub mod Answer
 pub mod Told
-pub mod Replay
+pub mod Commands
 pub mod CommandLine
 pub mod ScriptFaults
 pub mod ScriptFields
 pub mod ScriptTypes
+pub mod Collected
+pub mod PlainPages
+pub mod PlainInside
+pub mod PlainRun

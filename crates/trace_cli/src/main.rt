@@ -3,17 +3,23 @@
 
 pub mod answer;
 pub mod command;
+pub mod commands;
 pub mod ends;
 pub mod input;
 pub mod output;
+pub mod page_write;
+pub mod plain_collector;
+pub mod plain_list;
+pub mod printer;
 pub mod replay;
 pub mod script;
 pub mod status;
+pub mod taken;
 pub mod words;
 
 use crate::command::tell_no_memory;
 use crate::ends::Std;
-use crate::replay::replay_to;
+use crate::commands::replay_to;
 use crate::status::USAGE;
 use crate::words::{Call, CallFault, call_of};
 use std::alloc::{AllocError, Global};

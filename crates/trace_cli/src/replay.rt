@@ -1,66 +1,103 @@
-//! The command `replay`: a script in, what its collectors hold out.
-ghost use Rattle.std.specs.Prelude.{◌≡◌, ◌⊎◌, false, true, IfOk};
-ghost use Rattle.std.specs.Io.KnownBytes.{Appends, Keeps};
-ghost use Rattle.trace_cli.specs.Answer.{bytes_of, status_of};
-ghost use Rattle.trace_cli.specs.Replay.{ReplayGives};
-ghost use Rattle.trace_cli.specs.Told.{TakesAtMost, TakesMoreThan, TellsAnswer, TellsPart};
+//! The replay of a script over a plain list of pages.
+ghost use Rattle.std.specs.Prelude.{◌≡◌, ◌+◌, ◌%◌, ◌<◌, ◌≤◌, ◌^◌, OnOk, IfOk, All};
+ghost use Rattle.trace_model.specs.Script.{write, close, take_page, deliver};
+ghost use Rattle.trace_model.specs.Replay.{IsUncountedReplay};
+ghost use Rattle.trace_model.specs.declared.limits.TheConstants.{MIN_PAGES, MIN_SIZE, MAX_SIZE};
+ghost use Rattle.trace_cli.specs.Collected.{collected_of};
+ghost use Rattle.trace_cli.specs.PlainPages.{tail_fill, records_left};
+ghost use Rattle.trace_cli.specs.PlainRun.{obeyed};
+ghost use Rattle.trace_cli.specs.ScriptTypes.{shown_command, script_of};
 
-use crate::answer::Answer;
-use crate::command::{Answers, MEMORY_LINE, answer_to};
-use crate::ends::{Sink, Source};
-use crate::status::{DONE, END_FAILED, NO_MEMORY, REFUSED};
+use crate::plain_collector::PlainCollector;
+use crate::plain_list::{PlainList, WriteFault};
+use crate::script::{Command, Script};
 use std::alloc::Global;
-use trace_model::{MAX_INPUT, NoMemory};
+use trace_model::NoMemory;
 
-/// The fault's line of a script whose first line is none.
-pub const BAD_FIRST_LINE: [u8; 16] = *b"line 1: BadLine\n";
+/// The pages of the script's CPU, and what its collector has, while the script is replayed.
+#[derive(Drop)]
+pub struct Run {
+    pub list: PlainList,
+    pub collector: PlainCollector,
+}
 
-// What the command answers to a script.
-struct Replay;
-
-impl Answers for Replay {
-    ghost gives = { λ _. ReplayGives };
-
-    fn answer(&self, alloc: Global, text: &[u8]) -> Result<Answer, NoMemory> {
-        replay_answer(alloc, text)
+/// Writes a record; a write that is too long or too late does nothing.
+fn write(run: &mut Run, moment: u64, payload: &[u8]) -> Result<(), NoMemory>
+    requires { tail_fill run.old.list + 1 < 2 ^ 64 }
+    ensures { OnOk result (run.new ≡ obeyed run.old (write 0 moment payload.now)) }
+{
+    match run.list.write(moment, payload) {
+        Ok(()) => Ok(()),
+        Err(WriteFault::TooLong) => Ok(()),
+        Err(WriteFault::LateMoment) => Ok(()),
+        Err(WriteFault::NoMemory) => Err(NoMemory),
     }
 }
 
-// What is printed for a script, with the exit status.
-fn replay_answer(alloc: Global, script: &[u8]) -> Result<Answer, NoMemory>
-    ensures { IfOk result (λ a. ReplayGives script.now (bytes_of a) (status_of a)) }
+/// Takes a page, if one can be taken.
+fn take(run: &mut Run) -> Result<(), NoMemory>
+    requires fills { tail_fill run.old.list < 2 ^ 64 }
+    requires records { records_left run.old.list < 2 ^ 64 }
+    requires below { All (λ h. h.taking.fill < run.old.list.oldest) run.old.collector }
+    ensures { OnOk result (run.new ≡ obeyed run.old (take_page 0)) }
 {
-    match Vec::from_slice(alloc, &BAD_FIRST_LINE) {
-        Ok(line) => Ok(Answer::Refused(line)),
-        Err(_) => Err(NoMemory),
+    match run.list.take()? {
+        Some(taken) => run.collector.hold(taken),
+        None => Ok(()),
     }
 }
 
-/// Reads a script from the reader to its end, replays it, and writes what its collectors hold, or the
-/// fault's line. Answers the exit status: 0 done, 1 the script is refused, 3 memory was refused, 4 a
-/// read or a write failed, or the script is longer than 2^28 bytes.
-pub fn replay_to<R: Source, W: Sink>(alloc: Global, reader: &mut R, writer: &mut W) -> u8
-    requires sound_reader { R.failed reader.old ≡ false }
-    requires sound_writer { W.failed writer.old ≡ false }
-    ensures status { (result ≡ DONE) ⊎ (result ≡ REFUSED) ⊎ (result ≡ NO_MEMORY) ⊎ (result ≡ END_FAILED) }
-    ensures answered { (result ≡ DONE) ⊎ (result ≡ REFUSED)
-        → TellsAnswer ReplayGives (R.remaining reader.old) (R.remaining reader.new)
-        (W.contents writer.old) (W.contents writer.new) result }
-    ensures memory { result ≡ NO_MEMORY
-        → Appends (W.contents writer.old) (W.contents writer.new) MEMORY_LINE
-        × TakesAtMost MAX_INPUT (R.remaining reader.old) (R.remaining reader.new) }
-
-    // Status 4 has one of three causes, and the first two always give it.
-    ensures read_fault { R.failed reader.new ≡ true
-        → (result ≡ END_FAILED) × Keeps (W.contents writer.old) (W.contents writer.new) }
-    ensures write_fault { W.failed writer.new ≡ true
-        → (result ≡ END_FAILED)
-        × TellsPart ReplayGives (R.remaining reader.old) (R.remaining reader.new)
-        (W.contents writer.old) (W.contents writer.new) }
-    ensures failed { result ≡ END_FAILED
-        → (R.failed reader.new ≡ true) ⊎ (W.failed writer.new ≡ true)
-        ⊎ (TakesMoreThan MAX_INPUT (R.remaining reader.old) (R.remaining reader.new)
-        × Keeps (W.contents writer.old) (W.contents writer.new)) }
+/// Obeys a command. What it leaves where memory is refused is not used.
+fn obey(run: &mut Run, command: &Command) -> Result<(), NoMemory>
+    requires fills { tail_fill run.old.list + 1 < 2 ^ 64 }
+    requires records { records_left run.old.list < 2 ^ 64 }
+    requires below { All (λ h. h.taking.fill < run.old.list.oldest) run.old.collector }
+    ensures { OnOk result (run.new ≡ obeyed run.old (shown_command command.now)) }
 {
-    answer_to(&Replay, alloc, reader, writer)
+    match command {
+        Command::Write {
+            cpu: _,
+            moment,
+            payload,
+        } => write(run, moment.0, payload),
+        Command::Close { cpu: _ } => run.list.close(),
+        Command::Take { cpu: _ } => take(run),
+        Command::Deliver {
+            collector: _,
+            cpu: _,
+            fill,
+        } => {
+            run.collector.deliver(*fill);
+            Ok(())
+        }
+    }
 }
+
+/// What the replay of a script leaves: what its one collector has.
+#[derive(Drop)]
+pub struct World {
+    pub collector: PlainCollector,
+}
+
+/// Replays a script of one CPU and one collector over a list of its pages.
+pub fn replay(alloc: Global, script: &Script) -> Result<World, NoMemory>
+    requires pages { MIN_PAGES ≤ script.now.pages }
+    requires small { MIN_SIZE ≤ script.now.size }
+    requires large { script.now.size ≤ MAX_SIZE }
+    requires words { script.now.size % 4 ≡ 0 }
+    ensures { IfOk result (λ world. IsUncountedReplay (script_of script.now) (collected_of world.collector)) }
+{
+    let mut run = Run {
+        list: PlainList::new(alloc, script.pages, script.size)?,
+        collector: PlainCollector::new(alloc),
+    };
+    for line in &script.commands {
+        obey(&mut run, &line.command)?;
+    }
+    let Run { list, collector } = run;
+    drop(list);
+    Ok(World { collector })
+}
+
+#[cfg(test)]
+mod tests;

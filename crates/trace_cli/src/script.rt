@@ -8,15 +8,14 @@ ghost use Rattle.trace_model.specs.ScriptReading.{located, counted_behind, comma
 ghost use Rattle.trace_cli.specs.ScriptFaults.{GivesAt, IsFirstFault};
 ghost use Rattle.trace_cli.specs.ScriptTypes.{shown_command, shown_line, script_of};
 
-pub mod command;
-pub mod fault;
-pub mod fields;
-pub mod header;
-pub mod lines;
-pub mod values;
-
+mod command;
+mod fault;
+mod fields;
+mod header;
+mod lines;
 #[cfg(test)]
 mod tests;
+mod values;
 
 pub use command::Command;
 use command::command_in;

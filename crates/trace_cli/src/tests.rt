@@ -3,7 +3,7 @@
 use crate::answer::Answer;
 use crate::command::{Answers, answer_to};
 use crate::ends::{Sink, Source, Std};
-use crate::replay::replay_to;
+use crate::commands::replay_to;
 use crate::words::{Call, CallFault, call_of};
 use std::alloc::Global;
 use std::io;

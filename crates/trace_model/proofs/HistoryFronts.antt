@@ -1,7 +1,6 @@
 -- The records reserved in a settled front of a history are a front of all that it reserves.
-use Rattle.std.proofs.Common.{◌≡◌, ◌⊎◌, inl, inr, ⊎_elim, ℕ, zero, suc, ◌+◌, ◌≤◌, ◌<◌, Bool, true, false, cond, List, [], ◌∷◌, ◌++◌, length, take, drop, fold, Option, Some, None, refl, sym, ap, ◌∙◌, arith, append_assoc, append-nil, take-append-drop, length-append}
-use Rattle.std.specs.List.{AllByRecursion}
-use Rattle.trace_model.specs.History.{Action, push, push_close, open_fill, reserve, leave, Reserved, Frame, Written, reserved_for, finished_at, acted, written_by, reserved_records, is_settled, settled_front_within, settled_front}
+use Rattle.std.proofs.Common.{◌≡◌, ◌⊎◌, inl, inr, ⊎_elim, ℕ, zero, suc, ◌≤◌, Bool, true, false, cond, List, [], ◌∷◌, ◌++◌, length, take, drop, fold, Option, Some, None, refl, sym, ap, ◌∙◌, arith, append_assoc, append-nil, take-append-drop, length-append}
+use Rattle.trace_model.specs.History.{Action, push, push_close, open_fill, reserve, leave, Reservation, Frame, record_frame, close_frame, Written, reserved_for, finished_at, reserved_by, left_by, acted, written_by, reserved_records, is_settled, settled_front_within, settled_front}
 use Rattle.trace_model.specs.Sublist.{IsFront}
 
 -- a frame that has no record yet, or one behind the first n
@@ -9,50 +8,62 @@ abbrev pub HasNumberFrom : ℕ → Option ℕ → Type 0
 HasNumberFrom n None = Unit {0}
 HasNumberFrom n (Some number) = n ≤ number
 
+abbrev pub IsFrameFrom : ℕ → Frame → Type 0
+IsFrameFrom n (record_frame moment len number) = HasNumberFrom n number
+IsFrameFrom n close_frame = Unit {0}
+
 abbrev pub AreFramesFrom : ℕ → List Frame → Type 0
 AreFramesFrom n [] = Unit {0}
-AreFramesFrom n (f ∷ stack) = HasNumberFrom n f.number × AreFramesFrom n stack
+AreFramesFrom n (f ∷ stack) = IsFrameFrom n f × AreFramesFrom n stack
 
-finished_behind : (xs ys : List Reserved) (number : ℕ) (payload : List ℕ) → length xs ≤ number → IsFront xs (finished_at (Some number) (Some payload) (xs ++ ys))
+finished_behind : (xs ys : List Reservation) (number : ℕ) (payload : List ℕ) → length xs ≤ number → IsFront xs (finished_at (Some number) (Some payload) (xs ++ ys))
 finished_behind [] ys number payload h = (finished_at (Some number) (Some payload) ys, refl)
 finished_behind (x ∷ xs) ys zero payload h = absurd (omega arith)
 finished_behind (x ∷ xs) ys (suc number) payload h =
     let below = finished_behind xs ys number payload (omega arith) in
-    (below.0, ap (λ (zs : List Reserved). x ∷ zs) below.1)
+    (below.0, ap (λ (zs : List Reservation). x ∷ zs) below.1)
 
-finished_keeps : (xs records : List Reserved) (number : Option ℕ) (payload : Option (List ℕ)) → HasNumberFrom (length xs) number → IsFront xs records → IsFront xs (finished_at number payload records)
+finished_keeps : (xs records : List Reservation) (number : Option ℕ) (payload : Option (List ℕ)) → HasNumberFrom (length xs) number → IsFront xs records → IsFront xs (finished_at number payload records)
 finished_keeps xs records None payload h front = front
 finished_keeps xs records (Some number) None h front = front
 finished_keeps xs records (Some number) (Some payload) h front =
     rw front.1 (finished_behind xs front.0 number payload h)
 
-reserved_above : (xs records : List Reserved) → IsFront xs records → length xs ≤ length records
+reserved_above : (xs records : List Reservation) → IsFront xs records → length xs ≤ length records
 reserved_above xs records front = omega (arith, ap length front.1, length-append xs front.0)
 
-reserved_keeps : (xs records : List Reserved) (r : Reserved) → IsFront xs records → IsFront xs (records ++ r ∷ [])
+reserved_keeps : (xs records : List Reservation) (r : Reservation) → IsFront xs records → IsFront xs (records ++ r ∷ [])
 reserved_keeps xs records r front =
-    (front.0 ++ r ∷ [], ap (λ (zs : List Reserved). zs ++ r ∷ []) front.1 ∙ append_assoc xs front.0 (r ∷ []))
+    (front.0 ++ r ∷ [], ap (λ (zs : List Reservation). zs ++ r ∷ []) front.1 ∙ append_assoc xs front.0 (r ∷ []))
 
 -- what one action keeps
-record IsBehind (xs : List Reserved) (w : Written) : Type 0 where
+record IsBehind (xs : List Reservation) (w : Written) : Type 0 where
   frames : AreFramesFrom (length xs) w.stack
   front : IsFront xs w.records
 
-acted_keeps : (xs : List Reserved) (stack : List Frame) (records : List Reserved) (a : Action) → AreFramesFrom (length xs) stack → IsFront xs records → IsBehind xs (acted stack records a)
+reserving_keeps : (xs : List Reservation) (f : Frame) (stack : List Frame) (records : List Reservation) → IsFrameFrom (length xs) f → AreFramesFrom (length xs) stack → IsFront xs records → IsBehind xs (reserved_by f stack records)
+reserving_keeps xs (record_frame moment len None) stack records f below h = record {
+  frames = (reserved_above xs records h, below);
+  front = reserved_keeps xs records (reserved_for moment len records) h;
+}
+reserving_keeps xs (record_frame moment len (Some number)) stack records f below h = record { frames = (f, below); front = h }
+reserving_keeps xs close_frame stack records f below h = record { frames = (tt, below); front = h }
+
+leaving_keeps : (xs : List Reservation) (f : Frame) (payload : Option (List ℕ)) (records : List Reservation) → IsFrameFrom (length xs) f → IsFront xs records → IsFront xs (left_by f payload records)
+leaving_keeps xs (record_frame moment len number) payload records f h = finished_keeps xs records number payload f h
+leaving_keeps xs close_frame payload records f h = h
+
+acted_keeps : (xs : List Reservation) (stack : List Frame) (records : List Reservation) (a : Action) → AreFramesFrom (length xs) stack → IsFront xs records → IsBehind xs (acted stack records a)
 acted_keeps xs stack records (push moment len) f h = record { frames = (tt, f); front = h }
 acted_keeps xs stack records push_close f h = record { frames = (tt, f); front = h }
 acted_keeps xs stack records open_fill f h = record { frames = f; front = h }
 acted_keeps xs [] records reserve f h = record { frames = tt; front = h }
-acted_keeps xs (top ∷ stack) records reserve f h =
-    record {
-      frames = (reserved_above xs records h, f.1);
-      front = reserved_keeps xs records (reserved_for top records) h;
-    }
+acted_keeps xs (top ∷ stack) records reserve f h = reserving_keeps xs top stack records f.0 f.1 h
 acted_keeps xs [] records (leave payload) f h = record { frames = tt; front = h }
 acted_keeps xs (top ∷ stack) records (leave payload) f h =
-    record { frames = f.1; front = finished_keeps xs records top.number payload f.0 h }
+    record { frames = f.1; front = leaving_keeps xs top payload records f.0 h }
 
-fold_keeps : (xs : List Reserved) (w : Written) (history : List Action) → IsBehind xs w → IsBehind xs (fold (λ v a. acted v.stack v.records a) w history)
+fold_keeps : (xs : List Reservation) (w : Written) (history : List Action) → IsBehind xs w → IsBehind xs (fold (λ v a. acted v.stack v.records a) w history)
 fold_keeps xs w [] h = h
 fold_keeps xs w (a ∷ history) h =
     fold_keeps xs (acted w.stack w.records a) history (acted_keeps xs w.stack w.records a h.frames h.front)

@@ -10,7 +10,11 @@ pub mod Walked
 pub mod WordFaults
 pub mod HistoryFronts
 pub mod Histories
+pub mod LineHistories
+pub mod RecordsFill
 pub mod Sublists
+pub mod PieceLemmas
 pub mod TextLemmas
 pub mod ScriptLemmas
 pub mod ScriptReads
+pub mod ParsedLimits

@@ -134,7 +134,7 @@ place-last bytes start len p ends =
     nothing_more : length (after_place p) ≡ 0
     nothing_more = sym (ap length (place-drop bytes start len p)) ∙ length-drop (start + len) bytes ∙ (let e : length bytes - (start + len) ≡ 0 = omega arith in e)
 
--- the last record's payload overwritten: the records are the old ones with the last one's bytes replaced
+-- the last record's payload overwritten: of all records, the last one's bytes alone are replaced
 pub Decodes-overwritten_last : (bytes : List ℕ) (time : ℕ) (records : List Record) (start len : ℕ) (new : List ℕ) → IsPlaceIn bytes start len → start + len ≡ length bytes → length new ≡ len → Decodes bytes time records
     → (front : List Record) × (moment : ℕ) × (records ≡ front ++ record { moment = moment; bytes = bytes_at start len bytes } ∷ [])
     × Decodes (overwritten bytes start new) time (front ++ record { moment = moment; bytes = new } ∷ [])

@@ -1,5 +1,5 @@
 -- Lists of which one has, in order, some elements of the other.
-use Rattle.std.proofs.Common.{◌≡◌, List, [], ◌∷◌, ◌++◌, append-nil, append_assoc, subst, sym}
+use Rattle.std.proofs.Common.{List, [], ◌∷◌, ◌++◌}
 use Rattle.trace_model.specs.Sublist.{IsSublist, ended, kept, skipped}
 
 pub IsSublist-refl : {A : Type 0} (xs : List A) → IsSublist xs xs

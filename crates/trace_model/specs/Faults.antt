@@ -1,6 +1,7 @@
 -- What is wrong at the front of a page's data where neither a whole word nor an ending padding stands.
--- kernel/trace/ring_buffer.c (rb_event_data_length, rb_event_length) trusts its own pages; what is
--- looked at here, and in which order, is told in docs/FORMATS.md, "Record words".
+-- kernel/trace/ring_buffer.c (rb_event_data_length, rb_event_length) trusts its own pages. To look for
+-- what is wrong, in the order of IsWordFault, is this project's own; what is right is told in
+-- docs/FORMATS.md, "How data is read".
 use Rattle.std.specs.Prelude.{◌≡◌, ◌≢◌, ℕ, ◌+◌, ◌*◌, ◌/◌, ◌%◌, ◌<◌, ◌≤◌, ◌⊎◌, IsSome, List, ◌++◌, length, drop}
 use Rattle.trace_model.specs.Words.{ending_padding}
 use Rattle.trace_model.specs.Reading.{from_le32, word_at_front}
@@ -12,10 +13,11 @@ pub data Cause : Type 0 where
   bad_length : Cause
   time_overflow : Cause
 
--- the type and the delta in the first four bytes
+-- the type that the first four bytes state
 abbrev pub type_at_front : List ℕ → ℕ
 type_at_front bytes = from_le32 bytes % 32
 
+-- the delta that they state
 abbrev pub delta_at_front : List ℕ → ℕ
 delta_at_front bytes = from_le32 bytes / 32
 
@@ -63,12 +65,14 @@ IsWordFault bytes cut = IsCutInHead bytes ⊎ ((HasBadLength bytes → ⊥) × I
 IsWordFault bytes bad_length = (IsCutInHead bytes → ⊥) × HasBadLength bytes
 IsWordFault bytes time_overflow = ⊥
 
--- what may stand at the front: a whole word, an ending padding, or a fault
+-- a whole word stands at the front
 abbrev pub HasWord : List ℕ → Type 0
 HasWord bytes = IsSome (word_at_front bytes)
 
+-- an ending padding stands at the front
 abbrev pub HasEnding : List ℕ → Type 0
 HasEnding bytes = (ignored : List ℕ) × (bytes ≡ ending_padding ++ ignored)
 
+-- what stands at the front is at fault
 abbrev pub HasFault : List ℕ → Type 0
 HasFault bytes = (cause : Cause) × IsWordFault bytes cause

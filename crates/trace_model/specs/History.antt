@@ -1,12 +1,13 @@
 -- What the writer's frames of one CPU did, and the records that this leaves.
--- After Documentation/trace/ring-buffer-design.rst: a frame that interrupts another ends before it,
--- what it wrote is pending, and the outermost end commits it.
-use Rattle.std.specs.Prelude.{◌≡◌, ℕ, zero, suc, ◌+◌, max, Bool, true, false, if◌then◌else◌, List, [], ◌∷◌, ◌++◌, length, take, map, fold, replicate, slice_set, Option, Some, None, unwrap_or}
+-- After Documentation/trace/ring-buffer-design.rst, "Nested writes": a frame that interrupts another
+-- ends before it, and nothing is committed until the outermost one ends.
+use Rattle.std.specs.Prelude.{◌≡◌, ◌≢◌, ℕ, zero, suc, max, ⊤, Bool, true, false, if◌then◌else◌, List, [], ◌∷◌, ◌++◌, length, take, map, fold, replicate, Option, Some, None, unwrap_or}
 use Rattle.trace_model.specs.Record.{Record}
 use Rattle.trace_model.specs.Words.{slot_len, padded}
 
--- push: a record frame of this moment, for a payload of len bytes. leave: of the frame on top, with
--- the payload that it wrote, or without a record. open_fill and reserve are of the frame on top.
+-- push: a record frame of this moment, for a payload of len bytes. push_close: a close frame, which only
+-- leaves the tail page. leave: of the frame on top, with the payload that it wrote, or without a record.
+-- open_fill and reserve are of the frame on top.
 pub data Action : Type 0 where
   push : (moment len : ℕ) → Action
   push_close : Action
@@ -15,59 +16,71 @@ pub data Action : Type 0 where
   leave : (payload : Option (List ℕ)) → Action
 
 -- A record from its reservation on. Its bytes are open until its frame leaves.
-pub record Reserved : Type 0 where
+pub record Reservation : Type 0 where
   pub moment : ℕ
   pub len : ℕ
   pub bytes : Option (List ℕ)
 
--- a frame on the stack: what it was pushed with, and the number of its record once it has one
-pub record Frame : Type 0 where
-  pub moment : ℕ
-  pub len : ℕ
-  pub number : Option ℕ
+-- A frame on the stack. A record frame has what it was pushed with, and the number of its record once
+-- it has reserved one.
+pub data Frame : Type 0 where
+  record_frame : (moment len : ℕ) (number : Option ℕ) → Frame
+  close_frame : Frame
 
--- the stack, the top first, and the reserved records in the order of reservation
+-- the stack, the top first, and the reserved records, the first reservation first
 pub record Written : Type 0 where
   pub stack : List Frame
-  pub records : List Reserved
+  pub records : List Reservation
 
 -- the moment of the last record, 0 where there is none
-abbrev pub last_moment : List Reserved → ℕ
+abbrev pub last_moment : List Reservation → ℕ
 last_moment [] = 0
 last_moment (r ∷ []) = r.moment
 last_moment (r ∷ s ∷ records) = last_moment (s ∷ records)
 
--- a record of the frame, behind these: a moment below the last one's is raised to it
-abbrev pub reserved_for : Frame → List Reserved → Reserved
-reserved_for frame records = record { moment = max frame.moment (last_moment records); len = slot_len frame.len; bytes = None }
+-- a record of this moment, for a payload of len bytes, behind these: a moment below the last one's is
+-- raised to it
+abbrev pub reserved_for : (moment len : ℕ) → List Reservation → Reservation
+reserved_for moment len records = record { moment = max moment (last_moment records); len = slot_len len; bytes = None }
 
 -- the record of this number with its bytes, which fill its slot
-abbrev pub finished_at : Option ℕ → Option (List ℕ) → List Reserved → List Reserved
+abbrev pub finished_at : Option ℕ → Option (List ℕ) → List Reservation → List Reservation
 finished_at None payload records = records
 finished_at (Some number) None records = records
 finished_at (Some number) (Some payload) [] = []
 finished_at (Some zero) (Some payload) (r ∷ records) = record { moment = r.moment; len = r.len; bytes = Some (padded payload) } ∷ records
 finished_at (Some (suc number)) (Some payload) (r ∷ records) = r ∷ finished_at (Some number) (Some payload) records
 
+-- a record frame without a record gets the next one; any other frame stays as it is
+abbrev pub reserved_by : Frame → List Frame → List Reservation → Written
+reserved_by (record_frame moment len None) stack records = record { stack = record_frame moment len (Some (length records)) ∷ stack; records = records ++ reserved_for moment len records ∷ [] }
+reserved_by (record_frame moment len (Some number)) stack records = record { stack = record_frame moment len (Some number) ∷ stack; records = records }
+reserved_by close_frame stack records = record { stack = close_frame ∷ stack; records = records }
+
+-- the record of a frame that leaves gets its bytes, if it has one
+abbrev pub left_by : Frame → Option (List ℕ) → List Reservation → List Reservation
+left_by (record_frame moment len number) payload records = finished_at number payload records
+left_by close_frame payload records = records
+
 -- what an action makes of it; where no frame stands, reserve and leave do nothing
-abbrev pub acted : List Frame → List Reserved → Action → Written
-acted stack records (push moment len) = record { stack = record { moment = moment; len = len; number = None } ∷ stack; records = records }
-acted stack records push_close = record { stack = record { moment = 0; len = 0; number = None } ∷ stack; records = records }
+abbrev pub acted : List Frame → List Reservation → Action → Written
+acted stack records (push moment len) = record { stack = record_frame moment len None ∷ stack; records = records }
+acted stack records push_close = record { stack = close_frame ∷ stack; records = records }
 acted stack records open_fill = record { stack = stack; records = records }
 acted [] records reserve = record { stack = []; records = records }
-acted (f ∷ stack) records reserve = record { stack = record { moment = f.moment; len = f.len; number = Some (length records) } ∷ stack; records = records ++ reserved_for f records ∷ [] }
+acted (f ∷ stack) records reserve = reserved_by f stack records
 acted [] records (leave payload) = record { stack = []; records = records }
-acted (f ∷ stack) records (leave payload) = record { stack = stack; records = finished_at f.number payload records }
+acted (f ∷ stack) records (leave payload) = record { stack = stack; records = left_by f payload records }
 
 -- what a history leaves, from nothing
 abbrev pub written_by : List Action → Written
 written_by history = fold (λ w a. acted w.stack w.records a) record { stack = []; records = [] } history
 
--- the records in the order of their reservation; one's place here is its number
-abbrev pub reserved_records : List Action → List Reserved
+-- all reserved records, the first reservation first; one's place here is its number
+abbrev pub reserved_records : List Action → List Reservation
 reserved_records history = (written_by history).records
 
--- each push has its leave
+-- no frame stands
 abbrev pub is_settled : List Action → Bool
 is_settled history = has_none (written_by history).stack
   where
@@ -75,19 +88,49 @@ is_settled history = has_none (written_by history).stack
     has_none [] = true
     has_none (f ∷ stack) = false
 
--- the longest front of at most n actions in which each push has its leave
+-- of the fronts of at most n actions, the longest behind which no frame stands
 abbrev pub settled_front_within : ℕ → List Action → List Action
 settled_front_within zero history = []
 settled_front_within (suc n) history = if is_settled (take (suc n) history) then take (suc n) history else settled_front_within n history
 
+-- the longest front of a history behind which no frame stands
 abbrev pub settled_front : List Action → List Action
 settled_front history = settled_front_within (length history) history
 
--- a record whose frame has left
-abbrev pub finished : Reserved → Record
+-- a reserved record as it is read; without bytes of its own, which no discipline allows here, zeros
+abbrev pub finished : Reservation → Record
 finished r = record { moment = r.moment; bytes = unwrap_or r.bytes (replicate r.len 0) }
 
--- The committed records: those reserved in the longest front in which each push has its leave. One's
--- place here is its number.
+-- The committed records: what was reserved up to the last moment at which no frame stood. One's place
+-- here is its number.
 abbrev pub committed_records : List Action → List Record
 committed_records history = map finished (reserved_records (settled_front history))
+
+-- a reservation is a record frame's that has no record yet
+abbrev pub MayReserve : List Frame → Type 0
+MayReserve [] = ⊥
+MayReserve (record_frame moment len number ∷ stack) = number ≡ None
+MayReserve (close_frame ∷ stack) = ⊥
+
+-- A frame that has reserved leaves with a payload of just the length that it was pushed with; any
+-- other frame leaves with none.
+abbrev pub MayLeave : List Frame → Option (List ℕ) → Type 0
+MayLeave [] payload = ⊥
+MayLeave (record_frame moment len None ∷ stack) payload = payload ≡ None
+MayLeave (record_frame moment len (Some number) ∷ stack) None = ⊥
+MayLeave (record_frame moment len (Some number) ∷ stack) (Some payload) = length payload ≡ len
+MayLeave (close_frame ∷ stack) payload = payload ≡ None
+
+-- What may be done while these frames stand. A push may come at any time; all else is of the frame on
+-- top, so one stands.
+abbrev pub MayAct : List Frame → Action → Type 0
+MayAct stack (push moment len) = ⊤
+MayAct stack push_close = ⊤
+MayAct stack open_fill = stack ≢ []
+MayAct stack reserve = MayReserve stack
+MayAct stack (leave payload) = MayLeave stack payload
+
+-- The discipline of the stack: each action is one that the frames standing behind the actions in front
+-- of it allow.
+abbrev pub IsHistory : List Action → Type 0
+IsHistory history = (front behind : List Action) (a : Action) → history ≡ front ++ a ∷ behind → MayAct (written_by front).stack a

@@ -1,4 +1,4 @@
--- The laws over record words, as statements: each is the contract of a function of src/laws.rt.
+-- The laws over record words, as statements. The functions of src/laws.rt have them as their contracts.
 use Rattle.std.specs.Prelude.{◌≡◌, ◌⊎◌, ℕ, Bool, List, length}
 use Rattle.std.specs.List.{AllByRecursion}
 use Rattle.trace_model.specs.Record.{Record}

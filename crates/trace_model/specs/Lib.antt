@@ -6,9 +6,12 @@ pub mod Order
 pub mod Overwriting
 pub mod History
 pub mod Sublist
+pub mod Pieces
 pub mod Text
 pub mod Script
+pub mod ScriptLimits
 pub mod ScriptReading
 pub mod Replay
+pub mod ReplayPieces
 pub mod Printing
 pub mod Laws

@@ -49,6 +49,7 @@ words_in bytes = words_within (length bytes) bytes
 abbrev pub records_in : ℕ → List ℕ → List Record
 records_in time bytes = records_of time (words_in bytes)
 
+-- the word holds a record
 abbrev pub IsData : Word → Type 0
 IsData (short_data delta payload) = ⊤
 IsData (long_data delta payload) = ⊤

@@ -2,20 +2,24 @@
 -- After Documentation/trace/ring-buffer-design.rst (overwrite mode): the reader gets whole pages in
 -- order, and the oldest unread ones are overwritten. For now a script has one CPU and one collector, so
 -- its commands' CPU and collector aren't looked at, and nothing is told of how many records are missing.
-use Rattle.std.specs.Prelude.{◌≡◌, ◌≢◌, ℕ, Bool, true, false, if◌then◌else◌, ◌&&◌, nat_lt, nat_le, List, [], ◌∷◌, ◌++◌, length, map, flat_map, Option, Some, None, Contains, ◌↔◌}
+use Rattle.std.specs.Prelude.{◌≡◌, ◌≢◌, ◌≤◌, ◌⊎◌, ℕ, Bool, true, if◌then◌else◌, ◌&&◌, nat_lt, nat_le, List, [], ◌∷◌, ◌++◌, length, map, flat_map, Option, Some, None, Contains, ◌↔◌}
 use Rattle.std.specs.List.{enumerate_from}
 use Rattle.std.specs.List.Sorted.{IsStrictlyIncreasing}
 use Rattle.trace_model.specs.declared.limits.TheConstants.{MOMENT_LIMIT}
 use Rattle.trace_model.specs.Record.{Record}
-use Rattle.trace_model.specs.Words.{encoded_len}
+use Rattle.trace_model.specs.Words.{encoded_len, page_encoding}
 use Rattle.trace_model.specs.History.{Action, push, push_close, reserve, leave, committed_records}
 use Rattle.trace_model.specs.Script.{Command, write, close, take_page, deliver, Script}
 use Rattle.trace_model.specs.Sublist.{IsSublist}
 
+-- a payload of len bytes fits a page of this data size
+abbrev pub is_short : ℕ → ℕ → Bool
+is_short size len = nat_le len size && nat_le (encoded_len len 0 true) size
+
 -- a record of this moment, with a payload of len bytes, is neither too long for a page of this data
 -- size nor too late
 abbrev pub is_writable : ℕ → ℕ → ℕ → Bool
-is_writable size moment len = nat_le len size && nat_le (encoded_len len 0 true) size && nat_lt moment MOMENT_LIMIT
+is_writable size moment len = is_short size len && nat_lt moment MOMENT_LIMIT
 
 -- What a line makes of its CPU's history. For now the opening of pages is left out: a write is
 -- refused, or its frame reserves and leaves with the payload; a close is a frame without a record.
@@ -48,6 +52,7 @@ pub record Answered : Type 0 where
 abbrev pub pairs_of : Taking → List (ℕ × Record)
 pairs_of taking = enumerate_from taking.first taking.records
 
+-- the page that was taken, if one was, as a list
 abbrev pub taking_list : Option Taking → List Taking
 taking_list None = []
 taking_list (Some taking) = taking ∷ []
@@ -60,9 +65,11 @@ takings_of answered = flat_map (λ a. taking_list a.taking) answered
 abbrev pub records_taken : List Answered → List Record
 records_taken answered = flat_map (λ taking. taking.records) (takings_of answered)
 
+-- the commands, without their answers
 abbrev pub commands_of : List Answered → List Command
 commands_of answered = map (λ a. a.command) answered
 
+-- the command takes a page
 abbrev pub IsTakePage : Command → Type 0
 IsTakePage (write cpu moment payload) = ⊥
 IsTakePage (close cpu) = ⊥
@@ -70,7 +77,7 @@ IsTakePage (take_page cpu) = Unit {0}
 IsTakePage (deliver collector cpu fill) = ⊥
 
 -- What is so of a command that took a page, behind these: it is one that takes, the page isn't empty,
--- and its first number is the number of records taken before it.
+-- and it is numbered from the count of all records that these took.
 pub record IsTaken (before : List Answered) (command : Command) (taking : Taking) : Type 0 where
   pub by_take : IsTakePage command
   pub holds_some : taking.records ≢ []
@@ -85,14 +92,30 @@ pub record IsDelivered (answered : List Answered) (taking : Taking) : Type 0 whe
   pub lines_are : answered ≡ before ++ record { command = deliver collector cpu taking.fill; taking = None } ∷ behind
   pub taken_before : Contains (takings_of before) taking
 
--- The uncounted contract of reading. Some commands took pages. After any number of lines the records
--- taken are, in order, some of those that these lines committed; and the collector holds exactly the
--- taken pages delivered to it, each record once, by rising number.
+-- both lists are empty, or they end in the same record
+abbrev pub EndsAlike : List Record → List Record → Type 0
+EndsAlike records others = ((records ≡ []) × (others ≡ [])) ⊎ ((front : List Record) × (before : List Record) × (last : Record) × (records ≡ front ++ last ∷ []) × (others ≡ before ++ last ∷ []))
+
+-- What a command that could take a page and took none finds: of what the lines before it committed, all
+-- behind the last record taken stands on one page, and right behind a close there is nothing.
+pub record IsUpToDate (size : ℕ) (before : List Answered) : Type 0 where
+  pub front : List Record
+  pub tail : List Record
+  pub committed : committed_records (history_of_lines size (commands_of before)) ≡ front ++ tail
+  pub taken : EndsAlike front (records_taken before)
+  pub one_page : length (page_encoding tail) ≤ size
+  pub closed : (lines : List Answered) (cpu : ℕ) → before ≡ lines ++ record { command = close cpu; taking = None } ∷ [] → tail ≡ []
+
+-- The uncounted contract of reading. Some commands took pages. After any number of lines, the records
+-- taken so far are a sublist of those committed so far; a command that takes none finds none to take. The
+-- collector holds just the records of the taken pages that were delivered to it, each of them once, by
+-- rising number.
 pub record IsUncountedReplay (script : Script) (collected : List (ℕ × Record)) : Type 0 where
   pub answered : List Answered
   pub one_each : commands_of answered ≡ map (λ line. line.1) script.commands
   pub taken : (before behind : List Answered) (command : Command) (taking : Taking) → answered ≡ before ++ record { command = command; taking = Some taking } ∷ behind → IsTaken before command taking
   pub fills_rise : IsStrictlyIncreasing (map (λ taking. taking.fill) (takings_of answered))
   pub in_order : (before behind : List Answered) → answered ≡ before ++ behind → IsSublist (records_taken before) (committed_records (history_of_lines script.size (commands_of before)))
+  pub up_to_date : (before behind : List Answered) (cpu : ℕ) → answered ≡ before ++ record { command = take_page cpu; taking = None } ∷ behind → IsUpToDate script.size before
   pub numbers_rise : IsStrictlyIncreasing (map (λ pair. pair.0) collected)
   pub holds : (pair : ℕ × Record) → Contains collected pair ↔ ((taking : Taking) × IsDelivered answered taking × Contains (pairs_of taking) pair)

@@ -1,5 +1,5 @@
--- The script text, as a grammar on whole texts: what script a text spells, or which of its lines is
--- the first at fault. After docs/FORMATS.md, "Script".
+-- The script text: what script a text spells as a whole, or which of its lines is the first at fault.
+-- After docs/FORMATS.md, "Script".
 use Rattle.std.specs.Prelude.{◌≡◌, ℕ, ◌+◌, ◌%◌, ◌⊎◌, ⊤, Bool, false, not, ◌&&◌, if◌then◌else◌, ◌==◌, nat_lt, nat_le, List, [], ◌∷◌, ◌++◌, length, drop, filter, codes, bytes_eq, decimal, Result, Ok, Err}
 use Rattle.std.specs.List.{enumerate_from}
 use Rattle.std.specs.Str.{all_ascii_digits}
@@ -112,15 +112,19 @@ pub record Setting : Type 0 where
   pub most : ℕ
   pub step : ℕ
 
+-- the pages of a ring
 abbrev pub pages_setting : Setting
 pages_setting = record { word = codes "pages"; least = MIN_PAGES; most = MAX_PAGES; step = 1 }
 
+-- the data size of a page, in bytes
 abbrev pub size_setting : Setting
 size_setting = record { word = codes "size"; least = MIN_SIZE; most = MAX_SIZE; step = 4 }
 
+-- how many CPUs there are
 abbrev pub cpus_setting : Setting
 cpus_setting = record { word = codes "cpus"; least = 1; most = MAX_SCRIPT_CPUS; step = 1 }
 
+-- how many collectors there are
 abbrev pub collectors_setting : Setting
 collectors_setting = record { word = codes "collectors"; least = 1; most = MAX_SCRIPT_COLLECTORS; step = 1 }
 

@@ -1,7 +1,7 @@
 -- Lists of which one has, in order, some elements of the other.
 use Rattle.std.specs.Prelude.{◌≡◌, List, [], ◌∷◌, ◌++◌}
 
--- the elements of the first list are, in order, some of those of the second
+-- the second list, with elements left out, is the first
 pub data IsSublist {A : Type 0} : List A → List A → Type 0 where
   ended : IsSublist [] []
   kept : (x : A) {xs ys : List A} → IsSublist xs ys → IsSublist (x ∷ xs) (x ∷ ys)

@@ -26,11 +26,11 @@ fields_of line = slice_split (λ b. b == 32) line
 abbrev pub is_well_spaced : List (List ℕ) → Bool
 is_well_spaced fields = list_all (λ field. nat_lt 0 (length field)) fields
 
--- a decimal number: 1 to 20 digits of a value below 2^64, leading zeros allowed
+-- a decimal number that fits 64 bits, in at most 20 digits; it may begin with zeros
 unfoldable pub is_decimal : List ℕ → Bool
 is_decimal text = nat_lt 0 (length text) && nat_le (length text) 20 && all_ascii_digits text && nat_lt (digits_value 10 text) (2 ^ 64)
 
--- the bytes that pairs of hexadecimal digits of either case spell, the high digit first
+-- the bytes that pairs of hexadecimal digits spell, in lower or upper case, the high digit first
 abbrev pub bytes_of_pairs : List ℕ → List ℕ
 bytes_of_pairs [] = []
 bytes_of_pairs (digit ∷ []) = []
@@ -40,7 +40,7 @@ bytes_of_pairs (high ∷ low ∷ digits) = (16 * digit_value high + digit_value 
 abbrev pub no_bytes_text : List ℕ
 no_bytes_text = codes "-"
 
--- bytes as text: an even number of hexadecimal digits of either case, two at least, or `-` for no byte
+-- bytes as text: two hexadecimal digits for each, in lower or upper case; `-` where there is none
 unfoldable pub is_hex : List ℕ → Bool
 is_hex text = bytes_eq text no_bytes_text || (nat_lt 0 (length text) && (length text % 2 == 0) && list_all (λ c. is_digit c 16) text)
 

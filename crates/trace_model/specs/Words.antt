@@ -61,6 +61,7 @@ delta_of (padding delta skipped) = 0
 delta_of (time_extend delta) = delta
 delta_of (time_stamp time) = 0
 
+-- the time that a stamp sets; no other word sets one
 abbrev pub stamp_of : Word → Option ℕ
 stamp_of (time_stamp time) = Some time
 stamp_of (short_data delta payload) = None
@@ -68,6 +69,7 @@ stamp_of (long_data delta payload) = None
 stamp_of (padding delta skipped) = None
 stamp_of (time_extend delta) = None
 
+-- whether the word is a stamp
 abbrev pub is_stamp : Word → Bool
 is_stamp (time_stamp time) = true
 is_stamp (short_data delta payload) = false
@@ -97,6 +99,7 @@ records_at time front (padding delta skipped) = []
 records_at time front (time_extend delta) = []
 records_at time front (time_stamp stamp) = []
 
+-- the records of the second words, which stand behind the first
 abbrev pub records_behind : ℕ → List Word → List Word → List Record
 records_behind time front [] = []
 records_behind time front (w ∷ words) = records_at time front w ++ records_behind time (front ++ w ∷ []) words
@@ -144,8 +147,8 @@ padded bytes = bytes ++ replicate (slot_len (length bytes) - length bytes) 0
 abbrev pub data_word : ℕ → List ℕ → Word
 data_word delta payload = if nat_le (length payload) 112 then short_data delta payload else long_data delta payload
 
--- a delta that doesn't fit its 27 bits stands in an extend in front; the first record of a page has
--- delta 0
+-- a delta that doesn't fit its 27 bits stands in an extend in front; where a record begins its page,
+-- none is written, as the page's time is its moment
 abbrev pub written_words : ℕ → Bool → List ℕ → List Word
 written_words delta true payload = data_word 0 payload ∷ []
 written_words delta false payload = if nat_lt delta (2 ^ 27) then data_word delta payload ∷ [] else time_extend delta ∷ data_word 0 payload ∷ []

@@ -1,12 +1,18 @@
-//! Laws over the definitions: each is the contract of a function with an empty body.
-ghost use Rattle.std.specs.Prelude.{◌≡◌, ℕ, ◌^◌, ◌<◌, ◌≤◌, ◌⊎◌, ◌↔◌, List, length, Ok, Err, EachIndex, slice_index, decimal};
+//! Laws over the definitions, as contracts of functions with empty bodies.
+ghost use Rattle.std.specs.Prelude.{◌≡◌, ℕ, ◌^◌, ◌<◌, ◌≤◌, ◌⊎◌, ◌↔◌, List, flat_map, length, Ok, Err, All, EachIndex, slice_index, decimal};
 ghost use Rattle.trace_model.specs.Faults.{Cause, IsWordFault, HasWord, HasEnding, HasFault};
 ghost use Rattle.trace_model.specs.Laws.{EncodingHasItsLength, EncodingsReadBack, OverwritingChangesOneRecord, PlacesAreUnique, PlainReaderAgrees, ReadingIsUnique};
 ghost use Rattle.trace_model.specs.Text.{hex_text};
-ghost use Rattle.trace_model.specs.Script.{Script, LineFault, ParsesScript, FirstScriptFault, number_in, payload_in};
+ghost use Rattle.trace_model.specs.Script.{Command, Script, LineFault, ParsesScript, FirstScriptFault, number_in, payload_in};
+ghost use Rattle.trace_model.specs.ScriptLimits.{IsWithinLimits};
 ghost use Rattle.trace_model.specs.ScriptReading.{script_in};
-ghost use Rattle.trace_model.specs.History.{Action, reserved_records, settled_front};
-ghost use Rattle.trace_model.specs.Sublist.{IsFront};
+ghost use Rattle.trace_model.specs.History.{Action, IsHistory, committed_records, reserved_records, settled_front};
+ghost use Rattle.trace_model.specs.Record.{Record, IsRecord};
+ghost use Rattle.trace_model.specs.Words.{Decodes};
+ghost use Rattle.trace_model.specs.Replay.{IsUncountedReplay, history_of_lines};
+ghost use Rattle.trace_model.specs.Sublist.{IsFront, IsSublist};
+ghost use Rattle.trace_model.specs.Pieces.{HasPieces};
+ghost use Rattle.trace_model.specs.ReplayPieces.{IsUncountedPartition};
 
 /// A payload that fills its slot takes just the bytes that the writer reckons with.
 pub fn encoding_len()
@@ -50,11 +56,39 @@ pub fn front_of_data()
         → IsWordFault bytes other → cause ≡ other }
 {}
 
-/// The committed records are the first of the reserved ones, so that a record's number, its place
-/// among the committed, is the number of reservations before its own.
+/// The committed records are the first of the reserved ones, so that a record has one number from its
+/// reservation on: its place among the committed is its place among the reserved.
 pub fn committed_is_a_front()
     ensures { (history : List Action)
         → IsFront (reserved_records (settled_front history)) (reserved_records history) }
+{}
+
+/// Each committed record of a history fills whole words.
+pub fn committed_records_are_records()
+    ensures { (history : List Action) → All IsRecord (committed_records history) }
+{}
+
+/// Each record that data reads as fills whole words.
+pub fn decoded_records_are_records()
+    ensures { (bytes : List ℕ) (time : ℕ) (records : List Record) →
+        Decodes bytes time records → All IsRecord records }
+{}
+
+/// What the lines of a script make of a CPU's frames keeps the discipline of the stack.
+pub fn script_histories_are_histories()
+    ensures { (size : ℕ) (commands : List Command) → IsHistory (history_of_lines size commands) }
+{}
+
+/// Pieces of a list, joined, are a sublist of it.
+pub fn pieces_are_a_sublist()
+    ensures { (pieces : List (List Record)) (whole rest : List Record) →
+        HasPieces whole pieces rest → IsSublist (flat_map (λ piece. piece) pieces) whole }
+{}
+
+/// A replay that takes pages in pieces meets the uncounted contract.
+pub fn partitions_are_uncounted_replays()
+    ensures { (script : Script) (collected : List (ℕ × Record)) →
+        IsUncountedPartition script collected → IsUncountedReplay script collected }
 {}
 
 /// The plain reader answers the script that a text spells, and no other.
@@ -84,6 +118,11 @@ pub fn one_script()
     ensures fault { (text : List ℕ) (one other : ℕ) (fault another : LineFault) →
         FirstScriptFault text one fault → FirstScriptFault text other another →
         (one ≡ other) × (fault ≡ another) }
+{}
+
+/// A script that a text spells keeps the limits of its header, and so does each of its commands.
+pub fn parsed_scripts_are_within_limits()
+    ensures { (text : List ℕ) (script : Script) → ParsesScript text script → IsWithinLimits script }
 {}
 
 /// A number's decimal text reads back as the number.

@@ -1,7 +1,7 @@
 //! The plain types that every crate speaks of, and the definitions that their contracts cite.
 //!
-//! The definitions stand in `specs/`, one module a subject; the laws over them are the contracts
-//! of the functions of `laws`.
+//! Each subject has its definitions in a module of `specs/`; the laws over them are the contracts of
+//! the functions of `laws`.
 #![tactic(auto)]
 
 pub mod laws;
@@ -10,8 +10,8 @@ pub mod numbers;
 pub mod script_limits;
 
 pub use limits::{
-    MAX_COLLECTORS, MAX_CPUS, MAX_FRAMES, MAX_IMAGE, MAX_INPUT, MAX_PAGES, MAX_SIZE, MIN_PAGES,
-    MIN_SIZE, MOMENT_LIMIT, START_FILL,
+    LINK_FILLS, MAX_COLLECTORS, MAX_CPUS, MAX_FRAMES, MAX_IMAGE, MAX_INPUT, MAX_PAGES, MAX_SIZE,
+    MIN_PAGES, MIN_SIZE, MOMENT_LIMIT, START_FILL,
 };
 pub use numbers::{CpuId, FillNo, Moment, NoMemory, RecordNo};
 pub use script_limits::{MAX_SCRIPT_COLLECTORS, MAX_SCRIPT_CPUS};

@@ -9,7 +9,7 @@ pub const MAX_PAGES: usize = 1024;
 /// The smallest data size of a page, in bytes.
 pub const MIN_SIZE: usize = 32;
 
-/// The largest data size of a page, in bytes. A data size is a multiple of 4.
+/// The largest data size of a page, in bytes. 4 divides a data size.
 pub const MAX_SIZE: usize = 4080;
 
 /// The longest page image that is read, in bytes.
@@ -32,3 +32,7 @@ pub const MOMENT_LIMIT: u64 = 576_460_752_303_423_488;
 
 /// The number of a ring's first fill.
 pub const START_FILL: u64 = 0;
+
+/// How many fills a link can name, 2^48: their numbers are below this. A fill is opened only where the
+/// one `pages` after it can be named too, so no fill is opened behind `LINK_FILLS - 1 - pages`.
+pub const LINK_FILLS: u64 = 281_474_976_710_656;

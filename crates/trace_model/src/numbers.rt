@@ -1,4 +1,4 @@
-//! The numbers by which records, fills and CPUs are told apart, and the answer for want of memory.
+//! The numbers by which records, fills and CPUs are told apart, and the error where memory is refused.
 ghost use Rattle.trace_model.specs.declared.numbers.NoMemory.{NoMemory};
 
 use std::alloc::{AllocError, AllocFailed};
@@ -13,7 +13,7 @@ pub struct CpuId(pub u32);
 #[derive(Clone, Copy, Debug, PartialEq, Eq, PartialOrd, Ord, Hash)]
 pub struct RecordNo(pub u64);
 
-/// A fill, one use of a page, by its number among the fills of its CPU.
+/// A fill: a page from when it is begun until it is emptied, by its number among its CPU's, from 0.
 #[derive(Clone, Copy, Debug, PartialEq, Eq, PartialOrd, Ord, Hash)]
 pub struct FillNo(pub u64);
 

@@ -1,5 +1,5 @@
 use Rattle.trace_cli.specs.ScriptTypes.{shown_command}
-use Rattle.trace_cli.proofs.ReadingLemmas.{gives_read}
+use Rattle.trace_cli.proofs.ScriptLemmas.{gives_read}
 use Rattle.trace_cli.proofs.script.command_at.Goals as goal
 
 pub returns : goal.returns

@@ -1,6 +1,6 @@
 use Rattle.std.proofs.lemmas.Result.{err_from_is_err_and}
 use Rattle.trace_cli.specs.ScriptTypes.{shown_command}
-use Rattle.trace_cli.proofs.ReadingLemmas.{commands_fail, commands_turn, commands_end, shown_push}
+use Rattle.trace_cli.proofs.ScriptLemmas.{commands_fail, commands_turn, commands_end, shown_push}
 use Rattle.trace_cli.proofs.script.read_commands.Goals as goal
 
 pub returns-in_err-command : goal.returns-in_err-command

@@ -1,5 +1,5 @@
 use Rattle.trace_cli.specs.ScriptTypes.{script_of}
-use Rattle.trace_cli.proofs.ReadingLemmas.{script_found, fault_found}
+use Rattle.trace_cli.proofs.ScriptLemmas.{script_found, fault_found}
 use Rattle.trace_cli.proofs.script.read_script.Goals as goal
 
 pub returns-clause-script : goal.returns-clause-script

@@ -1,6 +1,6 @@
 use Rattle.std.proofs.Common.{[], ◌∷◌}
 use Rattle.trace_cli.specs.ScriptTypes.{shown_command}
-use Rattle.trace_cli.proofs.ReadingLemmas.{command_from, no_command}
+use Rattle.trace_cli.proofs.ScriptLemmas.{command_from, no_command}
 use Rattle.trace_cli.proofs.script.command.command_in.Goals as goal
 
 pub returns-in-Two : goal.returns-in-Two

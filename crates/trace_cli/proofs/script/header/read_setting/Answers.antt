@@ -1,6 +1,6 @@
 use Rattle.std.proofs.Common.{sym, ◌∙◌}
 use Rattle.trace_cli.specs.ScriptTypes.{setting_of}
-use Rattle.trace_cli.proofs.ReadingLemmas.{setting_read, setting_missing}
+use Rattle.trace_cli.proofs.ScriptLemmas.{setting_read, setting_missing}
 use Rattle.trace_cli.proofs.script.header.read_setting.Goals as goal
 
 pub returns-in_default-clause-gives : goal.returns-in_default-clause-gives

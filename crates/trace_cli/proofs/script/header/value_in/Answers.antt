@@ -1,5 +1,5 @@
 use Rattle.trace_cli.specs.ScriptTypes.{setting_of}
-use Rattle.trace_cli.proofs.ReadingLemmas.{value_from_two, no_value_without_two}
+use Rattle.trace_cli.proofs.ScriptLemmas.{value_from_two, no_value_without_two}
 use Rattle.trace_cli.proofs.script.header.value_in.Goals as goal
 
 pub returns-in-Two-clause-gives : goal.returns-in-Two-clause-gives

@@ -1,5 +1,5 @@
 use Rattle.std.proofs.Common.{◌==◌}
-use Rattle.trace_cli.proofs.Parts.{parts_behind, one_part}
+use Rattle.trace_cli.proofs.TextParts.{parts_behind, one_part}
 use Rattle.trace_cli.proofs.script.lines.cut_at.Goals as goal
 
 pub returns-in-Some-clause-parts : goal.returns-in-Some-clause-parts

@@ -1,5 +1,5 @@
 use Rattle.std.proofs.Common.{sym, ◌∙◌, arith}
-use Rattle.trace_cli.proofs.Parts.{counted_turn, uncounted_turn, counted_none, end_turn, last_turn}
+use Rattle.trace_cli.proofs.TextParts.{counted_turn, uncounted_turn, counted_none, end_turn, last_turn}
 use Rattle.trace_cli.proofs.script.lines.Lines.next_counted.Goals as goal
 
 pub returns-then-is_counted-clause-left : goal.returns-then-is_counted-clause-left

@@ -1,5 +1,5 @@
 use Rattle.std.proofs.Common.{refl, sym, ◌∙◌}
-use Rattle.trace_cli.proofs.Parts.{next_line}
+use Rattle.trace_cli.proofs.TextParts.{next_line}
 use Rattle.trace_cli.proofs.script.lines.Lines.next_line.Goals as goal
 
 pub returns-clause-lines : goal.returns-clause-lines

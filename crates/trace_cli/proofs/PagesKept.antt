@@ -1,0 +1,254 @@
+-- How the pages of a plain list hold what was committed and not taken, and how their counts grow.
+use Rattle.std.proofs.Common.{◌≡◌, ◌≢◌, ℕ, ◌+◌, ◌≤◌, max, Bool, true, false, ◌&&◌, cond, ltb, leb, eqb, List, [], ◌∷◌, ◌++◌, length, drop, flat_map, sum_by, refl, sym, ap, ◌∙◌, subst, arith, append_assoc, append-nil, All}
+use Rattle.std.proofs.lemmas.Bool.{leb-true, ltb-false}
+use Rattle.std.proofs.lemmas.List.{length_push}
+use Rattle.std.proofs.lemmas.List.Concat.{flat_map-append}
+use Rattle.std.proofs.lemmas.List.Sums.{sum_by_push, sum_by-cons}
+use Rattle.std.proofs.lemmas.List.Elements.{All-push, All-drop}
+use Rattle.trace_model.specs.declared.limits.TheConstants.{MOMENT_LIMIT}
+use Rattle.trace_model.specs.Record.{Record}
+use Rattle.trace_model.specs.Words.{encoded_len, page_encoding}
+use Rattle.trace_model.specs.Sublist.{IsSublist}
+use Rattle.trace_model.specs.Replay.{is_short, is_writable, EndsAlike}
+use Rattle.trace_model.proofs.Sublists.{IsSublist-front}
+use Rattle.trace_cli.specs.PlainPages.{PlainPages, tail_fill, records_left, record_for, fits_tail, with_place, with_tail_left, opened, with_record, written, closed}
+use Rattle.trace_cli.proofs.TailRoom.{empty_tail_room, opened_fits, none_from_test}
+
+-- ---- the pages
+
+-- the records that stand in the list
+abbrev pub standing : PlainPages → List Record
+standing p = flat_map (λ records. records) p.left ++ p.tail
+
+-- What the pages are once these records were committed and those were taken: behind the records that are
+-- gone from the list stand the others.
+pub record HoldsRest (all taken : List Record) (p : PlainPages) : Type 0 where
+  pub gone : List Record
+  pub all_is : all ≡ gone ++ standing p
+  pub among : IsSublist taken gone
+  pub some : All (λ records. records ≢ []) p.left
+  pub most_is : 2 ≤ p.most
+
+-- the oldest page dropped
+pub drop_oldest : (p : PlainPages) (left : List (List Record)) (all taken : List Record) → p.left ≡ left → HoldsRest all taken p → HoldsRest all taken (record p { left = drop 1 left; oldest = p.oldest + 1 })
+drop_oldest p [] all taken is h =
+    record {
+      gone = h.gone;
+      all_is = h.all_is ∙ ap (λ (left : List (List Record)). h.gone ++ (flat_map (λ records. records) left ++ p.tail)) is;
+      among = h.among;
+      some = λ k d inside. absurd (omega arith);
+      most_is = h.most_is;
+    }
+drop_oldest p (x ∷ left) all taken is h =
+    let some : All (λ records. records ≢ []) (x ∷ left) = subst (λ (pages : List (List Record)). All (λ records. records ≢ []) pages) is h.some in
+    record {
+      gone = h.gone ++ x;
+      all_is =
+          h.all_is
+          ∙ ap (λ (left : List (List Record)). h.gone ++ (flat_map (λ records. records) left ++ p.tail)) is
+          ∙ ap (λ (rs : List Record). h.gone ++ rs) (append_assoc x (flat_map (λ records. records) left) p.tail)
+          ∙ sym (append_assoc h.gone x (flat_map (λ records. records) left ++ p.tail));
+      among = IsSublist-front x h.among;
+      some = All-drop (λ (records : List Record). records ≢ []) 1 (x ∷ left) some;
+      most_is = h.most_is;
+    }
+
+HoldsRest-with_place : (p : PlainPages) (all taken : List Record) → HoldsRest all taken p → HoldsRest all taken (with_place p)
+HoldsRest-with_place p all taken h = by_test (ltb (length p.left + 1) p.most)
+  where
+    by_test : (room : Bool) → HoldsRest all taken (cond room p (record p { left = drop 1 p.left; oldest = p.oldest + 1 }))
+    by_test true = h
+    by_test false = drop_oldest p p.left all taken refl h
+
+HoldsRest-tail_left : (p : PlainPages) (all taken : List Record) → p.tail ≢ [] → HoldsRest all taken p → HoldsRest all taken (with_tail_left p)
+HoldsRest-tail_left p all taken filled h =
+    record {
+      gone = h.gone;
+      all_is =
+          h.all_is
+          ∙ ap (λ (rs : List Record). h.gone ++ rs) (sym (append-nil (flat_map (λ records. records) (p.left ++ p.tail ∷ [])) ∙ flat_map-append (λ (records : List Record). records) p.left (p.tail ∷ []) ∙ ap (λ (rs : List Record). flat_map (λ records. records) p.left ++ rs) (append-nil p.tail)));
+      among = h.among;
+      some = All-push (λ (records : List Record). records ≢ []) p.left p.tail h.some filled;
+      most_is = h.most_is;
+    }
+
+tail-with_place : (p : PlainPages) → (with_place p).tail ≡ p.tail
+tail-with_place p = by_test (ltb (length p.left + 1) p.most)
+  where
+    by_test : (room : Bool) → (let q : PlainPages = cond room p (record p { left = drop 1 p.left; oldest = p.oldest + 1 }) in q.tail) ≡ p.tail
+    by_test true = refl
+    by_test false = refl
+
+HoldsRest-opened : (p : PlainPages) (all taken : List Record) → p.tail ≢ [] → HoldsRest all taken p → HoldsRest all taken (opened p)
+HoldsRest-opened p all taken filled h =
+    HoldsRest-tail_left (with_place p) all taken (λ none. filled (sym (tail-with_place p) ∙ none)) (HoldsRest-with_place p all taken h)
+
+abbrev pub HoldsRest-with_record : (p : PlainPages) (all taken : List Record) (r : Record) → HoldsRest all taken p → HoldsRest (all ++ r ∷ []) taken (with_record r p)
+HoldsRest-with_record p all taken r h =
+    record {
+      gone = h.gone;
+      all_is =
+          ap (λ (rs : List Record). rs ++ r ∷ []) h.all_is
+          ∙ append_assoc h.gone (standing p) (r ∷ [])
+          ∙ ap (λ (rs : List Record). h.gone ++ rs) (append_assoc (flat_map (λ records. records) p.left) p.tail (r ∷ []));
+      among = h.among;
+      some = h.some;
+      most_is = h.most_is;
+    }
+
+-- ---- the counts: how the numbers of fills and records grow
+
+-- What stays or grows from one list to the next, by at most this many fills and records.
+pub record Grows (p q : PlainPages) (fills records : ℕ) : Type 0 where
+  pub size_is : q.size ≡ p.size
+  pub taken_is : q.taken ≡ p.taken
+  pub older : p.oldest ≤ q.oldest
+  pub fills_le : tail_fill q ≤ tail_fill p + fills
+  pub records_le : records_left q + length q.tail ≤ records_left p + length p.tail + records
+
+pub Grows-same : (p : PlainPages) → Grows p p 0 0
+Grows-same p = record { size_is = refl; taken_is = refl; older = omega arith; fills_le = omega arith; records_le = omega arith }
+
+Grows-drop : (p : PlainPages) (left : List (List Record)) → p.left ≡ left → 2 ≤ p.most → p.most ≤ length p.left + 1 → Grows p (record p { left = drop 1 left; oldest = p.oldest + 1 }) 0 0
+Grows-drop p [] is many full = absurd (omega (arith, ap length is))
+Grows-drop p (x ∷ left) is many full =
+    let count = ap length is in
+    let total = ap (λ (pages : List (List Record)). sum_by length pages) is ∙ sum_by-cons length x left in
+    record { size_is = refl; taken_is = refl; older = omega arith; fills_le = omega (arith, count); records_le = omega (arith, total) }
+
+Grows-with_place : (p : PlainPages) → 2 ≤ p.most → Grows p (with_place p) 0 0
+Grows-with_place p many = by_test (ltb (length p.left + 1) p.most) refl
+  where
+    by_test : (room : Bool) → ltb (length p.left + 1) p.most ≡ room → Grows p (cond room p (record p { left = drop 1 p.left; oldest = p.oldest + 1 })) 0 0
+    by_test true test = Grows-same p
+    by_test false test = Grows-drop p p.left refl many (ltb-false (length p.left + 1) p.most test)
+
+Grows-trans : (p q r : PlainPages) (i j k l : ℕ) → Grows p q i j → Grows q r k l → Grows p r (i + k) (j + l)
+Grows-trans p q r i j k l g h =
+    record {
+      size_is = h.size_is ∙ g.size_is;
+      taken_is = h.taken_is ∙ g.taken_is;
+      older = let a = g.older in let b = h.older in omega arith;
+      fills_le = let a = g.fills_le in let b = h.fills_le in omega arith;
+      records_le = let a = g.records_le in let b = h.records_le in omega arith;
+    }
+
+Grows-tail_left : (p : PlainPages) → Grows p (with_tail_left p) 1 0
+Grows-tail_left p =
+    let count = length_push p.left p.tail in
+    let total = sum_by_push length p.left p.tail in
+    record { size_is = refl; taken_is = refl; older = omega arith; fills_le = omega (arith, count); records_le = omega (arith, total) }
+
+pub Grows-opened : (p : PlainPages) → 2 ≤ p.most → Grows p (opened p) 1 0
+Grows-opened p many = Grows-trans p (with_place p) (opened p) 0 0 1 0 (Grows-with_place p many) (Grows-tail_left (with_place p))
+
+Grows-with_record : (p : PlainPages) (r : Record) → Grows p (with_record r p) 0 1
+Grows-with_record p r =
+    let count = length_push p.tail r in
+    record { size_is = refl; taken_is = refl; older = omega arith; fills_le = omega arith; records_le = omega (arith, count) }
+
+pub Grows-most : (p q : PlainPages) (i j k l : ℕ) → i ≤ k → j ≤ l → Grows p q i j → Grows p q k l
+Grows-most p q i j k l le more g =
+    record {
+      size_is = g.size_is;
+      taken_is = g.taken_is;
+      older = g.older;
+      fills_le = let a = g.fills_le in omega arith;
+      records_le = let a = g.records_le in omega arith;
+    }
+
+-- ---- a write and a close
+
+and_left : (a b : Bool) → (a && b) ≡ true → a ≡ true
+and_left true b h = refl
+and_left false b h = h
+
+and_right : (a b : Bool) → (a && b) ≡ true → b ≡ true
+and_right true b h = h
+and_right false b h = absurd (cc)
+
+-- a write that isn't refused is short enough for a fresh page
+short_enough : (size moment len : ℕ) → is_writable size moment len ≡ true → encoded_len len 0 true ≤ size
+short_enough size moment len h =
+    leb-true (encoded_len len 0 true) size (and_right (leb len size) (leb (encoded_len len 0 true) size) (and_left (is_short size len) (ltb moment MOMENT_LIMIT) h))
+
+-- where a record has no room, the tail holds one
+tail_filled : (p : PlainPages) (moment : ℕ) (payload : List ℕ) → encoded_len (length payload) 0 true ≤ p.size → fits_tail p (record_for p moment payload) ≡ false → p.tail ≢ []
+tail_filled p moment payload short refused none =
+    let r = record_for p moment payload in
+    let room : fits_tail p r ≡ true = ap (λ (tail : List Record). leb (length (page_encoding (tail ++ r ∷ []))) p.size) none ∙ empty_tail_room (max moment p.last) p.size payload short in
+    let wrong : false ≡ true = sym refused ∙ room in
+    cc
+
+-- What a command that takes nothing makes of the pages.
+pub record Moves (all all' taken : List Record) (p q : PlainPages) (h : HoldsRest all taken p) : Type 0 where
+  pub holds : HoldsRest all' taken q
+  pub grows : Grows p q 1 1
+  pub served : (p.left ≡ [] → EndsAlike h.gone taken) → q.left ≡ [] → EndsAlike holds.gone taken
+  pub tail_fits : length (page_encoding p.tail) ≤ p.size → length (page_encoding q.tail) ≤ q.size
+
+push_not_none : {X : Type 0} (xs : List X) (x : X) → xs ++ x ∷ [] ≡ [] → ⊥
+push_not_none [] x e = cc
+push_not_none (y ∷ xs) x e = cc
+
+pub Moves-written : (p : PlainPages) (all taken : List Record) (moment : ℕ) (payload : List ℕ) → is_writable p.size moment (length payload) ≡ true → (h : HoldsRest all taken p) → Moves all (all ++ record_for p moment payload ∷ []) taken p (written p moment payload) h
+Moves-written p all taken moment payload accepted h = by_test (fits_tail p (record_for p moment payload)) refl
+  where
+    by_test : (room : Bool) → fits_tail p (record_for p moment payload) ≡ room → Moves all (all ++ record_for p moment payload ∷ []) taken p (with_record (record_for p moment payload) (cond room p (opened p))) h
+    by_test true test =
+        record {
+          holds = HoldsRest-with_record p all taken (record_for p moment payload) h;
+          grows = Grows-most p (with_record (record_for p moment payload) p) 0 1 1 1 (omega arith) (omega arith) (Grows-with_record p (record_for p moment payload));
+          served = λ was none. was none;
+          tail_fits = λ _. leb-true (length (page_encoding (p.tail ++ record_for p moment payload ∷ []))) p.size test;
+        }
+    by_test false test =
+        let short = short_enough p.size moment (length payload) accepted in
+        let filled = tail_filled p moment payload short test in
+        record {
+          holds = HoldsRest-with_record (opened p) all taken (record_for p moment payload) (HoldsRest-opened p all taken filled h);
+          grows = Grows-trans p (opened p) (with_record (record_for p moment payload) (opened p)) 1 0 0 1 (Grows-opened p h.most_is) (Grows-with_record (opened p) (record_for p moment payload));
+          served = λ was none. absurd (push_not_none (with_place p).left (with_place p).tail none);
+          tail_fits = λ _. leb-true (length (page_encoding (record_for p moment payload ∷ []))) (opened p).size (opened_fits p (max moment p.last) payload short);
+        }
+
+pub Moves-closed : (p : PlainPages) (all taken : List Record) (h : HoldsRest all taken p) → Moves all all taken p (closed p) h
+Moves-closed p all taken h = by_test (eqb (length p.tail) 0) refl
+  where
+    by_test : (blank : Bool) → eqb (length p.tail) 0 ≡ blank → Moves all all taken p (cond blank p (opened p)) h
+    by_test true test =
+        record {
+          holds = h;
+          grows = Grows-most p p 0 0 1 1 (omega arith) (omega arith) (Grows-same p);
+          served = λ was none. was none;
+          tail_fits = λ fits. fits;
+        }
+    by_test false test =
+        let filled : p.tail ≢ [] = λ none. let wrong : false ≡ true = sym test ∙ ap (λ (tail : List Record). eqb (length tail) 0) none in cc in
+        record {
+          holds = HoldsRest-opened p all taken filled h;
+          grows = Grows-most p (opened p) 1 0 1 1 (omega arith) (omega arith) (Grows-opened p h.most_is);
+          served = λ was none. absurd (push_not_none (with_place p).left (with_place p).tail none);
+          tail_fits = λ _. omega arith;
+        }
+
+pub tail-closed : (p : PlainPages) → (closed p).tail ≡ []
+tail-closed p = by_test (eqb (length p.tail) 0) refl
+  where
+    by_test : (blank : Bool) → eqb (length p.tail) 0 ≡ blank → (let q : PlainPages = cond blank p (opened p) in q.tail) ≡ []
+    by_test true test = none_from_test p.tail test
+    by_test false test = refl
+
+last-with_place : (p : PlainPages) → (with_place p).last ≡ p.last
+last-with_place p = by_test (ltb (length p.left + 1) p.most)
+  where
+    by_test : (room : Bool) → (let q : PlainPages = cond room p (record p { left = drop 1 p.left; oldest = p.oldest + 1 }) in q.last) ≡ p.last
+    by_test true = refl
+    by_test false = refl
+
+pub last-closed : (p : PlainPages) → (closed p).last ≡ p.last
+last-closed p = by_test (eqb (length p.tail) 0)
+  where
+    by_test : (blank : Bool) → (let q : PlainPages = cond blank p (opened p) in q.last) ≡ p.last
+    by_test true = refl
+    by_test false = last-with_place p

@@ -1,0 +1,69 @@
+-- A script, replayed up to a line.
+use Rattle.std.proofs.Common.{◌≡◌, ℕ, ◌+◌, ◌<◌, ◌≤◌, List, [], ◌∷◌, ◌++◌, length, take, get_or, map, refl, sym, ap, ◌∙◌, subst, arith, All}
+use Rattle.std.proofs.lemmas.List.{map_push, take_more, take_all, get_or-map, length-map, length-take-le}
+use Rattle.trace_model.specs.Script.{Command}
+use Rattle.trace_model.specs.Replay.{Taking, Answered, takings_of, commands_of}
+use Rattle.trace_cli.specs.declared.script.Script.{Script}
+use Rattle.trace_cli.specs.declared.script.ScriptLine.{ScriptLine}
+use Rattle.trace_cli.specs.declared.plain_collector.Held.{Held}
+use Rattle.trace_cli.specs.declared.replay.Run.{Run}
+use Rattle.trace_cli.specs.ScriptTypes.{shown_command, shown_line, script_of}
+use Rattle.trace_cli.specs.PlainRun.{obeyed}
+use Rattle.trace_cli.specs.Collected.{collected_of}
+use Rattle.trace_model.specs.Replay.{IsUncountedReplay}
+use Rattle.trace_cli.proofs.Runs.{IsRun, taking_by, obeyed_step}
+use Rattle.trace_cli.proofs.Contracts.{run_meets_contract}
+
+-- the command of a line
+abbrev pub command_at : ScriptLine → Command
+command_at line = shown_command line.command
+
+-- the run after these lines
+pub record SoFar (size : ℕ) (lines : List ScriptLine) (run : Run) : Type 0 where
+  pub answered : List Answered
+  pub commands : commands_of answered ≡ map command_at lines
+  pub kept : IsRun size answered run
+
+pub SoFar-more : (size : ℕ) (lines : List ScriptLine) (i : ℕ) (line : ScriptLine) (run : Run) → i < length lines → line ≡ get_or lines i line → SoFar size (take i lines) run → SoFar size (take (i + 1) lines) (obeyed run (command_at line))
+SoFar-more size lines i line run inside is s =
+    let c = command_at line in
+    let a : Answered = record { command = c; taking = taking_by run c } in
+    record {
+      answered = s.answered ++ a ∷ [];
+      commands =
+          map_push (λ (x : Answered). x.command) s.answered a
+          ∙ ap (λ (cs : List Command). cs ++ c ∷ []) s.commands
+          ∙ sym (map_push command_at (take i lines) line)
+          ∙ ap (λ (x : ScriptLine). map command_at (take i lines ++ x ∷ [])) is
+          ∙ ap (map command_at) (sym (take_more lines i line inside));
+      kept = obeyed_step size s.answered run c s.kept;
+    }
+
+pub length-SoFar : (size : ℕ) (lines : List ScriptLine) (i : ℕ) (run : Run) → i ≤ length lines → (s : SoFar size (take i lines) run) → length s.answered ≡ i
+length-SoFar size lines i run le s =
+    let count = ap length s.commands in
+    let left = length-map s.answered (λ (x : Answered). x.command) in
+    let right = length-map (take i lines) command_at in
+    let many = length-take-le i lines le in
+    omega arith
+
+-- the held pages are older than those of the list
+pub held_below : (size : ℕ) (lines : List ScriptLine) (run : Run) → SoFar size lines run → All (λ h. h.taking.fill < run.list.oldest) run.collector
+held_below size lines run s k h inside =
+    let takings = s.kept.takings_are in
+    let count = ap length takings in
+    let within : k < length (takings_of s.answered) = omega (arith, length-map run.collector (λ (x : Held). x.taking)) in
+    let lower : (get_or (takings_of s.answered) k h.taking).fill < run.list.oldest = s.kept.below k h.taking within in
+    let read : get_or (takings_of s.answered) k h.taking ≡ (get_or run.collector k h).taking = ap (λ (ts : List Taking). get_or ts k h.taking) takings ∙ get_or-map (λ (x : Held). x.taking) run.collector k h h.taking inside in
+    subst (λ (t : Taking). t.fill < run.list.oldest) read lower
+
+-- the whole script
+pub SoFar-all : (script : Script) (i : ℕ) (run : Run) → length script.commands.items ≤ i → SoFar script.size (take i script.commands.items) run → IsUncountedReplay (script_of script) (collected_of run.collector)
+SoFar-all script i run done s =
+    let lines = script.commands.items in
+    let all : commands_of s.answered ≡ map command_at lines = s.commands ∙ ap (map command_at) (take_all i lines done) in
+    run_meets_contract (script_of script) s.answered run (all ∙ commands_shown lines) s.kept
+  where
+    commands_shown : (lines : List ScriptLine) → map command_at lines ≡ map (λ (line : ℕ × Command). line.1) (map shown_line lines)
+    commands_shown [] = refl
+    commands_shown (line ∷ lines) = ap (λ (cs : List Command). command_at line ∷ cs) (commands_shown lines)

@@ -1,0 +1,17 @@
+-- What the collector of plain pages has.
+use Rattle.std.specs.Prelude.{ℕ, true, if◌then◌else◌, ◌==◌, List, [], flat_map}
+use Rattle.trace_model.specs.Record.{Record}
+use Rattle.trace_model.specs.Replay.{pairs_of}
+use Rattle.trace_cli.specs.declared.plain_collector.Held.{Held}
+
+-- a taken page, delivered where its fill is this one
+abbrev pub with_delivery : ℕ → Held → Held
+with_delivery fill h = if h.taking.fill == fill then record h { delivered = true } else h
+
+-- the pairs of a page that was delivered
+abbrev pub pairs_held : Held → List (ℕ × Record)
+pairs_held h = if h.delivered then pairs_of h.taking else []
+
+-- all pairs that were delivered, by rising number
+abbrev pub collected_of : List Held → List (ℕ × Record)
+collected_of held = flat_map pairs_held held

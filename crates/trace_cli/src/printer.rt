@@ -1,0 +1,125 @@
+//! The printing of what a collector has.
+ghost use Rattle.std.specs.Prelude.{◌≡◌, ◌<◌, ◌++◌, OnOk, IfOk, flat_map};
+ghost use Rattle.std.specs.Char.{digit_char};
+ghost use Rattle.std.specs.Fmt.{decimal};
+ghost use Rattle.trace_model.specs.Text.{hex_text};
+ghost use Rattle.trace_model.specs.Printing.{printed_record, printed_collector};
+ghost use Rattle.trace_model.specs.Replay.{pairs_of};
+ghost use Rattle.trace_cli.specs.Collected.{pairs_held, collected_of};
+ghost use Rattle.page_image.specs.Copies.{copy_of};
+
+use crate::plain_collector::{Held, PlainCollector};
+use crate::taken::Taken;
+use itoa::Buffer;
+use std::alloc::Global;
+use trace_model::{CpuId, Moment, NoMemory, RecordNo};
+
+/// The digit of a number below 16, in lower case.
+fn hex_digit(number: u8) -> u8
+    requires { number < 16 }
+    ensures { result ≡ digit_char number }
+{
+    if number < 10 {
+        b'0' + number
+    } else {
+        b'a' + (number - 10)
+    }
+}
+
+// On an error these may leave a part of what they put, in a text that the caller drops.
+
+fn put_number(out: &mut Vec<u8>, number: u64) -> Result<(), NoMemory>
+    ensures { OnOk result (out.new.items ≡ out.old.items ++ decimal number) }
+{
+    let mut buffer = Buffer::new();
+    out.extend_from_slice(buffer.format(number).as_bytes())?;
+    Ok(())
+}
+
+fn put_payload(out: &mut Vec<u8>, payload: &[u8]) -> Result<(), NoMemory>
+    ensures { OnOk result (out.new.items ≡ out.old.items ++ hex_text payload.now) }
+{
+    if payload.is_empty() {
+        out.push(b'-')?;
+        return Ok(());
+    }
+    for byte in payload {
+        out.push(hex_digit(*byte / 16))?;
+        out.push(hex_digit(*byte % 16))?;
+    }
+    Ok(())
+}
+
+/// A record's line.
+fn put_record(
+    out: &mut Vec<u8>,
+    cpu: CpuId,
+    number: RecordNo,
+    moment: Moment,
+    payload: &[u8],
+) -> Result<(), NoMemory>
+    ensures { OnOk result (out.new.items ≡ out.old.items ++ printed_record cpu.0 (number.0, record { moment = moment.0; bytes = payload.now })) }
+{
+    put_number(out, u64::from(cpu.0))?;
+    out.push(b' ')?;
+    put_number(out, number.0)?;
+    out.push(b' ')?;
+    put_number(out, moment.0)?;
+    out.push(b' ')?;
+    put_payload(out, payload)?;
+    out.push(b'\n')?;
+    Ok(())
+}
+
+/// The line of a record as it was copied out of its page.
+fn put_copied(
+    out: &mut Vec<u8>,
+    cpu: CpuId,
+    number: RecordNo,
+    copied: &(u64, Vec<u8>),
+) -> Result<(), NoMemory>
+    ensures { OnOk result (out.new.items ≡ out.old.items ++ printed_record cpu.0 (number.0, copy_of copied.now)) }
+{
+    let (moment, payload) = copied;
+    put_record(out, cpu, number, Moment(*moment), payload)
+}
+
+/// The lines of a taken page's records.
+fn put_taken(out: &mut Vec<u8>, cpu: CpuId, taken: &Taken) -> Result<(), NoMemory>
+    ensures { OnOk result (out.new.items ≡ out.old.items ++ flat_map (printed_record cpu.0) (pairs_of taken.now)) }
+{
+    let first = taken.first();
+    for (i, copied) in taken.records().iter().enumerate() {
+        let number = RecordNo(first.0 + i as u64);
+        put_copied(out, cpu, number, copied)?;
+    }
+    Ok(())
+}
+
+/// The lines of the pages that were delivered.
+fn put_delivered(out: &mut Vec<u8>, cpu: CpuId, held: &[Held]) -> Result<(), NoMemory>
+    ensures { OnOk result (out.new.items ≡ out.old.items ++ flat_map (printed_record cpu.0) (collected_of held.now)) }
+{
+    for page in held {
+        if page.delivered {
+            put_taken(out, cpu, &page.taking)?;
+        }
+    }
+    Ok(())
+}
+
+/// The text of this collector: its head line, and a line for each record, all of this CPU.
+pub fn print_collector(
+    alloc: Global,
+    number: u64,
+    cpu: CpuId,
+    collector: &PlainCollector,
+) -> Result<Vec<u8>, NoMemory>
+    ensures { IfOk result (λ text. text.items ≡ printed_collector number cpu.0 (collected_of collector.now)) }
+{
+    let mut text = Vec::from_slice(alloc, b"collector ")?;
+    put_number(&mut text, number)?;
+    text.push(b'\n')?;
+    put_delivered(&mut text, cpu, collector.held())?;
+    Ok(text)
+}

@@ -1,0 +1,104 @@
+use crate::printer::print_collector;
+use crate::replay::replay;
+use crate::script::{Command, Script, ScriptLine};
+use std::alloc::Global;
+use std::test::Fail;
+use trace_model::{CpuId, FillNo, Moment};
+
+const CPU: CpuId = CpuId(0);
+
+fn write(alloc: Global, moment: u64, payload: &[u8]) -> Result<Command, Fail> {
+    Ok(Command::Write {
+        cpu: CPU,
+        moment: Moment(moment),
+        payload: Vec::from_slice(alloc, payload)?,
+    })
+}
+
+fn deliver(fill: u64) -> Command {
+    Command::Deliver {
+        collector: 0,
+        cpu: CPU,
+        fill: FillNo(fill),
+    }
+}
+
+/// What the one collector has once these commands were replayed over pages of 32 bytes.
+fn printed(alloc: Global, pages: usize, commands: Vec<Command>) -> Result<Vec<u8>, Fail> {
+    let mut lines = Vec::new(alloc);
+    let mut number = 4;
+    for command in commands {
+        if number < 1000 {
+            number += 1;
+        }
+        lines.push(ScriptLine { number, command })?;
+    }
+    let script = Script {
+        pages: pages.clamp(2, 1024),
+        size: 32,
+        cpus: 1,
+        collectors: 1,
+        commands: lines,
+    };
+    let world = replay(alloc, &script)?;
+    Ok(print_collector(alloc, 0, CPU, &world.collector)?)
+}
+
+#[test]
+fn first_record(rt: HostRuntime) -> Result<(), Fail> {
+    let alloc = rt.alloc();
+    let commands = vec![in alloc;
+        write(alloc, 100, &[1, 2, 3, 4])?,
+        Command::Close { cpu: CPU },
+        Command::Take { cpu: CPU },
+        deliver(0),
+    ]?;
+    let text = printed(alloc, 2, commands)?;
+    assert_eq!(rt;
+        text.as_slice(),
+        b"collector 0\n0 0 100 01020304\n".as_slice()
+    );
+    Ok(())
+}
+
+#[test]
+fn overwrite_uncounted(rt: HostRuntime) -> Result<(), Fail> {
+    let alloc = rt.alloc();
+    let mut commands = Vec::new(alloc);
+    for n in 1..=12u8 {
+        commands.push(write(alloc, u64::from(n), &[0, 0, 0, n])?)?;
+    }
+    commands.push(Command::Take { cpu: CPU })?;
+    commands.push(Command::Take { cpu: CPU })?;
+    commands.push(Command::Close { cpu: CPU })?;
+    commands.push(Command::Take { cpu: CPU })?;
+    commands.push(deliver(1))?;
+    commands.push(deliver(2))?;
+    let text = printed(alloc, 2, commands)?;
+    let expected =
+        b"collector 0\n0 0 5 00000005\n0 1 6 00000006\n0 2 7 00000007\n0 3 8 00000008\n0 4 9 00000009\n0 5 10 0000000a\n0 6 11 0000000b\n0 7 12 0000000c\n";
+    assert_eq!(rt; text.as_slice(), expected.as_slice());
+    Ok(())
+}
+
+#[test]
+fn raised_and_repeated(rt: HostRuntime) -> Result<(), Fail> {
+    let alloc = rt.alloc();
+    let commands = vec![in alloc;
+        write(alloc, 9, &[])?,
+        write(alloc, 4, &[0xab])?,
+        write(alloc, 5, &[7; 29])?,
+        write(alloc, 576_460_752_303_423_488, &[1])?,
+        Command::Close { cpu: CPU },
+        Command::Close { cpu: CPU },
+        deliver(0),
+        Command::Take { cpu: CPU },
+        deliver(0),
+        deliver(0),
+        deliver(7),
+    ]?;
+    let text = printed(alloc, 2, commands)?;
+    let expected = b"collector 0\n0 0 9 00000000\n0 1 9 ab000000\n";
+    assert_eq!(rt; text.as_slice(), expected.as_slice());
+    Ok(())
+}
