@@ -4,3 +4,6 @@ mod Putting
 mod Overwriting
 mod Sought
 mod Running
+mod Counting
+mod ImageReads
+mod ImageWrites

@@ -38,10 +38,10 @@ payload_written page start len part p fills =
       open_stays = λ ends. subst EndsInRecord (sym same) (EndsInRecord-overwritten bytes start len part p fills ends);
       places_stay = λ number at size there. subst (λ (b : List ℕ). IsPlaceOf b number at size) (sym same) (IsPlaceOf-overwritten bytes number at size start len part there p fills);
       one_record = λ is number there.
-        let place : IsPlaceOf bytes number start len = subst (IsPlaceOf bytes number start) fills there in
-        let h = Decodes-overwritten bytes page.time (records_of_page page) number start len part place fills is.reads in
-        let found : records_in page.time (take (length bytes) new) ≡ h.0 = ap (records_in page.time) same ∙ records_in-Decodes new page.time h.0 h.1 in
-        subst (λ (n : ℕ). IsReplacedAt number (records_of_page page) (records_in page.time (take (length bytes) new)) (bytes_at start n bytes) part) (sym fills)
+          let place : IsPlaceOf bytes number start len = subst (IsPlaceOf bytes number start) fills there in
+          let h = Decodes-overwritten bytes page.time (records_of_page page) number start len part place fills is.reads in
+          let found : records_in page.time (take (length bytes) new) ≡ h.0 = ap (records_in page.time) same ∙ records_in-Decodes new page.time h.0 h.1 in
+          subst (λ (n : ℕ). IsReplacedAt number (records_of_page page) (records_in page.time (take (length bytes) new)) (bytes_at start n bytes) part) (sym fills)
           (subst (λ (rs : List Record). IsReplacedAt number (records_of_page page) rs (bytes_at start len bytes) part) (sym found) h.2);
       last_record = λ is ends front r was.
           ap (records_in page.time) same

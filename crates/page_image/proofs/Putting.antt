@@ -158,7 +158,7 @@ no_place number start len there =
     let some = bytes_of_word_ge p.word in
     let none : 0 ≡ length (joined (p.front ++ p.word ∷ p.behind) ++ p.rest) = ap length p.cut.whole in
     let split : length (joined (p.front ++ p.word ∷ p.behind)) ≡ length (joined p.front) + (length (bytes_of_word p.word) + length (joined p.behind)) =
-      ap length (flat_map-append bytes_of_word p.front (p.word ∷ p.behind)) ∙ length-append (joined p.front) (bytes_of_word p.word ++ joined p.behind) ∙ ap (λ (n : ℕ). length (joined p.front) + n) (length-append (bytes_of_word p.word) (joined p.behind)) in
+    ap length (flat_map-append bytes_of_word p.front (p.word ∷ p.behind)) ∙ length-append (joined p.front) (bytes_of_word p.word ++ joined p.behind) ∙ ap (λ (n : ℕ). length (joined p.front) + n) (length-append (bytes_of_word p.word) (joined p.behind)) in
     absurd (omega (arith, length-append (joined (p.front ++ p.word ∷ p.behind)) p.rest))
 
 put_places_stay : (bytes : List ℕ) (prev moment len : ℕ) → EndsInRecord bytes → moment < 2 ^ 59 → len ≤ 2 ^ 30 → (number at size : ℕ) → IsPlaceOf bytes number at size
@@ -213,7 +213,7 @@ put_page old new prev moment len start ends last order small limit bytes_is time
       ends = subst EndsInRecord (sym bytes_is) end.ends;
       place = subst (λ (b : List ℕ). IsPlaceIn b start (slot_len len)) (sym bytes_is) (end.place start (end_is ∙ ap length bytes_is));
       number = λ page. subst (λ (b : List ℕ). IsPlaceOf b old.count start (slot_len len)) (sym bytes_is)
-        (subst (λ (n : ℕ). IsPlaceOf (old.bytes ++ encoding (moment - prev) (is_blank old.bytes) (replicate (slot_len len) 0)) n start (slot_len len)) (sym page.counted)
+          (subst (λ (n : ℕ). IsPlaceOf (old.bytes ++ encoding (moment - prev) (is_blank old.bytes) (replicate (slot_len len) 0)) n start (slot_len len)) (sym page.counted)
           (put_number old.bytes old.time prev moment len start ends page.reads small limit (end_is ∙ ap length bytes_is)));
       places_stay = λ number at size there. subst (λ (b : List ℕ). IsPlaceOf b number at size) (sym bytes_is) (put_places_stay old.bytes prev moment len ends small limit number at size there);
     }

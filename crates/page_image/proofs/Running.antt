@@ -1,8 +1,8 @@
 -- Records and times word by word, with the moment so far, and as they are defined of all words.
-use Rattle.std.proofs.Common.{◌≡◌, ℕ, ◌+◌, ◌^◌, ◌<◌, ◌≤◌, List, [], ◌∷◌, ◌++◌, length, take, drop, Some, None, Option, IfNone, refl, sym, ap, ◌∙◌, subst, arith, append_assoc, append-nil}
+use Rattle.std.proofs.Common.{◌≡◌, ℕ, ◌+◌, ◌^◌, ◌<◌, ◌≤◌, List, [], ◌∷◌, ◌++◌, length, drop, Some, None, Option, IfNone, refl, sym, ap, ◌∙◌, subst, arith, append_assoc, append-nil}
 use Rattle.std.proofs.lemmas.List.{drop_all}
 use Rattle.trace_model.specs.Record.{Record}
-use Rattle.trace_model.specs.Words.{Word, short_data, long_data, padding, time_extend, time_stamp, delta_of, moment_after, records_at, records_behind, records_of, MovesTime, FitsTime, Decodes}
+use Rattle.trace_model.specs.Words.{Word, short_data, long_data, padding, time_extend, time_stamp, delta_of, moment_after, records_at, records_behind, MovesTime, FitsTime, Decodes}
 use Rattle.trace_model.specs.Reading.{IsData, payload_of, word_at_front, words_in, records_in}
 use Rattle.trace_model.specs.Overwriting.{bytes_at}
 use Rattle.trace_model.proofs.OneWord.{word_at_front-nil}
@@ -122,16 +122,7 @@ pub IfNone-of : {X : Type 0} {P : Type 0} (o : Option X) → P → IfNone o P
 IfNone-of None p = p
 IfNone-of (Some x) p = tt
 
--- ---- from mark to mark
-
-pub StandBetween-nothing : (bytes : List ℕ) (mark : Mark) → StandBetween bytes mark mark []
-StandBetween-nothing bytes mark = record { left = λ fits. refl; fits = λ fits. fits }
-
-pub StandBetween-more : (bytes : List ℕ) (from mark to : Mark) (records more : List Record) → StandBetween bytes from mark records → StandBetween bytes mark to more → StandBetween bytes from to (records ++ more)
-StandBetween-more bytes from mark to records more first second = record {
-  left = λ fits. first.left fits ∙ ap (λ (rs : List Record). records ++ rs) (second.left (first.fits fits)) ∙ sym (append_assoc records more (records_left bytes to));
-  fits = λ fits. second.fits (first.fits fits);
-}
+-- ---- the records of a page
 
 -- the walk from the start of a page's data to a mark where nothing is left
 pub records_of_page-walked : (page : Contents) (bytes : List ℕ) (to : Mark) (records : List Record) → bytes ≡ page.bytes → StandBetween bytes (record { at = 0; moment = page.time }) to records

@@ -1,13 +1,10 @@
 -- A place looked for in data, word by word from the front.
-use Rattle.std.proofs.Common.{◌≡◌, ◌⊎◌, inl, inr, ℕ, ◌+◌, ◌<◌, ◌≤◌, List, [], ◌∷◌, ◌++◌, length, drop, Some, None, refl, sym, ap, ◌∙◌, subst, ⊎_elim, arith, append_assoc, append-nil, length-append}
+use Rattle.std.proofs.Common.{◌≡◌, ◌⊎◌, inl, inr, ℕ, ◌+◌, ◌≤◌, List, [], ◌∷◌, ◌++◌, length, drop, None, refl, sym, ap, ◌∙◌, ⊎_elim, arith, append_assoc, append-nil, length-append}
 use Rattle.std.specs.List.{AllByRecursion}
-use Rattle.std.proofs.lemmas.List.{drop_all}
 use Rattle.std.proofs.lemmas.List.Concat.{flat_map-append}
 use Rattle.trace_model.specs.Record.{Record}
-use Rattle.trace_model.specs.Words.{Word, bytes_of_word, IsWord, joined, Decodes, IsJoined}
+use Rattle.trace_model.specs.Words.{Word, bytes_of_word, IsWord, joined, Decodes}
 use Rattle.trace_model.specs.Reading.{IsData, payload_of, word_at_front, words_in, IsPlaceIn}
-use Rattle.trace_model.proofs.OneWord.{word_at_front-nil}
-use Rattle.trace_model.proofs.Unique.{words_in-IsJoined}
 use Rattle.trace_model.proofs.Stepped.{words_in-none}
 use Rattle.trace_model.proofs.Appended.{each-append}
 use Rattle.trace_model.proofs.Overwritten.{head_of_ge}
@@ -100,10 +97,6 @@ IsAhead-none bytes start len at sought none p =
     sym (words_in-IsPlaceIn bytes start len p) ∙ ap words_in read.whole ∙ words_in-behind read.front (drop at bytes) read.each ∙ ap (λ (ws : List Word). read.front ++ ws) (words_in-none (drop at bytes) none) ∙ append-nil read.front in
     let size = sym (length-joined_split p.front p.word p.behind) ∙ ap (λ (ws : List Word). length (joined ws)) words in
     omega (arith, read.at_is)
-
--- nor behind the data
-pub IsAhead-end : (bytes : List ℕ) (start len at : ℕ) → IsAhead bytes start len at → length bytes ≤ at → IsPlaceIn bytes start len → ⊥
-IsAhead-end bytes start len at sought past = IsAhead-none bytes start len at sought (ap word_at_front (drop_all at bytes past) ∙ word_at_front-nil)
 
 -- in data that reads, the place of a record's word is one
 pub IsAhead-found : (bytes : List ℕ) (start len at delta : ℕ) (found : Place) (next time : ℕ) (records : List Record) → IsAhead bytes start len at → DataAt bytes at delta found next → Decodes bytes time records → IsPlaceIn bytes found.start found.len

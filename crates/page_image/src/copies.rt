@@ -63,7 +63,8 @@ impl Page {
     ghost use Rattle.page_image.specs.Contents.{IsPage, records_of_page};
     ghost use Rattle.page_image.specs.Copies.{copies_of};
 
-    /// The moments and payloads of the records, in order.
+    /// The moments and payloads of the records, in order; a payload with the zeros that fill its slot. Where
+    /// memory is refused, the answer is `NoMemory`.
     pub fn copied(&self, alloc: Global) -> Result<Vec<(u64, Vec<u8>)>, NoMemory>
         ensures { IfOk result (λ v. IsPage self.now → copies_of v.items ≡ records_of_page self.now) }
     {

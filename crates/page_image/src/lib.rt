@@ -5,10 +5,16 @@
 
 mod body;
 mod copies;
+mod count;
+mod image;
 mod page;
 mod places;
 mod put;
 
 pub use body::Body;
+pub use image::{Image, ImageFault, Missed, read_image};
 pub use page::Page;
 pub use record_words::Place;
+
+#[cfg(test)]
+mod tests;

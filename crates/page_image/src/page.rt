@@ -1,5 +1,7 @@
 //! A page: the records of one fill, as they stand in its body.
 mod header;
+mod read;
+mod write;
 
 use crate::body::Body;
 use crate::put::put_behind;

@@ -18,8 +18,8 @@ pub mod taken;
 pub mod words;
 
 use crate::command::tell_no_memory;
-use crate::ends::Std;
 use crate::commands::replay_to;
+use crate::ends::Std;
 use crate::status::USAGE;
 use crate::words::{Call, CallFault, call_of};
 use std::alloc::{AllocError, Global};

@@ -1,9 +1,11 @@
 //! Commands over ends in memory that fail, that never end, or that move one byte a call; and command
 //! lines.
+mod worked;
+
 use crate::answer::Answer;
 use crate::command::{Answers, answer_to};
-use crate::ends::{Sink, Source, Std};
 use crate::commands::replay_to;
+use crate::ends::{Sink, Source, Std};
 use crate::words::{Call, CallFault, call_of};
 use std::alloc::Global;
 use std::io;

@@ -77,7 +77,7 @@ stack_cases : (stack : List Frame) → (stack ≡ []) ⊎ ((f : Frame) × (below
 stack_cases [] = inl refl
 stack_cases (f ∷ stack) = inr (f, stack, refl)
 
-none_stands : (history : List Action) → is_settled history ≡ true → (written_by history).stack ≡ []
+pub none_stands : (history : List Action) → is_settled history ≡ true → (written_by history).stack ≡ []
 none_stands history h =
     ⊎_elim (λ e. e) (λ some. let wrong : false ≡ true = rw some.2 at h in cc) (stack_cases (written_by history).stack)
 
@@ -95,11 +95,11 @@ cond_either P true x y first second = first refl
 cond_either P false x y first second = second
 
 -- a settled front of the history
-record IsSettledFront (history front : List Action) : Type 0 where
-  settled : is_settled front ≡ true
-  is_front : IsFront front history
+pub record IsSettledFront (history front : List Action) : Type 0 where
+  pub settled : is_settled front ≡ true
+  pub is_front : IsFront front history
 
-settled_within : (n : ℕ) (history : List Action) → IsSettledFront history (settled_front_within n history)
+pub settled_within : (n : ℕ) (history : List Action) → IsSettledFront history (settled_front_within n history)
 settled_within zero history = record { settled = refl; is_front = (history, refl) }
 settled_within (suc n) history =
     cond_either (IsSettledFront history) (is_settled (take (suc n) history)) (take (suc n) history) (settled_front_within n history) (λ h. record { settled = h; is_front = (drop (suc n) history, sym (take-append-drop (suc n) history)) }) (settled_within n history)

@@ -10,7 +10,9 @@ pub mod Walked
 pub mod WordFaults
 pub mod HistoryFronts
 pub mod Histories
+pub mod Allowed
 pub mod LineHistories
+pub mod CommittedWritten
 pub mod RecordsFill
 pub mod Sublists
 pub mod PieceLemmas
@@ -18,3 +20,6 @@ pub mod TextLemmas
 pub mod ScriptLemmas
 pub mod ScriptReads
 pub mod ParsedLimits
+pub mod FirstFaults
+pub mod ImageParts
+pub mod Images

@@ -1,22 +1,9 @@
 -- The lines of a script keep the discipline of the stack.
-use Rattle.std.proofs.Common.{ℕ, Bool, true, false, cond, List, [], ◌∷◌, ◌++◌, length, fold, Some, refl, subst}
-use Rattle.trace_model.specs.History.{Action, push, reserve, leave, Reservation, Written, acted, MayAct, IsHistory}
+use Rattle.std.proofs.Common.{ℕ, Bool, true, false, cond, List, [], ◌∷◌, ◌++◌, length, Some, refl}
+use Rattle.trace_model.specs.History.{Action, push, reserve, leave, Reservation, Written, IsHistory}
 use Rattle.trace_model.specs.Script.{Command, write, close, take_page, deliver}
 use Rattle.trace_model.specs.Replay.{is_writable, actions_of, history_of_lines}
-
--- each action is one that the frames allow, which stand behind this and the actions in front of it
-abbrev pub AreAllowed : Written → List Action → Type 0
-AreAllowed w [] = Unit {0}
-AreAllowed w (a ∷ actions) = MayAct w.stack a × AreAllowed (acted w.stack w.records a) actions
-
-allowed_at : (w : Written) (front behind : List Action) (a : Action) → AreAllowed w (front ++ a ∷ behind) → MayAct (fold (λ v b. acted v.stack v.records b) w front).stack a
-allowed_at w [] behind a h = h.0
-allowed_at w (b ∷ front) behind a h = allowed_at (acted w.stack w.records b) front behind a h.1
-
-pub IsHistory-allowed : (history : List Action) → AreAllowed (record { stack = []; records = [] }) history → IsHistory history
-IsHistory-allowed history h front behind a cut =
-    let start : Written = record { stack = []; records = [] } in
-    allowed_at start front behind a (subst (AreAllowed start) cut h)
+use Rattle.trace_model.proofs.Allowed.{AreAllowed, IsHistory-allowed}
 
 -- where no frame stands
 abbrev none_standing : List Reservation → Written

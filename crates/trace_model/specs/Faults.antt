@@ -47,11 +47,13 @@ pub record HasGoodLength (bytes : List ℕ) : Type 0 where
 -- one to three bytes are left; or four to seven, where a number belongs behind the first four
 abbrev pub IsCutInHead : List ℕ → Type 0
 IsCutInHead bytes =
-    ((1 ≤ length bytes) × (length bytes < 4)) ⊎ ((4 ≤ length bytes) × (length bytes < 8) × (StatesLength bytes ⊎ HasHighBits bytes))
+    ((1 ≤ length bytes) × (length bytes < 4))
+    ⊎ ((4 ≤ length bytes) × (length bytes < 8) × (StatesLength bytes ⊎ HasHighBits bytes))
 
 -- the stated length doesn't count itself, or isn't one of whole words
 abbrev pub HasBadLength : List ℕ → Type 0
-HasBadLength bytes = (8 ≤ length bytes) × StatesLength bytes × ((number_behind bytes < 4) ⊎ (number_behind bytes % 4 ≢ 0))
+HasBadLength bytes =
+    (8 ≤ length bytes) × StatesLength bytes × ((number_behind bytes < 4) ⊎ (number_behind bytes % 4 ≢ 0))
 
 -- the payload or the padding reaches past the end of the data
 abbrev pub IsCutInBody : List ℕ → Type 0

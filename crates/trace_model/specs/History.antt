@@ -1,7 +1,7 @@
 -- What the writer's frames of one CPU did, and the records that this leaves.
 -- After Documentation/trace/ring-buffer-design.rst, "Nested writes": a frame that interrupts another
 -- ends before it, and nothing is committed until the outermost one ends.
-use Rattle.std.specs.Prelude.{◌≡◌, ◌≢◌, ℕ, zero, suc, max, ⊤, Bool, true, false, if◌then◌else◌, List, [], ◌∷◌, ◌++◌, length, take, map, fold, replicate, Option, Some, None, unwrap_or}
+use Rattle.std.specs.Prelude.{◌≡◌, ◌≢◌, ℕ, zero, suc, max, ⊤, Bool, true, false, if◌then◌else◌, List, [], ◌∷◌, ◌++◌, length, take, map, fold, replicate, Option, Some, None, IsSomeAnd, unwrap_or}
 use Rattle.trace_model.specs.Record.{Record}
 use Rattle.trace_model.specs.Words.{slot_len, padded}
 
@@ -20,6 +20,10 @@ pub record Reservation : Type 0 where
   pub moment : ℕ
   pub len : ℕ
   pub bytes : Option (List ℕ)
+
+-- its frame has left, and its bytes fill its slot
+abbrev pub IsWritten : Reservation → Type 0
+IsWritten r = IsSomeAnd r.bytes (λ bytes. length bytes ≡ r.len)
 
 -- A frame on the stack. A record frame has what it was pushed with, and the number of its record once
 -- it has reserved one.
@@ -48,13 +52,19 @@ abbrev pub finished_at : Option ℕ → Option (List ℕ) → List Reservation �
 finished_at None payload records = records
 finished_at (Some number) None records = records
 finished_at (Some number) (Some payload) [] = []
-finished_at (Some zero) (Some payload) (r ∷ records) = record { moment = r.moment; len = r.len; bytes = Some (padded payload) } ∷ records
+finished_at (Some zero) (Some payload) (r ∷ records) = record r { bytes = Some (padded payload) } ∷ records
 finished_at (Some (suc number)) (Some payload) (r ∷ records) = r ∷ finished_at (Some number) (Some payload) records
 
 -- a record frame without a record gets the next one; any other frame stays as it is
 abbrev pub reserved_by : Frame → List Frame → List Reservation → Written
-reserved_by (record_frame moment len None) stack records = record { stack = record_frame moment len (Some (length records)) ∷ stack; records = records ++ reserved_for moment len records ∷ [] }
-reserved_by (record_frame moment len (Some number)) stack records = record { stack = record_frame moment len (Some number) ∷ stack; records = records }
+reserved_by (record_frame moment len None) stack records = record {
+  stack = record_frame moment len (Some (length records)) ∷ stack;
+  records = records ++ reserved_for moment len records ∷ [];
+}
+reserved_by (record_frame moment len (Some number)) stack records = record {
+  stack = record_frame moment len (Some number) ∷ stack;
+  records = records;
+}
 reserved_by close_frame stack records = record { stack = close_frame ∷ stack; records = records }
 
 -- the record of a frame that leaves gets its bytes, if it has one
@@ -91,13 +101,15 @@ is_settled history = has_none (written_by history).stack
 -- of the fronts of at most n actions, the longest behind which no frame stands
 abbrev pub settled_front_within : ℕ → List Action → List Action
 settled_front_within zero history = []
-settled_front_within (suc n) history = if is_settled (take (suc n) history) then take (suc n) history else settled_front_within n history
+settled_front_within (suc n) history =
+    if is_settled (take (suc n) history) then take (suc n) history else settled_front_within n history
 
 -- the longest front of a history behind which no frame stands
 abbrev pub settled_front : List Action → List Action
 settled_front history = settled_front_within (length history) history
 
--- a reserved record as it is read; without bytes of its own, which no discipline allows here, zeros
+-- A reserved record as it is read. Until its frame has left its bytes are told as zeros; none of the
+-- committed records of a history is such.
 abbrev pub finished : Reservation → Record
 finished r = record { moment = r.moment; bytes = unwrap_or r.bytes (replicate r.len 0) }
 
@@ -133,4 +145,5 @@ MayAct stack (leave payload) = MayLeave stack payload
 -- The discipline of the stack: each action is one that the frames standing behind the actions in front
 -- of it allow.
 abbrev pub IsHistory : List Action → Type 0
-IsHistory history = (front behind : List Action) (a : Action) → history ≡ front ++ a ∷ behind → MayAct (written_by front).stack a
+IsHistory history = (front behind : List Action) (a : Action) → history ≡ front ++ a ∷ behind
+    → MayAct (written_by front).stack a

@@ -15,3 +15,5 @@ pub mod Replay
 pub mod ReplayPieces
 pub mod Printing
 pub mod Laws
+pub mod FirstFault
+pub mod Image

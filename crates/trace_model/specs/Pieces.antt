@@ -5,4 +5,5 @@ use Rattle.std.specs.Prelude.{◌≡◌, List, [], ◌∷◌, ◌++◌}
 -- last piece is the rest. Nothing is said of how much is skipped.
 abbrev pub HasPieces : {A : Type 0} → List A → List (List A) → List A → Type 0
 HasPieces whole [] rest = whole ≡ rest
-HasPieces {A} whole (piece ∷ pieces) rest = (skipped : List A) × (behind : List A) × (whole ≡ skipped ++ (piece ++ behind)) × HasPieces behind pieces rest
+HasPieces {A} whole (piece ∷ pieces) rest =
+    (skipped : List A) × (behind : List A) × (whole ≡ skipped ++ (piece ++ behind)) × HasPieces behind pieces rest

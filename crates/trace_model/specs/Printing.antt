@@ -7,11 +7,13 @@ use Rattle.trace_model.specs.Script.{LineFault, fault_text}
 
 -- a record's line: its CPU, its number, its moment and its payload
 abbrev pub printed_record : ℕ → ℕ × Record → List ℕ
-printed_record cpu pair = decimal cpu ++ 32 ∷ decimal pair.0 ++ 32 ∷ decimal pair.1.moment ++ 32 ∷ hex_text pair.1.bytes ++ 10 ∷ []
+printed_record cpu pair =
+    decimal cpu ++ 32 ∷ decimal pair.0 ++ 32 ∷ decimal pair.1.moment ++ 32 ∷ hex_text pair.1.bytes ++ 10 ∷ []
 
 -- a collector: its head line, then a line for each of its records, all of this CPU
 abbrev pub printed_collector : ℕ → ℕ → List (ℕ × Record) → List ℕ
-printed_collector collector cpu collected = codes "collector " ++ decimal collector ++ 10 ∷ flat_map (printed_record cpu) collected
+printed_collector collector cpu collected =
+    codes "collector " ++ decimal collector ++ 10 ∷ flat_map (printed_record cpu) collected
 
 -- the world that a replay leaves: for now one collector and one CPU
 abbrev pub printed_world : List (ℕ × Record) → List ℕ

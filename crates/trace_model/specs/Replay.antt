@@ -24,7 +24,9 @@ is_writable size moment len = is_short size len && nat_lt moment MOMENT_LIMIT
 -- What a line makes of its CPU's history. For now the opening of pages is left out: a write is
 -- refused, or its frame reserves and leaves with the payload; a close is a frame without a record.
 abbrev pub actions_of : ℕ → Command → List Action
-actions_of size (write cpu moment payload) = if is_writable size moment (length payload) then push moment (length payload) ∷ reserve ∷ leave (Some payload) ∷ [] else []
+actions_of size (write cpu moment payload) =
+    if is_writable size moment (length payload) then push moment (length payload) ∷ reserve ∷ leave (Some payload) ∷ []
+    else []
 actions_of size (close cpu) = push_close ∷ leave None ∷ []
 actions_of size (take_page cpu) = []
 actions_of size (deliver collector cpu fill) = []
@@ -94,7 +96,9 @@ pub record IsDelivered (answered : List Answered) (taking : Taking) : Type 0 whe
 
 -- both lists are empty, or they end in the same record
 abbrev pub EndsAlike : List Record → List Record → Type 0
-EndsAlike records others = ((records ≡ []) × (others ≡ [])) ⊎ ((front : List Record) × (before : List Record) × (last : Record) × (records ≡ front ++ last ∷ []) × (others ≡ before ++ last ∷ []))
+EndsAlike records others =
+    ((records ≡ []) × (others ≡ []))
+    ⊎ ((front : List Record) × (before : List Record) × (last : Record) × (records ≡ front ++ last ∷ []) × (others ≡ before ++ last ∷ []))
 
 -- What a command that could take a page and took none finds: of what the lines before it committed, all
 -- behind the last record taken stands on one page, and right behind a close there is nothing.
@@ -104,7 +108,8 @@ pub record IsUpToDate (size : ℕ) (before : List Answered) : Type 0 where
   pub committed : committed_records (history_of_lines size (commands_of before)) ≡ front ++ tail
   pub taken : EndsAlike front (records_taken before)
   pub one_page : length (page_encoding tail) ≤ size
-  pub closed : (lines : List Answered) (cpu : ℕ) → before ≡ lines ++ record { command = close cpu; taking = None } ∷ [] → tail ≡ []
+  pub closed : (lines : List Answered) (cpu : ℕ)
+      → before ≡ lines ++ record { command = close cpu; taking = None } ∷ [] → tail ≡ []
 
 -- The uncounted contract of reading. Some commands took pages. After any number of lines, the records
 -- taken so far are a sublist of those committed so far; a command that takes none finds none to take. The
@@ -113,9 +118,13 @@ pub record IsUpToDate (size : ℕ) (before : List Answered) : Type 0 where
 pub record IsUncountedReplay (script : Script) (collected : List (ℕ × Record)) : Type 0 where
   pub answered : List Answered
   pub one_each : commands_of answered ≡ map (λ line. line.1) script.commands
-  pub taken : (before behind : List Answered) (command : Command) (taking : Taking) → answered ≡ before ++ record { command = command; taking = Some taking } ∷ behind → IsTaken before command taking
+  pub taken : (before behind : List Answered) (command : Command) (taking : Taking)
+      → answered ≡ before ++ record { command = command; taking = Some taking } ∷ behind → IsTaken before command taking
   pub fills_rise : IsStrictlyIncreasing (map (λ taking. taking.fill) (takings_of answered))
-  pub in_order : (before behind : List Answered) → answered ≡ before ++ behind → IsSublist (records_taken before) (committed_records (history_of_lines script.size (commands_of before)))
-  pub up_to_date : (before behind : List Answered) (cpu : ℕ) → answered ≡ before ++ record { command = take_page cpu; taking = None } ∷ behind → IsUpToDate script.size before
+  pub in_order : (before behind : List Answered) → answered ≡ before ++ behind
+      → IsSublist (records_taken before) (committed_records (history_of_lines script.size (commands_of before)))
+  pub up_to_date : (before behind : List Answered) (cpu : ℕ)
+      → answered ≡ before ++ record { command = take_page cpu; taking = None } ∷ behind → IsUpToDate script.size before
   pub numbers_rise : IsStrictlyIncreasing (map (λ pair. pair.0) collected)
-  pub holds : (pair : ℕ × Record) → Contains collected pair ↔ ((taking : Taking) × IsDelivered answered taking × Contains (pairs_of taking) pair)
+  pub holds : (pair : ℕ × Record)
+      → Contains collected pair ↔ ((taking : Taking) × IsDelivered answered taking × Contains (pairs_of taking) pair)

@@ -17,7 +17,8 @@ pages_taken answered = map (λ taking. taking.records) (takings_of answered)
 -- The pages that these commands took are pieces of what they committed, and behind the last one is the
 -- rest.
 abbrev pub TakesPieces : ℕ → List Answered → List Record → Type 0
-TakesPieces size answered rest = HasPieces (committed_records (history_of_lines size (commands_of answered))) (pages_taken answered) rest
+TakesPieces size answered rest =
+    HasPieces (committed_records (history_of_lines size (commands_of answered))) (pages_taken answered) rest
 
 -- What a command that could take a page and takes none finds: behind the pages that were taken, what
 -- fits on one; and right behind a close, nothing.
@@ -25,17 +26,22 @@ pub record LeavesOnePage (size : ℕ) (before : List Answered) : Type 0 where
   pub tail : List Record
   pub pieces : TakesPieces size before tail
   pub one_page : length (page_encoding tail) ≤ size
-  pub closed : (lines : List Answered) (cpu : ℕ) → before ≡ lines ++ record { command = close cpu; taking = None } ∷ [] → tail ≡ []
+  pub closed : (lines : List Answered) (cpu : ℕ)
+      → before ≡ lines ++ record { command = close cpu; taking = None } ∷ [] → tail ≡ []
 
 -- As IsUncountedReplay of Replay, but what is skipped is skipped between pages, never within one, and
 -- nothing is skipped where none is left to take.
 pub record IsUncountedPartition (script : Script) (collected : List (ℕ × Record)) : Type 0 where
   pub answered : List Answered
   pub one_each : commands_of answered ≡ map (λ line. line.1) script.commands
-  pub taken : (before behind : List Answered) (command : Command) (taking : Taking) → answered ≡ before ++ record { command = command; taking = Some taking } ∷ behind → IsTaken before command taking
+  pub taken : (before behind : List Answered) (command : Command) (taking : Taking)
+      → answered ≡ before ++ record { command = command; taking = Some taking } ∷ behind → IsTaken before command taking
   pub first_fill : All (λ taking. START_FILL ≤ taking.fill) (takings_of answered)
   pub fills_rise : IsStrictlyIncreasing (map (λ taking. taking.fill) (takings_of answered))
-  pub in_pieces : (before behind : List Answered) → answered ≡ before ++ behind → (rest : List Record) × TakesPieces script.size before rest
-  pub none_left : (before behind : List Answered) (cpu : ℕ) → answered ≡ before ++ record { command = take_page cpu; taking = None } ∷ behind → LeavesOnePage script.size before
+  pub in_pieces : (before behind : List Answered) → answered ≡ before ++ behind
+      → (rest : List Record) × TakesPieces script.size before rest
+  pub none_left : (before behind : List Answered) (cpu : ℕ)
+      → answered ≡ before ++ record { command = take_page cpu; taking = None } ∷ behind → LeavesOnePage script.size before
   pub numbers_rise : IsStrictlyIncreasing (map (λ pair. pair.0) collected)
-  pub holds : (pair : ℕ × Record) → Contains collected pair ↔ ((taking : Taking) × IsDelivered answered taking × Contains (pairs_of taking) pair)
+  pub holds : (pair : ℕ × Record)
+      → Contains collected pair ↔ ((taking : Taking) × IsDelivered answered taking × Contains (pairs_of taking) pair)

@@ -103,7 +103,8 @@ command_of cpus collectors _ = Err bad_line
 
 -- the command that a line spells: its spaces are looked at first
 unfoldable pub command_in : ℕ → ℕ → List ℕ → Result Command LineFault
-command_in cpus collectors line = if is_well_spaced (fields_of line) then command_of cpus collectors (fields_of line) else Err bad_line
+command_in cpus collectors line =
+    if is_well_spaced (fields_of line) then command_of cpus collectors (fields_of line) else Err bad_line
 
 -- a line of the header: its word, and the values that it may have, multiples of a step
 pub record Setting : Type 0 where
@@ -165,13 +166,15 @@ counted_lines text = filter (λ line. is_counted line.1) (enumerate_from 1 (line
 -- these lines give these settings these values, one by one
 abbrev pub GiveSettings : List Line → List Setting → List ℕ → Type 0
 GiveSettings [] [] [] = ⊤
-GiveSettings (line ∷ lines) (s ∷ settings) (value ∷ values) = (value_in s line.1 ≡ Ok value) × GiveSettings lines settings values
+GiveSettings (line ∷ lines) (s ∷ settings) (value ∷ values) =
+    (value_in s line.1 ≡ Ok value) × GiveSettings lines settings values
 GiveSettings _ _ _ = ⊥
 
 -- these lines spell these commands, one by one, and the numbers of the lines are the commands'
 abbrev pub SpellCommands : ℕ → ℕ → List Line → List (ℕ × Command) → Type 0
 SpellCommands cpus collectors [] [] = ⊤
-SpellCommands cpus collectors (line ∷ lines) (command ∷ commands) = (command_in cpus collectors line.1 ≡ Ok command.1) × (line.0 ≡ command.0) × SpellCommands cpus collectors lines commands
+SpellCommands cpus collectors (line ∷ lines) (command ∷ commands) =
+    (command_in cpus collectors line.1 ≡ Ok command.1) × (line.0 ≡ command.0) × SpellCommands cpus collectors lines commands
 SpellCommands cpus collectors _ _ = ⊥
 
 -- Lines that say something spell a script: a header, and then a command a line.
@@ -179,7 +182,8 @@ pub record SpellScript (lines : List Line) (script : Script) : Type 0 where
   pub header : List Line
   pub behind : List Line
   pub cut : lines ≡ header ++ behind
-  pub settings : GiveSettings header header_settings (script.pages ∷ script.size ∷ script.cpus ∷ script.collectors ∷ [])
+  pub settings : GiveSettings header header_settings
+      (script.pages ∷ script.size ∷ script.cpus ∷ script.collectors ∷ [])
   pub commands : SpellCommands script.cpus script.collectors behind script.commands
 
 -- The text spells this script.

@@ -7,10 +7,12 @@ use Rattle.trace_model.specs.Script.{Command, write, close, take_page, deliver, 
 -- Of so many CPUs and collectors, the command names some that are there. Its moment and its fill fit
 -- 64 bits, and its payload is one of bytes.
 abbrev pub IsCommandWithin : (cpus collectors : ℕ) → Command → Type 0
-IsCommandWithin cpus collectors (write cpu moment payload) = (cpu < cpus) × (moment < 2 ^ 64) × All (λ byte. byte < 256) payload
+IsCommandWithin cpus collectors (write cpu moment payload) =
+    (cpu < cpus) × (moment < 2 ^ 64) × All (λ byte. byte < 256) payload
 IsCommandWithin cpus collectors (close cpu) = cpu < cpus
 IsCommandWithin cpus collectors (take_page cpu) = cpu < cpus
-IsCommandWithin cpus collectors (deliver collector cpu fill) = (collector < collectors) × (cpu < cpus) × (fill < 2 ^ 64)
+IsCommandWithin cpus collectors (deliver collector cpu fill) =
+    (collector < collectors) × (cpu < cpus) × (fill < 2 ^ 64)
 
 -- the values of the header, and each command, are within their limits
 pub record IsWithinLimits (script : Script) : Type 0 where

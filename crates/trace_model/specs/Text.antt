@@ -28,7 +28,8 @@ is_well_spaced fields = list_all (λ field. nat_lt 0 (length field)) fields
 
 -- a decimal number that fits 64 bits, in at most 20 digits; it may begin with zeros
 unfoldable pub is_decimal : List ℕ → Bool
-is_decimal text = nat_lt 0 (length text) && nat_le (length text) 20 && all_ascii_digits text && nat_lt (digits_value 10 text) (2 ^ 64)
+is_decimal text =
+    nat_lt 0 (length text) && nat_le (length text) 20 && all_ascii_digits text && nat_lt (digits_value 10 text) (2 ^ 64)
 
 -- the bytes that pairs of hexadecimal digits spell, in lower or upper case, the high digit first
 abbrev pub bytes_of_pairs : List ℕ → List ℕ
@@ -42,7 +43,9 @@ no_bytes_text = codes "-"
 
 -- bytes as text: two hexadecimal digits for each, in lower or upper case; `-` where there is none
 unfoldable pub is_hex : List ℕ → Bool
-is_hex text = bytes_eq text no_bytes_text || (nat_lt 0 (length text) && (length text % 2 == 0) && list_all (λ c. is_digit c 16) text)
+is_hex text =
+    bytes_eq text no_bytes_text
+    || (nat_lt 0 (length text) && (length text % 2 == 0) && list_all (λ c. is_digit c 16) text)
 
 -- the bytes that such a text spells; `-` is half a pair, and so none
 abbrev pub hex_bytes : List ℕ → List ℕ

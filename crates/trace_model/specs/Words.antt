@@ -35,9 +35,11 @@ bytes_of_word (time_stamp time) = first_word 31 (time % 2 ^ 27) ++ le32 (time / 
 
 -- payloads and padding fill whole words, lengths fit 32 bits, and times fit what the word holds
 abbrev pub IsWord : Word → Type 0
-IsWord (short_data delta payload) = (delta < 2 ^ 27) × (length payload % 4 ≡ 0) × (4 ≤ length payload) × (length payload ≤ 112)
+IsWord (short_data delta payload) =
+    (delta < 2 ^ 27) × (length payload % 4 ≡ 0) × (4 ≤ length payload) × (length payload ≤ 112)
 IsWord (long_data delta payload) = (delta < 2 ^ 27) × (length payload % 4 ≡ 0) × (length payload + 4 < 2 ^ 32)
-IsWord (padding delta skipped) = (1 ≤ delta) × (delta < 2 ^ 27) × (length skipped % 4 ≡ 0) × (length skipped + 4 < 2 ^ 32)
+IsWord (padding delta skipped) =
+    (1 ≤ delta) × (delta < 2 ^ 27) × (length skipped % 4 ≡ 0) × (length skipped + 4 < 2 ^ 32)
 IsWord (time_extend delta) = delta < 2 ^ 59
 IsWord (time_stamp time) = time < 2 ^ 59
 
@@ -85,7 +87,8 @@ last_stamp time (w ∷ words) = last_stamp (unwrap_or (stamp_of w) time) words
 -- the words behind the last stamp
 abbrev pub since_stamp : List Word → List Word
 since_stamp [] = []
-since_stamp (w ∷ words) = if list_any is_stamp words then since_stamp words else (if is_stamp w then words else w ∷ words)
+since_stamp (w ∷ words) =
+    if list_any is_stamp words then since_stamp words else (if is_stamp w then words else w ∷ words)
 
 -- the moment of a record whose word is the last of these: the last stamp, and all deltas behind it
 abbrev pub moment_after : ℕ → List Word → ℕ
@@ -93,8 +96,10 @@ moment_after time words = last_stamp time words + sum_by delta_of (since_stamp w
 
 -- the record that a word holds, if it is data; in front of it stand these words
 abbrev pub records_at : ℕ → List Word → Word → List Record
-records_at time front (short_data delta payload) = record { moment = moment_after time (front ++ short_data delta payload ∷ []); bytes = payload } ∷ []
-records_at time front (long_data delta payload) = record { moment = moment_after time (front ++ long_data delta payload ∷ []); bytes = payload } ∷ []
+records_at time front (short_data delta payload) =
+    record { moment = moment_after time (front ++ short_data delta payload ∷ []); bytes = payload } ∷ []
+records_at time front (long_data delta payload) =
+    record { moment = moment_after time (front ++ long_data delta payload ∷ []); bytes = payload } ∷ []
 records_at time front (padding delta skipped) = []
 records_at time front (time_extend delta) = []
 records_at time front (time_stamp stamp) = []
@@ -118,7 +123,8 @@ MovesTime (time_stamp time) = ⊥
 
 -- wherever a word moves the time, the moment there fits 64 bits
 abbrev pub FitsTime : ℕ → List Word → Type 0
-FitsTime time words = (front : List Word) (w : Word) (behind : List Word) → words ≡ front ++ w ∷ behind → MovesTime w → moment_after time (front ++ w ∷ []) < 2 ^ 64
+FitsTime time words = (front : List Word) (w : Word) (behind : List Word) → words ≡ front ++ w ∷ behind
+    → MovesTime w → moment_after time (front ++ w ∷ []) < 2 ^ 64
 
 -- the bytes are these words, and then an ending
 pub record IsJoined (bytes : List ℕ) (words : List Word) (rest : List ℕ) : Type 0 where
@@ -151,7 +157,8 @@ data_word delta payload = if nat_le (length payload) 112 then short_data delta p
 -- none is written, as the page's time is its moment
 abbrev pub written_words : ℕ → Bool → List ℕ → List Word
 written_words delta true payload = data_word 0 payload ∷ []
-written_words delta false payload = if nat_lt delta (2 ^ 27) then data_word delta payload ∷ [] else time_extend delta ∷ data_word 0 payload ∷ []
+written_words delta false payload =
+    if nat_lt delta (2 ^ 27) then data_word delta payload ∷ [] else time_extend delta ∷ data_word 0 payload ∷ []
 
 -- how a payload that fills its slot is written
 abbrev pub encoding : ℕ → Bool → List ℕ → List ℕ
@@ -163,7 +170,8 @@ encoding_of prev r first = encoding (r.moment - prev) first (padded r.bytes)
 
 -- how many bytes that takes, for a payload of len bytes
 abbrev pub encoded_len : ℕ → ℕ → Bool → ℕ
-encoded_len len delta first = (if first then 0 else (if nat_lt delta (2 ^ 27) then 0 else 8)) + (if nat_le (slot_len len) 112 then 4 else 8) + slot_len len
+encoded_len len delta first =
+    (if first then 0 else (if nat_lt delta (2 ^ 27) then 0 else 8)) + (if nat_le (slot_len len) 112 then 4 else 8) + slot_len len
 
 -- records one behind the other, the first of them behind one of moment prev
 abbrev pub encodings_behind : ℕ → List Record → List ℕ

@@ -1,12 +1,15 @@
 //! Laws over the definitions, as contracts of functions with empty bodies.
-ghost use Rattle.std.specs.Prelude.{◌≡◌, ℕ, ◌^◌, ◌<◌, ◌≤◌, ◌⊎◌, ◌↔◌, List, flat_map, length, Ok, Err, All, EachIndex, slice_index, decimal};
+ghost use Rattle.std.specs.Prelude.{◌≡◌, ℕ, ◌+◌, ◌^◌, ◌<◌, ◌≤◌, ◌⊎◌, ◌↔◌, List, flat_map, length, Ok, Err, All, EachIndex, slice_index, decimal};
 ghost use Rattle.trace_model.specs.Faults.{Cause, IsWordFault, HasWord, HasEnding, HasFault};
-ghost use Rattle.trace_model.specs.Laws.{EncodingHasItsLength, EncodingsReadBack, OverwritingChangesOneRecord, PlacesAreUnique, PlainReaderAgrees, ReadingIsUnique};
+ghost use Rattle.trace_model.specs.FirstFault.{AreBytes, FirstFault};
+ghost use Rattle.trace_model.specs.Image.{Missed, DecodesImage, ImageCause, FirstImageFault, image_of, missed_told};
+ghost use Rattle.trace_model.specs.declared.limits.TheConstants.{MAX_IMAGE};
+ghost use Rattle.trace_model.specs.Laws.{EncodingHasItsLength, EncodingsReadBack, OverwritingChangesOneRecord, OverwritingKeepsPlaces, OverwritingKeepsTheEnd, PlacesAreUnique, PlainReaderAgrees, ReadingIsUnique};
 ghost use Rattle.trace_model.specs.Text.{hex_text};
 ghost use Rattle.trace_model.specs.Script.{Command, Script, LineFault, ParsesScript, FirstScriptFault, number_in, payload_in};
 ghost use Rattle.trace_model.specs.ScriptLimits.{IsWithinLimits};
 ghost use Rattle.trace_model.specs.ScriptReading.{script_in};
-ghost use Rattle.trace_model.specs.History.{Action, IsHistory, committed_records, reserved_records, settled_front};
+ghost use Rattle.trace_model.specs.History.{Action, IsHistory, IsWritten, committed_records, reserved_records, settled_front};
 ghost use Rattle.trace_model.specs.Record.{Record, IsRecord};
 ghost use Rattle.trace_model.specs.Words.{Decodes};
 ghost use Rattle.trace_model.specs.Replay.{IsUncountedReplay, history_of_lines};
@@ -35,8 +38,11 @@ pub fn plain_reader_agrees()
 {}
 
 /// Bytes written over a record's payload change that record's bytes and nothing else of what is read.
+/// The places of all records stay, and a record may still follow.
 pub fn overwriting_changes_one_record()
     ensures replaced { OverwritingChangesOneRecord }
+    ensures places { OverwritingKeepsPlaces }
+    ensures still_open { OverwritingKeepsTheEnd }
 {}
 
 /// A record has one place in the data, and where a payload starts decides which record's it is.
@@ -66,6 +72,13 @@ pub fn committed_is_a_front()
 /// Each committed record of a history fills whole words.
 pub fn committed_records_are_records()
     ensures { (history : List Action) → All IsRecord (committed_records history) }
+{}
+
+/// Of a history that keeps the discipline of the stack, each committed record has been written, by just
+/// as many bytes as its slot has.
+pub fn committed_records_are_written()
+    ensures { (history : List Action) → IsHistory history
+        → All IsWritten (reserved_records (settled_front history)) }
 {}
 
 /// Each record that data reads as fills whole words.
@@ -134,4 +147,48 @@ pub fn number_reads_back()
 pub fn payload_reads_back()
     ensures { (bytes : List ℕ) → EachIndex bytes (λ k. slice_index bytes k < 256) →
         payload_in (hex_text bytes) ≡ Ok bytes }
+{}
+
+/// Data with a time has a reading or a first fault: one of the two and never both. The fault is one, in
+/// cause and in offset.
+pub fn reading_or_first_fault()
+    ensures one { (bytes : List ℕ) (time : ℕ) → AreBytes bytes
+        → ((records : List Record) × Decodes bytes time records)
+        ⊎ ((cause : Cause) × (at : ℕ) × FirstFault bytes time cause at) }
+    ensures reading_is_no_fault { (bytes : List ℕ) (time : ℕ) (records : List Record)
+        (cause : Cause) (at : ℕ) → Decodes bytes time records → ¬ FirstFault bytes time cause at }
+    ensures one_fault { (bytes : List ℕ) (time : ℕ) (cause other : Cause) (at there : ℕ)
+        → FirstFault bytes time cause at → FirstFault bytes time other there
+        → (cause ≡ other) × (at ≡ there) }
+{}
+
+/// A page image has a reading or a first fault: one of the two and never both. The reading is one, and the
+/// fault is one.
+pub fn image_reading_or_fault()
+    ensures one { (bytes : List ℕ) → AreBytes bytes
+        → ((time size : ℕ) × (missed : Missed) × (records : List Record)
+        × DecodesImage bytes time size missed records)
+        ⊎ ((fault : ImageCause) × FirstImageFault bytes fault) }
+    ensures reading_is_no_fault { (bytes : List ℕ) (time size : ℕ) (missed : Missed)
+        (records : List Record) (fault : ImageCause) → DecodesImage bytes time size missed records
+        → ¬ FirstImageFault bytes fault }
+    ensures one_reading { (bytes : List ℕ) (time other_time size other_size : ℕ)
+        (missed other : Missed) (records others : List Record)
+        → DecodesImage bytes time size missed records
+        → DecodesImage bytes other_time other_size other others
+        → (time ≡ other_time) × (size ≡ other_size) × (missed ≡ other) × (records ≡ others) }
+    ensures one_fault { (bytes : List ℕ) (fault other : ImageCause)
+        → FirstImageFault bytes fault → FirstImageFault bytes other → fault ≡ other }
+{}
+
+/// The image that is written has as many bytes as its page and the header, and reads as what it was
+/// written for.
+pub fn image_reads_back()
+    ensures length_is { (time : ℕ) (contents : List ℕ) (missed size : ℕ) → length contents ≤ size
+        → length (image_of time contents missed size) ≡ 16 + size }
+    ensures read_back { (time : ℕ) (contents : List ℕ) (missed size : ℕ) (records : List Record)
+        → time < 2 ^ 64 → missed < 2 ^ 64 → length contents ≤ size → 16 + size ≤ MAX_IMAGE
+        → Decodes contents time records
+        → DecodesImage (image_of time contents missed size) time (length contents)
+        (missed_told contents missed size) records }
 {}

@@ -1,4 +1,4 @@
-use Rattle.std.proofs.Common.{◌≡◌, ◌∙◌, sym, eqb, true≢false, arith}
+use Rattle.std.proofs.Common.{◌≡◌, ◌∙◌, sym, eqb, true≢false}
 use Rattle.std.proofs.lemmas.Bool.{and_parts, and_from, eqb-true, eq-eqb}
 use Rattle.page_image.proofs.Sought.{no_word_at_fault, IsAhead-start, IsAhead-other, IsAhead-record, IsAhead-none, IsAhead-found}
 use Rattle.page_image.proofs.places.is_payload.Goals as goal

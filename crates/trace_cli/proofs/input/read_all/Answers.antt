@@ -26,9 +26,9 @@ returns-in_err-add_piece-in-Ok-clause-no_memory g c = λ refused.
     let told : c.add_piece.result ≡ Err NoMemory = grind (arith, common_steps) in
     let len = c.loop-text.text.ok.0 in
     let within : vec_len c.loop-text.text + length (take c.in-Ok.count c.deref.result.now) ≤ MAX_INPUT = ⊎_elim
-      (λ over. absurd (let long : c.add_piece.result ≡ Err TooLong = c.add_piece.ensures.too_long.1 over in cc))
-      (λ fits. fits)
-      (cases_lt MAX_INPUT (vec_len c.loop-text.text + length (take c.in-Ok.count c.deref.result.now))) in
+    (λ over. absurd (let long : c.add_piece.result ≡ Err TooLong = c.add_piece.ensures.too_long.1 over in cc))
+    (λ fits. fits)
+    (cases_lt MAX_INPUT (vec_len c.loop-text.text + length (take c.in-Ok.count c.deref.result.now))) in
     let same : take c.in-Ok.count c.deref.result.now ≡ take c.in-Ok.count c.read.new.buf = grind (arith, common_steps) in
     record {
       bytes = c.loop-text.text.items ++ take c.in-Ok.count c.deref.result.now;

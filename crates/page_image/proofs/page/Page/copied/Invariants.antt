@@ -1,4 +1,4 @@
-use Rattle.std.proofs.Common.{◌≡◌, ◌-◌, ◌≤◌, length}
+use Rattle.std.proofs.Common.{◌-◌, length}
 use Rattle.page_image.specs.Copies.{copies_of}
 use Rattle.page_image.specs.Walk.{StandBetween}
 use Rattle.page_image.proofs.page.Page.copied.Given as goal

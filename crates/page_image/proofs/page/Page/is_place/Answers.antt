@@ -1,4 +1,4 @@
-use Rattle.std.proofs.Common.{◌≡◌, List, ℕ, subst, sym}
+use Rattle.std.proofs.Common.{List, ℕ, subst, sym}
 use Rattle.trace_model.specs.Words.{Decodes}
 use Rattle.trace_model.specs.Reading.{IsPlaceIn}
 use Rattle.page_image.specs.Contents.{records_of_page}

@@ -1,0 +1,134 @@
+-- One word more behind those that are read, and where the reading ends.
+use Rattle.std.proofs.Common.{◌≡◌, ◌≢◌, inl, inr, ℕ, ◌+◌, ◌*◌, ◌^◌, ◌<◌, ◌≤◌, false, List, [], ◌∷◌, ◌++◌, length, drop, refl, sym, ap, ◌∙◌, subst, arith, append_assoc, append-nil, length-append, length-drop}
+use Rattle.std.proofs.lemmas.List.{drop_all}
+use Rattle.std.proofs.lemmas.List.Concat.{flat_map-append}
+use Rattle.trace_model.specs.Record.{Record}
+use Rattle.trace_model.specs.Words.{Word, padding, time_extend, time_stamp, bytes_of_word, joined, delta_of, is_stamp, moment_after, records_of, records_at, MovesTime, IsEnding, Decodes, short_data, long_data}
+use Rattle.trace_model.specs.Reading.{IsData, payload_of, records_in}
+use Rattle.trace_model.specs.Faults.{Cause, cut, bad_length, time_overflow}
+use Rattle.trace_model.specs.FirstFault.{FirstFault}
+use Rattle.trace_model.proofs.Lengths.{bytes_of_word_ge}
+use Rattle.trace_model.proofs.Unique.{records_in-Decodes}
+use Rattle.trace_model.proofs.Appended.{FitsTime-nil, FitsTime-push, each-append, moment_after-push, moment_after-stamp, IsData-not_stamp, records_of-push, records_of-push_data}
+use Rattle.trace_model.proofs.FirstFaults.{FirstFault-from_word}
+use Rattle.record_words.specs.declared.next.WordFault.{WordFault}
+use Rattle.record_words.specs.declared.next.WordFault.TheVariants.{Cut, BadLength, TimeOverflow}
+use Rattle.record_words.specs.Next.{StandsAt, EndingAt, FaultyAt, IsFaultAt}
+use Rattle.page_image.specs.declared.count.Reached.{Reached}
+use Rattle.page_image.specs.Counting.{HasRead, IsCounted, IsFirstFault}
+
+pub read-start : (bytes : List ℕ) (time : ℕ) → HasRead bytes time [] (record { at = 0; moment = time; count = 0 })
+read-start bytes time = record {
+  whole = refl;
+  each = tt;
+  in_time = FitsTime-nil time;
+  at_is = refl;
+  moment_is = omega arith;
+  count_is = refl;
+}
+
+-- a word that stands behind those read, with the moment and the number of records behind it
+read-push : (bytes : List ℕ) (time : ℕ) (words : List Word) (reached : Reached) (w : Word) (next moment count : ℕ) → HasRead bytes time words reached → StandsAt bytes reached.at next w → (MovesTime w → moment < 2 ^ 64)
+    → moment ≡ moment_after time (words ++ w ∷ []) → count ≡ length (records_of time (words ++ w ∷ [])) → HasRead bytes time (words ++ w ∷ []) (record { at = next; moment = moment; count = count })
+read-push bytes time words reached w next moment count is here fits moment_is count_is =
+    let all : joined (words ++ w ∷ []) ≡ joined words ++ bytes_of_word w = flat_map-append bytes_of_word words (w ∷ []) ∙ ap (λ (b : List ℕ). joined words ++ b) (append-nil (bytes_of_word w)) in
+    record {
+      whole = is.whole ∙ ap (λ (b : List ℕ). joined words ++ b) here.stands ∙ sym (append_assoc (joined words) (bytes_of_word w) (drop next bytes)) ∙ ap (λ (b : List ℕ). b ++ drop next bytes) (sym all);
+      each = each-append words (w ∷ []) is.each (here.is_word, tt);
+      in_time = FitsTime-push time words w is.in_time (λ moves. subst (λ (m : ℕ). m < 2 ^ 64) moment_is (fits moves));
+      at_is = (let size = ap length all ∙ length-append (joined words) (bytes_of_word w) in let at = is.at_is in let stop = here.next_is in omega arith);
+      moment_is = moment_is;
+      count_is = count_is;
+    }
+
+-- a word that holds no record, and no stamp
+plain_push : (bytes : List ℕ) (time : ℕ) (words : List Word) (reached : Reached) (w : Word) (next moment : ℕ) → HasRead bytes time words reached → StandsAt bytes reached.at next w → (MovesTime w → moment < 2 ^ 64)
+    → is_stamp w ≡ false → records_at time words w ≡ [] → moment ≡ reached.moment + delta_of w → HasRead bytes time (words ++ w ∷ []) (record { at = next; moment = moment; count = reached.count })
+plain_push bytes time words reached w next moment is here fits not_stamp none moment_is =
+    read-push bytes time words reached w next moment reached.count is here fits
+    (moment_is ∙ ap (λ (m : ℕ). m + delta_of w) is.moment_is ∙ sym (moment_after-push time words w not_stamp))
+    (is.count_is ∙ ap length (sym (append-nil (records_of time words)) ∙ ap (λ (rs : List Record). records_of time words ++ rs) (sym none) ∙ sym (records_of-push time words w)))
+
+pub read-data : (bytes : List ℕ) (time : ℕ) (words : List Word) (reached : Reached) (w : Word) (next moment : ℕ) → HasRead bytes time words reached → StandsAt bytes reached.at next w → IsData w → moment < 2 ^ 64
+    → moment ≡ reached.moment + delta_of w → HasRead bytes time (words ++ w ∷ []) (record { at = next; moment = moment; count = reached.count + 1 })
+read-data bytes time words reached w next moment is here holds fits moment_is =
+    let more = ap length (records_of-push_data time words w holds) in
+    let before = is.count_is in
+    read-push bytes time words reached w next moment (reached.count + 1) is here (λ moves. fits)
+    (moment_is ∙ ap (λ (m : ℕ). m + delta_of w) is.moment_is ∙ sym (moment_after-push time words w (IsData-not_stamp w holds)))
+    (omega (arith, length-append (records_of time words) (record { moment = moment_after time words + delta_of w; bytes = payload_of w } ∷ [])))
+
+pub read-extend : (bytes : List ℕ) (time : ℕ) (words : List Word) (reached : Reached) (delta next moment : ℕ) → HasRead bytes time words reached → StandsAt bytes reached.at next (time_extend delta) → moment < 2 ^ 64
+    → moment ≡ reached.moment + delta → HasRead bytes time (words ++ time_extend delta ∷ []) (record { at = next; moment = moment; count = reached.count })
+read-extend bytes time words reached delta next moment is here fits moment_is = plain_push bytes time words reached (time_extend delta) next moment is here (λ moves. fits) refl refl moment_is
+
+pub read-padding : (bytes : List ℕ) (time : ℕ) (words : List Word) (reached : Reached) (delta : ℕ) (skipped : List ℕ) (next : ℕ) → HasRead bytes time words reached → StandsAt bytes reached.at next (padding delta skipped)
+    → HasRead bytes time (words ++ padding delta skipped ∷ []) (record { at = next; moment = reached.moment; count = reached.count })
+read-padding bytes time words reached delta skipped next is here = plain_push bytes time words reached (padding delta skipped) next reached.moment is here (λ moves. absurd moves) refl refl (omega arith)
+
+pub read-stamp : (bytes : List ℕ) (time : ℕ) (words : List Word) (reached : Reached) (stamp next : ℕ) → HasRead bytes time words reached → StandsAt bytes reached.at next (time_stamp stamp)
+    → HasRead bytes time (words ++ time_stamp stamp ∷ []) (record { at = next; moment = stamp; count = reached.count })
+read-stamp bytes time words reached stamp next is here =
+    read-push bytes time words reached (time_stamp stamp) next stamp reached.count is here (λ moves. absurd moves)
+    (sym (moment_after-stamp time words stamp))
+    (is.count_is ∙ ap length (sym (append-nil (records_of time words)) ∙ sym (records_of-push time words (time_stamp stamp))))
+
+-- ---- where the reading ends
+
+counted : (bytes : List ℕ) (time : ℕ) (words : List Word) (reached : Reached) → HasRead bytes time words reached → IsEnding (drop reached.at bytes) → IsCounted bytes time reached.count
+counted bytes time words reached is ending =
+    let reads : Decodes bytes time (records_of time words) = record { words = words; rest = drop reached.at bytes; cut = record { whole = is.whole; each = is.each; ending = ending }; in_time = is.in_time; read = refl } in
+    let same : records_in time bytes ≡ records_of time words = records_in-Decodes bytes time (records_of time words) reads in
+    record {
+      reads = subst (Decodes bytes time) (sym same) reads;
+      count_is = is.count_is ∙ ap length (sym same);
+    }
+
+pub counted-ending : (bytes : List ℕ) (time : ℕ) (words : List Word) (reached : Reached) → HasRead bytes time words reached → EndingAt bytes reached.at → IsCounted bytes time reached.count
+counted-ending bytes time words reached is ends = counted bytes time words reached is (inr ends.ends)
+
+pub counted-all : (bytes : List ℕ) (time : ℕ) (words : List Word) (reached : Reached) → HasRead bytes time words reached → length bytes ≤ reached.at → IsCounted bytes time reached.count
+counted-all bytes time words reached is past = counted bytes time words reached is (inl (drop_all reached.at bytes past))
+
+-- ---- faults
+
+some_behind : (bytes : List ℕ) (at : ℕ) → at < length bytes → drop at bytes ≢ []
+some_behind bytes at inside e = (let none = ap length e in omega (arith, length-drop at bytes))
+
+fault_here : (bytes : List ℕ) (time : ℕ) (words : List Word) (reached : Reached) (named : ℕ) (cause : Cause) → HasRead bytes time words reached → reached.at < length bytes → FaultyAt bytes reached.at named cause → FirstFault bytes time cause named
+fault_here bytes time words reached named cause is inside faulty =
+    subst (λ (n : ℕ). FirstFault bytes time cause n) (sym (faulty.offset ∙ is.at_is))
+    (FirstFault-from_word bytes time words (drop reached.at bytes) cause is.whole is.each is.in_time (some_behind bytes reached.at inside) faulty.fault)
+
+pub faulty-first : (bytes : List ℕ) (time : ℕ) (words : List Word) (reached : Reached) (f : WordFault) → HasRead bytes time words reached → reached.at < length bytes → IsFaultAt bytes reached.at f → IsFirstFault bytes time f
+faulty-first bytes time words reached (Cut named) is inside faulty = fault_here bytes time words reached named cut is inside faulty
+faulty-first bytes time words reached (BadLength named) is inside faulty = fault_here bytes time words reached named bad_length is inside faulty
+faulty-first bytes time words reached (TimeOverflow named) is inside faulty = absurd faulty
+
+-- a word that moves the time too far
+pub overflow-first : (bytes : List ℕ) (time : ℕ) (words : List Word) (reached : Reached) (w : Word) (next : ℕ) (f : WordFault) → HasRead bytes time words reached → reached.at < length bytes → StandsAt bytes reached.at next w
+    → MovesTime w → is_stamp w ≡ false → f ≡ TimeOverflow reached.at → 2 ^ 64 ≤ reached.moment + delta_of w → IsFirstFault bytes time f
+overflow-first bytes time words reached w next f is inside here moves not_stamp fault past =
+    let moment_is = is.moment_is in
+    let first : FirstFault bytes time time_overflow reached.at = record {
+      words = words;
+      rest = drop reached.at bytes;
+      whole = is.whole;
+      each = is.each;
+      in_time = is.in_time;
+      at_is = is.at_is;
+      some_left = some_behind bytes reached.at inside;
+      fault = record { word = w; behind = drop next bytes; stands = here.stands; is_word = here.is_word; moves = moves; past = omega (arith, moment_after-push time words w not_stamp) };
+    } in
+    subst (IsFirstFault bytes time) (sym fault) first
+
+pub IsData-moves : (w : Word) → IsData w → MovesTime w
+IsData-moves (short_data delta payload) is = tt
+IsData-moves (long_data delta payload) is = tt
+IsData-moves (padding delta skipped) is = absurd is
+IsData-moves (time_extend delta) is = absurd is
+IsData-moves (time_stamp stamp) is = absurd is
+
+-- a word takes four bytes, so records are few
+pub few_more : (bytes : List ℕ) (at next count : ℕ) (w : Word) → StandsAt bytes at next w → 4 * count ≤ at → 4 * (count + 1) ≤ next
+few_more bytes at next count w here few = let stop = here.next_is in let size = bytes_of_word_ge w in omega arith

@@ -1,0 +1,152 @@
+//! Page images, read.
+//!
+//! An image is a page as the kernel hands it out: a header of 16 bytes and the data behind it, told in
+//! `docs/FORMATS.md`, "Page image".
+ghost use Rattle.std.specs.Prelude.{◌≡◌, ℕ, ◌≤◌, ◌*◌, ◌+◌, ◌↔◌, List, length, take, drop, IfOk, IfErr};
+ghost use Rattle.trace_model.specs.Faults.{Cause};
+ghost use Rattle.trace_model.specs.Image.{DecodesImage, FirstImageFault, too_short, bad_size, bad_count, bad_word};
+ghost use Rattle.page_image.specs.Contents.{IsPage, records_of_page};
+ghost use Rattle.page_image.specs.Images.{missed_of, page_in, word_fault, IsReadable, IsImageFault, IsOutlined, behind_header};
+ghost use Rattle.page_image.specs.declared.image.ImageFault.TheVariants.{Word as WordIs, NoMemory as MemoryIs};
+
+mod header;
+
+use crate::count::count_records;
+use crate::page::Page;
+pub(crate) use header::HEADER;
+use header::{read_header, read_missed};
+use record_words::WordFault;
+use std::alloc::{AllocError, Global};
+
+/// What an image tells of events that were missed in front of its page.
+#[derive(Clone, Copy, Debug, PartialEq, Eq)]
+pub enum Missed {
+    /// None were.
+    None,
+    /// Some were. How many isn't told.
+    Unknown,
+    /// So many were.
+    Count(u64),
+}
+
+/// A page image, read.
+#[derive(Debug, Drop)]
+pub struct Image {
+    /// The time of the page.
+    pub time: u64,
+    /// How many bytes the records take.
+    pub size: usize,
+    /// The events that were missed in front of the page.
+    pub missed: Missed,
+    /// The page itself, with 0 as its first number and its fill.
+    pub page: Page,
+}
+
+/// Why an image can't be read.
+#[derive(Clone, Copy, Debug, PartialEq, Eq)]
+pub enum ImageFault {
+    /// There are fewer bytes than a header has.
+    TooShort,
+    /// The size that is stated is above the number of bytes behind the header, or the image is too long.
+    BadSize,
+    /// A count of missed events is stated, and there are no eight bytes for it behind the records.
+    BadCount,
+    /// The first fault of the records. Its offset counts from the end of the header.
+    Word(WordFault),
+    /// Memory was refused. The image has a reading.
+    NoMemory,
+}
+
+impl From<WordFault> for ImageFault {
+    ghost from_gives = { λ f e. e ≡ WordIs f };
+
+    fn from(fault: WordFault) -> ImageFault {
+        ImageFault::Word(fault)
+    }
+}
+
+impl From<AllocError> for ImageFault {
+    ghost from_gives = { λ f e. e ≡ MemoryIs };
+
+    fn from(_refused: AllocError) -> ImageFault {
+        ImageFault::NoMemory
+    }
+}
+
+/// What an image tells, its bytes not yet copied.
+#[derive(Clone, Copy)]
+struct Outline {
+    time: u64,
+    size: usize,
+    missed: Missed,
+    count: u64,
+}
+
+/// Reads all of an image in one pass, and copies nothing.
+fn read_outline(bytes: &[u8]) -> Result<Outline, ImageFault>
+    ensures ok { IfOk result (λ outline. IsOutlined bytes.now outline) }
+    ensures fault { IfErr result (λ f. IsImageFault bytes.now f) }
+{
+    let header = read_header(bytes)?;
+    let (data, behind) = bytes[HEADER..].split_at(header.commit.size);
+    let missed = read_missed(header.commit, behind)?;
+    let count = count_records(data, header.time)?;
+    Ok(Outline {
+        time: header.time,
+        size: header.commit.size,
+        missed,
+        count,
+    })
+}
+
+/// A copy of these bytes.
+fn copied(alloc: Global, bytes: &[u8]) -> Result<Vec<u8>, AllocError>
+    ensures { IfOk result (λ copy. copy.items ≡ bytes.now) }
+{
+    let mut copy = Vec::with_capacity(alloc, bytes.len())?;
+    copy.extend_from_slice(bytes)?;
+    Ok(copy)
+}
+
+/// The image that was outlined. Its body is a copy of the bytes behind the header.
+fn read(alloc: Global, bytes: &[u8]) -> Result<Image, ImageFault>
+    ensures reads { IfOk result (λ image. DecodesImage bytes.now image.time image.size
+        (missed_of image.missed) (records_of_page image.page)) }
+    ensures page { IfOk result (λ image. IsPage image.page) }
+    ensures contents { IfOk result (λ image. image.page ≡ page_in bytes.now image.time image.size) }
+    ensures fault { IfErr result (λ f. IsImageFault bytes.now f) }
+{
+    let outline = read_outline(bytes)?;
+    let body = copied(alloc, &bytes[HEADER..])?;
+    Ok(Image {
+        time: outline.time,
+        size: outline.size,
+        missed: outline.missed,
+        page: Page::of_bytes(body, outline.time, outline.size, outline.count),
+    })
+}
+
+/// Reads a page image of at most `MAX_IMAGE` bytes. The faults are looked for in the order of
+/// [`ImageFault`], and memory is asked for once, where the image has a reading.
+///
+/// The page has as its size the number of bytes behind the header. Bytes behind the records and the count of
+/// missed events are kept in its body and mean nothing.
+pub fn read_image(alloc: Global, bytes: &[u8]) -> Result<Image, ImageFault>
+    ensures reads { IfOk result (λ image. DecodesImage bytes.now image.time image.size
+        (missed_of image.missed) (records_of_page image.page)) }
+    ensures page { IfOk result (λ image. IsPage image.page) }
+    ensures contents { IfOk result (λ image. image.page ≡ page_in bytes.now image.time image.size) }
+
+    ensures is_too_short { (result ≡ Err ImageFault.TooShort) ↔ FirstImageFault bytes.now too_short }
+    ensures has_bad_size { (result ≡ Err ImageFault.BadSize) ↔ FirstImageFault bytes.now bad_size }
+    ensures has_bad_count { (result ≡ Err ImageFault.BadCount) ↔ FirstImageFault bytes.now bad_count }
+    ensures has_bad_word { (cause : Cause) (at : ℕ)
+        → (result ≡ Err (ImageFault.Word (word_fault cause at)))
+        ↔ FirstImageFault bytes.now (bad_word cause at) }
+    ensures no_memory { result ≡ Err ImageFault.NoMemory → IsReadable bytes.now }
+{
+    read(alloc, bytes)
+}
+
+#[cfg(test)]
+mod tests;

@@ -1,0 +1,95 @@
+//! What stands in front of the data of an image, and the count behind it.
+ghost use Rattle.std.specs.Prelude.{◌≡◌, ℕ, ◌+◌, ◌*◌, ◌≤◌, ◌<◌, length, drop, IfOk, IfErr};
+ghost use Rattle.trace_model.specs.Image.{from_le64, TellsMissed};
+ghost use Rattle.page_image.specs.Images.{missed_of, commit_with, IsCommitWord, HasPartsOf, LacksCount, IsImageFault};
+
+use crate::image::{ImageFault, Missed};
+use byteorder::{ByteOrder, LittleEndian};
+use trace_model::MAX_IMAGE;
+
+/// How many bytes the header takes: a time and a commit word.
+pub(crate) const HEADER: usize = 16;
+
+/// How many bytes a number of the header takes, and the count of missed events.
+const NUMBER: usize = 8;
+
+/// The first value that doesn't fit bits 0 to 29 of a commit word. It is bit 30: a count is stored.
+const STORED: u64 = 1 << 30;
+
+/// Bit 31 of a commit word: events were missed.
+const MISSED: u64 = 1 << 31;
+
+/// A commit word. Its bits 32 to 63 mean nothing.
+#[derive(Clone, Copy)]
+pub(crate) struct Commit {
+    /// How many bytes the records take.
+    pub(crate) size: usize,
+    /// A count of missed events stands behind the records, if any were missed.
+    is_stored: bool,
+    /// Events were missed.
+    is_missed: bool,
+}
+
+/// The header of an image.
+#[derive(Clone, Copy)]
+pub(crate) struct Header {
+    /// The time of the page.
+    pub(crate) time: u64,
+    pub(crate) commit: Commit,
+}
+
+/// The number in the eight bytes at `at`.
+#[tactic(auto, unfolding(trace_model::specs::Image::from_le64))]
+fn number_at(bytes: &[u8], at: usize) -> u64
+    requires { at + 8 ≤ length bytes.now }
+    ensures { result ≡ from_le64 (drop at bytes.now) }
+{
+    LittleEndian::read_u64(&bytes[at..])
+}
+
+/// What a commit word says.
+fn commit_of(word: u64) -> Commit
+    ensures { IsCommitWord word result }
+{
+    Commit {
+        size: (word % STORED) as usize,
+        is_stored: word / STORED % 2 == 1,
+        is_missed: word / MISSED % 2 == 1,
+    }
+}
+
+/// Reads the header of an image that isn't too long and has the size that it states.
+pub(crate) fn read_header(bytes: &[u8]) -> Result<Header, ImageFault>
+    ensures ok { IfOk result (λ header. HasPartsOf bytes.now header) }
+    ensures there { IfOk result (λ header. 16 + header.commit.size ≤ length bytes.now) }
+    ensures fault { IfErr result (λ f. IsImageFault bytes.now f) }
+{
+    if bytes.len() < HEADER {
+        return Err(ImageFault::TooShort);
+    }
+    let time = number_at(bytes, 0);
+    let commit = commit_of(number_at(bytes, NUMBER));
+    if bytes.len() > MAX_IMAGE || bytes.len() - HEADER < commit.size {
+        return Err(ImageFault::BadSize);
+    }
+    Ok(Header { time, commit })
+}
+
+/// What is told of missed events, where these bytes stand behind the records.
+pub(crate) fn read_missed(commit: Commit, behind: &[u8]) -> Result<Missed, ImageFault>
+    ensures told { IfOk result (λ missed. (ignored : ℕ)
+        → TellsMissed (commit_with commit ignored) behind.now (missed_of missed)) }
+    ensures fault { IfErr result (λ f. f ≡ ImageFault.BadCount) }
+    ensures lacks { IfErr result (λ f. LacksCount commit behind.now) }
+{
+    if !commit.is_missed {
+        return Ok(Missed::None);
+    }
+    if !commit.is_stored {
+        return Ok(Missed::Unknown);
+    }
+    if behind.len() < NUMBER {
+        return Err(ImageFault::BadCount);
+    }
+    Ok(Missed::Count(number_at(behind, 0)))
+}

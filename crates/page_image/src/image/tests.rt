@@ -1,0 +1,270 @@
+//! Images read and written, with their bytes written out.
+ghost use Rattle.std.specs.Prelude.{◌≡◌};
+
+use crate::{Body, Image, ImageFault, Missed, Page, read_image};
+use record_words::WordFault;
+use std::alloc::Global;
+use std::process::Abort;
+use std::test::Fail;
+use trace_model::{FillNo, MAX_IMAGE, NoMemory, RecordNo};
+
+/// A record: its moment and its bytes.
+#[derive(Clone, Copy)]
+struct Record {
+    moment: u64,
+    bytes: &'static [u8],
+}
+
+/// What an image must tell of its page.
+#[derive(Clone, Copy)]
+struct Told {
+    time: u64,
+    size: usize,
+    missed: Missed,
+    records: &'static [Record],
+}
+
+/// An image, and what it must read as.
+#[derive(Clone, Copy)]
+struct Row {
+    image: &'static [u8],
+    answer: Result<Told, ImageFault>,
+}
+
+/// Looks at all that an image tells.
+fn is_told(rt: &impl Abort, alloc: Global, image: &Image, told: Told) -> Result<(), NoMemory> {
+    assert_eq!(rt; image.time, told.time);
+    assert_eq!(rt; image.size, told.size);
+    assert_eq!(rt; image.missed, told.missed);
+    let page = &image.page;
+    assert_eq!(rt; page.time(), told.time);
+    assert_eq!(rt; page.end(), told.size);
+    assert_eq!(rt; page.first(), RecordNo(0));
+    assert_eq!(rt; page.fill(), FillNo(0));
+    assert_eq!(rt; page.count(), told.records.len() as u64);
+    let copies = page.copied(alloc)?;
+    assert_eq!(rt; copies.len(), told.records.len());
+    for (copy, record) in copies.iter().zip(told.records) {
+        assert_eq!(rt; copy.0, record.moment);
+        assert_eq!(rt; copy.1.as_slice(), record.bytes);
+    }
+    Ok(())
+}
+
+/// Reads the images of a table.
+fn are_read(rt: &impl Abort, alloc: Global, table: &[Row]) -> Result<(), NoMemory> {
+    for row in table {
+        match (read_image(alloc, row.image), row.answer) {
+            (Ok(image), Ok(told)) => {
+                assert_eq!(rt; image.page.size() + 16, row.image.len());
+                is_told(rt, alloc, &image, told)?;
+            }
+            (Err(fault), Err(expected)) => assert_eq!(rt; fault, expected),
+            _ => assert!(rt; false, "read or refused"),
+        }
+    }
+    Ok(())
+}
+
+#[test]
+fn hand_made_images(rt: HostRuntime) -> Result<(), Fail> {
+    let table = [
+        Row {
+            image: b"\x07\0\0\0\0\0\0\0\x10\0\0\0\xff\xff\xff\xff\x01\0\0\0\xaa\xbb\xcc\xdd\x1d\0\0\0\xff\xff\xff\xff",
+            answer: Ok(Told {
+                time: 7,
+                size: 16,
+                missed: Missed::None,
+                records: &[Record {
+                    moment: 7,
+                    bytes: b"\xaa\xbb\xcc\xdd",
+                }],
+            }),
+        },
+        Row {
+            image: b"\x07\0\0\0\0\0\0\0\x08\0\0\x80\xff\xff\xff\xff\x01\0\0\0\xaa\xbb\xcc\xdd",
+            answer: Ok(Told {
+                time: 7,
+                size: 8,
+                missed: Missed::Unknown,
+                records: &[Record {
+                    moment: 7,
+                    bytes: b"\xaa\xbb\xcc\xdd",
+                }],
+            }),
+        },
+        Row {
+            image: b"\x07\0\0\0\0\0\0\0\x08\0\0\0\0\0\0\0\x02\0\0\0\xaa\xbb\xcc\xdd",
+            answer: Err(ImageFault::Word(WordFault::Cut(0))),
+        },
+        Row {
+            image: b"\x07\0\0\0\0\0\0\0\0\0\0\0\0\0\0",
+            answer: Err(ImageFault::TooShort),
+        },
+        Row {
+            image: b"\x07\0\0\0\0\0\0\0\x08\0\0\xc0\0\0\0\0\x01\0\0\0\xaa\xbb\xcc\xdd",
+            answer: Err(ImageFault::BadCount),
+        },
+        Row {
+            image: b"\x07\0\0\0\0\0\0\0\x0c\0\0\0\0\0\0\0\x01\0\0\0\xaa\xbb\xcc\xdd",
+            answer: Err(ImageFault::BadSize),
+        },
+        Row {
+            image: b"\0\0\0\0\0\0\0\0\x18\0\0\0\0\0\0\0\x3d\0\0\0\x04\0\0\0\xbf\0\0\0\x02\0\0\0\x21\0\0\0\xaa\xbb\xcc\xdd",
+            answer: Ok(Told {
+                time: 0,
+                size: 24,
+                missed: Missed::None,
+                records: &[Record {
+                    moment: 268_435_462,
+                    bytes: b"\xaa\xbb\xcc\xdd",
+                }],
+            }),
+        },
+    ];
+    Ok(are_read(&rt, rt.alloc(), &table)?)
+}
+
+#[test]
+fn image_readings(rt: HostRuntime) -> Result<(), Fail> {
+    let table = [
+        Row {
+            image: b"\x03\0\0\0\0\0\0\0\x08\0\0\0\0\0\0\0\0\0\0\0\x04\0\0\0",
+            answer: Ok(Told {
+                time: 3,
+                size: 8,
+                missed: Missed::None,
+                records: &[Record {
+                    moment: 3,
+                    bytes: b"",
+                }],
+            }),
+        },
+        Row {
+            image: b"\x03\0\0\0\0\0\0\0\x08\0\0\0\0\0\0\0\0\0\0\0\x06\0\0\0",
+            answer: Err(ImageFault::Word(WordFault::BadLength(0))),
+        },
+        Row {
+            image: b"\xff\xff\xff\xff\xff\xff\xff\xff\x08\0\0\0\0\0\0\0\x21\0\0\0\xaa\xbb\xcc\xdd",
+            answer: Err(ImageFault::Word(WordFault::TimeOverflow(0))),
+        },
+        Row {
+            image: b"\x0a\0\0\0\0\0\0\0\x18\0\0\0\0\0\0\0\x01\0\0\0\xaa\xbb\xcc\xdd\x7e\0\0\0\x01\0\0\0\x01\0\0\0\x11\x22\x33\x44",
+            answer: Ok(Told {
+                time: 10,
+                size: 24,
+                missed: Missed::None,
+                records: &[
+                    Record {
+                        moment: 10,
+                        bytes: b"\xaa\xbb\xcc\xdd",
+                    },
+                    Record {
+                        moment: 134_217_741,
+                        bytes: b"\x11\x22\x33\x44",
+                    },
+                ],
+            }),
+        },
+        Row {
+            image: b"\x0a\0\0\0\0\0\0\0\x09\0\0\0\0\0\0\0\x01\0\0\0\xaa\xbb\xcc\xdd\x01",
+            answer: Err(ImageFault::Word(WordFault::Cut(8))),
+        },
+    ];
+    are_read(&rt, rt.alloc(), &table)?;
+    let long = vec![in rt.alloc(); 0; MAX_IMAGE + 1]?;
+    assert!(rt; matches!(read_image(rt.alloc(), &long), Err(ImageFault::BadSize)));
+    let longest = vec![in rt.alloc(); 0; MAX_IMAGE]?;
+    assert!(rt; read_image(rt.alloc(), &longest).is_ok());
+    Ok(())
+}
+
+#[test]
+fn missed_count_in_an_image(rt: HostRuntime) -> Result<(), Fail> {
+    let records = &[Record {
+        moment: 2,
+        bytes: &[2; 28],
+    }];
+    let table = [
+        Row {
+            image: b"\x02\0\0\0\0\0\0\0\x20\0\0\x80\0\0\0\0\x07\0\0\0\x02\x02\x02\x02\x02\x02\x02\x02\x02\x02\x02\x02\x02\x02\x02\x02\x02\x02\x02\x02\x02\x02\x02\x02\x02\x02\x02\x02\0\0\0\0",
+            answer: Ok(Told {
+                time: 2,
+                size: 32,
+                missed: Missed::Unknown,
+                records,
+            }),
+        },
+        Row {
+            image: b"\x02\0\0\0\0\0\0\0\x20\0\0\xc0\0\0\0\0\x07\0\0\0\x02\x02\x02\x02\x02\x02\x02\x02\x02\x02\x02\x02\x02\x02\x02\x02\x02\x02\x02\x02\x02\x02\x02\x02\x02\x02\x02\x02\x01\0\0\0\0\0\0\0",
+            answer: Ok(Told {
+                time: 2,
+                size: 32,
+                missed: Missed::Count(1),
+                records,
+            }),
+        },
+        Row {
+            image: b"\x02\0\0\0\0\0\0\0\x20\0\0\x40\0\0\0\0\x07\0\0\0\x02\x02\x02\x02\x02\x02\x02\x02\x02\x02\x02\x02\x02\x02\x02\x02\x02\x02\x02\x02\x02\x02\x02\x02\x02\x02\x02\x02",
+            answer: Ok(Told {
+                time: 2,
+                size: 32,
+                missed: Missed::None,
+                records,
+            }),
+        },
+    ];
+    Ok(are_read(&rt, rt.alloc(), &table)?)
+}
+
+/// A page of one record, of moment 100 and the bytes 1 to 4.
+fn first_page(alloc: Global) -> Result<Page, NoMemory> {
+    let mut page = Page::fresh(Body::new(alloc, 32)?, RecordNo(0), FillNo(0));
+    let place = page.put(0, 100, 4);
+    page.payload_mut(place).copy_from_slice(&[1, 2, 3, 4]);
+    Ok(page)
+}
+
+#[test]
+fn first_record(rt: HostRuntime) -> Result<(), Fail> {
+    let page = first_page(rt.alloc())?;
+    let image = page.write_image(rt.alloc(), 0)?;
+    assert_eq!(rt; image.len(), 48);
+    assert_eq!(rt;
+        &image[..24],
+        b"\x64\0\0\0\0\0\0\0\x08\0\0\0\0\0\0\0\x01\0\0\0\x01\x02\x03\x04".as_slice()
+    );
+    assert!(rt; image[24..].iter().all(|byte| *byte == 0));
+    let told = Told {
+        time: 100,
+        size: 8,
+        missed: Missed::None,
+        records: &[Record {
+            moment: 100,
+            bytes: &[1, 2, 3, 4],
+        }],
+    };
+    match read_image(rt.alloc(), &image) {
+        Ok(read) => is_told(&rt, rt.alloc(), &read, told)?,
+        Err(fault) => assert!(rt; false, "{fault:?}"),
+    }
+    Ok(())
+}
+
+/// High bits of a commit word, missed flags and bytes behind the records aren't written again.
+#[test]
+fn written_again(rt: HostRuntime) -> Result<(), Fail> {
+    let given =
+        b"\x07\0\0\0\0\0\0\0\x08\0\0\x80\xff\xff\xff\xff\x01\0\0\0\xaa\xbb\xcc\xdd\x55\x55\x55\x55";
+    match read_image(rt.alloc(), given) {
+        Ok(image) => {
+            let written = image.page.write_image(rt.alloc(), 0)?;
+            assert_eq!(rt;
+                written.as_slice(),
+                b"\x07\0\0\0\0\0\0\0\x08\0\0\0\0\0\0\0\x01\0\0\0\xaa\xbb\xcc\xdd\0\0\0\0".as_slice()
+            );
+        }
+        Err(fault) => assert!(rt; false, "{fault:?}"),
+    }
+    Ok(())
+}

@@ -1,0 +1,31 @@
+-- The discipline of the stack, action by action.
+use Rattle.std.proofs.Common.{◌≡◌, List, [], ◌∷◌, ◌++◌, fold, refl, ap, subst}
+use Rattle.trace_model.specs.History.{Action, Written, acted, MayAct, IsHistory}
+
+-- each action is one that the frames allow, which stand behind this and the actions in front of it
+abbrev pub AreAllowed : Written → List Action → Type 0
+AreAllowed w [] = Unit {0}
+AreAllowed w (a ∷ actions) = MayAct w.stack a × AreAllowed (acted w.stack w.records a) actions
+
+allowed_at : (w : Written) (front behind : List Action) (a : Action) → AreAllowed w (front ++ a ∷ behind) → MayAct (fold (λ v b. acted v.stack v.records b) w front).stack a
+allowed_at w [] behind a h = h.0
+allowed_at w (b ∷ front) behind a h = allowed_at (acted w.stack w.records b) front behind a h.1
+
+pub IsHistory-allowed : (history : List Action) → AreAllowed (record { stack = []; records = [] }) history → IsHistory history
+IsHistory-allowed history h front behind a cut =
+    let start : Written = record { stack = []; records = [] } in
+    allowed_at start front behind a (subst (AreAllowed start) cut h)
+
+allowed_from : (w : Written) (actions : List Action) → ((front behind : List Action) (a : Action) → actions ≡ front ++ a ∷ behind → MayAct (fold (λ v b. acted v.stack v.records b) w front).stack a) → AreAllowed w actions
+allowed_from w [] h = tt
+allowed_from w (a ∷ actions) h = (
+  h [] actions a refl,
+  allowed_from (acted w.stack w.records a) actions (λ front behind b cut. h (a ∷ front) behind b (ap (λ (rest : List Action). a ∷ rest) cut)),
+)
+
+pub allowed-IsHistory : (history : List Action) → IsHistory history → AreAllowed (record { stack = []; records = [] }) history
+allowed-IsHistory history h = allowed_from (record { stack = []; records = [] }) history h
+
+pub AreAllowed-front : (w : Written) (front behind : List Action) → AreAllowed w (front ++ behind) → AreAllowed w front
+AreAllowed-front w [] behind h = tt
+AreAllowed-front w (a ∷ front) behind h = (h.0, AreAllowed-front (acted w.stack w.records a) front behind h.1)
