@@ -1,7 +1,7 @@
 //! The script text: what a script is, and its reader.
 //!
-//! A script is lines of fields, which docs/FORMATS.md, "Script", describes. `read_script` reads it line by
-//! line, in one pass.
+//! A script is lines of fields, which docs/FORMATS.md, "Script", describes. `read_script` reads it
+//! line by line, in one pass.
 ghost use Rattle.std.specs.Prelude.{IfOk, IfErr, map};
 ghost use Rattle.trace_model.specs.Script.{ParsesScript, command_in};
 ghost use Rattle.trace_model.specs.ScriptReading.{located, counted_behind, commands_from, script_in};

@@ -23,3 +23,5 @@ pub mod ParsedLimits
 pub mod FirstFaults
 pub mod ImageParts
 pub mod Images
+pub mod ScriptTable
+pub mod ScriptWrites

@@ -1,10 +1,10 @@
 -- Numbers and bytes, written as text, read back.
-use Rattle.std.proofs.Common.{◌≡◌, ℕ, ◌+◌, ◌*◌, ◌/◌, ◌%◌, ◌^◌, ◌<◌, ◌≤◌, suc, true, List, [], ◌∷◌, length, Result, Ok, EachIndex, slice_index, refl, ◌∙◌, ap, arith, decimal, flat_map}
+use Rattle.std.proofs.Common.{◌≡◌, ℕ, ◌+◌, ◌*◌, ◌/◌, ◌%◌, ◌^◌, ◌<◌, ◌≤◌, suc, true, not, ◌==◌, ltb, List, [], ◌∷◌, length, Result, Ok, EachIndex, slice_index, refl, ◌∙◌, ap, arith, decimal, flat_map}
 use Rattle.std.specs.Char.{digit_value, digit_char, is_digit}
 use Rattle.std.specs.List.{list_all}
 use Rattle.std.specs.Str.{all_ascii_digits}
 use Rattle.std.specs.Str.Parse.{digits_value}
-use Rattle.std.proofs.lemmas.Bool.{lt-ltb, le-leb, eq-eqb, and_from, or_right, cond-true}
+use Rattle.std.proofs.lemmas.Bool.{lt-ltb, ltb-true, le-leb, eq-eqb, ne_eqb, and_from, and_parts, or_right, not_from_false, cond-true}
 use Rattle.std.proofs.lemmas.Fmt.{decimal_nonempty, length-decimal-le, digits_decimal, digits_value-decimal}
 use Rattle.std.proofs.lemmas.Str.{digit_value-digit_char}
 use Rattle.std.proofs.lemmas.Str.Parse.{IsNumeralModel, numerals_by_value, tells_all_ascii_digits}
@@ -76,3 +76,29 @@ payload_in-hex_text [] h = refl
 payload_in-hex_text (b ∷ bytes) h =
     cond-true (is_hex (pairs_of (b ∷ bytes))) _ _ (is_hex-pairs_of (b ∷ bytes) h (omega arith))
     ∙ ap (λ (bs : List ℕ). let r : Result (List ℕ) LineFault = Ok bs in r) (bytes_of_pairs-pairs_of (b ∷ bytes) h)
+
+-- ---- what the text of bytes is made of
+low_is_no_digit : (c : ℕ) → c < 48 → digit_value c ≡ 36
+low_is_no_digit c low = cond-true (ltb c 48) _ _ (lt-ltb c 48 low)
+
+hex_digit_is_no : (c d : ℕ) → c < 48 → is_digit d 16 ≡ true → not (d == c) ≡ true
+hex_digit_is_no c d low h =
+    not_from_false (d == c) (ne_eqb d c (λ same.
+    let small = ltb-true (digit_value d) 16 h in
+    let value : digit_value d ≡ 36 = ap digit_value same ∙ low_is_no_digit c low in
+    omega arith))
+
+hex_digits_free : (c : ℕ) (text : List ℕ) → c < 48 → list_all (λ d. is_digit d 16) text ≡ true → list_all (λ d. not (d == c)) text ≡ true
+hex_digits_free c [] low h = refl
+hex_digits_free c (d ∷ text) low h =
+    let parts = and_parts (is_digit d 16) _ h in
+    and_from _ _ (hex_digit_is_no c d low parts.0) (hex_digits_free c text low parts.1)
+
+-- a byte below the digits and other than `-` is in no text of bytes
+pub hex_text_free : (c : ℕ) (bytes : List ℕ) → c < 45 → EachIndex bytes (λ k. slice_index bytes k < 256) → list_all (λ d. not (d == c)) (hex_text bytes) ≡ true
+hex_text_free c [] low h = and_from _ _ (not_from_false (45 == c) (ne_eqb 45 c (λ same. omega arith))) refl
+hex_text_free c (b ∷ bytes) low h = hex_digits_free c (pairs_of (b ∷ bytes)) (omega arith) (list_all-pairs_of (b ∷ bytes) h)
+
+pub some_hex_text : (bytes : List ℕ) → 0 < length (hex_text bytes)
+some_hex_text [] = omega arith
+some_hex_text (b ∷ bytes) = omega (arith, length-pairs_of (b ∷ bytes))

@@ -11,6 +11,7 @@ pub mod Text
 pub mod Script
 pub mod ScriptLimits
 pub mod ScriptReading
+pub mod ScriptWriting
 pub mod Replay
 pub mod ReplayPieces
 pub mod Printing

@@ -101,6 +101,13 @@ command_of cpus collectors (first ∷ second ∷ third ∷ fourth ∷ []) =
     else Err bad_line)
 command_of cpus collectors _ = Err bad_line
 
+-- The same by the commands: what fields spell each.
+abbrev pub SpellsCommand : ℕ → ℕ → Command → List (List ℕ) → Type 0
+SpellsCommand cpus collectors (write cpu moment payload) fields = (x : List ℕ) × (t : List ℕ) × (hex : List ℕ) × (fields ≡ x ∷ codes "w" ∷ t ∷ hex ∷ []) × (cpu_in cpus x ≡ Ok cpu) × (number_in t ≡ Ok moment) × (payload_in hex ≡ Ok payload)
+SpellsCommand cpus collectors (close cpu) fields = (x : List ℕ) × (fields ≡ x ∷ codes "c" ∷ []) × (cpu_in cpus x ≡ Ok cpu)
+SpellsCommand cpus collectors (take_page cpu) fields = (x : List ℕ) × (fields ≡ x ∷ codes "t" ∷ []) × (cpu_in cpus x ≡ Ok cpu)
+SpellsCommand cpus collectors (deliver collector cpu fill) fields = (k : List ℕ) × (x : List ℕ) × (f : List ℕ) × (fields ≡ codes "d" ∷ k ∷ x ∷ f ∷ []) × (number_below collectors k ≡ Ok collector) × (cpu_in cpus x ≡ Ok cpu) × (number_in f ≡ Ok fill)
+
 -- the command that a line spells: its spaces are looked at first
 unfoldable pub command_in : ℕ → ℕ → List ℕ → Result Command LineFault
 command_in cpus collectors line =

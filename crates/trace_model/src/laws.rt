@@ -6,8 +6,9 @@ ghost use Rattle.trace_model.specs.Image.{Missed, DecodesImage, ImageCause, Firs
 ghost use Rattle.trace_model.specs.declared.limits.TheConstants.{MAX_IMAGE};
 ghost use Rattle.trace_model.specs.Laws.{EncodingHasItsLength, EncodingsReadBack, OverwritingChangesOneRecord, OverwritingKeepsPlaces, OverwritingKeepsTheEnd, PlacesAreUnique, PlainReaderAgrees, ReadingIsUnique};
 ghost use Rattle.trace_model.specs.Text.{hex_text};
-ghost use Rattle.trace_model.specs.Script.{Command, Script, LineFault, ParsesScript, FirstScriptFault, number_in, payload_in};
+ghost use Rattle.trace_model.specs.Script.{Command, Script, LineFault, ParsesScript, FirstScriptFault, number_in, payload_in, command_of, command_in, SpellsCommand};
 ghost use Rattle.trace_model.specs.ScriptLimits.{IsWithinLimits};
+ghost use Rattle.trace_model.specs.ScriptWriting.{command_text, script_text, IsCommandFor, IsWritable};
 ghost use Rattle.trace_model.specs.ScriptReading.{script_in};
 ghost use Rattle.trace_model.specs.History.{Action, IsHistory, IsWritten, committed_records, reserved_records, settled_front};
 ghost use Rattle.trace_model.specs.Record.{Record, IsRecord};
@@ -191,4 +192,23 @@ pub fn image_reads_back()
         → Decodes contents time records
         → DecodesImage (image_of time contents missed size) time (length contents)
         (missed_told contents missed size) records }
+{}
+
+/// Fields are read as a command exactly where they spell it.
+pub fn command_is_spelled()
+    ensures { (cpus collectors : ℕ) (fields : List (List ℕ)) (command : Command) →
+        ((command_of cpus collectors fields ≡ Ok command)
+        ↔ SpellsCommand cpus collectors command fields) }
+{}
+
+/// A command's line reads back as the command.
+pub fn command_reads_back()
+    ensures { (cpus collectors : ℕ) (command : Command) → cpus ≤ 2 ^ 64 → collectors ≤ 2 ^ 64 →
+        IsCommandFor cpus collectors command →
+        command_in cpus collectors (command_text command) ≡ Ok command }
+{}
+
+/// A script within its limits has a text, which reads back as the script.
+pub fn script_reads_back()
+    ensures { (script : Script) → IsWritable script → ParsesScript (script_text script) script }
 {}

@@ -10,8 +10,8 @@ use std::fmt;
 /// Why a text is no script. The number is that of the first line at fault, from 1.
 #[derive(Clone, Copy, Debug, PartialEq, Eq)]
 pub enum ScriptFault {
-    /// No line of a script stands there, by its spaces, its word, its place or how many fields it has;
-    /// or the header has no such line, and the text ends in front of it.
+    /// No line of a script stands there, by its spaces, its word, its place or how many fields it
+    /// has; or the header has no such line, and the text ends in front of it.
     BadLine(u64),
     /// A field is no decimal number of 1 to 20 digits below 2^64.
     BadNumber(u64),

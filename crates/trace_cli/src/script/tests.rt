@@ -100,8 +100,8 @@ fn faults_of_a_command(rt: HostRuntime) -> Result<(), Fail> {
 
 #[test]
 fn commands_of_a_script(rt: HostRuntime) -> Result<(), Fail> {
-    let text =
-        b"# two pages\npages 2\nsize 32\ncpus 1\n\ncollectors 1\nc0 w 100 0102aBFf\nc0 c\n# a take\nc0 t\nd 0 c0 7\nc0 w 5 -";
+    let text = b"# two pages\npages 2\nsize 32\ncpus 1\n\ncollectors 1\n\
+        c0 w 100 0102aBFf\nc0 c\n# a take\nc0 t\nd 0 c0 7\nc0 w 5 -";
     let script = read_script(rt.alloc(), text)
         .ok()
         .ok_or("the text is a script")?;

@@ -14,8 +14,8 @@ use trace_model::CpuId;
 /// The most digits of a number.
 const MOST_DIGITS: usize = 20;
 
-/// The number whose last digit is this, behind the digits of another; None where the byte is no digit,
-/// or the number doesn't fit 64 bits.
+/// The number whose last digit is this, behind the digits of another; None where the byte is no
+/// digit, or the number doesn't fit 64 bits.
 fn with_digit(front: u64, digit: u8) -> Option<u64>
     ensures { SomeIff result
         (IsInRange 48 57 digit × (front * 10 + (digit - 48) < 2 ^ 64)) (front * 10 + (digit - 48)) }
