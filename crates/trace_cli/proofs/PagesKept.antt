@@ -8,9 +8,9 @@ use Rattle.std.proofs.lemmas.List.Elements.{All-push, All-drop}
 use Rattle.trace_model.specs.declared.limits.TheConstants.{MOMENT_LIMIT}
 use Rattle.trace_model.specs.Record.{Record}
 use Rattle.trace_model.specs.Words.{encoded_len, page_encoding}
-use Rattle.trace_model.specs.Sublist.{IsSublist}
-use Rattle.trace_model.specs.Replay.{is_short, is_writable, EndsAlike}
-use Rattle.trace_model.proofs.Sublists.{IsSublist-front}
+use Rattle.trace_model.specs.Pieces.{HasPieces}
+use Rattle.trace_model.specs.Replay.{is_short, is_writable}
+use Rattle.trace_model.proofs.PieceLemmas.{HasPieces-more}
 use Rattle.trace_cli.specs.PlainPages.{PlainPages, tail_fill, records_left, record_for, fits_tail, with_place, with_tail_left, opened, with_record, written, closed}
 use Rattle.trace_cli.proofs.TailRoom.{empty_tail_room, opened_fits, none_from_test}
 
@@ -20,54 +20,48 @@ use Rattle.trace_cli.proofs.TailRoom.{empty_tail_room, opened_fits, none_from_te
 abbrev pub standing : PlainPages → List Record
 standing p = flat_map (λ records. records) p.left ++ p.tail
 
--- What the pages are once these records were committed and those were taken: behind the records that are
--- gone from the list stand the others.
-pub record HoldsRest (all taken : List Record) (p : PlainPages) : Type 0 where
-  pub gone : List Record
-  pub all_is : all ≡ gone ++ standing p
-  pub among : IsSublist taken gone
+-- What the pages are once these records were committed and these pages taken: behind the last page taken
+-- stand the records that were lost since, and then those of the list.
+pub record HoldsRest (all : List Record) (pages : List (List Record)) (p : PlainPages) : Type 0 where
+  pub lost : List Record
+  pub pieces : HasPieces all pages (lost ++ standing p)
   pub some : All (λ records. records ≢ []) p.left
   pub most_is : 2 ≤ p.most
 
 -- the oldest page dropped
-pub drop_oldest : (p : PlainPages) (left : List (List Record)) (all taken : List Record) → p.left ≡ left → HoldsRest all taken p → HoldsRest all taken (record p { left = drop 1 left; oldest = p.oldest + 1 })
-drop_oldest p [] all taken is h =
+pub drop_oldest : (p : PlainPages) (left : List (List Record)) (all : List Record) (pages : List (List Record)) → p.left ≡ left → HoldsRest all pages p → HoldsRest all pages (record p { left = drop 1 left; oldest = p.oldest + 1 })
+drop_oldest p [] all pages is h = record {
+  lost = h.lost;
+  pieces = subst (HasPieces all pages) (ap (λ (left : List (List Record)). h.lost ++ (flat_map (λ records. records) left ++ p.tail)) is) h.pieces;
+  some = λ k d inside. absurd (omega arith);
+  most_is = h.most_is;
+}
+drop_oldest p (x ∷ left) all pages is h =
+    let some : All (λ records. records ≢ []) (x ∷ left) = subst (λ (ps : List (List Record)). All (λ records. records ≢ []) ps) is h.some in
+    let rest : h.lost ++ standing p ≡ (h.lost ++ x) ++ (flat_map (λ records. records) left ++ p.tail) =
+    ap (λ (left : List (List Record)). h.lost ++ (flat_map (λ records. records) left ++ p.tail)) is
+    ∙ ap (λ (rs : List Record). h.lost ++ rs) (append_assoc x (flat_map (λ records. records) left) p.tail)
+    ∙ sym (append_assoc h.lost x (flat_map (λ records. records) left ++ p.tail)) in
     record {
-      gone = h.gone;
-      all_is = h.all_is ∙ ap (λ (left : List (List Record)). h.gone ++ (flat_map (λ records. records) left ++ p.tail)) is;
-      among = h.among;
-      some = λ k d inside. absurd (omega arith);
-      most_is = h.most_is;
-    }
-drop_oldest p (x ∷ left) all taken is h =
-    let some : All (λ records. records ≢ []) (x ∷ left) = subst (λ (pages : List (List Record)). All (λ records. records ≢ []) pages) is h.some in
-    record {
-      gone = h.gone ++ x;
-      all_is =
-          h.all_is
-          ∙ ap (λ (left : List (List Record)). h.gone ++ (flat_map (λ records. records) left ++ p.tail)) is
-          ∙ ap (λ (rs : List Record). h.gone ++ rs) (append_assoc x (flat_map (λ records. records) left) p.tail)
-          ∙ sym (append_assoc h.gone x (flat_map (λ records. records) left ++ p.tail));
-      among = IsSublist-front x h.among;
+      lost = h.lost ++ x;
+      pieces = subst (HasPieces all pages) rest h.pieces;
       some = All-drop (λ (records : List Record). records ≢ []) 1 (x ∷ left) some;
       most_is = h.most_is;
     }
 
-HoldsRest-with_place : (p : PlainPages) (all taken : List Record) → HoldsRest all taken p → HoldsRest all taken (with_place p)
-HoldsRest-with_place p all taken h = by_test (ltb (length p.left + 1) p.most)
+HoldsRest-with_place : (p : PlainPages) (all : List Record) (pages : List (List Record)) → HoldsRest all pages p → HoldsRest all pages (with_place p)
+HoldsRest-with_place p all pages h = by_test (ltb (length p.left + 1) p.most)
   where
-    by_test : (room : Bool) → HoldsRest all taken (cond room p (record p { left = drop 1 p.left; oldest = p.oldest + 1 }))
+    by_test : (room : Bool) → HoldsRest all pages (cond room p (record p { left = drop 1 p.left; oldest = p.oldest + 1 }))
     by_test true = h
-    by_test false = drop_oldest p p.left all taken refl h
+    by_test false = drop_oldest p p.left all pages refl h
 
-HoldsRest-tail_left : (p : PlainPages) (all taken : List Record) → p.tail ≢ [] → HoldsRest all taken p → HoldsRest all taken (with_tail_left p)
-HoldsRest-tail_left p all taken filled h =
+HoldsRest-tail_left : (p : PlainPages) (all : List Record) (pages : List (List Record)) → p.tail ≢ [] → HoldsRest all pages p → HoldsRest all pages (with_tail_left p)
+HoldsRest-tail_left p all pages filled h =
+    let same : standing p ≡ standing (with_tail_left p) = sym (append-nil (flat_map (λ records. records) (p.left ++ p.tail ∷ [])) ∙ flat_map-append (λ (records : List Record). records) p.left (p.tail ∷ []) ∙ ap (λ (rs : List Record). flat_map (λ records. records) p.left ++ rs) (append-nil p.tail)) in
     record {
-      gone = h.gone;
-      all_is =
-          h.all_is
-          ∙ ap (λ (rs : List Record). h.gone ++ rs) (sym (append-nil (flat_map (λ records. records) (p.left ++ p.tail ∷ [])) ∙ flat_map-append (λ (records : List Record). records) p.left (p.tail ∷ []) ∙ ap (λ (rs : List Record). flat_map (λ records. records) p.left ++ rs) (append-nil p.tail)));
-      among = h.among;
+      lost = h.lost;
+      pieces = subst (HasPieces all pages) (ap (λ (rs : List Record). h.lost ++ rs) same) h.pieces;
       some = All-push (λ (records : List Record). records ≢ []) p.left p.tail h.some filled;
       most_is = h.most_is;
     }
@@ -79,19 +73,17 @@ tail-with_place p = by_test (ltb (length p.left + 1) p.most)
     by_test true = refl
     by_test false = refl
 
-HoldsRest-opened : (p : PlainPages) (all taken : List Record) → p.tail ≢ [] → HoldsRest all taken p → HoldsRest all taken (opened p)
-HoldsRest-opened p all taken filled h =
-    HoldsRest-tail_left (with_place p) all taken (λ none. filled (sym (tail-with_place p) ∙ none)) (HoldsRest-with_place p all taken h)
+HoldsRest-opened : (p : PlainPages) (all : List Record) (pages : List (List Record)) → p.tail ≢ [] → HoldsRest all pages p → HoldsRest all pages (opened p)
+HoldsRest-opened p all pages filled h =
+    HoldsRest-tail_left (with_place p) all pages (λ none. filled (sym (tail-with_place p) ∙ none)) (HoldsRest-with_place p all pages h)
 
-abbrev pub HoldsRest-with_record : (p : PlainPages) (all taken : List Record) (r : Record) → HoldsRest all taken p → HoldsRest (all ++ r ∷ []) taken (with_record r p)
-HoldsRest-with_record p all taken r h =
+abbrev pub HoldsRest-with_record : (p : PlainPages) (all : List Record) (pages : List (List Record)) (r : Record) → HoldsRest all pages p → HoldsRest (all ++ r ∷ []) pages (with_record r p)
+HoldsRest-with_record p all pages r h =
+    let rest : (h.lost ++ standing p) ++ r ∷ [] ≡ h.lost ++ standing (with_record r p) =
+    append_assoc h.lost (standing p) (r ∷ []) ∙ ap (λ (rs : List Record). h.lost ++ rs) (append_assoc (flat_map (λ records. records) p.left) p.tail (r ∷ [])) in
     record {
-      gone = h.gone;
-      all_is =
-          ap (λ (rs : List Record). rs ++ r ∷ []) h.all_is
-          ∙ append_assoc h.gone (standing p) (r ∷ [])
-          ∙ ap (λ (rs : List Record). h.gone ++ rs) (append_assoc (flat_map (λ records. records) p.left) p.tail (r ∷ []));
-      among = h.among;
+      lost = h.lost;
+      pieces = subst (HasPieces (all ++ r ∷ []) pages) rest (HasPieces-more pages all (h.lost ++ standing p) (r ∷ []) h.pieces);
       some = h.some;
       most_is = h.most_is;
     }
@@ -181,23 +173,23 @@ tail_filled p moment payload short refused none =
     cc
 
 -- What a command that takes nothing makes of the pages.
-pub record Moves (all all' taken : List Record) (p q : PlainPages) (h : HoldsRest all taken p) : Type 0 where
-  pub holds : HoldsRest all' taken q
+pub record Moves (all all' : List Record) (pages : List (List Record)) (p q : PlainPages) (h : HoldsRest all pages p) : Type 0 where
+  pub holds : HoldsRest all' pages q
   pub grows : Grows p q 1 1
-  pub served : (p.left ≡ [] → EndsAlike h.gone taken) → q.left ≡ [] → EndsAlike holds.gone taken
+  pub served : (p.left ≡ [] → h.lost ≡ []) → q.left ≡ [] → holds.lost ≡ []
   pub tail_fits : length (page_encoding p.tail) ≤ p.size → length (page_encoding q.tail) ≤ q.size
 
 push_not_none : {X : Type 0} (xs : List X) (x : X) → xs ++ x ∷ [] ≡ [] → ⊥
 push_not_none [] x e = cc
 push_not_none (y ∷ xs) x e = cc
 
-pub Moves-written : (p : PlainPages) (all taken : List Record) (moment : ℕ) (payload : List ℕ) → is_writable p.size moment (length payload) ≡ true → (h : HoldsRest all taken p) → Moves all (all ++ record_for p moment payload ∷ []) taken p (written p moment payload) h
-Moves-written p all taken moment payload accepted h = by_test (fits_tail p (record_for p moment payload)) refl
+pub Moves-written : (p : PlainPages) (all : List Record) (pages : List (List Record)) (moment : ℕ) (payload : List ℕ) → is_writable p.size moment (length payload) ≡ true → (h : HoldsRest all pages p) → Moves all (all ++ record_for p moment payload ∷ []) pages p (written p moment payload) h
+Moves-written p all pages moment payload accepted h = by_test (fits_tail p (record_for p moment payload)) refl
   where
-    by_test : (room : Bool) → fits_tail p (record_for p moment payload) ≡ room → Moves all (all ++ record_for p moment payload ∷ []) taken p (with_record (record_for p moment payload) (cond room p (opened p))) h
+    by_test : (room : Bool) → fits_tail p (record_for p moment payload) ≡ room → Moves all (all ++ record_for p moment payload ∷ []) pages p (with_record (record_for p moment payload) (cond room p (opened p))) h
     by_test true test =
         record {
-          holds = HoldsRest-with_record p all taken (record_for p moment payload) h;
+          holds = HoldsRest-with_record p all pages (record_for p moment payload) h;
           grows = Grows-most p (with_record (record_for p moment payload) p) 0 1 1 1 (omega arith) (omega arith) (Grows-with_record p (record_for p moment payload));
           served = λ was none. was none;
           tail_fits = λ _. leb-true (length (page_encoding (p.tail ++ record_for p moment payload ∷ []))) p.size test;
@@ -206,16 +198,16 @@ Moves-written p all taken moment payload accepted h = by_test (fits_tail p (reco
         let short = short_enough p.size moment (length payload) accepted in
         let filled = tail_filled p moment payload short test in
         record {
-          holds = HoldsRest-with_record (opened p) all taken (record_for p moment payload) (HoldsRest-opened p all taken filled h);
+          holds = HoldsRest-with_record (opened p) all pages (record_for p moment payload) (HoldsRest-opened p all pages filled h);
           grows = Grows-trans p (opened p) (with_record (record_for p moment payload) (opened p)) 1 0 0 1 (Grows-opened p h.most_is) (Grows-with_record (opened p) (record_for p moment payload));
           served = λ was none. absurd (push_not_none (with_place p).left (with_place p).tail none);
           tail_fits = λ _. leb-true (length (page_encoding (record_for p moment payload ∷ []))) (opened p).size (opened_fits p (max moment p.last) payload short);
         }
 
-pub Moves-closed : (p : PlainPages) (all taken : List Record) (h : HoldsRest all taken p) → Moves all all taken p (closed p) h
-Moves-closed p all taken h = by_test (eqb (length p.tail) 0) refl
+pub Moves-closed : (p : PlainPages) (all : List Record) (pages : List (List Record)) (h : HoldsRest all pages p) → Moves all all pages p (closed p) h
+Moves-closed p all pages h = by_test (eqb (length p.tail) 0) refl
   where
-    by_test : (blank : Bool) → eqb (length p.tail) 0 ≡ blank → Moves all all taken p (cond blank p (opened p)) h
+    by_test : (blank : Bool) → eqb (length p.tail) 0 ≡ blank → Moves all all pages p (cond blank p (opened p)) h
     by_test true test =
         record {
           holds = h;
@@ -226,7 +218,7 @@ Moves-closed p all taken h = by_test (eqb (length p.tail) 0) refl
     by_test false test =
         let filled : p.tail ≢ [] = λ none. let wrong : false ≡ true = sym test ∙ ap (λ (tail : List Record). eqb (length tail) 0) none in cc in
         record {
-          holds = HoldsRest-opened p all taken filled h;
+          holds = HoldsRest-opened p all pages filled h;
           grows = Grows-most p (opened p) 1 0 1 1 (omega arith) (omega arith) (Grows-opened p h.most_is);
           served = λ was none. absurd (push_not_none (with_place p).left (with_place p).tail none);
           tail_fits = λ _. omega arith;

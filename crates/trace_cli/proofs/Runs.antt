@@ -1,5 +1,5 @@
 -- What a run over a plain list keeps, command by command, and that it meets the uncounted contract.
-use Rattle.std.proofs.Common.{◌≡◌, ◌≢◌, inl, inr, ⊎_elim, ℕ, ◌+◌, ◌<◌, ◌≤◌, Bool, true, false, cond, eqb, List, [], ◌∷◌, ◌++◌, length, drop, get_or, map, flat_map, sum_by, Option, Some, None, refl, sym, ap, ◌∙◌, subst, arith, append_assoc, append-nil, length-append, Contains, All}
+use Rattle.std.proofs.Common.{◌≡◌, ◌≢◌, ⊎_elim, ℕ, ◌+◌, ◌<◌, ◌≤◌, Bool, true, false, cond, eqb, List, [], ◌∷◌, ◌++◌, length, drop, get_or, map, flat_map, sum_by, Option, Some, None, refl, sym, ap, ◌∙◌, subst, arith, append_assoc, append-nil, length-append, Contains, All}
 use Rattle.std.proofs.lemmas.Bool.{cases_eq}
 use Rattle.std.proofs.lemmas.List.{map_push, length_push, length-map, get_or-map, same_from_push}
 use Rattle.std.proofs.lemmas.List.Concat.{flat_map-append}
@@ -10,10 +10,10 @@ use Rattle.trace_model.specs.Record.{Record}
 use Rattle.trace_model.specs.Words.{page_encoding}
 use Rattle.trace_model.specs.History.{committed_records}
 use Rattle.trace_model.specs.Script.{Command, write, close, take_page, deliver}
-use Rattle.trace_model.specs.Sublist.{IsSublist}
-use Rattle.trace_model.specs.Replay.{is_writable, history_of_lines, Taking, Answered, taking_list, takings_of, records_taken, commands_of, IsTaken, IsDelivered, EndsAlike, IsUpToDate}
-use Rattle.trace_model.proofs.Appended.{last_of}
-use Rattle.trace_model.proofs.Sublists.{IsSublist-refl, IsSublist-none, IsSublist-append, IsSublist-front}
+use Rattle.trace_model.specs.Pieces.{HasPieces}
+use Rattle.trace_model.specs.ReplayPieces.{pages_taken, TakesPieces, LeavesOnePage}
+use Rattle.trace_model.specs.Replay.{is_writable, history_of_lines, Taking, Answered, taking_list, takings_of, records_taken, commands_of, IsTaken, IsDelivered}
+use Rattle.trace_model.proofs.PieceLemmas.{HasPieces-push}
 use Rattle.trace_model.proofs.Histories.{LinesLeave, LinesLeave-none, LinesLeave-committed, LinesLeave-idle, LinesLeave-close, LinesLeave-refused, LinesLeave-write}
 use Rattle.trace_cli.specs.declared.plain_collector.Held.{Held}
 use Rattle.trace_cli.specs.declared.replay.Run.{Run}
@@ -41,20 +41,19 @@ takings-push answered a =
 records-of_takings-push : (takings more : List Taking) → flat_map (λ (t : Taking). t.records) (takings ++ more) ≡ flat_map (λ t. t.records) takings ++ flat_map (λ t. t.records) more
 records-of_takings-push takings more = flat_map-append (λ (t : Taking). t.records) takings more
 
--- the records taken after any number of lines are, in order, some of those that these lines committed
-abbrev pub AreInOrder : ℕ → List Answered → Type 0
-AreInOrder size answered = (before behind : List Answered) → answered ≡ before ++ behind → IsSublist (records_taken before) (committed_records (history_of_lines size (commands_of before)))
+-- after any number of lines, the pages taken so far are pieces of what these lines committed
+abbrev pub AreInPieces : ℕ → List Answered → Type 0
+AreInPieces size answered = (before behind : List Answered) → answered ≡ before ++ behind → (rest : List Record) × TakesPieces size before rest
 
 abbrev pub EachIsTaken : List Answered → Type 0
 EachIsTaken answered = (before behind : List Answered) (command : Command) (taking : Taking) → answered ≡ before ++ record { command = command; taking = Some taking } ∷ behind → IsTaken before command taking
 
-in_order-push : (size last : ℕ) (answered : List Answered) (a : Answered) (all : List Record) (p : PlainPages) → LinesLeave size (commands_of (answered ++ a ∷ [])) all last → HoldsRest all (records_taken (answered ++ a ∷ [])) p → AreInOrder size answered → AreInOrder size (answered ++ a ∷ [])
-in_order-push size last answered a all p lines holds old before behind is = ⊎_elim
+in_pieces-push : (size last : ℕ) (answered : List Answered) (a : Answered) (all : List Record) (p : PlainPages) → LinesLeave size (commands_of (answered ++ a ∷ [])) all last → HoldsRest all (pages_taken (answered ++ a ∷ [])) p → AreInPieces size answered → AreInPieces size (answered ++ a ∷ [])
+in_pieces-push size last answered a all p lines holds old before behind is = ⊎_elim
     (λ whole.
-    let committed : committed_records (history_of_lines size (commands_of (answered ++ a ∷ []))) ≡ holds.gone ++ standing p = LinesLeave-committed size (commands_of (answered ++ a ∷ [])) all last lines ∙ holds.all_is in
-    let among : IsSublist (records_taken (answered ++ a ∷ [])) (holds.gone ++ standing p) = IsSublist-front (standing p) holds.among in
-    let here : IsSublist (records_taken (answered ++ a ∷ [])) (committed_records (history_of_lines size (commands_of (answered ++ a ∷ [])))) = subst (λ (rs : List Record). IsSublist (records_taken (answered ++ a ∷ [])) rs) (sym committed) among in
-    subst (λ (front : List Answered). IsSublist (records_taken front) (committed_records (history_of_lines size (commands_of front)))) whole here)
+    let committed : committed_records (history_of_lines size (commands_of (answered ++ a ∷ []))) ≡ all = LinesLeave-committed size (commands_of (answered ++ a ∷ [])) all last lines in
+    let here : TakesPieces size (answered ++ a ∷ []) (holds.lost ++ standing p) = subst (λ (rs : List Record). HasPieces rs (pages_taken (answered ++ a ∷ [])) (holds.lost ++ standing p)) (sym committed) holds.pieces in
+    subst (λ (front : List Answered). (rest : List Record) × TakesPieces size front rest) whole (holds.lost ++ standing p, here))
     (λ inside. old before inside.0 inside.1)
     (cut_push answered a before behind is)
 
@@ -68,11 +67,11 @@ each-push answered a last old before behind command taking is = ⊎_elim
     (cut_at_push answered a before (record { command = command; taking = Some taking }) behind is)
 
 abbrev pub EachIsUpToDate : ℕ → List Answered → Type 0
-EachIsUpToDate size answered = (before behind : List Answered) (cpu : ℕ) → answered ≡ before ++ record { command = take_page cpu; taking = None } ∷ behind → IsUpToDate size before
+EachIsUpToDate size answered = (before behind : List Answered) (cpu : ℕ) → answered ≡ before ++ record { command = take_page cpu; taking = None } ∷ behind → LeavesOnePage size before
 
-up_to_date-push : (size : ℕ) (answered : List Answered) (a : Answered) → ((cpu : ℕ) → a ≡ answer (take_page cpu) None → IsUpToDate size answered) → EachIsUpToDate size answered → EachIsUpToDate size (answered ++ a ∷ [])
+up_to_date-push : (size : ℕ) (answered : List Answered) (a : Answered) → ((cpu : ℕ) → a ≡ answer (take_page cpu) None → LeavesOnePage size answered) → EachIsUpToDate size answered → EachIsUpToDate size (answered ++ a ∷ [])
 up_to_date-push size answered a last old before behind cpu is = ⊎_elim
-    (λ here. subst (IsUpToDate size) here.0 (last cpu here.1))
+    (λ here. subst (LeavesOnePage size) here.0 (last cpu here.1))
     (λ inside. old before inside.0 cpu inside.1)
     (cut_at_push answered a before (answer (take_page cpu) None) behind is)
 
@@ -101,12 +100,12 @@ pub record IsRun (size : ℕ) (answered : List Answered) (run : Run) : Type 0 wh
   pub all : List Record
   pub size_is : run.list.size ≡ size
   pub lines : LinesLeave size (commands_of answered) all run.list.last
-  pub holds : HoldsRest all (records_taken answered) run.list
-  pub none_left : run.list.left ≡ [] → EndsAlike holds.gone (records_taken answered)
+  pub holds : HoldsRest all (pages_taken answered) run.list
+  pub none_left : run.list.left ≡ [] → holds.lost ≡ []
   pub tail_fits : length (page_encoding run.list.tail) ≤ run.list.size
   pub after_close : (lines : List Answered) (cpu : ℕ) → answered ≡ lines ++ answer (close cpu) None ∷ [] → run.list.tail ≡ []
   pub up_to_date : EachIsUpToDate size answered
-  pub in_order : AreInOrder size answered
+  pub in_pieces : AreInPieces size answered
   pub counted : run.list.taken ≡ length (records_taken answered)
   pub takings_are : takings_of answered ≡ map (λ h. h.taking) run.collector
   pub numbered : NumberedFrom 0 (takings_of answered)
@@ -117,24 +116,25 @@ pub record IsRun (size : ℕ) (answered : List Answered) (run : Run) : Type 0 wh
   pub fills_le : tail_fill run.list ≤ length answered
   pub records_le : records_left run.list + length run.list.tail ≤ length answered
 
--- where no page but the tail stands, all that is committed is up to date
-run_up_to_date : (size : ℕ) (answered : List Answered) (run : Run) → run.list.left ≡ [] → IsRun size answered run → IsUpToDate size answered
-run_up_to_date size answered run none h = record {
-  front = h.holds.gone;
-  tail = run.list.tail;
-  committed = LinesLeave-committed size (commands_of answered) h.all run.list.last h.lines ∙ h.holds.all_is ∙ ap (λ (left : List (List Record)). h.holds.gone ++ (flat_map (λ records. records) left ++ run.list.tail)) none;
-  taken = h.none_left none;
-  one_page = subst (λ n. length (page_encoding run.list.tail) ≤ n) h.size_is h.tail_fits;
-  closed = h.after_close;
-}
+-- where no page but the tail stands, it is all that the pages taken leave
+run_up_to_date : (size : ℕ) (answered : List Answered) (run : Run) → run.list.left ≡ [] → IsRun size answered run → LeavesOnePage size answered
+run_up_to_date size answered run none h =
+    let committed : committed_records (history_of_lines size (commands_of answered)) ≡ h.all = LinesLeave-committed size (commands_of answered) h.all run.list.last h.lines in
+    let rest : h.holds.lost ++ standing run.list ≡ run.list.tail = ap (λ (rs : List Record). rs ++ standing run.list) (h.none_left none) ∙ ap (λ (left : List (List Record)). flat_map (λ records. records) left ++ run.list.tail) none in
+    record {
+      tail = run.list.tail;
+      pieces = subst (λ (rs : List Record). HasPieces rs (pages_taken answered) run.list.tail) (sym committed) (subst (HasPieces h.all (pages_taken answered)) rest h.holds.pieces);
+      one_page = subst (λ n. length (page_encoding run.list.tail) ≤ n) h.size_is h.tail_fits;
+      closed = h.after_close;
+    }
 
 -- a command that takes and delivers nothing
-quiet_step : (size : ℕ) (answered : List Answered) (run : Run) (c : Command) (list : PlainPages) (all : List Record) (h : IsRun size answered run) (lines : LinesLeave size (commands_of answered ++ c ∷ []) all list.last) (holds : HoldsRest all (records_taken answered) list)
+quiet_step : (size : ℕ) (answered : List Answered) (run : Run) (c : Command) (list : PlainPages) (all : List Record) (h : IsRun size answered run) (lines : LinesLeave size (commands_of answered ++ c ∷ []) all list.last) (holds : HoldsRest all (pages_taken answered) list)
     → ((collector cpu fill : ℕ) → c ≡ deliver collector cpu fill → ⊥)
     → ((cpu : ℕ) → c ≡ take_page cpu → run.list.left ≡ [])
     → ((cpu : ℕ) → c ≡ close cpu → list.tail ≡ [])
     → Grows run.list list 1 1
-    → (list.left ≡ [] → EndsAlike holds.gone (records_taken answered))
+    → (list.left ≡ [] → holds.lost ≡ [])
     → length (page_encoding list.tail) ≤ list.size
     → IsRun size (answered ++ answer c None ∷ []) (record run { list = list })
 quiet_step size answered run c list all h lines holds quiet idle closes grows served tail_fits =
@@ -142,18 +142,19 @@ quiet_step size answered run c list all h lines holds quiet idle closes grows se
     let same : takings_of (answered ++ a ∷ []) ≡ takings_of answered = takings-push answered a ∙ append-nil (takings_of answered) in
     let taken : records_taken (answered ++ a ∷ []) ≡ records_taken answered = ap (λ (ts : List Taking). flat_map (λ t. t.records) ts) same in
     let lines' : LinesLeave size (commands_of (answered ++ a ∷ [])) all list.last = subst (λ (cs : List Command). LinesLeave size cs all list.last) (sym (commands-push answered a)) lines in
-    let holds' : HoldsRest all (records_taken (answered ++ a ∷ [])) list = record { gone = holds.gone; all_is = holds.all_is; among = subst (λ (rs : List Record). IsSublist rs holds.gone) (sym taken) holds.among; some = holds.some; most_is = holds.most_is } in
+    let pages : pages_taken (answered ++ a ∷ []) ≡ pages_taken answered = ap (λ (ts : List Taking). map (λ t. t.records) ts) same in
+    let holds' : HoldsRest all (pages_taken (answered ++ a ∷ [])) list = record { lost = holds.lost; pieces = subst (λ (ps : List (List Record)). HasPieces all ps (holds.lost ++ standing list)) (sym pages) holds.pieces; some = holds.some; most_is = holds.most_is } in
     let count = length_push answered a in
     record {
       all = all;
       size_is = grows.size_is ∙ h.size_is;
       lines = lines';
       holds = holds';
-      none_left = λ none. subst (λ (rs : List Record). EndsAlike holds.gone rs) (sym taken) (served none);
+      none_left = served;
       tail_fits = tail_fits;
       after_close = λ front cpu is. closes cpu (ap (λ (x : Answered). x.command) (same_from_push answered front a (answer (close cpu) None) is).1);
       up_to_date = up_to_date-push size answered a (λ cpu is. run_up_to_date size answered run (idle cpu (ap (λ (x : Answered). x.command) is)) h) h.up_to_date;
-      in_order = in_order-push size list.last answered a all list lines' holds' h.in_order;
+      in_pieces = in_pieces-push size list.last answered a all list lines' holds' h.in_pieces;
       counted = grows.taken_is ∙ h.counted ∙ ap length (sym taken);
       takings_are = same ∙ h.takings_are;
       numbered = subst (NumberedFrom 0) (sym same) h.numbered;
@@ -167,7 +168,7 @@ quiet_step size answered run c list all h lines holds quiet idle closes grows se
 
 step_write : (size : ℕ) (answered : List Answered) (run : Run) (cpu moment : ℕ) (payload : List ℕ) (accepted : Bool) → is_writable run.list.size moment (length payload) ≡ accepted → IsRun size answered run → IsRun size (answered ++ answer (write cpu moment payload) None ∷ []) (cond accepted (record run { list = written run.list moment payload }) run)
 step_write size answered run cpu moment payload true accepted h =
-    let moves = Moves-written run.list h.all (records_taken answered) moment payload accepted h.holds in
+    let moves = Moves-written run.list h.all (pages_taken answered) moment payload accepted h.holds in
     let named : is_writable size moment (length payload) ≡ true = ap (λ n. is_writable n moment (length payload)) (sym h.size_is) ∙ accepted in
     quiet_step size answered run (write cpu moment payload) (written run.list moment payload) (h.all ++ record_for run.list moment payload ∷ []) h (LinesLeave-write size (commands_of answered) cpu moment payload h.all run.list.last named h.lines) moves.holds (λ collector cpu fill e. cc) (λ cpu e. cc) (λ cpu e. cc) moves.grows (moves.served h.none_left) (moves.tail_fits h.tail_fits)
 step_write size answered run cpu moment payload false refused h =
@@ -176,34 +177,25 @@ step_write size answered run cpu moment payload false refused h =
 
 step_close : (size : ℕ) (answered : List Answered) (run : Run) (cpu : ℕ) → IsRun size answered run → IsRun size (answered ++ answer (close cpu) None ∷ []) (record run { list = closed run.list })
 step_close size answered run cpu h =
-    let moves = Moves-closed run.list h.all (records_taken answered) h.holds in
+    let moves = Moves-closed run.list h.all (pages_taken answered) h.holds in
     let lines : LinesLeave size (commands_of answered ++ close cpu ∷ []) h.all (closed run.list).last = subst (λ n. LinesLeave size (commands_of answered ++ close cpu ∷ []) h.all n) (sym (last-closed run.list)) (LinesLeave-close size (commands_of answered) cpu h.all run.list.last h.lines) in
     quiet_step size answered run (close cpu) (closed run.list) h.all h lines moves.holds (λ collector cpu fill e. cc) (λ cpu e. cc) (λ cpu e. tail-closed run.list) moves.grows (moves.served h.none_left) (moves.tail_fits h.tail_fits)
 
 -- ---- a take
 
--- behind lists that end in the same records, they end alike
-ends_in_page : (gone taken x : List Record) → x ≢ [] → EndsAlike (gone ++ x) (taken ++ x)
-ends_in_page gone taken x some = ⊎_elim
-    (λ none. absurd (some none))
-    (λ last. inr (gone ++ last.0, taken ++ last.0, last.1, ap (λ (rs : List Record). gone ++ rs) last.2 ∙ sym (append_assoc gone last.0 (last.1 ∷ [])), ap (λ (rs : List Record). taken ++ rs) last.2 ∙ sym (append_assoc taken last.0 (last.1 ∷ []))))
-    (last_of x)
-
--- the records of the oldest page are taken with it
-abbrev HoldsRest-taken : (p : PlainPages) (x : List Record) (left : List (List Record)) (all taken : List Record) → p.left ≡ x ∷ left → HoldsRest all taken p → HoldsRest all (taken ++ x) (without_taking p (Some record { fill = p.oldest; first = p.taken; records = x }))
-HoldsRest-taken p x left all taken is h =
-    let some : All (λ records. records ≢ []) (x ∷ left) = subst (λ (pages : List (List Record)). All (λ records. records ≢ []) pages) is h.some in
-    let rest : drop 1 p.left ≡ left = ap (λ (pages : List (List Record)). drop 1 pages) is in
+-- the oldest page is taken: it is the next piece, and nothing is lost behind it
+abbrev HoldsRest-taken : (p : PlainPages) (x : List Record) (left : List (List Record)) (all : List Record) (pages : List (List Record)) → p.left ≡ x ∷ left → HoldsRest all pages p → HoldsRest all (pages ++ x ∷ []) (without_taking p (Some record { fill = p.oldest; first = p.taken; records = x }))
+HoldsRest-taken p x left all pages is h =
+    let some : All (λ records. records ≢ []) (x ∷ left) = subst (λ (ps : List (List Record)). All (λ records. records ≢ []) ps) is h.some in
+    let rest : drop 1 p.left ≡ left = ap (λ (ps : List (List Record)). drop 1 ps) is in
+    let behind : List Record = flat_map (λ records. records) left ++ p.tail in
+    let cut : h.lost ++ standing p ≡ h.lost ++ (x ++ behind) =
+    ap (λ (ps : List (List Record)). h.lost ++ (flat_map (λ records. records) ps ++ p.tail)) is
+    ∙ ap (λ (rs : List Record). h.lost ++ rs) (append_assoc x (flat_map (λ records. records) left) p.tail) in
     record {
-      gone = h.gone ++ x;
-      all_is =
-          h.all_is
-          ∙ ap (λ (pages : List (List Record)). h.gone ++ (flat_map (λ records. records) pages ++ p.tail)) is
-          ∙ ap (λ (rs : List Record). h.gone ++ rs) (append_assoc x (flat_map (λ records. records) left) p.tail)
-          ∙ sym (append_assoc h.gone x (flat_map (λ records. records) left ++ p.tail))
-          ∙ ap (λ (pages : List (List Record)). (h.gone ++ x) ++ (flat_map (λ records. records) pages ++ p.tail)) (sym rest);
-      among = IsSublist-append h.among (IsSublist-refl x);
-      some = subst (λ (pages : List (List Record)). All (λ records. records ≢ []) pages) (sym rest) (All-drop (λ (records : List Record). records ≢ []) 1 (x ∷ left) some);
+      lost = [];
+      pieces = subst (λ (ps : List (List Record)). HasPieces all (pages ++ x ∷ []) (flat_map (λ records. records) ps ++ p.tail)) (sym rest) (HasPieces-push pages all (h.lost ++ standing p) h.lost x behind cut h.pieces);
+      some = subst (λ (ps : List (List Record)). All (λ records. records ≢ []) ps) (sym rest) (All-drop (λ (records : List Record). records ≢ []) 1 (x ∷ left) some);
       most_is = h.most_is;
     }
 
@@ -227,8 +219,9 @@ step_take size answered run cpu (x ∷ left) is h =
     let takings : takings_of (answered ++ a ∷ []) ≡ takings_of answered ++ t ∷ [] = takings-push answered a in
     let taken : records_taken (answered ++ a ∷ []) ≡ records_taken answered ++ x = ap (λ (ts : List Taking). flat_map (λ u. u.records) ts) takings ∙ records-of_takings-push (takings_of answered) (t ∷ []) ∙ ap (λ (rs : List Record). records_taken answered ++ rs) (append-nil x) in
     let lines : LinesLeave size (commands_of (answered ++ a ∷ [])) h.all p.last = subst (λ (cs : List Command). LinesLeave size cs h.all p.last) (sym (commands-push answered a)) (LinesLeave-idle size (commands_of answered) (take_page cpu) h.all p.last refl h.lines) in
-    let rest = HoldsRest-taken p x left h.all (records_taken answered) is h.holds in
-    let holds : HoldsRest h.all (records_taken (answered ++ a ∷ [])) q = record { gone = h.holds.gone ++ x; all_is = rest.all_is; among = subst (λ (rs : List Record). IsSublist rs (h.holds.gone ++ x)) (sym taken) rest.among; some = rest.some; most_is = rest.most_is } in
+    let pages : pages_taken (answered ++ a ∷ []) ≡ pages_taken answered ++ x ∷ [] = ap (λ (ts : List Taking). map (λ u. u.records) ts) takings ∙ map_push (λ (u : Taking). u.records) (takings_of answered) t in
+    let rest = HoldsRest-taken p x left h.all (pages_taken answered) is h.holds in
+    let holds : HoldsRest h.all (pages_taken (answered ++ a ∷ [])) q = record { lost = []; pieces = subst (λ (ps : List (List Record)). HasPieces h.all ps (standing q)) (sym pages) rest.pieces; some = rest.some; most_is = rest.most_is } in
     let some : All (λ records. records ≢ []) (x ∷ left) = subst (λ (pages : List (List Record)). All (λ records. records ≢ []) pages) is h.holds.some in
     let page : Held = record { taking = t; delivered = false } in
     let count = length_push answered a in
@@ -246,11 +239,11 @@ step_take size answered run cpu (x ∷ left) is h =
       size_is = h.size_is;
       lines = lines;
       holds = holds;
-      none_left = λ _. subst (λ (rs : List Record). EndsAlike (h.holds.gone ++ x) rs) (sym taken) (ends_in_page h.holds.gone (records_taken answered) x (some 0 [] (omega arith)));
+      none_left = λ _. refl;
       tail_fits = h.tail_fits;
       after_close = λ front cpu' same. absurd (let wrong = ap (λ (z : Answered). z.command) (same_from_push answered front a (answer (close cpu') None) same).1 in cc);
       up_to_date = up_to_date-push size answered a (λ cpu' same. absurd (let wrong = ap (λ (z : Answered). z.taking) same in cc)) h.up_to_date;
-      in_order = in_order-push size p.last answered a h.all q lines holds h.in_order;
+      in_pieces = in_pieces-push size p.last answered a h.all q lines holds h.in_pieces;
       counted = ap (λ n. n + length x) h.counted ∙ sym (length-append (records_taken answered) x) ∙ ap length (sym taken);
       takings_are = takings ∙ ap (λ (ts : List Taking). ts ++ t ∷ []) h.takings_are ∙ sym (map_push (λ (y : Held). y.taking) run.collector page);
       numbered = subst (NumberedFrom 0) (sym takings) (NumberedFrom-push 0 (takings_of answered) t h.numbered (let counted = h.counted in omega arith));
@@ -315,18 +308,19 @@ step_deliver size answered run collector cpu fill h =
     let same : takings_of (answered ++ a ∷ []) ≡ takings_of answered = takings-push answered a ∙ append-nil (takings_of answered) in
     let taken : records_taken (answered ++ a ∷ []) ≡ records_taken answered = ap (λ (ts : List Taking). flat_map (λ t. t.records) ts) same in
     let lines : LinesLeave size (commands_of (answered ++ a ∷ [])) h.all p.last = subst (λ (cs : List Command). LinesLeave size cs h.all p.last) (sym (commands-push answered a)) (LinesLeave-idle size (commands_of answered) (deliver collector cpu fill) h.all p.last refl h.lines) in
-    let holds : HoldsRest h.all (records_taken (answered ++ a ∷ [])) p = record { gone = h.holds.gone; all_is = h.holds.all_is; among = subst (λ (rs : List Record). IsSublist rs h.holds.gone) (sym taken) h.holds.among; some = h.holds.some; most_is = h.holds.most_is } in
+    let pages : pages_taken (answered ++ a ∷ []) ≡ pages_taken answered = ap (λ (ts : List Taking). map (λ t. t.records) ts) same in
+    let holds : HoldsRest h.all (pages_taken (answered ++ a ∷ [])) p = record { lost = h.holds.lost; pieces = subst (λ (ps : List (List Record)). HasPieces h.all ps (h.holds.lost ++ standing p)) (sym pages) h.holds.pieces; some = h.holds.some; most_is = h.holds.most_is } in
     let count = length_push answered a in
     record {
       all = h.all;
       size_is = h.size_is;
       lines = lines;
       holds = holds;
-      none_left = λ none. subst (λ (rs : List Record). EndsAlike h.holds.gone rs) (sym taken) (h.none_left none);
+      none_left = h.none_left;
       tail_fits = h.tail_fits;
       after_close = λ front cpu' same. absurd (let wrong = ap (λ (z : Answered). z.command) (same_from_push answered front a (answer (close cpu') None) same).1 in cc);
       up_to_date = up_to_date-push size answered a (λ cpu' same. absurd (let wrong = ap (λ (z : Answered). z.command) same in cc)) h.up_to_date;
-      in_order = in_order-push size p.last answered a h.all p lines holds h.in_order;
+      in_pieces = in_pieces-push size p.last answered a h.all p lines holds h.in_pieces;
       counted = h.counted ∙ ap length (sym taken);
       takings_are = same ∙ h.takings_are ∙ sym (takings-with_delivery fill run.collector);
       numbered = subst (NumberedFrom 0) (sym same) h.numbered;
@@ -375,12 +369,12 @@ first_run most size many = record {
   all = [];
   size_is = refl;
   lines = LinesLeave-none size;
-  holds = record { gone = []; all_is = refl; among = IsSublist-none []; some = λ k d inside. absurd (omega arith); most_is = many };
-  none_left = λ _. inl (refl, refl);
+  holds = record { lost = []; pieces = refl; some = λ k d inside. absurd (omega arith); most_is = many };
+  none_left = λ _. refl;
   tail_fits = omega arith;
   after_close = λ lines cpu is. absurd (no_answer lines [] (answer (close cpu) None) is);
   up_to_date = λ before behind cpu is. absurd (no_answer before behind (answer (take_page cpu) None) is);
-  in_order = λ before behind is. subst (λ (front : List Answered). IsSublist (records_taken front) (committed_records (history_of_lines size (commands_of front)))) (sym (no_front before behind is)) (IsSublist-none (committed_records (history_of_lines size [])));
+  in_pieces = λ before behind is. subst (λ (front : List Answered). (rest : List Record) × TakesPieces size front rest) (sym (no_front before behind is)) ([], refl);
   counted = refl;
   takings_are = refl;
   numbered = tt;

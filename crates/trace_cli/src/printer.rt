@@ -5,7 +5,7 @@ ghost use Rattle.std.specs.Fmt.{decimal};
 ghost use Rattle.trace_model.specs.Text.{hex_text};
 ghost use Rattle.trace_model.specs.Printing.{printed_record, printed_collector};
 ghost use Rattle.trace_model.specs.Replay.{pairs_of};
-ghost use Rattle.trace_cli.specs.Collected.{pairs_held, collected_of};
+ghost use Rattle.trace_cli.specs.Collected.{collected_of};
 ghost use Rattle.page_image.specs.Copies.{copy_of};
 
 use crate::plain_collector::{Held, PlainCollector};

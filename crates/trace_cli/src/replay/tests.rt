@@ -45,43 +45,6 @@ fn printed(alloc: Global, pages: usize, commands: Vec<Command>) -> Result<Vec<u8
 }
 
 #[test]
-fn first_record(rt: HostRuntime) -> Result<(), Fail> {
-    let alloc = rt.alloc();
-    let commands = vec![in alloc;
-        write(alloc, 100, &[1, 2, 3, 4])?,
-        Command::Close { cpu: CPU },
-        Command::Take { cpu: CPU },
-        deliver(0),
-    ]?;
-    let text = printed(alloc, 2, commands)?;
-    assert_eq!(rt;
-        text.as_slice(),
-        b"collector 0\n0 0 100 01020304\n".as_slice()
-    );
-    Ok(())
-}
-
-#[test]
-fn overwrite_uncounted(rt: HostRuntime) -> Result<(), Fail> {
-    let alloc = rt.alloc();
-    let mut commands = Vec::new(alloc);
-    for n in 1..=12u8 {
-        commands.push(write(alloc, u64::from(n), &[0, 0, 0, n])?)?;
-    }
-    commands.push(Command::Take { cpu: CPU })?;
-    commands.push(Command::Take { cpu: CPU })?;
-    commands.push(Command::Close { cpu: CPU })?;
-    commands.push(Command::Take { cpu: CPU })?;
-    commands.push(deliver(1))?;
-    commands.push(deliver(2))?;
-    let text = printed(alloc, 2, commands)?;
-    let expected =
-        b"collector 0\n0 0 5 00000005\n0 1 6 00000006\n0 2 7 00000007\n0 3 8 00000008\n0 4 9 00000009\n0 5 10 0000000a\n0 6 11 0000000b\n0 7 12 0000000c\n";
-    assert_eq!(rt; text.as_slice(), expected.as_slice());
-    Ok(())
-}
-
-#[test]
 fn raised_and_repeated(rt: HostRuntime) -> Result<(), Fail> {
     let alloc = rt.alloc();
     let commands = vec![in alloc;
