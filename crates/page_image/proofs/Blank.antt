@@ -1,10 +1,8 @@
 -- A page without a record.
-use Rattle.std.proofs.Common.{◌≡◌, ℕ, zero, ◌*◌, ◌<◌, ◌≤◌, ◌^◌, List, [], ◌∷◌, ◌++◌, length, refl, sym, inl, arith}
-use Rattle.std.proofs.lemmas.List.{length-append}
-use Rattle.trace_model.specs.Words.{Word, Decodes, IsJoined, FitsTime, MovesTime, moment_after, joined, IsEnding}
-use Rattle.trace_model.specs.Reading.{words_in, records_in, EndsInRecord}
-use Rattle.trace_model.specs.declared.limits.TheConstants.{MAX_SIZE}
-use Rattle.page_image.specs.Contents.{Contents, IsPage, records_of_page}
+use Rattle.std.proofs.Common.{◌≡◌, ℕ, List, [], ◌∷◌, ◌++◌, refl, inl, arith}
+use Rattle.trace_model.specs.Words.{Word, Decodes}
+use Rattle.trace_model.specs.Reading.{words_in, records_in}
+use Rattle.page_image.specs.Contents.{IsPage}
 
 no_words : (front behind : List Word) (w : Word) → [] ≡ front ++ w ∷ behind → ⊥
 no_words [] behind w e = cc

@@ -1,15 +1,15 @@
 -- A part of a body written anew, as a page's data sees it.
-use Rattle.std.proofs.Common.{◌≡◌, ℕ, ◌+◌, ◌-◌, ◌≤◌, ◌<◌, List, [], ◌∷◌, ◌++◌, length, take, drop, get_or, refl, sym, ap, ◌∙◌, subst, arith, rules, length-append, length-take, length-drop}
-use Rattle.std.proofs.lemmas.List.{same_lists, places, take-append-le, take-take, take_at, drop-take, append_assoc, take_all}
+use Rattle.std.proofs.Common.{◌≡◌, ℕ, ◌+◌, ◌-◌, ◌≤◌, List, ◌++◌, length, take, drop, sym, ap, ◌∙◌, subst, arith, rules}
+use Rattle.std.proofs.lemmas.List.{same_lists, places, take_all}
 use Rattle.trace_model.specs.Record.{Record}
-use Rattle.trace_model.specs.Words.{Decodes, records_of}
+use Rattle.trace_model.specs.Words.{Decodes}
 use Rattle.trace_model.specs.Reading.{IsPlaceIn, EndsInRecord, records_in}
 use Rattle.trace_model.specs.Overwriting.{overwritten, bytes_at, IsReplacedAt, IsPlaceOf}
 use Rattle.trace_model.proofs.Unique.{records_in-Decodes}
 use Rattle.trace_model.proofs.Overwritten.{length-overwritten}
 use Rattle.trace_model.proofs.Places.{overwritten-reads, EndsInRecord-overwritten, IsPlaceOf-overwritten, Decodes-overwritten, records_in-overwritten_end}
-use Rattle.page_image.specs.Contents.{Contents, IsPage, records_of_page}
-use Rattle.page_image.specs.Lending.{with_payload, PayloadWritten}
+use Rattle.page_image.specs.Contents.{Contents, records_of_page}
+use Rattle.page_image.specs.Lending.{PayloadWritten}
 
 pub written_within : (items part : List ℕ) (end start n : ℕ) → start ≤ end → end ≤ length items → n ≡ length items →
     take end (take n ((take start items ++ (part ++ drop (length part) (drop start items))) ++ drop (length (take start items ++ (part ++ drop (length part) (drop start items)))) items)) ≡ take (length (take end items)) (overwritten (take end items) start part)

@@ -1,10 +1,10 @@
 -- A record put behind those of a page.
-use Rattle.std.proofs.Common.{◌≡◌, ◌⊎◌, inl, inr, ℕ, zero, suc, ◌+◌, ◌-◌, ◌*◌, ◌%◌, ◌^◌, ◌<◌, ◌≤◌, Bool, true, false, cond, leb, ltb, nat_eq, List, [], ◌∷◌, ◌++◌, length, Option, Some, None, IfSome, replicate, refl, sym, ap, ◌∙◌, subst, ⊎_elim, arith, append_assoc, length-append, length-take-le, take}
+use Rattle.std.proofs.Common.{◌≡◌, ℕ, ◌+◌, ◌-◌, ◌%◌, ◌^◌, ◌<◌, ◌≤◌, Bool, true, false, cond, leb, ltb, nat_eq, List, [], ◌∷◌, ◌++◌, length, Option, Some, IfSome, replicate, refl, sym, ap, ◌∙◌, subst, ⊎_elim, arith, append_assoc, length-append}
 use Rattle.std.specs.List.{AllByRecursion}
 use Rattle.std.proofs.lemmas.List.{append-nil, length-replicate}
 use Rattle.std.proofs.lemmas.List.Concat.{flat_map-append}
 use Rattle.trace_model.specs.Record.{Record}
-use Rattle.trace_model.specs.Words.{Word, short_data, long_data, time_extend, bytes_of_word, IsWord, joined, data_word, written_words, encoding, encoded_len, slot_len, Decodes, IsJoined, records_of, moment_after, delta_of}
+use Rattle.trace_model.specs.Words.{Word, short_data, long_data, time_extend, bytes_of_word, IsWord, joined, data_word, written_words, encoding, encoded_len, slot_len, Decodes, records_of, moment_after, delta_of}
 use Rattle.trace_model.specs.Reading.{IsData, payload_of, records_in, EndsInRecord, IsPlaceIn}
 use Rattle.trace_model.specs.Order.{moment_of_last, EndsAt}
 use Rattle.trace_model.proofs.Lengths.{slot_len_ge_four, slot_len-mod, bytes_of_word_ge}

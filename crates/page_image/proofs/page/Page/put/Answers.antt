@@ -1,8 +1,7 @@
-use Rattle.std.proofs.Common.{◌≡◌, ℕ, ◌+◌, ◌-◌, ◌*◌, ◌≤◌, ◌<◌, ◌^◌, Bool, true, false, cond, List, [], ◌∷◌, ◌++◌, length, take, replicate, nat_eq, refl, sym, ap, ◌∙◌, subst, arith, rules, length-take-le, IfSome}
+use Rattle.std.proofs.Common.{◌≡◌, ℕ, ◌+◌, ◌-◌, ◌*◌, ◌≤◌, ◌^◌, Bool, cond, List, [], ◌∷◌, ◌++◌, length, take, replicate, nat_eq, refl, sym, ap, ◌∙◌, subst, arith, rules, length-take-le, IfSome}
 use Rattle.std.proofs.lemmas.List.{with_items_is}
 use Rattle.std.proofs.lemmas.Bool.{cond-true, cond-false}
 use Rattle.std.specs.Vec.{with_items}
-use Rattle.trace_model.specs.Record.{Record}
 use Rattle.trace_model.specs.Words.{encoding, encoded_len, slot_len}
 use Rattle.trace_model.proofs.Lengths.{slot_len_ge}
 use Rattle.trace_model.specs.Reading.{EndsInRecord, IsPlaceIn}
@@ -10,7 +9,6 @@ use Rattle.trace_model.specs.Overwriting.{IsPlaceOf}
 use Rattle.trace_model.specs.Order.{moment_of_last}
 use Rattle.page_image.specs.Contents.{Contents, IsPage, is_blank, records_of_page}
 use Rattle.trace_model.specs.declared.limits.TheConstants.{MAX_SIZE}
-use Rattle.page_image.specs.contracts.page.Page.{the_view}
 use Rattle.page_image.proofs.Putting.{PutPage, put_page, blank_is, encoded_len_ge}
 use Rattle.page_image.proofs.page.Page.put.Goals as goal
 use Rattle.page_image.proofs.page.Page.put.Goals.{then-is_first, else-is_first, After-self-4-1}
