@@ -10,7 +10,7 @@ use Rattle.trace_cli.specs.declared.replay.Run.{Run}
 use Rattle.trace_cli.specs.ScriptTypes.{shown_command, shown_line, script_of}
 use Rattle.trace_cli.specs.PlainRun.{obeyed}
 use Rattle.trace_cli.specs.Collected.{collected_of}
-use Rattle.trace_model.specs.ReplayPieces.{IsUncountedPartition}
+use Rattle.trace_model.specs.Replay.{IsUncountedReplay}
 use Rattle.trace_cli.proofs.Runs.{IsRun, taking_by, obeyed_step}
 use Rattle.trace_cli.proofs.Contracts.{run_meets_contract}
 
@@ -58,7 +58,7 @@ held_below size lines run s k h inside =
     subst (λ (t : Taking). t.fill < run.list.oldest) read lower
 
 -- the whole script
-pub SoFar-all : (script : Script) (i : ℕ) (run : Run) → length script.commands.items ≤ i → SoFar script.size (take i script.commands.items) run → IsUncountedPartition (script_of script) (collected_of run.collector)
+pub SoFar-all : (script : Script) (i : ℕ) (run : Run) → length script.commands.items ≤ i → SoFar script.size (take i script.commands.items) run → IsUncountedReplay (script_of script) (collected_of run.collector)
 SoFar-all script i run done s =
     let lines = script.commands.items in
     let all : commands_of s.answered ≡ map command_at lines = s.commands ∙ ap (map command_at) (take_all i lines done) in

@@ -2,7 +2,7 @@
 use Rattle.std.specs.Prelude.{◌≡◌, ℕ, ◌⊎◌, List}
 use Rattle.trace_model.specs.Record.{Record}
 use Rattle.trace_model.specs.Script.{Script, ParsesScript, LineFault, FirstScriptFault}
-use Rattle.trace_model.specs.ReplayPieces.{IsUncountedPartition}
+use Rattle.trace_model.specs.Replay.{IsUncountedReplay}
 use Rattle.trace_model.specs.Printing.{printed_world, printed_fault}
 use Rattle.trace_cli.specs.declared.status.TheConstants.{DONE, REFUSED}
 
@@ -11,7 +11,7 @@ pub record PrintsReplay (text bytes : List ℕ) (status : ℕ) : Type 0 where
   pub script : Script
   pub spelled : ParsesScript text script
   pub collected : List (ℕ × Record)
-  pub replayed : IsUncountedPartition script collected
+  pub replayed : IsUncountedReplay script collected
   pub printed : bytes ≡ printed_world collected
   pub done : status ≡ DONE
 

@@ -3,7 +3,7 @@ ghost use Rattle.std.specs.Prelude.{◌≡◌, ℕ, ◌⊎◌, ◌∷◌, ◌++�
 ghost use Rattle.std.specs.Io.KnownBytes.{Appends, Keeps};
 ghost use Rattle.trace_model.specs.Record.{Record};
 ghost use Rattle.trace_model.specs.ScriptLimits.{IsWithinLimits};
-ghost use Rattle.trace_model.specs.ReplayPieces.{IsUncountedPartition};
+ghost use Rattle.trace_model.specs.Replay.{IsUncountedReplay};
 ghost use Rattle.trace_model.specs.Printing.{printed_world};
 ghost use Rattle.trace_cli.specs.Answer.{bytes_of, status_of};
 ghost use Rattle.trace_cli.specs.Commands.{ReplayGives};
@@ -24,7 +24,7 @@ use trace_model::{CpuId, MAX_INPUT, NoMemory};
 /// The printing of what the replay of a script leaves.
 fn replayed(alloc: Global, script: &Script) -> Result<Vec<u8>, NoMemory>
     requires { IsWithinLimits (script_of script.now) }
-    ensures { IfOk result (λ text. (collected : List (ℕ × Record)) × IsUncountedPartition (script_of script.now) collected
+    ensures { IfOk result (λ text. (collected : List (ℕ × Record)) × IsUncountedReplay (script_of script.now) collected
         × (text.items ≡ printed_world collected)) }
 {
     let world = replay(alloc, script)?;

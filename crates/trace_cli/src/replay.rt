@@ -1,7 +1,7 @@
 //! The replay of a script over a plain list of pages.
 ghost use Rattle.std.specs.Prelude.{◌≡◌, ◌+◌, ◌%◌, ◌<◌, ◌≤◌, ◌^◌, OnOk, IfOk, All};
 ghost use Rattle.trace_model.specs.Script.{write, close, take_page, deliver};
-ghost use Rattle.trace_model.specs.ReplayPieces.{IsUncountedPartition};
+ghost use Rattle.trace_model.specs.Replay.{IsUncountedReplay};
 ghost use Rattle.trace_model.specs.declared.limits.TheConstants.{MIN_PAGES, MIN_SIZE, MAX_SIZE};
 ghost use Rattle.trace_cli.specs.Collected.{collected_of};
 ghost use Rattle.trace_cli.specs.PlainPages.{tail_fill, records_left};
@@ -85,7 +85,7 @@ pub fn replay(alloc: Global, script: &Script) -> Result<World, NoMemory>
     requires small { MIN_SIZE ≤ script.now.size }
     requires large { script.now.size ≤ MAX_SIZE }
     requires words { script.now.size % 4 ≡ 0 }
-    ensures { IfOk result (λ world. IsUncountedPartition (script_of script.now) (collected_of world.collector)) }
+    ensures { IfOk result (λ world. IsUncountedReplay (script_of script.now) (collected_of world.collector)) }
 {
     let mut run = Run {
         list: PlainList::new(alloc, script.pages, script.size)?,

@@ -2,15 +2,15 @@
 -- After Documentation/trace/ring-buffer-design.rst (overwrite mode): the reader gets whole pages in
 -- order, and the oldest unread ones are overwritten. For now a script has one CPU and one collector, so
 -- its commands' CPU and collector aren't looked at, and nothing is told of how many records are missing.
-use Rattle.std.specs.Prelude.{◌≡◌, ◌≢◌, ◌≤◌, ◌⊎◌, ℕ, Bool, true, if◌then◌else◌, ◌&&◌, nat_lt, nat_le, List, [], ◌∷◌, ◌++◌, length, map, flat_map, Option, Some, None, Contains, ◌↔◌}
+use Rattle.std.specs.Prelude.{◌≡◌, ◌≢◌, ◌≤◌, ℕ, Bool, true, if◌then◌else◌, ◌&&◌, nat_lt, nat_le, List, [], ◌∷◌, ◌++◌, length, map, flat_map, Option, Some, None, All, Contains, ◌↔◌}
 use Rattle.std.specs.List.{enumerate_from}
 use Rattle.std.specs.List.Sorted.{IsStrictlyIncreasing}
-use Rattle.trace_model.specs.declared.limits.TheConstants.{MOMENT_LIMIT}
+use Rattle.trace_model.specs.declared.limits.TheConstants.{MOMENT_LIMIT, START_FILL}
 use Rattle.trace_model.specs.Record.{Record}
 use Rattle.trace_model.specs.Words.{encoded_len, page_encoding}
 use Rattle.trace_model.specs.History.{Action, push, push_close, reserve, leave, committed_records}
 use Rattle.trace_model.specs.Script.{Command, write, close, take_page, deliver, Script}
-use Rattle.trace_model.specs.Sublist.{IsSublist}
+use Rattle.trace_model.specs.Pieces.{HasPieces}
 
 -- a payload of len bytes fits a page of this data size
 abbrev pub is_short : ℕ → ℕ → Bool
@@ -94,25 +94,27 @@ pub record IsDelivered (answered : List Answered) (taking : Taking) : Type 0 whe
   pub lines_are : answered ≡ before ++ record { command = deliver collector cpu taking.fill; taking = None } ∷ behind
   pub taken_before : Contains (takings_of before) taking
 
--- both lists are empty, or they end in the same record
-abbrev pub EndsAlike : List Record → List Record → Type 0
-EndsAlike records others =
-    ((records ≡ []) × (others ≡ []))
-    ⊎ ((front : List Record) × (before : List Record) × (last : Record) × (records ≡ front ++ last ∷ []) × (others ≡ before ++ last ∷ []))
+-- the records of each page that these commands took
+abbrev pub pages_taken : List Answered → List (List Record)
+pages_taken answered = map (λ taking. taking.records) (takings_of answered)
 
--- What a command that could take a page and took none finds: of what the lines before it committed, all
--- behind the last record taken stands on one page, and right behind a close there is nothing.
-pub record IsUpToDate (size : ℕ) (before : List Answered) : Type 0 where
-  pub front : List Record
+-- The pages that these commands took are pieces of what they committed, and behind the last one is the
+-- rest.
+abbrev pub TakesPieces : ℕ → List Answered → List Record → Type 0
+TakesPieces size answered rest =
+    HasPieces (committed_records (history_of_lines size (commands_of answered))) (pages_taken answered) rest
+
+-- What a command that could take a page and takes none finds: behind the pages that were taken, what
+-- fits on one; and right behind a close, nothing.
+pub record LeavesOnePage (size : ℕ) (before : List Answered) : Type 0 where
   pub tail : List Record
-  pub committed : committed_records (history_of_lines size (commands_of before)) ≡ front ++ tail
-  pub taken : EndsAlike front (records_taken before)
+  pub pieces : TakesPieces size before tail
   pub one_page : length (page_encoding tail) ≤ size
   pub closed : (lines : List Answered) (cpu : ℕ)
       → before ≡ lines ++ record { command = close cpu; taking = None } ∷ [] → tail ≡ []
 
--- The uncounted contract of reading. Some commands took pages. After any number of lines, the records
--- taken so far are a sublist of those committed so far; a command that takes none finds none to take. The
+-- The uncounted contract of reading. Some commands took pages. After any number of lines, the pages taken
+-- so far are pieces of what was committed so far; a command that takes none finds none to take. The
 -- collector holds just the records of the taken pages that were delivered to it, each of them once, by
 -- rising number.
 pub record IsUncountedReplay (script : Script) (collected : List (ℕ × Record)) : Type 0 where
@@ -120,11 +122,12 @@ pub record IsUncountedReplay (script : Script) (collected : List (ℕ × Record)
   pub one_each : commands_of answered ≡ map (λ line. line.1) script.commands
   pub taken : (before behind : List Answered) (command : Command) (taking : Taking)
       → answered ≡ before ++ record { command = command; taking = Some taking } ∷ behind → IsTaken before command taking
+  pub first_fill : All (λ taking. START_FILL ≤ taking.fill) (takings_of answered)
   pub fills_rise : IsStrictlyIncreasing (map (λ taking. taking.fill) (takings_of answered))
-  pub in_order : (before behind : List Answered) → answered ≡ before ++ behind
-      → IsSublist (records_taken before) (committed_records (history_of_lines script.size (commands_of before)))
-  pub up_to_date : (before behind : List Answered) (cpu : ℕ)
-      → answered ≡ before ++ record { command = take_page cpu; taking = None } ∷ behind → IsUpToDate script.size before
+  pub in_pieces : (before behind : List Answered) → answered ≡ before ++ behind
+      → (rest : List Record) × TakesPieces script.size before rest
+  pub none_left : (before behind : List Answered) (cpu : ℕ)
+      → answered ≡ before ++ record { command = take_page cpu; taking = None } ∷ behind → LeavesOnePage script.size before
   pub numbers_rise : IsStrictlyIncreasing (map (λ pair. pair.0) collected)
   pub holds : (pair : ℕ × Record)
       → Contains collected pair ↔ ((taking : Taking) × IsDelivered answered taking × Contains (pairs_of taking) pair)

@@ -13,10 +13,9 @@ ghost use Rattle.trace_model.specs.ScriptReading.{script_in};
 ghost use Rattle.trace_model.specs.History.{Action, IsHistory, IsWritten, committed_records, reserved_records, settled_front};
 ghost use Rattle.trace_model.specs.Record.{Record, IsRecord};
 ghost use Rattle.trace_model.specs.Words.{Decodes};
-ghost use Rattle.trace_model.specs.Replay.{IsUncountedReplay, history_of_lines};
+ghost use Rattle.trace_model.specs.Replay.{Answered, TakesPieces, commands_of, history_of_lines, records_taken};
 ghost use Rattle.trace_model.specs.Sublist.{IsFront, IsSublist};
 ghost use Rattle.trace_model.specs.Pieces.{HasPieces};
-ghost use Rattle.trace_model.specs.ReplayPieces.{IsUncountedPartition};
 
 /// A payload that fills its slot takes just the bytes that the writer reckons with.
 pub fn encoding_len()
@@ -99,10 +98,11 @@ pub fn pieces_are_a_sublist()
         HasPieces whole pieces rest → IsSublist (flat_map (λ piece. piece) pieces) whole }
 {}
 
-/// A replay that takes pages in pieces meets the uncounted contract.
-pub fn partitions_are_uncounted_replays()
-    ensures { (script : Script) (collected : List (ℕ × Record)) →
-        IsUncountedPartition script collected → IsUncountedReplay script collected }
+/// Where pages are taken in pieces, the records taken are a sublist of those committed.
+pub fn taken_records_are_a_sublist()
+    ensures { (size : ℕ) (answered : List Answered) (rest : List Record) →
+        TakesPieces size answered rest → IsSublist (records_taken answered)
+        (committed_records (history_of_lines size (commands_of answered))) }
 {}
 
 /// The plain reader answers the script that a text spells, and no other.

@@ -1,0 +1,169 @@
+-- The committed records are a front of the reserved ones, whatever the frames did.
+use Rattle.std.proofs.Common.{◌≡◌, ℕ, zero, suc, ◌<◌, ◌≤◌, ◌⊎◌, Bool, true, false, cond, List, [], ◌∷◌, ◌++◌, length, get_or, take, map, Option, Some, None, refl, sym, ap, ◌∙◌, subst, inl, inr, ⊎_elim, arith, length-append, append_assoc, append-nil}
+use Rattle.std.proofs.lemmas.Bool.{cond-true, cond-false}
+use Rattle.std.proofs.lemmas.List.{take-append-le, take_all}
+use Rattle.std.proofs.Math.ListN.{get_or-append}
+use Rattle.trace_model.specs.History.{Action, push, push_close, open_fill, reserve, leave, Reservation, Frame, record_frame, close_frame, Written, reserved_by, left_by, acted, written_by, reserved_records, is_settled, settled_front_within, settled_front, finished, finished_at}
+use Rattle.trace_model.specs.Packing.{opens_of}
+use Rattle.link_marks.specs.KeptContents.{IsRising}
+use Rattle.link_marks.proofs.Phases.{some_is, none_some}
+use Rattle.link_marks.proofs.Histories.{written_snoc}
+use Rattle.link_marks.proofs.Cuts.{length-finished_at, IsRising-least, opens_at, opens_more}
+use Rattle.link_marks.proofs.ContentSteps.{records_snoc}
+
+either_way : (b : Bool) → (b ≡ true) ⊎ (b ≡ false)
+either_way true = inl refl
+either_way false = inr refl
+
+-- ---- the settled front of one more action
+
+within_append : (m : ℕ) (h rest : List Action) → m ≤ length h → settled_front_within m (h ++ rest) ≡ settled_front_within m h
+within_append zero h rest low = refl
+within_append (suc m) h rest low =
+    (λ i. cond (is_settled (take-append-le (suc m) h rest low i)) (take-append-le (suc m) h rest low i) (within_append m h rest (let l : m ≤ length h = omega arith in l) i))
+
+settled_more : (h : List Action) (a : Action) → settled_front (h ++ a ∷ []) ≡ cond (is_settled (h ++ a ∷ [])) (h ++ a ∷ []) (settled_front h)
+settled_more h a =
+    let len : length (h ++ a ∷ []) ≡ suc (length h) = omega (arith, length-append h (a ∷ [])) in
+    let whole : take (suc (length h)) (h ++ a ∷ []) ≡ h ++ a ∷ [] = take_all (suc (length h)) (h ++ a ∷ []) (omega arith) in
+    ap (λ (m : ℕ). settled_front_within m (h ++ a ∷ [])) len
+    ∙ (λ i. cond (is_settled (whole i)) (whole i) (within_append (length h) h (a ∷ []) (let l : length h ≤ length h = omega arith in l) i))
+
+pub settled_stack : (h : List Action) → is_settled h ≡ true → (written_by h).stack ≡ []
+settled_stack h t = by_stack (written_by h).stack refl
+  where
+    by_stack : (s : List Frame) → (written_by h).stack ≡ s → (written_by h).stack ≡ []
+    by_stack [] e = e
+    by_stack (f ∷ s) e = absurd (let bad = rw e at t in cc)
+
+-- ---- the front that is committed
+
+-- the number of a frame's record, where it has one
+abbrev pub number_of_frame : Frame → Option ℕ
+number_of_frame (record_frame moment len number) = number
+number_of_frame close_frame = None
+
+-- no frame of these has a record among the first ones
+abbrev pub Behind : ℕ → List Frame → Type 0
+Behind least [] = Unit {0}
+Behind least (f ∷ stack) = ((k : ℕ) → number_of_frame f ≡ Some k → least ≤ k) × Behind least stack
+
+pub record CommittedAt (front h : List Action) : Type 0 where
+  pub agrees : map finished (take (length (reserved_records front)) (reserved_records h)) ≡ map finished (reserved_records front)
+  pub within : length (reserved_records front) ≤ length (reserved_records h)
+  pub behind : Behind (length (reserved_records front)) (written_by h).stack
+
+take_unfinished : (least : ℕ) (number : Option ℕ) (payload : Option (List ℕ)) (xs : List Reservation) → ((k : ℕ) → number ≡ Some k → least ≤ k) → take least (finished_at number payload xs) ≡ take least xs
+take_unfinished least None payload xs low = refl
+take_unfinished least (Some k) None xs low = refl
+take_unfinished least (Some k) (Some p) [] low = refl
+take_unfinished zero (Some k) (Some p) (x ∷ xs) low = refl
+take_unfinished (suc least) (Some zero) (Some p) (x ∷ xs) low = let bad = low 0 refl in absurd (omega arith)
+take_unfinished (suc least) (Some (suc k)) (Some p) (x ∷ xs) low = ap (λ (l : List Reservation). x ∷ l) (take_unfinished least (Some k) (Some p) xs (λ j e. let same : k ≡ j = some_is k j e in let le = low (suc k) refl in omega arith))
+
+take_left : (least : ℕ) (f : Frame) (payload : Option (List ℕ)) (xs : List Reservation) → ((k : ℕ) → number_of_frame f ≡ Some k → least ≤ k) → take least (left_by f payload xs) ≡ take least xs
+take_left least (record_frame moment len number) payload xs low = take_unfinished least number payload xs low
+take_left least close_frame payload xs low = refl
+
+take_reserved : (least : ℕ) (f : Frame) (stack : List Frame) (xs : List Reservation) → least ≤ length xs → take least (reserved_by f stack xs).records ≡ take least xs
+take_reserved least (record_frame moment len None) stack xs le = take-append-le least xs _ le
+take_reserved least (record_frame moment len (Some number)) stack xs le = refl
+take_reserved least close_frame stack xs le = refl
+
+pub take_acted : (least : ℕ) (stack : List Frame) (xs : List Reservation) (a : Action) → least ≤ length xs → Behind least stack → take least (acted stack xs a).records ≡ take least xs
+take_acted least stack xs (push moment len) le b = refl
+take_acted least stack xs push_close le b = refl
+take_acted least stack xs open_fill le b = refl
+take_acted least [] xs reserve le b = refl
+take_acted least (f ∷ stack) xs reserve le b = take_reserved least f stack xs le
+take_acted least [] xs (leave payload) le b = refl
+take_acted least (f ∷ stack) xs (leave payload) le b = take_left least f payload xs b.0
+
+length_left : (f : Frame) (payload : Option (List ℕ)) (xs : List Reservation) → length xs ≤ length (left_by f payload xs)
+length_left (record_frame moment len number) payload xs = omega (arith, length-finished_at number payload xs)
+length_left close_frame payload xs = omega arith
+
+length_reserved : (f : Frame) (stack : List Frame) (xs : List Reservation) → length xs ≤ length (reserved_by f stack xs).records
+length_reserved (record_frame moment len None) stack xs = omega (arith, length-append {A = Reservation})
+length_reserved (record_frame moment len (Some number)) stack xs = omega arith
+length_reserved close_frame stack xs = omega arith
+
+pub length_acted : (stack : List Frame) (xs : List Reservation) (a : Action) → length xs ≤ length (acted stack xs a).records
+length_acted stack xs (push moment len) = omega arith
+length_acted stack xs push_close = omega arith
+length_acted stack xs open_fill = omega arith
+length_acted [] xs reserve = omega arith
+length_acted (f ∷ stack) xs reserve = length_reserved f stack xs
+length_acted [] xs (leave payload) = omega arith
+length_acted (f ∷ stack) xs (leave payload) = length_left f payload xs
+
+behind_reserved : (least : ℕ) (f : Frame) (stack : List Frame) (xs : List Reservation) → least ≤ length xs → Behind least (f ∷ stack) → Behind least (reserved_by f stack xs).stack
+behind_reserved least (record_frame moment len None) stack xs le b = ((λ k e. let same : length xs ≡ k = some_is (length xs) k e in omega arith), b.1)
+behind_reserved least (record_frame moment len (Some number)) stack xs le b = b
+behind_reserved least close_frame stack xs le b = b
+
+behind_acted : (least : ℕ) (stack : List Frame) (xs : List Reservation) (a : Action) → least ≤ length xs → Behind least stack → Behind least (acted stack xs a).stack
+behind_acted least stack xs (push moment len) le b = ((λ k e. absurd (none_some e)), b)
+behind_acted least stack xs push_close le b = ((λ k e. absurd (none_some e)), b)
+behind_acted least stack xs open_fill le b = b
+behind_acted least [] xs reserve le b = tt
+behind_acted least (f ∷ stack) xs reserve le b = behind_reserved least f stack xs le b
+behind_acted least [] xs (leave payload) le b = tt
+behind_acted least (f ∷ stack) xs (leave payload) le b = b.1
+
+committed_more : (h : List Action) (a : Action) → CommittedAt (settled_front h) h → CommittedAt (settled_front (h ++ a ∷ [])) (h ++ a ∷ [])
+committed_more h a k = ⊎_elim settled unsettled (either_way (is_settled (h ++ a ∷ [])))
+  where
+    settled : is_settled (h ++ a ∷ []) ≡ true → CommittedAt (settled_front (h ++ a ∷ [])) (h ++ a ∷ [])
+    settled t = subst (λ (f : List Action). CommittedAt f (h ++ a ∷ [])) (sym (settled_more h a ∙ cond-true _ _ _ t)) record {
+      agrees = ap (map finished) (take_all (length (reserved_records (h ++ a ∷ []))) (reserved_records (h ++ a ∷ [])) (omega arith));
+      within = omega arith;
+      behind = subst (Behind (length (reserved_records (h ++ a ∷ [])))) (sym (settled_stack (h ++ a ∷ []) t)) tt;
+    }
+
+    unsettled : is_settled (h ++ a ∷ []) ≡ false → CommittedAt (settled_front (h ++ a ∷ [])) (h ++ a ∷ [])
+    unsettled f = subst (λ (g : List Action). CommittedAt g (h ++ a ∷ [])) (sym (settled_more h a ∙ cond-false _ _ _ f)) record {
+      agrees = ap (λ (l : List Reservation). map finished (take (length (reserved_records (settled_front h))) l)) (records_snoc h a)
+          ∙ ap (map finished) (take_acted (length (reserved_records (settled_front h))) (written_by h).stack (written_by h).records a k.within k.behind)
+          ∙ k.agrees;
+      within = let within = k.within in let more = length_acted (written_by h).stack (written_by h).records a in let e = ap (length {A = Reservation}) (records_snoc h a) in omega arith;
+      behind = subst (Behind (length (reserved_records (settled_front h)))) (sym (ap (λ (w : Written). w.stack) (written_snoc h a))) (behind_acted (length (reserved_records (settled_front h))) (written_by h).stack (written_by h).records a k.within k.behind);
+    }
+
+committed_from : (front behind : List Action) → CommittedAt (settled_front front) front → CommittedAt (settled_front (front ++ behind)) (front ++ behind)
+committed_from front [] k = subst (λ (h : List Action). CommittedAt (settled_front h) h) (sym (append-nil front)) k
+committed_from front (a ∷ behind) k = subst (λ (h : List Action). CommittedAt (settled_front h) h) (append_assoc front (a ∷ []) behind) (committed_from (front ++ a ∷ []) behind (committed_more front a k))
+
+-- whatever was done, the committed records are the first ones that are reserved, as they are by now
+pub committed_front : (h : List Action) → CommittedAt (settled_front h) h
+committed_front h = committed_from [] h record { agrees = refl; within = omega arith; behind = tt }
+
+-- ---- how many are committed
+
+whole_front : (m : ℕ) (h : List Action) → length h ≤ m → is_settled h ≡ true → settled_front_within m h ≡ h
+whole_front zero [] low t = refl
+whole_front zero (a ∷ h) low t = absurd (omega arith)
+whole_front (suc m) h low t = let whole : take (suc m) h ≡ h = take_all (suc m) h low in (λ i. cond (is_settled (whole i)) (whole i) (settled_front_within m h)) ∙ cond-true _ _ _ t
+
+abbrev pub committed_len : List Action → ℕ
+committed_len h = length (reserved_records (settled_front h))
+
+pub committed_len-settled : (h : List Action) → is_settled h ≡ true → length (reserved_records h) ≤ committed_len h
+committed_len-settled h t = let e = ap (λ (g : List Action). length (reserved_records g)) (whole_front (length h) h (omega arith) t) in omega arith
+
+pub committed_len-more : (h : List Action) (a : Action) → committed_len h ≤ committed_len (h ++ a ∷ [])
+committed_len-more h a = ⊎_elim
+    (λ t. let e = ap (λ (g : List Action). length (reserved_records g)) (settled_more h a ∙ cond-true _ _ _ t) in let within = (committed_front h).within in
+    let more = length_acted (written_by h).stack (written_by h).records a in let e' = ap (length {A = Reservation}) (records_snoc h a) in omega arith)
+    (λ f. let e = ap (λ (g : List Action). length (reserved_records g)) (settled_more h a ∙ cond-false _ _ _ f) in omega arith)
+    (either_way (is_settled (h ++ a ∷ [])))
+
+-- the number of a fill's first record, where one action more was done
+pub first_more : (h : List Action) (a : Action) (i : ℕ) → i ≤ length (opens_of h) → get_or (0 ∷ opens_of h) i 0 ≤ committed_len h → get_or (0 ∷ opens_of (h ++ a ∷ [])) i 0 ≤ committed_len (h ++ a ∷ [])
+first_more h a i low le = let more = committed_len-more h a in
+    let e = ap (λ (l : List ℕ). get_or (0 ∷ l) i 0) (opens_more [] h a) ∙ get_or-append (0 ∷ opens_of h) (opens_at h a) 0 i (let l : i < suc (length (opens_of h)) = omega arith in l) in omega arith
+
+pub first_below : (from : ℕ) (cuts : List ℕ) (to i : ℕ) → i ≤ length cuts → IsRising from cuts to → get_or (from ∷ cuts) i 0 ≤ to
+first_below from cuts to zero low r = IsRising-least from cuts to r
+first_below from [] to (suc i) low r = absurd (omega arith)
+first_below from (cut ∷ cuts) to (suc i) low r = first_below cut cuts to i (omega arith) r.1

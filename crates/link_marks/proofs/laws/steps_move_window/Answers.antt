@@ -1,0 +1,5 @@
+use Rattle.link_marks.proofs.HistorySteps.{step_owed}
+use Rattle.link_marks.proofs.laws.steps_move_window.Goals as goal
+
+pub returns : goal.returns
+returns c = record { window = λ n size start core event answer after r step. (step_owed n size start core event answer after r.links r.history step).window }

@@ -1,0 +1,34 @@
+-- The laws of the ring, as statements: each is the contract of a function of src/laws.rt.
+use Rattle.std.specs.Prelude.{◌≡◌, ℕ, ◌+◌, ◌^◌, ◌≤◌, ◌⊎◌, List}
+use Rattle.trace_model.specs.Ring.{Core, IsStart, IsRing, window_of}
+use Rattle.trace_model.specs.Window.{first_window, Happening, WindowStep}
+use Rattle.trace_model.specs.Steps.{Event, Answer, Step, Exchange, Run}
+use Rattle.link_marks.specs.RingKept.{IsRingKept}
+
+-- a new ring of 2 places or more, whose first fill leaves room for a round of fill numbers, has what every
+-- step keeps
+abbrev pub StartIsKept : Type 0
+StartIsKept = (n start : ℕ) (c : Core) → 2 ≤ n → start + 1 + n ≤ 2 ^ 48 → IsStart n start c → IsRingKept n start c
+
+-- its window is the first one
+abbrev pub StartHasWindow : Type 0
+StartHasWindow = (n start : ℕ) (c : Core) → IsStart n start c → window_of c ≡ first_window start
+
+-- every step keeps it, whatever frames stand and whatever UPDATEs they own
+abbrev pub StepsKeepRing : Type 0
+StepsKeepRing = (n size start : ℕ) (c : Core) (event : Event) (answer : Answer) (after : Core) → IsRingKept n start c → Step n size c event answer after → IsRingKept n start after
+
+-- where it holds, the state is a ring
+abbrev pub KeptIsRing : Type 0
+KeptIsRing = (n start : ℕ) (c : Core) → IsRingKept n start c → IsRing n start c
+
+-- so the state is a ring after every run of steps from a new ring
+abbrev pub RunsMakeRings : Type 0
+RunsMakeRings = (n size start : ℕ) (c after : Core) (exchanges : List Exchange) → 2 ≤ n → start + 1 + n ≤ 2 ^ 48 → IsStart n start c → Run n size c exchanges after → IsRing n start after
+
+-- every step leaves the window as it was, or is one step of it: a fill is begun where a place is free; or the
+-- oldest begun one is closed, where each push has its leave; or the head is taken, closed; or the head is
+-- lost, closed and in a full ring
+abbrev pub StepsMoveWindow : Type 0
+StepsMoveWindow = (n size start : ℕ) (c : Core) (event : Event) (answer : Answer) (after : Core) → IsRingKept n start c → Step n size c event answer after
+    → (window_of after ≡ window_of c) ⊎ ((what : Happening) × WindowStep n c.history (window_of c) what (window_of after))

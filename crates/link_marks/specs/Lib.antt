@@ -1,0 +1,7 @@
+pub mod Packed
+pub mod Kept
+pub mod Laws
+pub mod KeptHistory
+pub mod KeptContents
+pub mod RingKept
+pub mod KeptParts

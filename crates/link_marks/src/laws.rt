@@ -1,0 +1,21 @@
+//! The laws of the ring: each is the contract of a function with an empty body.
+ghost use Rattle.link_marks.specs.Laws.{KeptIsRing, RunsMakeRings, StartHasWindow, StartIsKept, StepsKeepRing, StepsMoveWindow};
+
+/// A new ring has all that its steps keep, and its window is the first one.
+pub fn start_is_kept()
+    ensures kept { StartIsKept }
+    ensures window { StartHasWindow }
+{}
+
+/// Every step keeps it, and where it holds the state is a ring: so it is one after every run.
+pub fn steps_keep_ring()
+    ensures kept { StepsKeepRing }
+    ensures ring { KeptIsRing }
+    ensures runs { RunsMakeRings }
+{}
+
+/// Every step is a step of the window, or leaves it as it was: so no fill is both taken and lost, and
+/// none is lost but a closed one, in a full ring.
+pub fn steps_move_window()
+    ensures window { StepsMoveWindow }
+{}

@@ -1,0 +1,88 @@
+-- The fills of a CPU: which records stand in which page, and when a new page is begun.
+-- After kernel/trace/ring_buffer.c (rb_reserve_next_event, rb_move_tail): a record that doesn't fit in
+-- what the tail page has left goes to the next page. docs/FORMATS.md, "Record words", "The ring".
+use Rattle.std.specs.Prelude.{◌≡◌, ◌≢◌, ℕ, ◌+◌, ◌-◌, ◌<◌, ◌≤◌, true, false, List, [], ◌∷◌, ◌++◌, length, take, drop, fold, Option, Some, None, slice_index_or}
+use Rattle.trace_model.specs.Words.{encoded_len}
+use Rattle.trace_model.specs.History.{Action, push, push_close, open_fill, reserve, leave, Reservation, reserved_records, reserved_for}
+
+-- the pushes that have no leave, the last one first
+abbrev pub stood : List Action → Action → List Action
+stood stack (push moment len) = push moment len ∷ stack
+stood stack push_close = push_close ∷ stack
+stood stack open_fill = stack
+stood stack reserve = stack
+stood [] (leave payload) = []
+stood (a ∷ stack) (leave payload) = stack
+
+abbrev pub standing : List Action → List Action
+standing history = fold stood [] history
+
+-- how many records were reserved in front of each open, in order
+abbrev pub opens_behind : List Action → List Action → List ℕ
+opens_behind front [] = []
+opens_behind front (push moment len ∷ behind) = opens_behind (front ++ push moment len ∷ []) behind
+opens_behind front (push_close ∷ behind) = opens_behind (front ++ push_close ∷ []) behind
+opens_behind front (open_fill ∷ behind) = length (reserved_records front) ∷ opens_behind (front ++ open_fill ∷ []) behind
+opens_behind front (reserve ∷ behind) = opens_behind (front ++ reserve ∷ []) behind
+opens_behind front (leave payload ∷ behind) = opens_behind (front ++ leave payload ∷ []) behind
+
+abbrev pub opens_of : List Action → List ℕ
+opens_of history = opens_behind [] history
+
+-- a list cut at rising places, of which none is below from: one more piece than there are cuts
+abbrev pub cut_from : {A : Type 0} → ℕ → List ℕ → List A → List (List A)
+cut_from from [] xs = drop from xs ∷ []
+cut_from from (cut ∷ cuts) xs = take (cut - from) (drop from xs) ∷ cut_from cut cuts xs
+
+-- The fills: the reserved records, cut at each open.
+abbrev pub fills_of : List Action → List (List Reservation)
+fills_of history = cut_from 0 (opens_of history) (reserved_records history)
+
+-- the records of the fill that is begun last
+abbrev pub tail_of : List Action → List Reservation
+tail_of history = slice_index_or (fills_of history) (length (fills_of history) - 1) []
+
+-- how many bytes records take in one page, the first of them behind one of moment prev
+abbrev pub len_behind : ℕ → List Reservation → ℕ
+len_behind prev [] = 0
+len_behind prev (r ∷ records) = encoded_len r.len (r.moment - prev) false + len_behind r.moment records
+
+-- how many bytes the records of a fill take: the first has no delta
+abbrev pub fill_len : List Reservation → ℕ
+fill_len [] = 0
+fill_len (r ∷ records) = encoded_len r.len 0 true + len_behind r.moment records
+
+-- the record fits in a page of this size behind these
+abbrev pub FitsBehind : ℕ → List Reservation → Reservation → Type 0
+FitsBehind size records r = fill_len (records ++ r ∷ []) ≤ size
+
+-- what the frame on top would reserve: nothing for a close frame
+abbrev pub wanted_by : List Action → List Reservation → Option Reservation
+wanted_by [] records = None
+wanted_by (push moment len ∷ stack) records = Some (reserved_for moment len records)
+wanted_by (push_close ∷ stack) records = None
+wanted_by (open_fill ∷ stack) records = None
+wanted_by (reserve ∷ stack) records = None
+wanted_by (leave payload ∷ stack) records = None
+
+abbrev pub wanted : List Action → Option Reservation
+wanted history = wanted_by (standing history) (reserved_records history)
+
+-- the frame on top is a close frame
+abbrev pub Closes : List Action → Type 0
+Closes [] = ⊥
+Closes (push moment len ∷ stack) = ⊥
+Closes (push_close ∷ stack) = Unit {0}
+Closes (open_fill ∷ stack) = ⊥
+Closes (reserve ∷ stack) = ⊥
+Closes (leave payload ∷ stack) = ⊥
+
+-- What was done is packed in pages of this size: each fill has room in one; what is reserved fits behind
+-- its fill; and a fill is begun only behind one that isn't empty, by a close frame or for a record that
+-- doesn't fit.
+pub record IsPacked (history : List Action) (size : ℕ) : Type 0 where
+  pub rooms : (k : ℕ) → k < length (fills_of history) → fill_len (slice_index_or (fills_of history) k []) ≤ size
+  pub reserves : (front behind : List Action) (r : Reservation) → history ≡ front ++ reserve ∷ behind → wanted front ≡ Some r → FitsBehind size (tail_of front) r
+  pub begins : (front behind : List Action) → history ≡ front ++ open_fill ∷ behind → tail_of front ≢ []
+  pub needed : (front behind : List Action) (r : Reservation) → history ≡ front ++ open_fill ∷ behind → wanted front ≡ Some r → FitsBehind size (tail_of front) r → ⊥
+  pub asked : (front behind : List Action) → history ≡ front ++ open_fill ∷ behind → wanted front ≡ None → Closes (standing front)

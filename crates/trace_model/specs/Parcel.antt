@@ -1,0 +1,34 @@
+-- A parcel: the records of a taken page under their CPU and numbers, and the numbers that were lost in
+-- front of them. docs/FORMATS.md, "Parcel bytes".
+use Rattle.std.specs.Prelude.{◌≡◌, ℕ, ◌+◌, ◌<◌, ◌≤◌, List, Some}
+use Rattle.std.specs.List.{slice_get}
+use Rattle.trace_model.specs.Record.{Record}
+use Rattle.trace_model.specs.Partition.{Piece, first_of}
+
+-- first: the number of the first record. missed: how many numbers were lost in front of it.
+pub record Parcel : Type 0 where
+  pub cpu : ℕ
+  pub fill : ℕ
+  pub first : ℕ
+  pub missed : ℕ
+  pub records : List Record
+
+-- the record that the parcel has under a CPU and a number
+pub record IsPairOf (parcel : Parcel) (cpu number : ℕ) (r : Record) : Type 0 where
+  pub place : ℕ
+  pub cpu_is : cpu ≡ parcel.cpu
+  pub number_is : number ≡ parcel.first + place
+  pub record_is : slice_get parcel.records place ≡ Some r
+
+-- the number was lost in front of the parcel's records
+pub record IsMissingOf (parcel : Parcel) (cpu number : ℕ) : Type 0 where
+  pub cpu_is : cpu ≡ parcel.cpu
+  pub low : parcel.first ≤ number + parcel.missed
+  pub high : number < parcel.first
+
+-- The parcel is one piece of a partition: its records, the numbers missed in front, and as its first
+-- number the count of all that stands in front of them.
+pub record IsGenuine (parcel : Parcel) (pieces : List Piece) : Type 0 where
+  pub place : ℕ
+  pub piece_is : slice_get pieces place ≡ Some record { skipped = parcel.missed; records = parcel.records }
+  pub first_is : first_of pieces place ≡ Some parcel.first

@@ -1,0 +1,28 @@
+-- A list of records cut into what was taken and what was lost between.
+use Rattle.std.specs.Prelude.{◌≡◌, ℕ, zero, suc, ◌+◌, List, [], ◌∷◌, ◌++◌, length, Option, Some, None}
+use Rattle.trace_model.specs.Record.{Record}
+
+-- so many records are skipped, and then these stand
+pub record Piece : Type 0 where
+  pub skipped : ℕ
+  pub records : List Record
+
+-- The records are, in order, so many as the first piece skips, its own, so many as the second skips, and
+-- so on, and then the rest.
+abbrev pub IsPartition : List Record → List Piece → List Record → Type 0
+IsPartition records [] rest = records ≡ rest
+IsPartition records (p ∷ pieces) rest = (lost behind : List Record) × (length lost ≡ p.skipped) × (records ≡ lost ++ (p.records ++ behind)) × IsPartition behind pieces rest
+
+-- how many records a piece covers, with those that it skips
+abbrev pub covered : Piece → ℕ
+covered p = p.skipped + length p.records
+
+-- how many records stand in front of the list of a piece: all that the pieces in front of it cover, and
+-- those that it skips; counted from a number on
+abbrev pub first_from : ℕ → List Piece → ℕ → Option ℕ
+first_from number [] k = None
+first_from number (p ∷ pieces) zero = Some (number + p.skipped)
+first_from number (p ∷ pieces) (suc k) = first_from (number + covered p) pieces k
+
+abbrev pub first_of : List Piece → ℕ → Option ℕ
+first_of pieces k = first_from 0 pieces k

@@ -1,0 +1,74 @@
+-- The window of a ring of n places: how many fills are taken or lost, closed, and begun, and what may
+-- happen to these counts. After kernel/trace/ring_buffer.c (rb_move_tail, rb_handle_head_page,
+-- rb_get_reader_page) and docs/FORMATS.md, "The ring".
+use Rattle.std.specs.Prelude.{◌≡◌, ℕ, ◌+◌, ◌<◌, ◌≤◌, List, [], ◌∷◌, ◌++◌, IsTrue}
+use Rattle.trace_model.specs.History.{Action, is_settled}
+
+-- head: the fills below it are taken or lost. done: those below it are closed, that is, released to
+-- the reader. opened: those below it are begun; the last of these is the tail.
+pub record Window : Type 0 where
+  pub head : ℕ
+  pub done : ℕ
+  pub opened : ℕ
+
+-- at the start the fill with the start's number is begun, and nothing else has happened
+abbrev pub first_window : ℕ → Window
+first_window start = record { head = start; done = start; opened = start + 1 }
+
+-- A fill is begun; the oldest one that isn't closed is closed; the head is taken by the reader; the
+-- head is lost to a writer.
+pub data Happening : Type 0 where
+  opened_one : Happening
+  released_one : Happening
+  took_one : Happening
+  lost_one : Happening
+
+abbrev pub window_after : Window → Happening → Window
+window_after w opened_one = record { head = w.head; done = w.done; opened = w.opened + 1 }
+window_after w released_one = record { head = w.head; done = w.done + 1; opened = w.opened }
+window_after w took_one = record { head = w.head + 1; done = w.done; opened = w.opened }
+window_after w lost_one = record { head = w.head + 1; done = w.done; opened = w.opened }
+
+-- When each may happen, behind this history: a fill is begun where a place is free; one is closed where
+-- it isn't the tail and each push has its leave; the head is taken where it is closed, and lost only
+-- where it is closed and the ring is full.
+abbrev pub MayHappen : ℕ → List Action → Window → Happening → Type 0
+MayHappen n history w opened_one = w.opened < w.head + n
+MayHappen n history w released_one = (w.done + 1 < w.opened) × IsTrue (is_settled history)
+MayHappen n history w took_one = w.head < w.done
+MayHappen n history w lost_one = (w.head < w.done) × (w.opened ≡ w.head + n)
+
+pub record WindowStep (n : ℕ) (history : List Action) (before : Window) (happening : Happening) (after : Window) : Type 0 where
+  pub may : MayHappen n history before happening
+  pub after_is : after ≡ window_after before happening
+
+-- what the frames do and what happens to the window, in one order
+pub data Deed : Type 0 where
+  acts : Action → Deed
+  happens : Happening → Deed
+
+-- the actions among the deeds
+abbrev pub actions_of : List Deed → List Action
+actions_of [] = []
+actions_of (acts a ∷ deeds) = a ∷ actions_of deeds
+actions_of (happens h ∷ deeds) = actions_of deeds
+
+-- Behind a history, the deeds lead from one window to another.
+abbrev pub WindowRunFrom : ℕ → List Action → Window → List Deed → Window → Type 0
+WindowRunFrom n history before [] after = before ≡ after
+WindowRunFrom n history before (acts a ∷ deeds) after = WindowRunFrom n (history ++ a ∷ []) before deeds after
+WindowRunFrom n history before (happens h ∷ deeds) after = MayHappen n history before h × WindowRunFrom n history (window_after before h) deeds after
+
+-- the deeds of a ring from its start lead to this window
+abbrev pub WindowRun : ℕ → ℕ → List Deed → Window → Type 0
+WindowRun n start deeds window = WindowRunFrom n [] (first_window start) deeds window
+
+-- no page is released, so that a frame that needs one is refused
+abbrev pub IsCrowded : ℕ → Window → Type 0
+IsCrowded n w = w.opened ≡ w.done + n
+
+-- The counts keep their order, and no more than n fills are begun from the head on.
+pub record IsWindow (n : ℕ) (w : Window) : Type 0 where
+  pub head_le : w.head ≤ w.done
+  pub done_lt : w.done < w.opened
+  pub opened_le : w.opened ≤ w.head + n
