@@ -3,7 +3,7 @@ use Rattle.std.proofs.Common.{◌≡◌, ℕ, zero, suc, ◌<◌, ◌≤◌, ◌
 use Rattle.std.proofs.lemmas.Bool.{cond-true, cond-false}
 use Rattle.std.proofs.lemmas.List.{take-append-le, take_all}
 use Rattle.std.proofs.Math.ListN.{get_or-append}
-use Rattle.trace_model.specs.History.{Action, push, push_close, open_fill, reserve, leave, Reservation, Frame, record_frame, close_frame, Written, reserved_by, left_by, acted, written_by, reserved_records, is_settled, settled_front_within, settled_front, finished, finished_at}
+use Rattle.trace_model.specs.History.{Action, push, push_close, open_fill, reserve, leave, Reservation, Frame, record_frame, close_frame, Written, acted, written_by, reserved_records, is_settled, settled_front_within, settled_front, finished, finished_at}
 use Rattle.trace_model.specs.Packing.{opens_of}
 use Rattle.link_marks.specs.KeptContents.{IsRising}
 use Rattle.link_marks.proofs.Phases.{some_is, none_some}
@@ -38,15 +38,15 @@ settled_stack h t = by_stack (written_by h).stack refl
 
 -- ---- the front that is committed
 
--- the number of a frame's record, where it has one
-abbrev pub number_of_frame : Frame → Option ℕ
-number_of_frame (record_frame moment len number) = number
-number_of_frame close_frame = None
+-- the number of a frame's record
+abbrev pub number_with : Frame → Option ℕ
+number_with (record_frame moment len number) = number
+number_with close_frame = None
 
 -- no frame of these has a record among the first ones
 abbrev pub Behind : ℕ → List Frame → Type 0
 Behind least [] = Unit {0}
-Behind least (f ∷ stack) = ((k : ℕ) → number_of_frame f ≡ Some k → least ≤ k) × Behind least stack
+Behind least (f ∷ stack) = ((k : ℕ) → number_with f ≡ Some k → least ≤ k) × Behind least stack
 
 pub record CommittedAt (front h : List Action) : Type 0 where
   pub agrees : map finished (take (length (reserved_records front)) (reserved_records h)) ≡ map finished (reserved_records front)
@@ -61,53 +61,38 @@ take_unfinished zero (Some k) (Some p) (x ∷ xs) low = refl
 take_unfinished (suc least) (Some zero) (Some p) (x ∷ xs) low = let bad = low 0 refl in absurd (omega arith)
 take_unfinished (suc least) (Some (suc k)) (Some p) (x ∷ xs) low = ap (λ (l : List Reservation). x ∷ l) (take_unfinished least (Some k) (Some p) xs (λ j e. let same : k ≡ j = some_is k j e in let le = low (suc k) refl in omega arith))
 
-take_left : (least : ℕ) (f : Frame) (payload : Option (List ℕ)) (xs : List Reservation) → ((k : ℕ) → number_of_frame f ≡ Some k → least ≤ k) → take least (left_by f payload xs) ≡ take least xs
-take_left least (record_frame moment len number) payload xs low = take_unfinished least number payload xs low
-take_left least close_frame payload xs low = refl
-
-take_reserved : (least : ℕ) (f : Frame) (stack : List Frame) (xs : List Reservation) → least ≤ length xs → take least (reserved_by f stack xs).records ≡ take least xs
-take_reserved least (record_frame moment len None) stack xs le = take-append-le least xs _ le
-take_reserved least (record_frame moment len (Some number)) stack xs le = refl
-take_reserved least close_frame stack xs le = refl
-
 pub take_acted : (least : ℕ) (stack : List Frame) (xs : List Reservation) (a : Action) → least ≤ length xs → Behind least stack → take least (acted stack xs a).records ≡ take least xs
 take_acted least stack xs (push moment len) le b = refl
 take_acted least stack xs push_close le b = refl
 take_acted least stack xs open_fill le b = refl
 take_acted least [] xs reserve le b = refl
-take_acted least (f ∷ stack) xs reserve le b = take_reserved least f stack xs le
+take_acted least (record_frame moment len None ∷ stack) xs reserve le b = take-append-le least xs _ le
+take_acted least (record_frame moment len (Some k) ∷ stack) xs reserve le b = refl
+take_acted least (close_frame ∷ stack) xs reserve le b = refl
 take_acted least [] xs (leave payload) le b = refl
-take_acted least (f ∷ stack) xs (leave payload) le b = take_left least f payload xs b.0
-
-length_left : (f : Frame) (payload : Option (List ℕ)) (xs : List Reservation) → length xs ≤ length (left_by f payload xs)
-length_left (record_frame moment len number) payload xs = omega (arith, length-finished_at number payload xs)
-length_left close_frame payload xs = omega arith
-
-length_reserved : (f : Frame) (stack : List Frame) (xs : List Reservation) → length xs ≤ length (reserved_by f stack xs).records
-length_reserved (record_frame moment len None) stack xs = omega (arith, length-append {A = Reservation})
-length_reserved (record_frame moment len (Some number)) stack xs = omega arith
-length_reserved close_frame stack xs = omega arith
+take_acted least (record_frame moment len number ∷ stack) xs (leave payload) le b = take_unfinished least number payload xs b.0
+take_acted least (close_frame ∷ stack) xs (leave payload) le b = refl
 
 pub length_acted : (stack : List Frame) (xs : List Reservation) (a : Action) → length xs ≤ length (acted stack xs a).records
 length_acted stack xs (push moment len) = omega arith
 length_acted stack xs push_close = omega arith
 length_acted stack xs open_fill = omega arith
 length_acted [] xs reserve = omega arith
-length_acted (f ∷ stack) xs reserve = length_reserved f stack xs
+length_acted (record_frame moment len None ∷ stack) xs reserve = omega (arith, length-append {A = Reservation})
+length_acted (record_frame moment len (Some k) ∷ stack) xs reserve = omega arith
+length_acted (close_frame ∷ stack) xs reserve = omega arith
 length_acted [] xs (leave payload) = omega arith
-length_acted (f ∷ stack) xs (leave payload) = length_left f payload xs
-
-behind_reserved : (least : ℕ) (f : Frame) (stack : List Frame) (xs : List Reservation) → least ≤ length xs → Behind least (f ∷ stack) → Behind least (reserved_by f stack xs).stack
-behind_reserved least (record_frame moment len None) stack xs le b = ((λ k e. let same : length xs ≡ k = some_is (length xs) k e in omega arith), b.1)
-behind_reserved least (record_frame moment len (Some number)) stack xs le b = b
-behind_reserved least close_frame stack xs le b = b
+length_acted (record_frame moment len number ∷ stack) xs (leave payload) = omega (arith, length-finished_at number payload xs)
+length_acted (close_frame ∷ stack) xs (leave payload) = omega arith
 
 behind_acted : (least : ℕ) (stack : List Frame) (xs : List Reservation) (a : Action) → least ≤ length xs → Behind least stack → Behind least (acted stack xs a).stack
 behind_acted least stack xs (push moment len) le b = ((λ k e. absurd (none_some e)), b)
 behind_acted least stack xs push_close le b = ((λ k e. absurd (none_some e)), b)
 behind_acted least stack xs open_fill le b = b
 behind_acted least [] xs reserve le b = tt
-behind_acted least (f ∷ stack) xs reserve le b = behind_reserved least f stack xs le b
+behind_acted least (record_frame moment len None ∷ stack) xs reserve le b = ((λ k e. let same : length xs ≡ k = some_is (length xs) k e in omega arith), b.1)
+behind_acted least (record_frame moment len (Some n) ∷ stack) xs reserve le b = b
+behind_acted least (close_frame ∷ stack) xs reserve le b = b
 behind_acted least [] xs (leave payload) le b = tt
 behind_acted least (f ∷ stack) xs (leave payload) le b = b.1
 

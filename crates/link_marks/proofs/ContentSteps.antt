@@ -1,11 +1,11 @@
 -- Each step keeps the fills in their pages.
 use Rattle.std.proofs.Common.{◌≡◌, ◌≢◌, ℕ, ◌+◌, ◌-◌, ◌≤◌, List, [], ◌∷◌, ◌++◌, length, map, set, Option, Some, None, refl, sym, ap, ◌∙◌, subst, arith}
 use Rattle.trace_model.specs.History as history
-use Rattle.trace_model.specs.History.{Action, push, push_close, open_fill, reserve, leave, Reservation, record_frame, Written, left_by, acted, written_by, reserved_records, reserved_for, finished_at}
+use Rattle.trace_model.specs.History.{Action, push, push_close, open_fill, reserve, leave, Reservation, Written, acted, written_by, reserved_records, reserved_for, finished_at, left_by}
 use Rattle.trace_model.specs.Packing.{opens_of}
 use Rattle.trace_model.specs.Frames.{Kind, for_record, for_close, Role, helper, Phase, reserving, looking, claiming, looking_next, marking, clearing, opening, reserved, releasing, Frame}
 use Rattle.trace_model.specs.Ring.{Held, ReaderPhase, loading_link, loading_done, storing_link, swapping, Core, page_at, AreApart}
-use Rattle.trace_model.specs.Steps.{Event, Answer, in_phase, after_leave, finished_in, number_in, begun, begun_on, BeginsAnew, ReserveStep, reserves, finds_nothing, is_crowded, is_worn, notes, LookStep, look_late, sees_free, sees_header, sees_update, ClaimStep, claim_late, claims, claim_fails, NextStep, next_late, sees_normal, sees_other, MarkStep, mark_late, marks, mark_fails, ClearStep, clears, OpenStep, open_late, opens, ReleaseStep, releases, releases_last, FrameStep, Step, push_step, push_refused, close_step, close_refused, frame_step, frame_lacks, end_step, end_lacks, end_early, read_step, LoadStep, loads_header, loads_update, loads_owed, loads_passed, LoadDoneStep, finds_none, finds_closed, SwapStep, swaps, swap_fails, ReadStep, after_swap}
+use Rattle.trace_model.specs.Steps.{Event, Answer, in_phase, after_leave, finished_in, record_of, begun, begun_on, BeginsAnew, ReserveStep, reserves, finds_nothing, is_crowded, is_worn, notes, LookStep, look_late, sees_free, sees_header, sees_update, ClaimStep, claim_late, claims, claim_fails, NextStep, next_late, sees_normal, sees_other, MarkStep, mark_late, marks, mark_fails, ClearStep, clears, OpenStep, open_late, opens, ReleaseStep, releases, releases_last, FrameStep, Step, push_step, push_refused, close_step, close_refused, frame_step, frame_lacks, end_step, end_lacks, end_early, read_step, LoadStep, loads_header, loads_update, loads_owed, loads_passed, LoadDoneStep, finds_none, finds_closed, SwapStep, swaps, swap_fails, ReadStep, after_swap}
 use Rattle.link_marks.specs.Kept.{PhaseKept, LinksKept}
 use Rattle.link_marks.specs.KeptHistory.{written_frame, shown, HistoryKept}
 use Rattle.link_marks.specs.KeptContents.{PagesKept, ContentsKept}
@@ -26,27 +26,20 @@ records_snoc h a = ap (λ (w : Written). w.records) (written_snoc h a)
 pub records_left : (h : List Action) (f : history.Frame) (stack : List history.Frame) (payload : Option (List ℕ)) → (written_by h).stack ≡ f ∷ stack → reserved_records (h ++ leave payload ∷ []) ≡ left_by f payload (reserved_records h)
 records_left h f stack payload e = records_snoc h (leave payload) ∙ ap (λ (s : List history.Frame). (acted s (written_by h).records (leave payload)).records) e
 
-pub records_reserved : (h : List Action) (moment len : ℕ) (stack : List history.Frame) → (written_by h).stack ≡ record_frame moment len None ∷ stack → reserved_records (h ++ reserve ∷ []) ≡ reserved_records h ++ reserved_for moment len (reserved_records h) ∷ []
+pub records_reserved : (h : List Action) (moment len : ℕ) (stack : List history.Frame) → (written_by h).stack ≡ history.record_frame moment len None ∷ stack → reserved_records (h ++ reserve ∷ []) ≡ reserved_records h ++ reserved_for moment len (reserved_records h) ∷ []
 records_reserved h moment len stack e = records_snoc h reserve ∙ ap (λ (s : List history.Frame). (acted s (written_by h).records reserve).records) e
 
--- what leaves of a frame is its record, as its phase has it
-abbrev pub LeavesAs : Kind → Phase → Type 0
-LeavesAs kind phase = (payload : Option (List ℕ)) (xs : List Reservation) → left_by (written_frame kind phase) payload xs ≡ finished_at (number_in phase) payload xs
+pub left_is : (kind : Kind) (phase : Phase) (payload : Option (List ℕ)) (xs : List Reservation) → left_by (written_frame kind phase) payload xs ≡ finished_at (record_of kind phase) payload xs
+left_is (for_record moment len) phase payload xs = refl
+left_is for_close phase payload xs = refl
 
-leaves_record : (kind : Kind) (phase : Phase) (moment len : ℕ) → kind ≡ for_record moment len → LeavesAs kind phase
-leaves_record kind phase moment len e = subst (λ (x : Kind). LeavesAs x phase) (sym e) (λ payload xs. refl)
-
-leaves_none : (kind : Kind) (phase : Phase) → number_in phase ≡ None → LeavesAs kind phase
-leaves_none (for_record moment len) phase e = λ payload xs. refl
-leaves_none for_close phase e = λ payload xs. ap (λ (x : Option ℕ). finished_at x payload xs) (sym e)
-
-module _ (n start : ℕ) (c : Core) (frame : Frame) (below : List Frame) (some : 1 ≤ n) (a : AreApart n c.order c.spare) (t : ContentsKept n start c) (stack : (written_by c.history).stack ≡ written_frame frame.kind frame.phase ∷ shown below) (alike : LeavesAs frame.kind frame.phase) where
+module _ (n start : ℕ) (c : Core) (frame : Frame) (below : List Frame) (some : 1 ≤ n) (a : AreApart n c.order c.spare) (t : ContentsKept n start c) (stack : (written_by c.history).stack ≡ written_frame frame.kind frame.phase ∷ shown below) where
   pub contents_leave : (payload : Option (List ℕ)) → ContentsKept n start (after_leave c frame below payload)
-  contents_leave payload = same_pages n start c.order (map (finished_in (number_in frame.phase) payload) c.held) (opens_of c.history) (opens_of (c.history ++ leave payload ∷ []))
-      (finished_at (number_in frame.phase) payload (reserved_records c.history)) (reserved_records (c.history ++ leave payload ∷ [])) c.head c.opened
+  contents_leave payload = same_pages n start c.order (map (finished_in (record_of frame.kind frame.phase) payload) c.held) (opens_of c.history) (opens_of (c.history ++ leave payload ∷ []))
+      (finished_at (record_of frame.kind frame.phase) payload (reserved_records c.history)) (reserved_records (c.history ++ leave payload ∷ [])) c.head c.opened
       (opens_of-leave c.history payload)
-      (records_left c.history (written_frame frame.kind frame.phase) (shown below) payload stack ∙ alike payload (reserved_records c.history))
-      (pages_finished n start c.order c.spare c.held (opens_of c.history) (reserved_records c.history) c.head c.opened some a t (number_in frame.phase) payload)
+      (records_left c.history (written_frame frame.kind frame.phase) (shown below) payload stack ∙ left_is frame.kind frame.phase payload (reserved_records c.history))
+      (pages_finished n start c.order c.spare c.held (opens_of c.history) (reserved_records c.history) c.head c.opened some a t (record_of frame.kind frame.phase) payload)
 
   pub contents_begun_on : (kind : Kind) → ContentsKept n start (begun_on kind c frame below)
   contents_begun_on (for_record moment len) = t
@@ -59,14 +52,14 @@ module _ (n size start : ℕ) (c : Core) (frame : Frame) (below : List Frame) (k
   some_page : 1 ≤ n
   some_page = let two = k.some_pages in omega arith
 
-  contents_leaves : (after : Core) (old : Phase) (payload : Option (List ℕ)) → frame.phase ≡ old → old ≢ releasing → LeavesAs frame.kind old → after ≡ after_leave c frame below payload → ContentsKept n start after
-  contents_leaves after old payload same stands alike is = subst (ContentsKept n start) (sym is) (contents_leave n start c frame below some_page k.apart t (stack_top old same stands) (subst (LeavesAs frame.kind) (sym same) alike) payload)
+  contents_leaves : (after : Core) (old : Phase) (payload : Option (List ℕ)) → frame.phase ≡ old → old ≢ releasing → after ≡ after_leave c frame below payload → ContentsKept n start after
+  contents_leaves after old payload same stands is = subst (ContentsKept n start) (sym is) (contents_leave n start c frame below some_page k.apart t (stack_top old same stands) payload)
 
   contents_goes : (after : Core) (phase : Phase) → after ≡ in_phase c frame below phase → ContentsKept n start after
   contents_goes after phase is = subst (ContentsKept n start) (sym is) t
 
-  contents_anew : (noted : ℕ) (answer : Answer) (after : Core) (old : Phase) → frame.phase ≡ old → old ≢ releasing → number_in old ≡ None → BeginsAnew c frame below noted answer after → ContentsKept n start after
-  contents_anew noted answer after old same stands none step = subst (ContentsKept n start) (sym step.after_is) (contents_begun_on n start c frame below some_page k.apart t (stack_top old same stands) (leaves_none frame.kind frame.phase (ap number_in same ∙ none)) frame.kind)
+  contents_anew : (noted : ℕ) (answer : Answer) (after : Core) (old : Phase) → frame.phase ≡ old → old ≢ releasing → BeginsAnew c frame below noted answer after → ContentsKept n start after
+  contents_anew noted answer after old same stands step = subst (ContentsKept n start) (sym step.after_is) (contents_begun_on n start c frame below some_page k.apart t (stack_top old same stands) frame.kind)
 
   contents_reserve : (answer : Answer) (after : Core) → frame.phase ≡ reserving → ReserveStep n size c frame below answer after → ContentsKept n start after
   contents_reserve answer after same (reserves moment len r kind r_is fits a is) = let unread = k.head_le in let behind = k.done_lt in
@@ -75,35 +68,35 @@ module _ (n size start : ℕ) (c : Core) (frame : Frame) (below : List Frame) (k
       (records_reserved c.history moment len (shown below) (stack_top reserving same (λ e. cc) ∙ ap (λ (p : Phase). written_frame frame.kind p ∷ shown below) same ∙ ap (λ (x : Kind). written_frame x reserving ∷ shown below) kind)
       ∙ ap (λ (x : Reservation). reserved_records c.history ++ x ∷ []) (sym r_is))
       (pages_reserved n start c.order c.spare c.held (opens_of c.history) (reserved_records c.history) c.head c.opened some_page k.apart t r (c.opened - 1) (omega arith) (omega arith) k.opened_le))
-  contents_reserve answer after same (finds_nothing kind none a is) = contents_leaves after reserving None same (λ e. cc) (leaves_none frame.kind reserving refl) is
-  contents_reserve answer after same (is_crowded needs full a is) = contents_leaves after reserving None same (λ e. cc) (leaves_none frame.kind reserving refl) is
-  contents_reserve answer after same (is_worn needs full last a is) = contents_leaves after reserving None same (λ e. cc) (leaves_none frame.kind reserving refl) is
+  contents_reserve answer after same (finds_nothing kind none a is) = contents_leaves after reserving None same (λ e. cc) is
+  contents_reserve answer after same (is_crowded needs full a is) = contents_leaves after reserving None same (λ e. cc) is
+  contents_reserve answer after same (is_worn needs full last a is) = contents_leaves after reserving None same (λ e. cc) is
   contents_reserve answer after same (notes needs room small a is) = contents_goes after (looking c.opened) is
 
   contents_look : (noted : ℕ) (answer : Answer) (after : Core) → frame.phase ≡ looking noted → LookStep n c frame below noted answer after → ContentsKept n start after
-  contents_look noted answer after same (look_late step) = contents_anew noted answer after (looking noted) same (λ e. cc) refl step
+  contents_look noted answer after same (look_late step) = contents_anew noted answer after (looking noted) same (λ e. cc) step
   contents_look noted answer after same (sees_free page now at a is) = contents_goes after (opening noted page) is
   contents_look noted answer after same (sees_header page lost now sum at a is) = contents_goes after (claiming noted page) is
   contents_look noted answer after same (sees_update page lost now sum at a is) = contents_goes after (looking_next helper noted page) is
 
   contents_claim : (noted page : ℕ) (answer : Answer) (after : Core) → frame.phase ≡ claiming noted page → ClaimStep n c frame below noted page answer after → ContentsKept n start after
-  contents_claim noted page answer after same (claim_late step) = contents_anew noted answer after (claiming noted page) same (λ e. cc) refl step
+  contents_claim noted page answer after same (claim_late step) = contents_anew noted answer after (claiming noted page) same (λ e. cc) step
   contents_claim noted page answer after same (claims lost now sum at a is) = subst (ContentsKept n start) (sym is)
       (pages_later n start c.order c.spare c.held (opens_of c.history) (reserved_records c.history) c.head c.opened some_page k.apart t (c.head + 1) (omega arith))
   contents_claim noted page answer after same (claim_fails now other a is) = contents_goes after (looking noted) is
 
   contents_next : (role : Role) (noted page : ℕ) (answer : Answer) (after : Core) → frame.phase ≡ looking_next role noted page → NextStep n c frame below role noted page answer after → ContentsKept n start after
-  contents_next role noted page answer after same (next_late helps step) = contents_anew noted answer after (looking_next role noted page) same (λ e. cc) refl step
+  contents_next role noted page answer after same (next_late helps step) = contents_anew noted answer after (looking_next role noted page) same (λ e. cc) step
   contents_next role noted page answer after same (sees_normal lost next goes_on sum at a is) = subst (ContentsKept n start) (sym is) t
   contents_next role noted page answer after same (sees_other lost goes_on sum other a is) = subst (ContentsKept n start) (sym is) t
 
   contents_mark : (role : Role) (noted page next : ℕ) (answer : Answer) (after : Core) → frame.phase ≡ marking role noted page next → MarkStep n c frame below role noted page next answer after → ContentsKept n start after
-  contents_mark role noted page next answer after same (mark_late helps step) = contents_anew noted answer after (marking role noted page next) same (λ e. cc) refl step
+  contents_mark role noted page next answer after same (mark_late helps step) = contents_anew noted answer after (marking role noted page next) same (λ e. cc) step
   contents_mark role noted page next answer after same (marks lost goes_on sum at a is) = subst (ContentsKept n start) (sym is) t
   contents_mark role noted page next answer after same (mark_fails lost goes_on sum other a is) = subst (ContentsKept n start) (sym is) t
 
   contents_open : (noted page : ℕ) (answer : Answer) (after : Core) → frame.phase ≡ opening noted page → OpenStep n c frame below noted page answer after → ContentsKept n start after
-  contents_open noted page answer after same (open_late step) = contents_anew noted answer after (opening noted page) same (λ e. cc) refl step
+  contents_open noted page answer after same (open_late step) = contents_anew noted answer after (opening noted page) same (λ e. cc) step
   contents_open noted page answer after same (opens now a is) =
       let (open_yet, inside, page_is) = (subst (PhaseKept n c.links c.order c.head c.done c.opened) same (top_kept n c frame below k top)).passed noted page refl in
       let unread = k.head_le in let behind = k.done_lt in
@@ -116,7 +109,7 @@ module _ (n size start : ℕ) (c : Core) (frame : Frame) (below : List Frame) (k
       same_pages n start c.order held (opens_of c.history ++ length (reserved_records c.history) ∷ []) (opens_of (c.history ++ open_fill ∷ [])) (reserved_records c.history) (reserved_records (c.history ++ open_fill ∷ [])) c.head (c.opened + 1)
       (opens_of-open_fill c.history) (records_snoc c.history open_fill) begun_pages in
       subst (ContentsKept n start) (sym is) (contents_begun_on n start (begun c page) frame below some_page k.apart is_begun
-      (opened_stack c.history (written_frame frame.kind frame.phase ∷ shown below) (stack_top (opening noted page) same (λ e. cc))) (leaves_none frame.kind frame.phase (ap number_in same)) frame.kind)
+      (opened_stack c.history (written_frame frame.kind frame.phase ∷ shown below) (stack_top (opening noted page) same (λ e. cc))) frame.kind)
 
   contents_release : (answer : Answer) (after : Core) → ReleaseStep c frame below answer after → ContentsKept n start after
   contents_release answer after (releases alone more a is) = subst (ContentsKept n start) (sym is) t
@@ -175,7 +168,7 @@ contents_step n size start c event answer after k h t (close_step e few a is) = 
 contents_step n size start c event answer after k h t (close_refused e many a is) = subst (ContentsKept n start) (sym is) t
 contents_step n size start c event answer after k h t (frame_step frame below e top step) = contents_frame n size start c frame below k h t top frame.phase answer after refl step
 contents_step n size start c event answer after k h t (frame_lacks e none a is) = subst (ContentsKept n start) (sym is) t
-contents_step n size start c event answer after k h t (end_step payload frame below number moment len e top phase kind slot a is) = contents_leaves n size start c frame below k h t top after (reserved number) (Some payload) phase (λ e'. cc) (leaves_record frame.kind (reserved number) moment len kind) is
+contents_step n size start c event answer after k h t (end_step payload frame below number moment len e top phase kind slot a is) = contents_leaves n size start c frame below k h t top after (reserved number) (Some payload) phase (λ e'. cc) is
 contents_step n size start c event answer after k h t (end_lacks payload e none a is) = subst (ContentsKept n start) (sym is) t
 contents_step n size start c event answer after k h t (end_early payload frame below e top none a is) = subst (ContentsKept n start) (sym is) t
 contents_step n size start c event answer after k h t (read_step e step) = contents_read n start c k t c.reader.phase answer after step

@@ -4,7 +4,7 @@ use Rattle.std.specs.Prelude.{◌==◌, IsTrue}
 use Rattle.std.proofs.lemmas.Bool.{cond_both}
 use Rattle.std.proofs.lemmas.List.Sums.{fold-append}
 use Rattle.trace_model.specs.History as history
-use Rattle.trace_model.specs.History.{Action, push, push_close, open_fill, reserve, leave, Reservation, record_frame, close_frame, Written, acted, written_by, reserved_records, is_settled}
+use Rattle.trace_model.specs.History.{Action, push, push_close, open_fill, reserve, leave, Reservation, Written, acted, written_by, reserved_records, is_settled}
 use Rattle.trace_model.specs.Frames.{Kind, for_record, for_close, Phase, reserving, looking, claiming, looking_next, marking, clearing, opening, reserved, releasing, Frame}
 use Rattle.trace_model.specs.Ring.{Taken, Core}
 use Rattle.trace_model.specs.Steps.{frames_left, number_in}
@@ -23,8 +23,8 @@ opened_stack h stack e = ap (λ (w : Written). w.stack) (written_snoc h open_fil
 pub left_stack : (h : List Action) (f : history.Frame) (stack : List history.Frame) (payload : Option (List ℕ)) → (written_by h).stack ≡ f ∷ stack → (written_by (h ++ leave payload ∷ [])).stack ≡ stack
 left_stack h f stack payload e = ap (λ (w : Written). w.stack) (written_snoc h (leave payload)) ∙ ap (λ (s : List history.Frame). (acted s (written_by h).records (leave payload)).stack) e
 
-pub reserved_stack : (h : List Action) (moment len : ℕ) (stack : List history.Frame) → (written_by h).stack ≡ record_frame moment len None ∷ stack
-    → (written_by (h ++ reserve ∷ [])).stack ≡ record_frame moment len (Some (length (reserved_records h))) ∷ stack
+pub reserved_stack : (h : List Action) (moment len : ℕ) (stack : List history.Frame) → (written_by h).stack ≡ history.record_frame moment len None ∷ stack
+    → (written_by (h ++ reserve ∷ [])).stack ≡ history.record_frame moment len (Some (length (reserved_records h))) ∷ stack
 reserved_stack h moment len stack e = ap (λ (w : Written). w.stack) (written_snoc h reserve) ∙ ap (λ (s : List history.Frame). (acted s (written_by h).records reserve).stack) e
 
 pub settled_at_rest : (h : List Action) → (written_by h).stack ≡ [] → IsTrue (is_settled h)
@@ -44,7 +44,7 @@ shown_standing kind (reserved number) below ne = refl
 shown_standing kind releasing below ne = absurd (ne refl)
 
 written_alike : (kind : Kind) (p q : Phase) → number_in p ≡ number_in q → written_frame kind p ≡ written_frame kind q
-written_alike (for_record moment len) p q e = ap (record_frame moment len) e
+written_alike (for_record moment len) p q e = ap (λ (x : Option ℕ). history.record_frame moment len x) e
 written_alike for_close p q e = refl
 
 pub shown_alike : (kind : Kind) (p q : Phase) (below : List history.Frame) → p ≢ releasing → q ≢ releasing → number_in p ≡ number_in q → shown_on p kind below ≡ shown_on q kind below

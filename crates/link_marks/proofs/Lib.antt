@@ -16,3 +16,4 @@ pub mod ClosedSteps
 pub mod Rings
 pub mod Parts
 pub mod PartSteps
+pub mod PartRuns

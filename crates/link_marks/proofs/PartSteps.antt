@@ -1,18 +1,18 @@
 -- Each step keeps the taken fills and the lost ones the parts of the records.
-use Rattle.std.proofs.Common.{◌≡◌, ℕ, suc, ◌+◌, ◌-◌, ◌<◌, ◌≤◌, List, [], ◌∷◌, ◌++◌, length, get_or, take, map, sym, ap, ◌∙◌, subst, arith, length-append, length-take-le, append_assoc}
+use Rattle.std.proofs.Common.{◌≡◌, ℕ, suc, ◌+◌, ◌-◌, ◌<◌, ◌≤◌, ⊎_elim, List, [], ◌∷◌, ◌++◌, length, get_or, take, map, Some, sym, ap, ◌∙◌, subst, arith, length-append, length-take-le, append_assoc}
 use Rattle.std.proofs.lemmas.List.{map-append, length-map}
 use Rattle.std.proofs.Math.ListN.{get_or-append}
 use Rattle.trace_model.specs.Record.{Record}
 use Rattle.trace_model.specs.History.{Action, Reservation, Frame, written_by, reserved_records, finished}
 use Rattle.trace_model.specs.Packing.{opens_of, fills_of}
-use Rattle.trace_model.specs.Partition.{Piece, IsPartition}
+use Rattle.trace_model.specs.Partition.{Piece, IsPartition, first_of}
 use Rattle.trace_model.specs.Ring.{Held, Taken, first_of_fill}
 use Rattle.link_marks.specs.KeptContents.{IsRising}
-use Rattle.link_marks.specs.KeptParts.{piece_of, pieces_of, PartsKept}
+use Rattle.link_marks.specs.KeptParts.{covered_by, piece_of, pieces_of, PartsKept}
 use Rattle.link_marks.proofs.Cuts.{opens_at, opens_more}
 use Rattle.link_marks.proofs.Committed.{Behind, committed_front, take_acted, committed_len, first_below}
 use Rattle.link_marks.proofs.ContentSteps.{records_snoc}
-use Rattle.link_marks.proofs.Parts.{partition_snoc, fill_behind, first_rises, take_split, take_map}
+use Rattle.link_marks.proofs.Parts.{first_old, first_new, covered_by-snoc, get_snoc, partition_snoc, fill_behind, first_rises, take_split, take_map}
 
 -- what is committed stays so, with one action more
 frozen : (h : List Action) (a : Action) (e : ℕ) → e ≤ committed_len h → take e (map finished (reserved_records (h ++ a ∷ []))) ≡ take e (map finished (reserved_records h))
@@ -35,6 +35,8 @@ pub parts_more : (start : ℕ) (h : List Action) (a : Action) (head expected : �
 parts_more start h a head expected taken low done p = record {
   expected_le = let le = p.expected_le in let e = first_stays h a (head - start) low in omega arith;
   parts = subst (λ (l : List Record). IsPartition l (pieces_of taken) []) (sym (frozen h a expected done)) p.parts;
+  total = p.total;
+  firsts = p.firsts;
 }
 
 -- the head is lost
@@ -43,6 +45,8 @@ parts_lost start h head expected taken from low r p = record {
   expected_le = let le = p.expected_le in let more = first_rises 0 (opens_of h) (length (reserved_records h)) (head - start) low r in
       let e = ap (λ (i : ℕ). get_or (0 ∷ opens_of h) i 0) (let s : (head + 1) - start ≡ suc (head - start) = omega arith in s) in omega arith;
   parts = p.parts;
+  total = p.total;
+  firsts = p.firsts;
 }
 
 -- the head is taken, with its first number and its records
@@ -73,4 +77,12 @@ parts_taken start h head expected taken from low r short t held skipped p =
       parts = subst (λ (l : List Piece). IsPartition (take (t.held.first + length t.held.records) rs) l []) (sym (map-append piece_of taken (t ∷ [])))
           (subst (λ (l : List Record). IsPartition l (pieces_of taken ++ piece_of t ∷ []) []) (sym whole)
           (partition_snoc (take expected rs) (pieces_of taken) lost (piece_of t) p.parts (size ∙ sym (skipped ∙ ap (λ (m : ℕ). m - expected) first_is))));
+      total = let e = ap covered_by (map-append piece_of taken (t ∷ [])) ∙ covered_by-snoc (pieces_of taken) (piece_of t) in let was = p.total in let le = p.expected_le in
+          let more = length-map t.held.records finished in omega arith;
+      firsts = λ j u at. ⊎_elim
+          (λ old. ap (λ (l : List Piece). first_of l j) (map-append piece_of taken (t ∷ [])) ∙ first_old 0 (pieces_of taken) (piece_of t) j u.held.first (p.firsts j u old))
+          (λ (last, same). ap (λ (l : List Piece). first_of l j) (map-append piece_of taken (t ∷ [])) ∙ ap (first_of (pieces_of taken ++ piece_of t ∷ [])) (last ∙ sym (length-map taken piece_of)) ∙ first_new 0 (pieces_of taken) (piece_of t)
+          ∙ ap Some (let was = p.total in let le = p.expected_le in let e : 0 + covered_by (pieces_of taken) + t.skipped ≡ t.held.first = omega arith in e)
+          ∙ ap (λ (x : Taken). Some x.held.first) same)
+          (get_snoc taken t u j at);
     }

@@ -1,8 +1,12 @@
 -- What the reader took and what was lost between parts the records, and stays so.
-use Rattle.std.proofs.Common.{◌≡◌, ℕ, zero, suc, ◌+◌, ◌-◌, ◌<◌, ◌≤◌, List, [], ◌∷◌, ◌++◌, length, get_or, take, drop, map, refl, sym, ap, ◌∙◌, arith, length-take-le, append_assoc, append-nil}
+use Rattle.std.proofs.Common.{◌≡◌, ℕ, zero, suc, ◌+◌, ◌-◌, ◌<◌, ◌≤◌, ◌⊎◌, inl, inr, ⊎_elim, List, [], ◌∷◌, ◌++◌, length, get_or, take, drop, map, Some, refl, sym, ap, ◌∙◌, arith, length-take-le, append_assoc, append-nil}
 use Rattle.trace_model.specs.Record.{Record}
 use Rattle.trace_model.specs.Packing.{cut_from}
-use Rattle.trace_model.specs.Partition.{Piece, IsPartition}
+use Rattle.trace_model.specs.Partition.{Piece, IsPartition, covered, first_from}
+use Rattle.trace_model.specs.Ring.{Taken}
+use Rattle.link_marks.specs.KeptParts.{covered_by}
+use Rattle.link_marks.proofs.Phases.{none_some}
+use Rattle.std.specs.List.{slice_get}
 use Rattle.link_marks.specs.KeptContents.{IsRising}
 
 -- one piece more behind the others, where there was no rest
@@ -68,3 +72,27 @@ pub take_map : {A B : Type 0} (f : A → B) (n : ℕ) (xs : List A) → take n (
 take_map f zero xs = refl
 take_map f (suc n) [] = refl
 take_map {B = B} f (suc n) (x ∷ xs) = ap (λ (l : List B). f x ∷ l) (take_map f n xs)
+
+-- ---- first numbers
+
+pub first_old : (number : ℕ) (pieces : List Piece) (q : Piece) (k f : ℕ) → first_from number pieces k ≡ Some f → first_from number (pieces ++ q ∷ []) k ≡ Some f
+first_old number [] q k f at = absurd (none_some at)
+first_old number (p ∷ pieces) q zero f at = at
+first_old number (p ∷ pieces) q (suc k) f at = first_old (number + covered p) pieces q k f at
+
+pub first_new : (number : ℕ) (pieces : List Piece) (q : Piece) → first_from number (pieces ++ q ∷ []) (length pieces) ≡ Some (number + covered_by pieces + q.skipped)
+first_new number [] q = ap Some (let e : number + q.skipped ≡ number + 0 + q.skipped = omega arith in e)
+first_new number (p ∷ pieces) q = first_new (number + covered p) pieces q ∙ ap Some (let e : number + covered p + covered_by pieces + q.skipped ≡ number + (covered p + covered_by pieces) + q.skipped = omega arith in e)
+
+pub covered_by-snoc : (pieces : List Piece) (q : Piece) → covered_by (pieces ++ q ∷ []) ≡ covered_by pieces + covered q
+covered_by-snoc [] q = let e : covered q + 0 ≡ 0 + covered q = omega arith in e
+covered_by-snoc (p ∷ pieces) q = let rest = covered_by-snoc pieces q in omega arith
+
+pub get_snoc : (xs : List Taken) (x y : Taken) (k : ℕ) → slice_get (xs ++ x ∷ []) k ≡ Some y → (slice_get xs k ≡ Some y) ⊎ ((k ≡ length xs) × (x ≡ y))
+get_snoc [] x y zero at = inr (refl, same_taken x y at)
+  where
+    same_taken : (a b : Taken) → Some a ≡ Some b → a ≡ b
+    same_taken a b e = cc
+get_snoc [] x y (suc k) at = absurd (none_some at)
+get_snoc (z ∷ xs) x y zero at = inl at
+get_snoc (z ∷ xs) x y (suc k) at = ⊎_elim (λ a. inl a) (λ (e, same). inr (ap suc e, same)) (get_snoc xs x y k at)

@@ -2,11 +2,12 @@
 use Rattle.std.proofs.Common.{◌≡◌, ℕ, zero, suc, ◌+◌, ◌-◌, ◌^◌, ◌<◌, ◌≤◌, ◌⊎◌, List, [], ◌∷◌, ◌++◌, length, get_or, take, drop, map, Some, refl, sym, ap, ◌∙◌, subst, inl, inr, arith}
 use Rattle.std.specs.List.{slice_get}
 use Rattle.std.proofs.lemmas.List.{take-append-drop, map-append}
+use Rattle.trace_model.specs.Record.{Record}
 use Rattle.trace_model.specs.History.{Action, Reservation, reserved_records, settled_front, finished, committed_records}
 use Rattle.trace_model.specs.Packing.{opens_of}
 use Rattle.trace_model.specs.Links.{Link}
 use Rattle.trace_model.specs.Frames.{Frame, moving_in}
-use Rattle.trace_model.specs.Ring.{Held, ReaderPhase, loading_link, loading_done, storing_link, swapping, Core, IsStart, AreApart, IsRing, IsBehindHead, told, moved, IsAtHead, marked, owed, Moves, IsMoved, IsSwapReady, IsTaken, IsFront, first_of_fill, page_at}
+use Rattle.trace_model.specs.Ring.{Held, ReaderPhase, loading_link, loading_done, storing_link, swapping, Reader, Core, IsStart, AreApart, IsRing, IsBehindHead, told, moved, IsAtHead, marked, owed, Moves, IsMoved, IsSwapReady, IsTaken, IsFront, first_of_fill, page_at}
 use Rattle.trace_model.specs.Steps.{Event, Answer, Step, Exchange, Run}
 use Rattle.link_marks.specs.Kept.{Stands, MoversDiffer, PhaseKept, FramesKept, LinkKept, is_normal, is_header, is_update, ReaderKept}
 use Rattle.link_marks.specs.KeptHistory.{Passing, WhyPassed}
@@ -19,6 +20,10 @@ use Rattle.link_marks.proofs.EachStep.{step_kept}
 use Rattle.link_marks.proofs.HistorySteps.{step_owed}
 use Rattle.link_marks.proofs.ContentSteps.{contents_step}
 use Rattle.link_marks.proofs.ClosedSteps.{closed_step}
+use Rattle.link_marks.proofs.PartRuns.{parts_step, settled}
+use Rattle.link_marks.proofs.Parts.{partition_rest, take_map}
+use Rattle.link_marks.specs.KeptParts.{PartsKept, pieces_of}
+use Rattle.trace_model.specs.Partition.{IsPartition}
 use Rattle.link_marks.proofs.Pages.{page_below}
 use Rattle.link_marks.proofs.Start.{start_kept, start_history}
 
@@ -55,6 +60,12 @@ frame_at n links order head done opened (x ∷ frames) (suc k) frame kept at = f
 
 -- ---- the ring
 
+shorter : (a b : ℕ) (xs : List Reservation) → a ≤ b → take a xs ≡ take a (take b xs)
+shorter zero b xs le = refl
+shorter (suc a) zero xs le = absurd (omega arith)
+shorter (suc a) (suc b) [] le = refl
+shorter (suc a) (suc b) (x ∷ xs) le = ap (λ (l : List Reservation). x ∷ l) (shorter a b xs (omega arith))
+
 module _ (n start : ℕ) (c : Core) (r : IsRingKept n start c) where
   behind_head : (f : ℕ) → c.head < f → f < c.head + n → IsBehindHead n c f
   behind_head f low high = by_link (r.links.each f (omega arith) high)
@@ -84,12 +95,6 @@ module _ (n start : ℕ) (c : Core) (r : IsRingKept n start c) where
             ∙ ap (map finished) (take-append-drop first (take base xs))
             ∙ k.agrees,
       )
-    where
-      shorter : (a b : ℕ) (xs : List Reservation) → a ≤ b → take a xs ≡ take a (take b xs)
-      shorter zero b xs le = refl
-      shorter (suc a) zero xs le = absurd (omega arith)
-      shorter (suc a) (suc b) [] le = refl
-      shorter (suc a) (suc b) (x ∷ xs) le = ap (λ (l : List Reservation). x ∷ l) (shorter a b xs (omega arith))
 
   why_lost : (f : ℕ) → WhyPassed n c.reader.taken c.opened c.frames f → IsTaken c f ⊎ (f + n ≤ c.opened)
   why_lost f (inl t) = inl t
@@ -124,6 +129,21 @@ module _ (n start : ℕ) (c : Core) (r : IsRingKept n start c) where
     ready = ready c.reader.phase r.links.reader;
   }
 
+-- The fills that the reader took, and the records lost between, part the committed records.
+pub taken_parts : (n start : ℕ) (c : Core) → IsRingKept n start c → (rest : List Record) × IsPartition (committed_records c.history) (pieces_of c.reader.taken) rest
+taken_parts n start c r =
+    let e : ℕ = c.reader.expected in
+    let base : ℕ = length (reserved_records (settled_front c.history)) in
+    let xs : List Reservation = reserved_records c.history in
+    let rest : List Record = map finished (drop e (take base xs)) in
+    let k = committed_front c.history in
+    let whole : take e (map finished xs) ++ rest ≡ committed_records c.history =
+    ap (λ (l : List Record). l ++ rest) (take_map finished e xs ∙ ap (map finished) (shorter e base xs (settled n start c r.links r.contents r.closed r.parts)))
+    ∙ sym (map-append finished (take e (take base xs)) (drop e (take base xs)))
+    ∙ ap (map finished) (take-append-drop e (take base xs))
+    ∙ k.agrees in
+    (rest, subst (λ (l : List Record). IsPartition l (pieces_of c.reader.taken) rest) whole (partition_rest (take e (map finished xs)) (pieces_of c.reader.taken) rest r.parts.parts))
+
 -- ---- steps and runs
 
 pub ring_step : (n size start : ℕ) (c : Core) (event : Event) (answer : Answer) (after : Core) → IsRingKept n start c → Step n size c event answer after → IsRingKept n start after
@@ -132,6 +152,7 @@ ring_step n size start c event answer after r step = record {
   history = (step_owed n size start c event answer after r.links r.history step).kept;
   contents = contents_step n size start c event answer after r.links r.history r.contents step;
   closed = closed_step n size start c event answer after r.links r.history r.contents r.closed step;
+  parts = parts_step n size start c event answer after r.links r.history r.contents r.closed r.parts step;
 }
 
 pub ring_run : (n size start : ℕ) (c after : Core) (exchanges : List Exchange) → IsRingKept n start c → Run n size c exchanges after → IsRingKept n start after
@@ -157,4 +178,5 @@ ring_start n start c some fits s = let links = start_kept n start c s some fits 
   contents = subst (λ (h : List Action). PagesKept n start c.order c.held (opens_of h) (reserved_records h) c.head c.opened) (sym s.history) (nothing_done n start c (omega arith) links.apart s);
   closed = subst (λ (h : List Action). first_of_fill h start c.done ≤ length (reserved_records (settled_front h))) (sym s.history)
       (subst (λ (i : ℕ). get_or (0 ∷ []) i 0 ≤ 0) (let e : 0 ≡ c.done - start = omega arith in e) (let z : 0 ≤ 0 = omega arith in z));
+  parts = subst (λ (x : Reader). PartsKept start c.history c.head x.expected x.taken) (sym s.reader) record { expected_le = omega arith; parts = refl; total = refl; firsts = λ k t at. absurd (none_some at) };
 }

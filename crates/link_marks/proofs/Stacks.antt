@@ -6,7 +6,7 @@ use Rattle.trace_model.specs.History.{Action, leave}
 use Rattle.trace_model.specs.Links.{Link}
 use Rattle.trace_model.specs.Frames.{Kind, for_record, for_close, Phase, reserving, releasing, Frame, moving_in}
 use Rattle.trace_model.specs.Ring.{Held, Core}
-use Rattle.trace_model.specs.Steps.{after_leave, begun_on, finished_in, number_in}
+use Rattle.trace_model.specs.Steps.{after_leave, begun_on, finished_in, record_of}
 use Rattle.link_marks.specs.Kept.{Stands, MoversDiffer, PhaseKept, FramesKept, LinkKept, is_normal, is_header, is_update, LinksKept}
 use Rattle.link_marks.proofs.Phases.{none_some, knows_reserving, knows_releasing}
 
@@ -64,13 +64,13 @@ module _ (n : ℕ) (c : Core) (frame : Frame) (below : List Frame) (k : LinksKep
 -- The frame on top owns no UPDATE, and leaves.
 pub leaves_kept : (n : ℕ) (c : Core) (frame : Frame) (below : List Frame) (payload : Option (List ℕ)) → LinksKept n c → c.frames ≡ frame ∷ below → moving_in frame.phase ≡ None → LinksKept n (after_leave c frame below payload)
 leaves_kept n c frame [] payload k top none =
-    let held : List Held = map (finished_in (number_in frame.phase) payload) c.held in let history : List Action = c.history ++ leave payload ∷ [] in
+    let held : List Held = map (finished_in (record_of frame.kind frame.phase) payload) c.held in let history : List Action = c.history ++ leave payload ∷ [] in
     let behind = k.done_lt in
     cond_both ((c.done + 1) == c.opened) [] (record { kind = frame.kind; phase = releasing } ∷ []) (λ (fs : List Frame). LinksKept n (record c { frames = fs; held = held; history = history }))
     (λ last. popped n c frame [] k top held history none)
     (λ more. let ne = eqb-false (c.done + 1) c.opened more in
     rephased n c frame [] k top releasing held history (knows_releasing n c.links c.order c.head c.done c.opened (omega arith)) (sym none))
-leaves_kept n c frame (next ∷ below) payload k top none = popped n c frame (next ∷ below) k top (map (finished_in (number_in frame.phase) payload) c.held) (c.history ++ leave payload ∷ []) none
+leaves_kept n c frame (next ∷ below) payload k top none = popped n c frame (next ∷ below) k top (map (finished_in (record_of frame.kind frame.phase) payload) c.held) (c.history ++ leave payload ∷ []) none
 
 -- A fill was begun by another frame: the one on top tries again, or leaves.
 pub begun_on_kept : (n : ℕ) (c : Core) (kind : Kind) (frame : Frame) (below : List Frame) → LinksKept n c → c.frames ≡ frame ∷ below → moving_in frame.phase ≡ None → LinksKept n (begun_on kind c frame below)

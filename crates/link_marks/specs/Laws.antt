@@ -1,8 +1,12 @@
 -- The laws of the ring, as statements: each is the contract of a function of src/laws.rt.
-use Rattle.std.specs.Prelude.{◌≡◌, ℕ, ◌+◌, ◌^◌, ◌≤◌, ◌⊎◌, List}
+use Rattle.std.specs.Prelude.{◌≡◌, ℕ, ◌+◌, ◌^◌, ◌≤◌, ◌⊎◌, List, length, map, take}
 use Rattle.trace_model.specs.Ring.{Core, IsStart, IsRing, window_of}
 use Rattle.trace_model.specs.Window.{first_window, Happening, WindowStep}
 use Rattle.trace_model.specs.Steps.{Event, Answer, Step, Exchange, Run}
+use Rattle.trace_model.specs.Record.{Record}
+use Rattle.trace_model.specs.History.{Action, reserved_records, settled_front, finished, committed_records}
+use Rattle.trace_model.specs.Partition.{IsPartition}
+use Rattle.link_marks.specs.KeptParts.{pieces_of, HaveFirsts}
 use Rattle.link_marks.specs.RingKept.{IsRingKept}
 
 -- a new ring of 2 places or more, whose first fill leaves room for a round of fill numbers, has what every
@@ -25,6 +29,16 @@ KeptIsRing = (n start : ℕ) (c : Core) → IsRingKept n start c → IsRing n st
 -- so the state is a ring after every run of steps from a new ring
 abbrev pub RunsMakeRings : Type 0
 RunsMakeRings = (n size start : ℕ) (c after : Core) (exchanges : List Exchange) → 2 ≤ n → start + 1 + n ≤ 2 ^ 48 → IsStart n start c → Run n size c exchanges after → IsRing n start after
+
+-- after every run, the fills that the reader took are, with the records that were lost between, the committed
+-- records up to a rest; and each has as its first number the count of all records in front of it
+abbrev pub TakenPartsCommitted : Type 0
+TakenPartsCommitted = (n size start : ℕ) (c after : Core) (exchanges : List Exchange) → 2 ≤ n → start + 1 + n ≤ 2 ^ 48 → IsStart n start c → Run n size c exchanges after
+    → ((rest : List Record) × IsPartition (committed_records after.history) (pieces_of after.reader.taken) rest) × HaveFirsts after.reader.taken
+
+-- whatever the frames did, the committed records are the first ones that were reserved, as they are by now
+abbrev pub CommittedIsFront : Type 0
+CommittedIsFront = (history : List Action) → map finished (take (length (reserved_records (settled_front history))) (reserved_records history)) ≡ committed_records history
 
 -- every step leaves the window as it was, or is one step of it: a fill is begun where a place is free; or the
 -- oldest begun one is closed, where each push has its leave; or the head is taken, closed; or the head is

@@ -4,6 +4,7 @@ use Rattle.trace_model.specs.Ring.{Core}
 use Rattle.link_marks.specs.Kept.{LinksKept}
 use Rattle.link_marks.specs.KeptHistory.{HistoryKept}
 use Rattle.link_marks.specs.KeptContents.{ContentsKept, ClosedKept}
+use Rattle.link_marks.specs.KeptParts.{PartsOf}
 
 -- n places; the first fill has the number start
 pub record IsRingKept (n start : ℕ) (c : Core) : Type 0 where
@@ -11,3 +12,4 @@ pub record IsRingKept (n start : ℕ) (c : Core) : Type 0 where
   pub history : HistoryKept n start c
   pub contents : ContentsKept n start c
   pub closed : ClosedKept start c
+  pub parts : PartsOf start c

@@ -1,5 +1,5 @@
 //! The laws of the ring: each is the contract of a function with an empty body.
-ghost use Rattle.link_marks.specs.Laws.{KeptIsRing, RunsMakeRings, StartHasWindow, StartIsKept, StepsKeepRing, StepsMoveWindow};
+ghost use Rattle.link_marks.specs.Laws.{CommittedIsFront, KeptIsRing, RunsMakeRings, StartHasWindow, StartIsKept, StepsKeepRing, StepsMoveWindow, TakenPartsCommitted};
 
 /// A new ring has all that its steps keep, and its window is the first one.
 pub fn start_is_kept()
@@ -18,4 +18,11 @@ pub fn steps_keep_ring()
 /// none is lost but a closed one, in a full ring.
 pub fn steps_move_window()
     ensures window { StepsMoveWindow }
+{}
+
+/// The committed records are a front of the reserved ones; and after every run the fills that the reader
+/// took, with the records lost between, part them.
+pub fn taken_parts_committed()
+    ensures front { CommittedIsFront }
+    ensures parts { TakenPartsCommitted }
 {}

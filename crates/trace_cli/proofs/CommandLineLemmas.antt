@@ -1,4 +1,4 @@
--- What the program's command line is on words: of any kind, and on the two words of a replay.
+-- What the program's command line is on words: of any kind, and on the two words of a replay or a dump.
 use Rattle.std.proofs.Common.{◌≡◌, List, ◌∷◌, [], Option, Some, None, ℕ, codes, true, refl, ap, ◌∙◌}
 use Rattle.std.specs.Box.{box_value}
 use Rattle.std.specs.Option.{option_map}
@@ -15,6 +15,14 @@ replay_is_taken first = refl
 pub replay_is_named : (first : List ℕ) → names_command (first ∷ codes "replay" ∷ []) ≡ Some (codes "replay")
 unfolding clap_on_literals names_command
 replay_is_named first = refl
+
+pub dump_is_taken : (first : List ℕ) → takes command_line (first ∷ codes "dump" ∷ []) ≡ true
+unfolding clap_on_literals
+dump_is_taken first = refl
+
+pub dump_is_named : (first : List ℕ) → names_command (first ∷ codes "dump" ∷ []) ≡ Some (codes "dump")
+unfolding clap_on_literals names_command
+dump_is_named first = refl
 
 -- the matches of the command line have the name of the command that the words name
 pub name_of_matches : (app : App) (words : List Text) (m : ArgMatches) → app ≡ command_line → HasMatchesOf app words m → subcommand_name_of m ≡ names_command words

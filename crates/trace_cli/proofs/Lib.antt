@@ -15,3 +15,4 @@ pub mod PagesKept
 pub mod Runs
 pub mod Contracts
 pub mod SoFar
+pub mod ImageFaultLemmas

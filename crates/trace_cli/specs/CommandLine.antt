@@ -7,9 +7,9 @@ use Rattle.clap.specs.declared.error.ErrorKind.TheVariants.{OutOfMemory}
 use Rattle.trace_cli.specs.declared.words.CallFault.{CallFault}
 use Rattle.trace_cli.specs.declared.words.CallFault.TheVariants.{Usage, NoMemory}
 
--- the program's one command, without arguments
+-- the program's two commands, without arguments
 abbrev pub command_line : App
-command_line = with_subcommand (new_app (codes "tracering")) (new_app (codes "replay")).top
+command_line = with_subcommand (with_subcommand (new_app (codes "tracering")) (new_app (codes "replay")).top) (new_app (codes "dump")).top
 
 -- the command that the words name
 unfoldable pub names_command : List Text → Option Text

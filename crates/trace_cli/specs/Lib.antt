@@ -5,6 +5,7 @@ pub mod Told
 pub mod Commands
 pub mod CommandLine
 pub mod ScriptFaults
+pub mod ImageFaults
 pub mod ScriptFields
 pub mod ScriptTypes
 pub mod Collected

@@ -1,10 +1,13 @@
-//! The program `tracering`: replays scripts of writers, readers and collectors of a trace ring.
+//! The program `tracering`: replays scripts of writers, readers and collectors of a trace ring, and
+//! prints page images.
 #![tactic(auto)]
 
 pub mod answer;
 pub mod command;
 pub mod commands;
+pub mod dump;
 pub mod ends;
+pub mod image_printer;
 pub mod input;
 pub mod output;
 pub mod page_write;
@@ -19,6 +22,7 @@ pub mod words;
 
 use crate::command::tell_no_memory;
 use crate::commands::replay_to;
+use crate::dump::dump_to;
 use crate::ends::Std;
 use crate::status::USAGE;
 use crate::words::{Call, CallFault, call_of};
@@ -48,9 +52,10 @@ fn main(rt: HostRuntime) -> ExitCode {
     let mut output = Std::new(rt.stdout());
     let status = match given_call(&rt) {
         Ok(Call::Replay) => replay_to(rt.alloc(), &mut input, &mut output),
+        Ok(Call::Dump) => dump_to(rt.alloc(), &mut input, &mut output),
         Err(CallFault::NoMemory) => tell_no_memory(&mut output),
         Err(CallFault::Usage) => {
-            let _ = eprintln!(rt; "usage: tracering replay");
+            let _ = eprintln!(rt; "usage: tracering replay | dump");
             USAGE
         }
     };

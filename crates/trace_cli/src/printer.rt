@@ -28,7 +28,8 @@ fn hex_digit(number: u8) -> u8
 
 // On an error these may leave a part of what they put, in a text that the caller drops.
 
-fn put_number(out: &mut Vec<u8>, number: u64) -> Result<(), NoMemory>
+/// Puts the number in decimal.
+pub fn put_number(out: &mut Vec<u8>, number: u64) -> Result<(), NoMemory>
     ensures { OnOk result (out.new.items ≡ out.old.items ++ decimal number) }
 {
     let mut buffer = Buffer::new();
@@ -36,7 +37,8 @@ fn put_number(out: &mut Vec<u8>, number: u64) -> Result<(), NoMemory>
     Ok(())
 }
 
-fn put_payload(out: &mut Vec<u8>, payload: &[u8]) -> Result<(), NoMemory>
+/// Puts the payload in lower-case hexadecimal, `-` if it is empty.
+pub fn put_payload(out: &mut Vec<u8>, payload: &[u8]) -> Result<(), NoMemory>
     ensures { OnOk result (out.new.items ≡ out.old.items ++ hex_text payload.now) }
 {
     if payload.is_empty() {

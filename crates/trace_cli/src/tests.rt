@@ -1,5 +1,6 @@
 //! Commands over ends in memory that fail, that never end, or that move one byte a call; and command
 //! lines.
+mod images;
 mod worked;
 
 use crate::answer::Answer;
@@ -174,10 +175,11 @@ fn no_memory_for_an_answer(rt: HostRuntime) {
 fn command_lines(rt: HostRuntime) -> Result<(), Fail> {
     let alloc = rt.alloc();
     assert_eq!(rt; call_of(alloc, &["tracering", "replay"]), Ok(Call::Replay));
+    assert_eq!(rt; call_of(alloc, &["tracering", "dump"]), Ok(Call::Dump));
     let refused = [
         ["tracering", ""],
         ["tracering", "run"],
-        ["tracering", "dump"],
+        ["tracering", "Dump"],
         ["tracering", "help"],
         ["tracering", "--help"],
         ["tracering", "--version"],

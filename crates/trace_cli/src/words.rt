@@ -14,6 +14,8 @@ use std::convert::AsStr;
 pub enum Call {
     /// `tracering replay`.
     Replay,
+    /// `tracering dump`.
+    Dump,
 }
 
 /// Why the command line asks for nothing.
@@ -48,20 +50,30 @@ impl From<Error> for CallFault {
 pub fn call_of<S: AsStr>(alloc: Global, words: &[S]) -> Result<Call, CallFault>
     // Memory aside, the answer is the parse's.
     ensures taken { result ≡ Ok Call.Replay → names_command (map S.text words.now) ≡ Some (codes "replay") }
+    ensures taken_dump { result ≡ Ok Call.Dump → names_command (map S.text words.now) ≡ Some (codes "dump") }
     ensures refused { result ≡ Err CallFault.Usage
         → takes command_line (map S.text words.now) ≡ true
         → names_command (map S.text words.now) ≢ Some (codes "replay") }
+    ensures refused_dump { result ≡ Err CallFault.Usage
+        → takes command_line (map S.text words.now) ≡ true
+        → names_command (map S.text words.now) ≢ Some (codes "dump") }
 
     // Such as the two words of the program and its command.
     ensures replay { (first : List ℕ) → map S.text words.now ≡ first ∷ codes "replay" ∷ []
         → result ≢ Err CallFault.Usage }
+    ensures dump { (first : List ℕ) → map S.text words.now ≡ first ∷ codes "dump" ∷ []
+        → result ≢ Err CallFault.Usage }
 {
     let replay = Command::new(alloc, "replay");
+    let dump = Command::new(alloc, "dump");
     let bare = Command::new(alloc, "tracering");
-    let program = bare.subcommand(replay)?;
+    let first = bare.subcommand(replay)?;
+    let program = first.subcommand(dump)?;
     let matches = program.try_get_matches_from(words)?;
     if matches.subcommand_matches("replay").is_some() {
         Ok(Call::Replay)
+    } else if matches.subcommand_matches("dump").is_some() {
+        Ok(Call::Dump)
     } else {
         Err(CallFault::Usage)
     }

@@ -25,3 +25,4 @@ pub mod ImageParts
 pub mod Images
 pub mod ScriptTable
 pub mod ScriptWrites
+pub mod Joined

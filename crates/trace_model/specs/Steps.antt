@@ -3,7 +3,7 @@
 -- rb_get_reader_page, rb_head_page_replace) and docs/FORMATS.md, "Writer frames" and "The reader". A step
 -- reads or writes one word of the ring at most, with what goes with it in the frame or in the reader.
 use Rattle.std.specs.Prelude.{◌≡◌, ◌≢◌, ℕ, suc, ◌+◌, ◌-◌, ◌%◌, ◌^◌, ◌<◌, ◌≤◌, ◌⊎◌, true, if◌then◌else◌, ◌==◌, nat_lt, List, [], ◌∷◌, ◌++◌, length, map, Option, Some, None, slice_index_or, slice_set}
-use Rattle.trace_model.specs.Words.{slot_len, encoded_len}
+use Rattle.trace_model.specs.Words.{encoded_len}
 use Rattle.trace_model.specs.History.{Action, push, push_close, open_fill, reserve, leave, Reservation, reserved_for, reserved_records, finished_at}
 use Rattle.trace_model.specs.Packing.{FitsBehind}
 use Rattle.trace_model.specs.Links.{Link, normal_link, header_link, update_link}
@@ -89,9 +89,14 @@ number_in (opening o page) = None
 number_in (reserved number) = Some number
 number_in releasing = None
 
+-- the number of the record that a frame leaves behind
+abbrev pub record_of : Kind → Phase → Option ℕ
+record_of (for_record moment len) phase = number_in phase
+record_of for_close phase = None
+
 abbrev pub after_leave : Core → Frame → List Frame → Option (List ℕ) → Core
 after_leave c frame below payload =
-    record c { frames = frames_left c frame below; history = c.history ++ leave payload ∷ []; held = map (finished_in (number_in frame.phase) payload) c.held }
+    record c { frames = frames_left c frame below; history = c.history ++ leave payload ∷ []; held = map (finished_in (record_of frame.kind frame.phase) payload) c.held }
 
 -- A page was begun by this frame or by another: a record frame tries again, a close frame has what it
 -- wanted and leaves.
@@ -286,7 +291,7 @@ pub data Step (n size : ℕ) (c : Core) (event : Event) (answer : Answer) (after
   frame_step : (frame : Frame) (below : List Frame) → event ≡ steps → c.frames ≡ frame ∷ below → FrameStep n size c frame below frame.phase answer after → Step n size c event answer after
   frame_lacks : event ≡ steps → c.frames ≡ [] → answer ≡ refused no_frame → after ≡ c → Step n size c event answer after
   end_step : (payload : List ℕ) (frame : Frame) (below : List Frame) (number moment len : ℕ) → event ≡ ends payload → c.frames ≡ frame ∷ below → frame.phase ≡ reserved number → frame.kind ≡ for_record moment len
-      → slot_len (length payload) ≡ slot_len len → answer ≡ ended_answer below → after ≡ after_leave c frame below (Some payload)
+      → length payload ≡ len → answer ≡ ended_answer below → after ≡ after_leave c frame below (Some payload)
       → Step n size c event answer after
   end_lacks : (payload : List ℕ) → event ≡ ends payload → c.frames ≡ [] → answer ≡ refused no_frame → after ≡ c → Step n size c event answer after
   end_early : (payload : List ℕ) (frame : Frame) (below : List Frame) → event ≡ ends payload → c.frames ≡ frame ∷ below → number_in frame.phase ≡ None → answer ≡ refused not_reserved → after ≡ c → Step n size c event answer after

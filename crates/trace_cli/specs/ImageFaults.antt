@@ -1,0 +1,23 @@
+-- How the faults of an image's reader are told, in the words of trace_model.
+use Rattle.std.specs.Prelude.{ℕ, List, []}
+use Rattle.trace_model.specs.Faults.{cut, bad_length, time_overflow}
+use Rattle.trace_model.specs.Image.{too_short, bad_size, bad_count, bad_word}
+use Rattle.trace_model.specs.Printing.{image_fault_text}
+use Rattle.record_words.specs.declared.next.WordFault.{WordFault}
+use Rattle.record_words.specs.declared.next.WordFault.TheVariants.{Cut, BadLength, TimeOverflow}
+use Rattle.page_image.specs.declared.image.ImageFault.{ImageFault}
+use Rattle.page_image.specs.declared.image.ImageFault.TheVariants.{TooShort, BadSize, BadCount, Word, NoMemory}
+
+-- the text of a word's fault
+abbrev pub word_fault_text : WordFault → List ℕ
+word_fault_text (Cut at) = image_fault_text (bad_word cut at)
+word_fault_text (BadLength at) = image_fault_text (bad_word bad_length at)
+word_fault_text (TimeOverflow at) = image_fault_text (bad_word time_overflow at)
+
+-- How a fault is told, what stands around it aside. Want of memory is no fault of the image, and isn't told so.
+abbrev pub told_image_fault : ImageFault → List ℕ
+told_image_fault TooShort = image_fault_text too_short
+told_image_fault BadSize = image_fault_text bad_size
+told_image_fault BadCount = image_fault_text bad_count
+told_image_fault (Word fault) = word_fault_text fault
+told_image_fault NoMemory = []

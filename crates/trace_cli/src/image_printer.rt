@@ -1,0 +1,112 @@
+//! The printing of a page image.
+ghost use Rattle.std.specs.Prelude.{◌≡◌, ◌≢◌, ◌∷◌, ◌++◌, [], OnOk, IfOk, codes, flat_map};
+ghost use Rattle.std.specs.Fmt.{decimal};
+ghost use Rattle.trace_model.specs.Printing.{missed_text, printed_image, printed_image_record};
+ghost use Rattle.page_image.specs.Contents.{IsPage, records_of_page};
+ghost use Rattle.page_image.specs.Copies.{copies_of, copy_of};
+ghost use Rattle.page_image.specs.Images.{missed_of};
+ghost use Rattle.trace_cli.specs.ImageFaults.{told_image_fault, word_fault_text};
+
+use crate::printer::{put_number, put_payload};
+use page_image::{Image, ImageFault, Missed};
+use record_words::WordFault;
+use std::alloc::Global;
+use trace_model::NoMemory;
+
+// On an error these may leave a part of what they put, in a text that the caller drops.
+
+fn put_missed(out: &mut Vec<u8>, missed: Missed) -> Result<(), NoMemory>
+    ensures { OnOk result (out.new.items ≡ out.old.items ++ missed_text (missed_of missed)) }
+{
+    match missed {
+        Missed::None => out.extend_from_slice(b"none")?,
+        Missed::Unknown => out.extend_from_slice(b"unknown")?,
+        Missed::Count(events) => put_number(out, events)?,
+    }
+    Ok(())
+}
+
+/// The line of a record as it was copied out of its page.
+fn put_copied(out: &mut Vec<u8>, copied: &(u64, Vec<u8>)) -> Result<(), NoMemory>
+    ensures { OnOk result (out.new.items ≡ out.old.items ++ printed_image_record (copy_of copied.now)) }
+{
+    let (moment, payload) = copied;
+    put_number(out, *moment)?;
+    out.push(b' ')?;
+    put_payload(out, payload)?;
+    out.push(b'\n')?;
+    Ok(())
+}
+
+fn put_copies(out: &mut Vec<u8>, copies: &[(u64, Vec<u8>)]) -> Result<(), NoMemory>
+    ensures { OnOk result (out.new.items ≡ out.old.items ++ flat_map printed_image_record (copies_of copies.now)) }
+{
+    for copied in copies {
+        put_copied(out, copied)?;
+    }
+    Ok(())
+}
+
+/// The text of this image: its head line, and a line for each record.
+pub fn print_image(alloc: Global, image: &Image) -> Result<Vec<u8>, NoMemory>
+    requires { IsPage image.now.page }
+    ensures { IfOk result (λ text. text.items ≡ printed_image image.now.time image.now.size (missed_of image.now.missed) (records_of_page image.now.page)) }
+{
+    let copies = image.page.copied(alloc)?;
+    let mut text = Vec::from_slice(alloc, b"page ")?;
+    put_number(&mut text, image.time)?;
+    text.extend_from_slice(b" size ")?;
+    put_number(&mut text, image.size as u64)?;
+    text.extend_from_slice(b" missed ")?;
+    put_missed(&mut text, image.missed)?;
+    text.push(b'\n')?;
+    put_copies(&mut text, copies.as_slice())?;
+    Ok(text)
+}
+
+/// What is wrong, and the offset of the word where it is.
+fn put_placed(out: &mut Vec<u8>, name: &[u8], at: usize) -> Result<(), NoMemory>
+    ensures { OnOk result (out.new.items ≡ out.old.items ++ (name.now ++ codes " at " ++ decimal at)) }
+{
+    out.extend_from_slice(name)?;
+    out.extend_from_slice(b" at ")?;
+    put_number(out, at as u64)?;
+    Ok(())
+}
+
+fn put_word_fault(out: &mut Vec<u8>, fault: WordFault) -> Result<(), NoMemory>
+    ensures { OnOk result (out.new.items ≡ out.old.items ++ word_fault_text fault) }
+{
+    match fault {
+        WordFault::Cut(at) => put_placed(out, b"Cut", at)?,
+        WordFault::BadLength(at) => put_placed(out, b"BadLength", at)?,
+        WordFault::TimeOverflow(at) => put_placed(out, b"TimeOverflow", at)?,
+    }
+    Ok(())
+}
+
+/// What is wrong with an image. Want of memory isn't, and gives `NoMemory`.
+fn put_image_fault(out: &mut Vec<u8>, fault: ImageFault) -> Result<(), NoMemory>
+    ensures told { OnOk result (out.new.items ≡ out.old.items ++ told_image_fault fault) }
+    ensures no_memory { OnOk result (fault ≢ ImageFault.NoMemory) }
+{
+    match fault {
+        ImageFault::TooShort => out.extend_from_slice(b"TooShort")?,
+        ImageFault::BadSize => out.extend_from_slice(b"BadSize")?,
+        ImageFault::BadCount => out.extend_from_slice(b"BadCount")?,
+        ImageFault::Word(fault) => put_word_fault(out, fault)?,
+        ImageFault::NoMemory => return Err(NoMemory),
+    }
+    Ok(())
+}
+
+/// The line that tells an image's fault. Want of memory has none, and gives `NoMemory`.
+pub fn print_image_fault(alloc: Global, fault: ImageFault) -> Result<Vec<u8>, NoMemory>
+    ensures told { IfOk result (λ line. line.items ≡ codes "image: " ++ told_image_fault fault ++ 10 ∷ []) }
+    ensures no_memory { IfOk result (λ line. fault ≢ ImageFault.NoMemory) }
+{
+    let mut line = Vec::from_slice(alloc, b"image: ")?;
+    put_image_fault(&mut line, fault)?;
+    line.push(b'\n')?;
+    Ok(line)
+}
