@@ -1,5 +1,5 @@
 //! Laws over the definitions, as contracts of functions with empty bodies.
-ghost use Rattle.std.specs.Prelude.{◌≡◌, ℕ, ◌+◌, ◌^◌, ◌<◌, ◌≤◌, ◌⊎◌, ◌↔◌, List, flat_map, length, Ok, Err, All, EachIndex, slice_index, decimal};
+ghost use Rattle.std.specs.Prelude.{◌≡◌, ◌++◌, ℕ, ◌+◌, ◌^◌, ◌<◌, ◌≤◌, ◌⊎◌, ◌↔◌, List, flat_map, length, Ok, Err, All, EachIndex, slice_index, decimal};
 ghost use Rattle.trace_model.specs.Faults.{Cause, IsWordFault, HasWord, HasEnding, HasFault};
 ghost use Rattle.trace_model.specs.FirstFault.{AreBytes, FirstFault};
 ghost use Rattle.trace_model.specs.Image.{Missed, DecodesImage, ImageCause, FirstImageFault, image_of, missed_told};
@@ -16,6 +16,8 @@ ghost use Rattle.trace_model.specs.Words.{Decodes};
 ghost use Rattle.trace_model.specs.Replay.{Answered, TakesPieces, commands_of, history_of_lines, records_taken};
 ghost use Rattle.trace_model.specs.Sublist.{IsFront, IsSublist};
 ghost use Rattle.trace_model.specs.Pieces.{HasPieces};
+ghost use Rattle.trace_model.specs.Parcel.{Parcel};
+ghost use Rattle.trace_model.specs.Collection.{IsLeastUpperBound};
 
 /// A payload that fills its slot takes just the bytes that the writer reckons with.
 pub fn encoding_len()
@@ -211,4 +213,9 @@ pub fn command_reads_back()
 /// A script within its limits has a text, which reads back as the script.
 pub fn script_reads_back()
     ensures { (script : Script) → IsWritable script → ParsesScript (script_text script) script }
+{}
+
+/// What two lists of parcels have and miss together is the least collection above both.
+pub fn joined_is_least()
+    ensures least { (parcels others : List Parcel) → IsLeastUpperBound parcels others (parcels ++ others) }
 {}

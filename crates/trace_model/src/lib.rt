@@ -4,7 +4,6 @@
 //! the functions of `laws`.
 #![tactic(auto)]
 
-pub mod collection_laws;
 pub mod laws;
 pub mod limits;
 pub mod numbers;
