@@ -1,9 +1,4 @@
 pub mod CommandLineLemmas
-pub mod TextParts
-pub mod FieldLemmas
-pub mod ValueLemmas
-pub mod HexText
-pub mod ScriptLemmas
 pub mod Rising
 pub mod Deliveries
 pub mod Lines

@@ -3,11 +3,11 @@ use Rattle.std.proofs.Common.{◌≡◌, ℕ, ◌+◌, ◌<◌, ◌≤◌, List,
 use Rattle.std.proofs.lemmas.List.{map_push, take_more, take_all, get_or-map, length-map, length-take-le}
 use Rattle.trace_model.specs.Script.{Command}
 use Rattle.trace_model.specs.Replay.{Taking, Answered, takings_of, commands_of}
-use Rattle.trace_cli.specs.declared.script.Script.{Script}
-use Rattle.trace_cli.specs.declared.script.ScriptLine.{ScriptLine}
+use Rattle.trace_script.specs.declared.script.Script.{Script}
+use Rattle.trace_script.specs.declared.script.ScriptLine.{ScriptLine}
 use Rattle.trace_cli.specs.declared.plain_collector.Held.{Held}
 use Rattle.trace_cli.specs.declared.replay.Run.{Run}
-use Rattle.trace_cli.specs.ScriptTypes.{shown_command, shown_line, script_of}
+use Rattle.trace_script.specs.ScriptTypes.{shown_command, shown_line, script_of}
 use Rattle.trace_cli.specs.PlainRun.{obeyed}
 use Rattle.trace_cli.specs.Collected.{collected_of}
 use Rattle.trace_model.specs.Replay.{IsUncountedReplay}

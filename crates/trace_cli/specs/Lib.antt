@@ -4,10 +4,7 @@ pub mod Answer
 pub mod Told
 pub mod Commands
 pub mod CommandLine
-pub mod ScriptFaults
 pub mod ImageFaults
-pub mod ScriptFields
-pub mod ScriptTypes
 pub mod Collected
 pub mod PlainPages
 pub mod PlainInside

@@ -7,8 +7,8 @@ ghost use Rattle.trace_model.specs.Replay.{IsUncountedReplay};
 ghost use Rattle.trace_model.specs.Printing.{printed_world};
 ghost use Rattle.trace_cli.specs.Answer.{bytes_of, status_of};
 ghost use Rattle.trace_cli.specs.Commands.{ReplayGives};
-ghost use Rattle.trace_cli.specs.ScriptFaults.{script_fault_text};
-ghost use Rattle.trace_cli.specs.ScriptTypes.{script_of};
+ghost use Rattle.trace_script.specs.ScriptFaults.{script_fault_text};
+ghost use Rattle.trace_script.specs.ScriptTypes.{script_of};
 ghost use Rattle.trace_cli.specs.Told.{TakesAtMost, TakesMoreThan, TellsAnswer, TellsPart};
 
 use crate::answer::Answer;
@@ -16,10 +16,10 @@ use crate::command::{Answers, MEMORY_LINE, answer_to};
 use crate::ends::{Sink, Source};
 use crate::printer::print_collector;
 use crate::replay::replay;
-use crate::script::{Script, ScriptFault, read_script};
 use crate::status::{DONE, END_FAILED, NO_MEMORY, REFUSED};
 use std::alloc::Global;
 use trace_model::{CpuId, MAX_INPUT, NoMemory};
+use trace_script::{Script, ScriptFault, read_script};
 
 /// The printing of what the replay of a script leaves.
 fn replayed(alloc: Global, script: &Script) -> Result<Vec<u8>, NoMemory>

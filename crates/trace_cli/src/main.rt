@@ -15,7 +15,6 @@ pub mod plain_collector;
 pub mod plain_list;
 pub mod printer;
 pub mod replay;
-pub mod script;
 pub mod status;
 pub mod taken;
 pub mod words;

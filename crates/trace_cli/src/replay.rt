@@ -6,13 +6,13 @@ ghost use Rattle.trace_model.specs.declared.limits.TheConstants.{MIN_PAGES, MIN_
 ghost use Rattle.trace_cli.specs.Collected.{collected_of};
 ghost use Rattle.trace_cli.specs.PlainPages.{tail_fill, records_left};
 ghost use Rattle.trace_cli.specs.PlainRun.{obeyed};
-ghost use Rattle.trace_cli.specs.ScriptTypes.{shown_command, script_of};
+ghost use Rattle.trace_script.specs.ScriptTypes.{shown_command, script_of};
 
 use crate::plain_collector::PlainCollector;
 use crate::plain_list::{PlainList, WriteFault};
-use crate::script::{Command, Script};
 use std::alloc::Global;
 use trace_model::NoMemory;
+use trace_script::{Command, Script};
 
 /// The pages of the script's CPU, and what its collector has, while the script is replayed.
 #[derive(Drop)]

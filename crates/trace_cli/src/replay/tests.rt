@@ -1,9 +1,9 @@
 use crate::printer::print_collector;
 use crate::replay::replay;
-use crate::script::{Command, Script, ScriptLine};
 use std::alloc::Global;
 use std::test::Fail;
 use trace_model::{CpuId, FillNo, Moment};
+use trace_script::{Command, Script, ScriptLine};
 
 const CPU: CpuId = CpuId(0);
 

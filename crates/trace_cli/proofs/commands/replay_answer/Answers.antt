@@ -1,5 +1,5 @@
 use Rattle.trace_model.proofs.ParsedLimits.{ParsesScript-within}
-use Rattle.trace_cli.specs.ScriptTypes.{script_of}
+use Rattle.trace_script.specs.ScriptTypes.{script_of}
 use Rattle.trace_cli.proofs.commands.replay_answer.Goals as goal
 
 pub replayed-requires : goal.replayed-requires

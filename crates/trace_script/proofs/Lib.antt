@@ -1,0 +1,5 @@
+pub mod TextParts
+pub mod FieldLemmas
+pub mod ValueLemmas
+pub mod HexText
+pub mod ScriptLemmas

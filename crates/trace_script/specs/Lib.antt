@@ -1,0 +1,3 @@
+pub mod ScriptFaults
+pub mod ScriptFields
+pub mod ScriptTypes

@@ -1,0 +1,70 @@
+-- What the script's reader says of a fault, in the words of trace_model.
+use Rattle.std.specs.Prelude.{◌≡◌, ℕ, ⊤, List, codes, Result, Ok, Err}
+use Rattle.hex.specs.declared.error.FromHexError.{FromHexError}
+use Rattle.hex.specs.declared.error.FromHexError.TheVariants.{OutOfMemory}
+use Rattle.trace_model.specs.Script as model
+use Rattle.trace_model.specs.Script.{FirstScriptFault, bad_line, bad_number, bad_hex, out_of_range, fault_text}
+use Rattle.trace_script.specs.declared.fault.LineFault.{LineFault}
+use Rattle.trace_script.specs.declared.fault.LineFault.TheVariants as line
+use Rattle.trace_script.specs.declared.fault.ScriptFault.{ScriptFault}
+use Rattle.trace_script.specs.declared.fault.ScriptFault.TheVariants as script
+
+-- what it means that a payload is refused
+abbrev pub hex_fault : FromHexError → LineFault
+hex_fault OutOfMemory = line.NoMemory
+hex_fault _ = line.BadHex
+
+-- the fault of the line of this number
+abbrev pub fault_at : ℕ → LineFault → ScriptFault
+fault_at number line.BadLine = script.BadLine number
+fault_at number line.BadNumber = script.BadNumber number
+fault_at number line.BadHex = script.BadHex number
+fault_at number line.OutOfRange = script.OutOfRange number
+fault_at number line.NoMemory = script.NoMemory
+
+-- what was read of the line of this number
+abbrev pub read_at : {X : Type 0} → ℕ → Result X LineFault → Result X ScriptFault
+read_at number (Ok x) = Ok x
+read_at number (Err fault) = Err (fault_at number fault)
+
+-- the reading of a line has this fault, unless memory ran out
+abbrev pub Fails : {X : Type 0} → LineFault → Result X model.LineFault → Type 0
+Fails line.BadLine read = read ≡ Err bad_line
+Fails line.BadNumber read = read ≡ Err bad_number
+Fails line.BadHex read = read ≡ Err bad_hex
+Fails line.OutOfRange read = read ≡ Err out_of_range
+Fails line.NoMemory read = ⊤
+
+-- what a function returned, seen by view, is the reading of a line, unless memory ran out
+abbrev pub Gives : {X Y : Type 0} → (X → Y) → Result X LineFault → Result Y model.LineFault → Type 0
+Gives view (Ok x) read = read ≡ Ok (view x)
+Gives view (Err fault) read = Fails fault read
+
+-- the reading of lines has this fault first, unless memory ran out
+abbrev pub FailsAt : {X : Type 0} → ScriptFault → Result X (ℕ × model.LineFault) → Type 0
+FailsAt (script.BadLine number) read = read ≡ Err (number, bad_line)
+FailsAt (script.BadNumber number) read = read ≡ Err (number, bad_number)
+FailsAt (script.BadHex number) read = read ≡ Err (number, bad_hex)
+FailsAt (script.OutOfRange number) read = read ≡ Err (number, out_of_range)
+FailsAt script.NoMemory read = ⊤
+
+-- what a function returned, seen by view, is the reading of lines, unless memory ran out
+abbrev pub GivesAt : {X Y : Type 0} → (X → Y) → Result X ScriptFault → Result Y (ℕ × model.LineFault) → Type 0
+GivesAt view (Ok x) read = read ≡ Ok (view x)
+GivesAt view (Err fault) read = FailsAt fault read
+
+-- this is the first fault of the text, or memory ran out
+abbrev pub IsFirstFault : List ℕ → ScriptFault → Type 0
+IsFirstFault text (script.BadLine number) = FirstScriptFault text number bad_line
+IsFirstFault text (script.BadNumber number) = FirstScriptFault text number bad_number
+IsFirstFault text (script.BadHex number) = FirstScriptFault text number bad_hex
+IsFirstFault text (script.OutOfRange number) = FirstScriptFault text number out_of_range
+IsFirstFault text script.NoMemory = ⊤
+
+-- how a fault is told, the end of the line aside
+abbrev pub script_fault_text : ScriptFault → List ℕ
+script_fault_text (script.BadLine number) = fault_text number bad_line
+script_fault_text (script.BadNumber number) = fault_text number bad_number
+script_fault_text (script.BadHex number) = fault_text number bad_hex
+script_fault_text (script.OutOfRange number) = fault_text number out_of_range
+script_fault_text script.NoMemory = codes "memory"

@@ -1,0 +1,165 @@
+//! The header of a script.
+ghost use Rattle.std.specs.Prelude.{◌≡◌, ◌<◌, ◌≤◌, ◌==◌, ◌%◌, ◌&&◌, nat_le, IfOk};
+ghost use Rattle.trace_model.specs.Script.{value_given, value_in, header_settings};
+ghost use Rattle.trace_model.specs.ScriptReading.{counted_behind, end_behind, setting_from, settings_from};
+ghost use Rattle.trace_script.specs.ScriptFaults.{Gives, GivesAt};
+ghost use Rattle.trace_script.specs.ScriptTypes.{setting_of, values_of};
+
+use crate::fault::{LineFault, ScriptFault, at_line};
+use crate::fields::{Fields, fields_of};
+use crate::lines::Lines;
+use crate::values::number_of;
+use trace_model::{
+    MAX_PAGES, MAX_SCRIPT_COLLECTORS, MAX_SCRIPT_CPUS, MAX_SIZE, MIN_PAGES, MIN_SIZE,
+};
+
+/// What the header of a script says.
+#[derive(Clone, Copy, Debug, PartialEq, Eq)]
+pub struct Header {
+    /// The pages of a ring, its spare aside.
+    pub pages: usize,
+    /// The data size of a page, in bytes.
+    pub size: usize,
+    /// How many CPUs there are.
+    pub cpus: u32,
+    /// How many collectors there are.
+    pub collectors: usize,
+}
+
+/// A line of the header.
+#[derive(Clone, Copy)]
+pub enum Setting {
+    Pages,
+    Size,
+    Cpus,
+    Collectors,
+}
+
+/// The values that a line of the header may have: multiples of a step.
+#[derive(Clone, Copy)]
+pub struct Limits {
+    pub least: u64,
+    pub most: u64,
+    pub step: u64,
+}
+
+impl Setting {
+    /// The word in front of the value.
+    fn word(self) -> &'static [u8]
+        ensures { result.now ≡ (setting_of self).word }
+    {
+        match self {
+            Setting::Pages => b"pages",
+            Setting::Size => b"size",
+            Setting::Cpus => b"cpus",
+            Setting::Collectors => b"collectors",
+        }
+    }
+
+    /// The values that it may have.
+    fn limits(self) -> Limits
+        ensures least { result.least ≡ (setting_of self).least }
+        ensures most { result.most ≡ (setting_of self).most }
+        ensures step { result.step ≡ (setting_of self).step }
+        ensures steps { 0 < result.step }
+    {
+        match self {
+            Setting::Pages => Limits {
+                least: MIN_PAGES as u64,
+                most: MAX_PAGES as u64,
+                step: 1,
+            },
+            Setting::Size => Limits {
+                least: MIN_SIZE as u64,
+                most: MAX_SIZE as u64,
+                step: 4,
+            },
+            Setting::Cpus => Limits {
+                least: 1,
+                most: u64::from(MAX_SCRIPT_CPUS),
+                step: 1,
+            },
+            Setting::Collectors => Limits {
+                least: 1,
+                most: MAX_SCRIPT_COLLECTORS as u64,
+                step: 1,
+            },
+        }
+    }
+}
+
+impl Limits {
+    /// Whether this value is one of them.
+    fn allow(&self, value: u64) -> bool
+        requires { 0 < self.now.step }
+        ensures { result ≡ (nat_le self.now.least value && nat_le value self.now.most
+            && (value % self.now.step == 0)) }
+    {
+        self.least <= value && value <= self.most && value % self.step == 0
+    }
+}
+
+/// The value that a word and a number give to a setting.
+#[tactic(auto, unfolding(trace_model::specs::Script::value_given))]
+fn value_given(setting: Setting, word: &[u8], number: &[u8]) -> Result<u64, LineFault>
+    ensures gives { Gives (λ value. value) result
+        (value_given (setting_of setting) word.now number.now) }
+    ensures within { IfOk result (λ value. value ≤ (setting_of setting).most) }
+{
+    if word != setting.word() {
+        return Err(LineFault::BadLine);
+    }
+    let value = number_of(number)?;
+    if !setting.limits().allow(value) {
+        return Err(LineFault::OutOfRange);
+    }
+    Ok(value)
+}
+
+/// The value that a line gives to a setting.
+fn value_in(setting: Setting, line: &[u8]) -> Result<u64, LineFault>
+    ensures gives { Gives (λ value. value) result (value_in (setting_of setting) line.now) }
+    ensures within { IfOk result (λ value. value ≤ (setting_of setting).most) }
+{
+    match fields_of(line) {
+        Fields::Two(word, number) => value_given(setting, word, number),
+        _ => Err(LineFault::BadLine),
+    }
+}
+
+/// The value of a setting, from the next line that says something.
+fn read_setting(lines: &mut Lines, setting: Setting) -> Result<u64, ScriptFault>
+    ensures gives { GivesAt
+        (λ value. (value, counted_behind lines.new.passed lines.new.rest.now)) result
+        (setting_from (end_behind lines.old.passed lines.old.rest.now) (setting_of setting)
+        (counted_behind lines.old.passed lines.old.rest.now)) }
+    ensures within { IfOk result (λ value. value ≤ (setting_of setting).most) }
+    ensures end { end_behind lines.new.passed lines.new.rest.now
+        ≡ end_behind lines.old.passed lines.old.rest.now }
+{
+    let Some(line) = lines.next_counted() else {
+        return Err(ScriptFault::BadLine(lines.passed + 1));
+    };
+    let value = value_in(setting, line.text);
+    at_line(line.number, value)
+}
+
+/// The header, from the next lines that say something.
+#[tactic(auto, unfolding(trace_model::specs::ScriptReading::settings_from))]
+pub fn read_header(lines: &mut Lines) -> Result<Header, ScriptFault>
+    ensures { GivesAt
+        (λ header. (values_of header, counted_behind lines.new.passed lines.new.rest.now)) result
+        (settings_from (end_behind lines.old.passed lines.old.rest.now) header_settings
+        (counted_behind lines.old.passed lines.old.rest.now)) }
+{
+    let pages = read_setting(lines, Setting::Pages)?;
+    let size = read_setting(lines, Setting::Size)?;
+    let cpus = read_setting(lines, Setting::Cpus)?;
+    let collectors = read_setting(lines, Setting::Collectors)?;
+    Ok(Header {
+        pages: pages as usize,
+        size: size as usize,
+        cpus: cpus as u32,
+        collectors: collectors as usize,
+    })
+}

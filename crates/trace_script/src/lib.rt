@@ -1,0 +1,21 @@
+//! The script text: what a script is, and its reader.
+//!
+//! A script is lines of fields, which `docs/FORMATS.md`, "Script", describes.
+#![tactic(auto)]
+
+mod command;
+mod fault;
+mod fields;
+mod header;
+mod lines;
+mod read;
+mod script;
+mod values;
+
+pub use command::Command;
+pub use fault::ScriptFault;
+pub use read::read_script;
+pub use script::{Script, ScriptLine};
+
+#[cfg(test)]
+mod tests;

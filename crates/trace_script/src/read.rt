@@ -1,0 +1,75 @@
+//! The reader of a script's text: line by line, in one pass.
+ghost use Rattle.std.specs.Prelude.{IfOk, IfErr, map};
+ghost use Rattle.trace_model.specs.Script.{ParsesScript, command_in};
+ghost use Rattle.trace_model.specs.ScriptReading.{located, counted_behind, commands_from, script_in};
+ghost use Rattle.trace_script.specs.ScriptFaults.{GivesAt, IsFirstFault};
+ghost use Rattle.trace_script.specs.ScriptTypes.{shown_command, shown_line, script_of};
+
+use crate::command::{Command, command_in};
+use crate::fault::{ScriptFault, at_line};
+use crate::header::read_header;
+use crate::lines::{Line, Lines};
+use crate::script::{Script, ScriptLine};
+use std::alloc::Global;
+
+/// The command of a line.
+fn command_at(
+    alloc: Global,
+    cpus: u32,
+    collectors: usize,
+    line: Line,
+) -> Result<Command, ScriptFault>
+    ensures { GivesAt shown_command result
+        (located line.entry.number (command_in cpus collectors line.entry.text.now)) }
+{
+    let command = command_in(alloc, cpus, collectors, line.text);
+    at_line(line.number, command)
+}
+
+/// The commands of the lines that are left.
+fn read_commands(
+    alloc: Global,
+    cpus: u32,
+    collectors: usize,
+    lines: &mut Lines,
+) -> Result<Vec<ScriptLine>, ScriptFault>
+    ensures { GivesAt (λ commands. map shown_line commands.items) result
+        (commands_from cpus collectors (counted_behind lines.old.passed lines.old.rest.now)) }
+{
+    let mut commands = Vec::new(alloc);
+    while let Some(line) = lines.next_counted() {
+        let command = command_at(alloc, cpus, collectors, line)?;
+        commands.push(ScriptLine {
+            number: line.number,
+            command,
+        })?;
+    }
+    Ok(commands)
+}
+
+/// The script that a text spells, as the plain reader of the definitions reads it.
+#[tactic(auto, unfolding(trace_model::specs::ScriptReading::script_from))]
+fn script_in(alloc: Global, text: &[u8]) -> Result<Script, ScriptFault>
+    ensures { GivesAt script_of result (script_in text.now) }
+{
+    let mut lines = Lines::of(text);
+    let header = read_header(&mut lines)?;
+    let commands = read_commands(alloc, header.cpus, header.collectors, &mut lines)?;
+    Ok(Script {
+        pages: header.pages,
+        size: header.size,
+        cpus: header.cpus,
+        collectors: header.collectors,
+        commands,
+    })
+}
+
+/// The script that a text spells, or its first fault.
+pub fn read_script(alloc: Global, text: &[u8]) -> Result<Script, ScriptFault>
+    // What is read is what the text spells, which is one script.
+    ensures script { IfOk result (λ script. ParsesScript text.now (script_of script)) }
+    // A fault is the text's first one, unless memory ran out.
+    ensures fault { IfErr result (λ fault. IsFirstFault text.now fault) }
+{
+    script_in(alloc, text)
+}

@@ -1,0 +1,148 @@
+//! Scripts and their faults, with values from outside.
+
+use crate::{Command, read_script};
+use std::alloc::Global;
+use std::test::*;
+use trace_model::{CpuId, FillNo, Moment};
+
+/// What is told of a text: its first fault, or that it is a script.
+fn told(alloc: Global, text: &[u8]) -> Result<String, Fail> {
+    match read_script(alloc, text) {
+        Ok(_script) => Ok(format!(in alloc; "a script")?),
+        Err(fault) => Ok(format!(in alloc; "{fault}")?),
+    }
+}
+
+#[test]
+fn script_faults(rt: HostRuntime) -> Result<(), Fail> {
+    let rows: [(&[u8], &str); 6] = [
+        (b"pages 1\n", "line 1: OutOfRange"),
+        (
+            b"pages 2\nsize 32\ncpus 1\ncollectors 1\nc0 w x 00\n",
+            "line 5: BadNumber",
+        ),
+        (
+            b"pages 2\nsize 32\ncpus 1\ncollectors 1\nc0 w 1 0\n",
+            "line 5: BadHex",
+        ),
+        (
+            b"pages 2\nsize 32\ncpus 1\ncollectors 1\nc1 t\n",
+            "line 5: OutOfRange",
+        ),
+        (
+            b"pages 2\nsize 32\ncpus 1\ncollectors 1\nc0 q\n",
+            "line 5: BadLine",
+        ),
+        (b"", "line 1: BadLine"),
+    ];
+    for (text, want) in rows {
+        let got = told(rt.alloc(), text)?;
+        assert_eq!(rt; got.as_str(), want);
+    }
+    Ok(())
+}
+
+/// The header of each of the next scripts: its commands begin in line 5.
+const HEADER: &[u8] = b"pages 2\nsize 32\ncpus 1\ncollectors 1\n";
+
+#[test]
+fn faults_of_a_header(rt: HostRuntime) -> Result<(), Fail> {
+    let rows: [(&[u8], &str); 14] = [
+        (b"\n", "line 2: BadLine"),
+        (b"# no more\n\n", "line 3: BadLine"),
+        (b"pages 2\nsize 32", "line 3: BadLine"),
+        (b"size 32\n", "line 1: BadLine"),
+        (b"pages 2\r\n", "line 1: BadNumber"),
+        (b"pages\t2\n", "line 1: BadLine"),
+        (b"pages  2\n", "line 1: BadLine"),
+        (b"pages 2 \n", "line 1: BadLine"),
+        (b"pages 2 2\n", "line 1: BadLine"),
+        (b"pages 1025\n", "line 1: OutOfRange"),
+        (b"pages 2\nsize 34\n", "line 2: OutOfRange"),
+        (b"pages 2\nsize 32\ncpus 0\n", "line 3: OutOfRange"),
+        (b"pages 2\n\n# a\nsize -\n", "line 4: BadNumber"),
+        (b"\xff\xfe\x00", "line 1: BadLine"),
+    ];
+    for (text, want) in rows {
+        let got = told(rt.alloc(), text)?;
+        assert_eq!(rt; got.as_str(), want);
+    }
+    Ok(())
+}
+
+#[test]
+fn faults_of_a_command(rt: HostRuntime) -> Result<(), Fail> {
+    let rows: [(&[u8], &str); 16] = [
+        (b"c0 t", "a script"),
+        (b"# a\n\nc00 t\n", "a script"),
+        (b"c0 w 18446744073709551615 -", "a script"),
+        (b"c0 w 18446744073709551616 -", "line 5: BadNumber"),
+        (b"c0 w 000000000000000000001 -", "line 5: BadNumber"),
+        (b"c0 w 1 0g", "line 5: BadHex"),
+        (b"c0 w 1 --", "line 5: BadHex"),
+        (b"c9 w x 00", "line 5: OutOfRange"),
+        (b"d x c 0", "line 5: BadNumber"),
+        (b"d 0 c 0", "line 5: BadLine"),
+        (b"d 1 c0 0", "line 5: OutOfRange"),
+        (b"c t", "line 5: BadLine"),
+        (b"c18446744073709551616 t", "line 5: BadNumber"),
+        (b"c0 t\n\nc0  t", "line 7: BadLine"),
+        (b"c0 t\n#\nc0 t 1\nc1 t", "line 7: BadLine"),
+        (b"c0 t\r\n", "line 5: BadLine"),
+    ];
+    for (commands, want) in rows {
+        let mut text = HEADER.to_vec(rt.alloc())?;
+        text.extend_from_slice(commands)?;
+        let got = told(rt.alloc(), &text)?;
+        assert_eq!(rt; got.as_str(), want);
+    }
+    Ok(())
+}
+
+#[test]
+fn commands_of_a_script(rt: HostRuntime) -> Result<(), Fail> {
+    let text = b"# two pages\npages 2\nsize 32\ncpus 1\n\ncollectors 1\n\
+        c0 w 100 0102aBFf\nc0 c\n# a take\nc0 t\nd 0 c0 7\nc0 w 5 -";
+    let script = read_script(rt.alloc(), text)
+        .ok()
+        .ok_or("the text is a script")?;
+    assert_eq!(rt; script.pages, 2);
+    assert_eq!(rt; script.size, 32);
+    assert_eq!(rt; script.cpus, 1);
+    assert_eq!(rt; script.collectors, 1);
+    let cpu = CpuId(0);
+    let want = [
+        (
+            7,
+            Command::Write {
+                cpu,
+                moment: Moment(100),
+                payload: [1, 2, 0xab, 0xff].to_vec(rt.alloc())?,
+            },
+        ),
+        (8, Command::Close { cpu }),
+        (10, Command::Take { cpu }),
+        (
+            11,
+            Command::Deliver {
+                collector: 0,
+                cpu,
+                fill: FillNo(7),
+            },
+        ),
+        (
+            12,
+            Command::Write {
+                cpu,
+                moment: Moment(5),
+                payload: Vec::new(rt.alloc()),
+            },
+        ),
+    ];
+    assert_eq!(rt; script.commands.len(), want.len());
+    for (line, (number, command)) in script.commands.iter().zip(&want) {
+        assert_eq!(rt; line.number, *number);
+        assert_eq!(rt; line.command, *command);
+    }
+    Ok(())
+}
