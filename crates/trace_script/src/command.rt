@@ -1,5 +1,5 @@
 //! The commands of a script.
-ghost use Rattle.std.specs.Prelude.{◌≡◌, [], ◌∷◌, bytes_eq};
+ghost use Rattle.std.specs.Prelude.{◌≡◌, ◌≢◌, [], ◌∷◌, bytes_eq};
 ghost use Rattle.trace_model.specs.Script.{write_in, close_in, take_in, deliver_in, command_of, command_in};
 ghost use Rattle.trace_script.specs.ScriptFaults.{Gives};
 ghost use Rattle.trace_script.specs.ScriptTypes.{shown_command};
@@ -69,7 +69,8 @@ fn write_in(
 /// `cX c`
 #[tactic(auto, unfolding(trace_model::specs::Script::close_in))]
 fn close_in(cpus: u32, cpu: &[u8]) -> Result<Command, LineFault>
-    ensures { Gives shown_command result (close_in cpus cpu.now) }
+    ensures gives { Gives shown_command result (close_in cpus cpu.now) }
+    ensures never_out_of_memory { result ≢ Err LineFault.NoMemory }
 {
     let cpu = cpu_of(cpus, cpu)?;
     Ok(Command::Close { cpu })
@@ -78,7 +79,8 @@ fn close_in(cpus: u32, cpu: &[u8]) -> Result<Command, LineFault>
 /// `cX t`
 #[tactic(auto, unfolding(trace_model::specs::Script::take_in))]
 fn take_in(cpus: u32, cpu: &[u8]) -> Result<Command, LineFault>
-    ensures { Gives shown_command result (take_in cpus cpu.now) }
+    ensures gives { Gives shown_command result (take_in cpus cpu.now) }
+    ensures never_out_of_memory { result ≢ Err LineFault.NoMemory }
 {
     let cpu = cpu_of(cpus, cpu)?;
     Ok(Command::Take { cpu })
@@ -93,8 +95,9 @@ fn deliver_in(
     cpu: &[u8],
     fill: &[u8],
 ) -> Result<Command, LineFault>
-    ensures { Gives shown_command result
+    ensures gives { Gives shown_command result
         (deliver_in cpus collectors collector.now cpu.now fill.now) }
+    ensures never_out_of_memory { result ≢ Err LineFault.NoMemory }
 {
     let collector = number_below(collectors as u64, collector)?;
     let cpu = cpu_of(cpus, cpu)?;
@@ -109,8 +112,9 @@ fn deliver_in(
 /// The command of two fields.
 #[tactic(auto, unfolding(trace_model::specs::Script::command_of))]
 fn of_two(cpus: u32, collectors: usize, first: &[u8], second: &[u8]) -> Result<Command, LineFault>
-    ensures { Gives shown_command result
+    ensures gives { Gives shown_command result
         (command_of cpus collectors (first.now ∷ second.now ∷ [])) }
+    ensures never_out_of_memory { result ≢ Err LineFault.NoMemory }
 {
     if is_letter(second, b'c') {
         return close_in(cpus, first);

@@ -1,6 +1,5 @@
 //! What is wrong with a script.
 ghost use Rattle.std.specs.Prelude.{◌≡◌, Some};
-ghost use Rattle.trace_script.specs.declared.fault.LineFault.TheVariants.{NoMemory as line_no_memory};
 ghost use Rattle.trace_script.specs.declared.fault.ScriptFault.TheVariants.{NoMemory as no_memory};
 ghost use Rattle.trace_script.specs.ScriptFaults.{fault_at, read_at, script_fault_text};
 
@@ -87,21 +86,5 @@ pub fn at_line<T>(line: u64, read: Result<T, LineFault>) -> Result<T, ScriptFaul
     match read {
         Ok(value) => Ok(value),
         Err(fault) => Err(fault.at(line)),
-    }
-}
-
-impl From<AllocError> for LineFault {
-    ghost from_gives = { λ _ fault. fault ≡ line_no_memory };
-
-    fn from(_refused: AllocError) -> LineFault {
-        LineFault::NoMemory
-    }
-}
-
-impl<T: Drop> From<AllocFailed<T>> for LineFault {
-    ghost from_gives = { λ _ fault. fault ≡ line_no_memory };
-
-    fn from(_refused: AllocFailed<T>) -> LineFault {
-        LineFault::NoMemory
     }
 }

@@ -1,5 +1,5 @@
 //! The header of a script.
-ghost use Rattle.std.specs.Prelude.{◌≡◌, ◌<◌, ◌≤◌, ◌==◌, ◌%◌, ◌&&◌, nat_le, IfOk};
+ghost use Rattle.std.specs.Prelude.{◌≡◌, ◌≢◌, ◌<◌, ◌≤◌, ◌==◌, ◌%◌, ◌&&◌, nat_le, IfOk};
 ghost use Rattle.trace_model.specs.Script.{value_given, value_in, header_settings};
 ghost use Rattle.trace_model.specs.ScriptReading.{counted_behind, end_behind, setting_from, settings_from};
 ghost use Rattle.trace_script.specs.ScriptFaults.{Gives, GivesAt};
@@ -104,6 +104,7 @@ impl Limits {
 fn value_given(setting: Setting, word: &[u8], number: &[u8]) -> Result<u64, LineFault>
     ensures gives { Gives (λ value. value) result
         (value_given (setting_of setting) word.now number.now) }
+    ensures never_out_of_memory { result ≢ Err LineFault.NoMemory }
     ensures within { IfOk result (λ value. value ≤ (setting_of setting).most) }
 {
     if word != setting.word() {
@@ -119,6 +120,7 @@ fn value_given(setting: Setting, word: &[u8], number: &[u8]) -> Result<u64, Line
 /// The value that a line gives to a setting.
 fn value_in(setting: Setting, line: &[u8]) -> Result<u64, LineFault>
     ensures gives { Gives (λ value. value) result (value_in (setting_of setting) line.now) }
+    ensures never_out_of_memory { result ≢ Err LineFault.NoMemory }
     ensures within { IfOk result (λ value. value ≤ (setting_of setting).most) }
 {
     match fields_of(line) {
@@ -133,6 +135,7 @@ fn read_setting(lines: &mut Lines, setting: Setting) -> Result<u64, ScriptFault>
         (λ value. (value, counted_behind lines.new.passed lines.new.rest.now)) result
         (setting_from (end_behind lines.old.passed lines.old.rest.now) (setting_of setting)
         (counted_behind lines.old.passed lines.old.rest.now)) }
+    ensures never_out_of_memory { result ≢ Err ScriptFault.NoMemory }
     ensures within { IfOk result (λ value. value ≤ (setting_of setting).most) }
     ensures end { end_behind lines.new.passed lines.new.rest.now
         ≡ end_behind lines.old.passed lines.old.rest.now }
@@ -147,10 +150,11 @@ fn read_setting(lines: &mut Lines, setting: Setting) -> Result<u64, ScriptFault>
 /// The header, from the next lines that say something.
 #[tactic(auto, unfolding(trace_model::specs::ScriptReading::settings_from))]
 pub fn read_header(lines: &mut Lines) -> Result<Header, ScriptFault>
-    ensures { GivesAt
+    ensures gives { GivesAt
         (λ header. (values_of header, counted_behind lines.new.passed lines.new.rest.now)) result
         (settings_from (end_behind lines.old.passed lines.old.rest.now) header_settings
         (counted_behind lines.old.passed lines.old.rest.now)) }
+    ensures never_out_of_memory { result ≢ Err ScriptFault.NoMemory }
 {
     let pages = read_setting(lines, Setting::Pages)?;
     let size = read_setting(lines, Setting::Size)?;

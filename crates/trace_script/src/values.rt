@@ -1,5 +1,5 @@
 //! What a field spells: a number, a CPU or bytes.
-ghost use Rattle.std.specs.Prelude.{◌≡◌, ◌+◌, ◌-◌, ◌*◌, ◌^◌, ◌<◌, ◌≤◌, true, false, drop, IfOk, SomeIff, MatchOption};
+ghost use Rattle.std.specs.Prelude.{◌≡◌, ◌≢◌, ◌+◌, ◌-◌, ◌*◌, ◌^◌, ◌<◌, ◌≤◌, true, false, drop, IfOk, SomeIff, MatchOption};
 ghost use Rattle.std.specs.Int.{IsInRange};
 ghost use Rattle.std.specs.Char.{is_ascii_digit};
 ghost use Rattle.std.specs.List.{list_all};
@@ -28,7 +28,8 @@ fn with_digit(front: u64, digit: u8) -> Option<u64>
 
 /// The number that a field spells.
 pub fn number_of(field: &[u8]) -> Result<u64, LineFault>
-    ensures { Gives (λ n. n) result (number_in field.now) }
+    ensures gives { Gives (λ n. n) result (number_in field.now) }
+    ensures never_out_of_memory { result ≢ Err LineFault.NoMemory }
 {
     if field.is_empty() || field.len() > MOST_DIGITS {
         return Err(LineFault::BadNumber);
@@ -47,6 +48,7 @@ pub fn number_of(field: &[u8]) -> Result<u64, LineFault>
 #[tactic(auto, unfolding(trace_model::specs::Script::number_below))]
 pub fn number_below(limit: u64, field: &[u8]) -> Result<u64, LineFault>
     ensures gives { Gives (λ n. n) result (number_below limit field.now) }
+    ensures never_out_of_memory { result ≢ Err LineFault.NoMemory }
     ensures small { IfOk result (λ n. n < limit) }
 {
     let number = number_of(field)?;
@@ -80,7 +82,8 @@ fn cpu_digits(field: &[u8]) -> Option<&[u8]>
 /// The CPU that a field names, of so many CPUs.
 #[tactic(auto, unfolding(trace_model::specs::Script::cpu_in))]
 pub fn cpu_of(cpus: u32, field: &[u8]) -> Result<CpuId, LineFault>
-    ensures { Gives (λ cpu. cpu.0) result (cpu_in cpus field.now) }
+    ensures gives { Gives (λ cpu. cpu.0) result (cpu_in cpus field.now) }
+    ensures never_out_of_memory { result ≢ Err LineFault.NoMemory }
 {
     let Some(digits) = cpu_digits(field) else {
         return Err(LineFault::BadLine);

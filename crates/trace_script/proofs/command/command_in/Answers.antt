@@ -4,7 +4,7 @@ use Rattle.trace_script.proofs.ScriptLemmas.{command_from, no_command}
 use Rattle.trace_script.proofs.command.command_in.Goals as goal
 
 pub returns-in-Two : goal.returns-in-Two
-returns-in-Two c = command_from shown_command c.args.cpus c.args.collectors c.args.line.now (c.in-Two.first.now ∷ c.in-Two.second.now ∷ []) c.of_two.result c.in-Two.ensures c.of_two.ensures
+returns-in-Two c = command_from shown_command c.args.cpus c.args.collectors c.args.line.now (c.in-Two.first.now ∷ c.in-Two.second.now ∷ []) c.of_two.result c.in-Two.ensures c.of_two.ensures.gives
 
 pub returns-in-Four : goal.returns-in-Four
 returns-in-Four c =

@@ -4,14 +4,14 @@ use Rattle.trace_script.proofs.ValueLemmas.{number_of_length, digits_turn, value
 use Rattle.trace_script.proofs.values.number_of.Goals as goal
 use Rattle.trace_script.proofs.values.number_of.Goals.{then-is_empty-via-then-is_empty, then-is_empty-via-else-is_empty+then-field-gt-MOST_DIGITS}
 
-pub returns-then-is_empty : goal.returns-then-is_empty
-returns-then-is_empty c = elim c.then-is_empty.branch [
+pub returns-then-is_empty-clause-gives : goal.returns-then-is_empty-clause-gives
+returns-then-is_empty-clause-gives c = elim c.then-is_empty.branch [
   | then-is_empty-via-then-is_empty w ↦ number_of_length c.args.field.now (inl (eqb-true _ _ (sym c.is_empty.ensures ∙ w.if-is_empty.true)))
   | then-is_empty-via-else-is_empty+then-field-gt-MOST_DIGITS w ↦ number_of_length c.args.field.now (inr w.if-field-gt-MOST_DIGITS.true)
 ]
 
-pub returns-in_default : goal.returns-in_default
-returns-in_default c =
+pub returns-in_default-clause-gives : goal.returns-in_default-clause-gives
+returns-in_default-clause-gives c =
     number_stops c.args.field.now c.loop-digit.digit-index _ c.loop-digit.number c.loop-digit-test.true refl c.loop-digit.invariant.value c.in_default.ensures
 
 pub loop-digit-preserved : goal.loop-digit-preserved
@@ -23,6 +23,6 @@ loop-digit-preserved c =
       small = omega (arith, next.0.1, next.1);
     }
 
-pub returns : goal.returns
-returns c =
+pub returns-clause-gives : goal.returns-clause-gives
+returns-clause-gives c =
     number_ends c.args.field.now c.loop-digit.digit-index c.loop-digit.number (sym c.is_empty.ensures ∙ c.if-is_empty.false) c.if-field-gt-MOST_DIGITS.false c.loop-digit-test.false c.loop-digit.invariant.digits c.loop-digit.invariant.value c.loop-digit.invariant.small
