@@ -3,7 +3,7 @@ ghost use Rattle.std.specs.Prelude.{◌≡◌, Some};
 ghost use Rattle.trace_script.specs.declared.fault.ScriptFault.TheVariants.{NoMemory as no_memory};
 ghost use Rattle.trace_script.specs.ScriptFaults.{fault_at, read_at, script_fault_text};
 
-use std::alloc::{AllocError, AllocFailed};
+use std::alloc::AllocFailed;
 use std::fmt;
 
 /// Why a text is no script. The number is that of the first line at fault, from 1.
@@ -37,14 +37,6 @@ impl fmt::Display for ScriptFault {
 }
 
 impl std::error::Error for ScriptFault {}
-
-impl From<AllocError> for ScriptFault {
-    ghost from_gives = { λ _ fault. fault ≡ no_memory };
-
-    fn from(_refused: AllocError) -> ScriptFault {
-        ScriptFault::NoMemory
-    }
-}
 
 impl<T: Drop> From<AllocFailed<T>> for ScriptFault {
     ghost from_gives = { λ _ fault. fault ≡ no_memory };

@@ -32,45 +32,6 @@ const OVERWRITE_UNCOUNTED: [Worked; 1] = [Worked {
     status: 0,
 }];
 
-const SCRIPT_FAULTS: [Worked; 6] = [
-    Worked {
-        name: "pages below the limit",
-        script: "pages 1\nsize 32\ncpus 1\ncollectors 1\n",
-        printed: "line 1: OutOfRange\n",
-        status: 1,
-    },
-    Worked {
-        name: "a moment that is no number",
-        script: "pages 2\nsize 32\ncpus 1\ncollectors 1\nc0 w x 00\n",
-        printed: "line 5: BadNumber\n",
-        status: 1,
-    },
-    Worked {
-        name: "half a byte",
-        script: "pages 2\nsize 32\ncpus 1\ncollectors 1\nc0 w 1 0\n",
-        printed: "line 5: BadHex\n",
-        status: 1,
-    },
-    Worked {
-        name: "a CPU that isn't there",
-        script: "pages 2\nsize 32\ncpus 1\ncollectors 1\nc1 t\n",
-        printed: "line 5: OutOfRange\n",
-        status: 1,
-    },
-    Worked {
-        name: "no such command",
-        script: "pages 2\nsize 32\ncpus 1\ncollectors 1\nc0 q\n",
-        printed: "line 5: BadLine\n",
-        status: 1,
-    },
-    Worked {
-        name: "no line at all",
-        script: "",
-        printed: "line 1: BadLine\n",
-        status: 1,
-    },
-];
-
 const HOSTILE_SCRIPTS: [Worked; 7] = [
     Worked {
         name: "a lone line end: the header lacks behind it",
@@ -163,11 +124,6 @@ fn empty_ring(rt: HostRuntime) {
 #[test]
 fn overwrite_uncounted(rt: HostRuntime) {
     replays(&rt, &OVERWRITE_UNCOUNTED);
-}
-
-#[test]
-fn script_faults(rt: HostRuntime) {
-    replays(&rt, &SCRIPT_FAULTS);
 }
 
 #[test]
