@@ -6,7 +6,8 @@ use Rattle.std.proofs.lemmas.List.{append-nil, map-append}
 use Rattle.trace_model.specs.Text.{fields_of, is_well_spaced}
 use Rattle.trace_model.specs.Script as model
 use Rattle.trace_model.specs.Script.{Command, LineFault, Line, Setting, ParsesScript, bad_line, bad_number, bad_hex, out_of_range, ◌>>=◌, value_given, value_of, value_in, command_of, command_in}
-use Rattle.trace_model.specs.ScriptReading.{located, setting_from, commands_from, script_in}
+use Rattle.trace_model.specs.ScriptReading.{located, counted_behind, setting_from, settings_from, commands_from, script_in}
+use Rattle.trace_model.proofs.ScriptLemmas.{settings_ok}
 use Rattle.trace_model.proofs.ScriptReads.{script_reads, fault_reads}
 use Rattle.trace_script.specs.declared.script.ScriptLine.{ScriptLine}
 use Rattle.trace_script.specs.declared.fault.LineFault as line
@@ -15,7 +16,7 @@ use Rattle.trace_script.specs.declared.fault.ScriptFault as script
 use Rattle.trace_script.specs.declared.fault.ScriptFault.TheVariants as scripts
 use Rattle.trace_script.specs.declared.fields.Fields.{Fields}
 use Rattle.trace_script.specs.declared.fields.Fields.TheVariants.{Two, Four, Other}
-use Rattle.trace_script.specs.ScriptFaults.{Fails, Gives, FailsAt, GivesAt, IsFirstFault, fault_at, read_at}
+use Rattle.trace_script.specs.ScriptFaults.{Fails, Gives, FailsAt, GivesAt, HasHeader, IsFirstFault, fault_at, read_at}
 use Rattle.trace_script.specs.ScriptFields.{AreFields}
 use Rattle.trace_script.specs.ScriptTypes.{shown_line}
 
@@ -200,6 +201,20 @@ pub shown_push : (lines after : List ScriptLine) (x : ScriptLine) → after ≡ 
 shown_push lines after x h = ap (λ (ls : List ScriptLine). map shown_line ls) h ∙ map-append shown_line lines (x ∷ [])
 
 -- ---- the whole script
+-- the settings that are read stand in the first lines
+header_of : (text : List ℕ) (end : ℕ) (x : List ℕ × List Line) → settings_from end model.header_settings (counted_behind 0 text) ≡ Ok x → HasHeader text
+unfolding counted_behind
+header_of text end x h =
+    let there = settings_ok end model.header_settings (counted_behind 0 text) x h in
+    record { header = there.0; behind = x.1; cut = there.1; values = x.0; settings = there.2 }
+
+-- the same of the reader's lines, of which none is passed
+pub header_there : (text : List ℕ) (end passed : ℕ) (rest : List ℕ) (x : List ℕ × List Line) → passed ≡ 0 → rest ≡ text
+    → settings_from end model.header_settings (counted_behind passed rest) ≡ Ok x → HasHeader text
+header_there text end passed rest x none whole h =
+    header_of text end x (subst (λ (t : List ℕ). settings_from end model.header_settings (counted_behind 0 t) ≡ Ok x) whole
+    (subst (λ (n : ℕ). settings_from end model.header_settings (counted_behind n rest) ≡ Ok x) none h))
+
 fault_of_reading : (text : List ℕ) (fault : script.ScriptFault) → FailsAt fault (script_in text) → IsFirstFault text fault
 fault_of_reading text (scripts.BadLine n) h = (fault_reads text n bad_line).1 h
 fault_of_reading text (scripts.BadNumber n) h = (fault_reads text n bad_number).1 h

@@ -1,9 +1,9 @@
 -- What the script's reader says of a fault, in the words of trace_model.
-use Rattle.std.specs.Prelude.{◌≡◌, ℕ, ⊤, List, codes, Result, Ok, Err}
+use Rattle.std.specs.Prelude.{◌≡◌, ℕ, ⊤, List, ◌++◌, codes, Result, Ok, Err}
 use Rattle.hex.specs.declared.error.FromHexError.{FromHexError}
 use Rattle.hex.specs.declared.error.FromHexError.TheVariants.{OutOfMemory}
 use Rattle.trace_model.specs.Script as model
-use Rattle.trace_model.specs.Script.{FirstScriptFault, bad_line, bad_number, bad_hex, out_of_range, fault_text}
+use Rattle.trace_model.specs.Script.{Line, FirstScriptFault, GiveSettings, header_settings, counted_lines, bad_line, bad_number, bad_hex, out_of_range, fault_text}
 use Rattle.trace_script.specs.declared.fault.LineFault.{LineFault}
 use Rattle.trace_script.specs.declared.fault.LineFault.TheVariants as line
 use Rattle.trace_script.specs.declared.fault.ScriptFault.{ScriptFault}
@@ -60,6 +60,14 @@ IsFirstFault text (script.BadNumber number) = FirstScriptFault text number bad_n
 IsFirstFault text (script.BadHex number) = FirstScriptFault text number bad_hex
 IsFirstFault text (script.OutOfRange number) = FirstScriptFault text number out_of_range
 IsFirstFault text script.NoMemory = ⊤
+
+-- the first lines of the text that say something are the header of a script
+pub record HasHeader (text : List ℕ) : Type 0 where
+  pub header : List Line
+  pub behind : List Line
+  pub cut : counted_lines text ≡ header ++ behind
+  pub values : List ℕ
+  pub settings : GiveSettings header header_settings values
 
 -- how a fault is told, the end of the line aside
 abbrev pub script_fault_text : ScriptFault → List ℕ

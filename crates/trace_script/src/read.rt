@@ -1,8 +1,8 @@
 //! The reader of a script's text: line by line, in one pass.
-ghost use Rattle.std.specs.Prelude.{IfOk, IfErr, map};
+ghost use Rattle.std.specs.Prelude.{◌≡◌, IfOk, IfErr, map};
 ghost use Rattle.trace_model.specs.Script.{ParsesScript, command_in};
 ghost use Rattle.trace_model.specs.ScriptReading.{located, counted_behind, commands_from, script_in};
-ghost use Rattle.trace_script.specs.ScriptFaults.{GivesAt, IsFirstFault};
+ghost use Rattle.trace_script.specs.ScriptFaults.{GivesAt, HasHeader, IsFirstFault};
 ghost use Rattle.trace_script.specs.ScriptTypes.{shown_command, shown_line, script_of};
 
 use crate::command::{Command, command_in};
@@ -50,7 +50,8 @@ fn read_commands(
 /// The script that a text spells, as the plain reader of the definitions reads it.
 #[tactic(auto, unfolding(trace_model::specs::ScriptReading::script_from))]
 fn script_in(alloc: Global, text: &[u8]) -> Result<Script, ScriptFault>
-    ensures { GivesAt script_of result (script_in text.now) }
+    ensures gives { GivesAt script_of result (script_in text.now) }
+    ensures memory { result ≡ Err ScriptFault.NoMemory → HasHeader text.now }
 {
     let mut lines = Lines::of(text);
     let header = read_header(&mut lines)?;
@@ -70,6 +71,8 @@ pub fn read_script(alloc: Global, text: &[u8]) -> Result<Script, ScriptFault>
     ensures script { IfOk result (λ script. ParsesScript text.now (script_of script)) }
     // A fault is the text's first one, unless memory ran out.
     ensures fault { IfErr result (λ fault. IsFirstFault text.now fault) }
+    // A fault of the header is told whatever memory there is.
+    ensures memory { result ≡ Err ScriptFault.NoMemory → HasHeader text.now }
 {
     script_in(alloc, text)
 }

@@ -3,7 +3,7 @@ use Rattle.trace_script.proofs.ScriptLemmas.{script_found, fault_found}
 use Rattle.trace_script.proofs.read.read_script.Goals as goal
 
 pub returns-clause-script : goal.returns-clause-script
-returns-clause-script c = script_found script_of c.args.text.now c.script_in.result c.script_in.ensures
+returns-clause-script c = script_found script_of c.args.text.now c.script_in.result c.script_in.ensures.gives
 
 pub returns-clause-fault : goal.returns-clause-fault
-returns-clause-fault c = fault_found script_of c.args.text.now c.script_in.result c.script_in.ensures
+returns-clause-fault c = fault_found script_of c.args.text.now c.script_in.result c.script_in.ensures.gives
