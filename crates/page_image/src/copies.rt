@@ -55,7 +55,7 @@ fn payload_at(data: &[u8], place: Place, alloc: Global) -> Result<Vec<u8>, NoMem
     requires { place.start + place.len ≤ length «data».now }
     ensures { IfOk result (λ v. v.items ≡ bytes_at place.start place.len «data».now) }
 {
-    let payload = data[place.start..place.start + place.len].to_vec(alloc)?;
+    let payload = Vec::from_slice(alloc, &data[place.start..place.start + place.len])?;
     Ok(payload)
 }
 
