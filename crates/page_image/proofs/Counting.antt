@@ -1,5 +1,5 @@
 -- One word more behind those that are read, and where the reading ends.
-use Rattle.std.proofs.Common.{◌≡◌, ◌≢◌, inl, inr, ℕ, ◌+◌, ◌*◌, ◌^◌, ◌<◌, ◌≤◌, false, List, [], ◌∷◌, ◌++◌, length, drop, refl, sym, ap, ◌∙◌, subst, arith, append_assoc, append-nil, length-append, length-drop}
+use Rattle.std.proofs.Common.{◌≡◌, ◌≢◌, inl, inr, ℕ, ◌+◌, ◌*◌, ◌^◌, ◌<◌, ◌≤◌, false, List, [], ◌∷◌, ◌++◌, length, drop, Some, None, refl, sym, ap, ◌∙◌, subst, arith, append_assoc, append-nil, length-append, length-drop}
 use Rattle.std.proofs.lemmas.List.{drop_all}
 use Rattle.std.proofs.lemmas.List.Concat.{flat_map-append}
 use Rattle.trace_model.specs.Record.{Record}
@@ -9,22 +9,25 @@ use Rattle.trace_model.specs.Faults.{Cause, cut, bad_length, time_overflow}
 use Rattle.trace_model.specs.FirstFault.{FirstFault}
 use Rattle.trace_model.proofs.Lengths.{bytes_of_word_ge}
 use Rattle.trace_model.proofs.Unique.{records_in-Decodes}
-use Rattle.trace_model.proofs.Appended.{FitsTime-nil, FitsTime-push, each-append, moment_after-push, moment_after-stamp, IsData-not_stamp, records_of-push, records_of-push_data}
-use Rattle.trace_model.proofs.FirstFaults.{FirstFault-from_word}
+use Rattle.trace_model.proofs.Appended.{FitsTime-nil, FitsTime-push, each-append, moment_after-push, moment_after-stamp, IsData-not_stamp, records_at-data, records_of-push, records_of-push_data}
+use Rattle.trace_model.proofs.FirstFaults.{FirstFault-from_word, Decodes-FirstFault}
 use Rattle.record_words.specs.declared.next.WordFault.{WordFault}
 use Rattle.record_words.specs.declared.next.WordFault.TheVariants.{Cut, BadLength, TimeOverflow}
-use Rattle.record_words.specs.Next.{StandsAt, EndingAt, FaultyAt, IsFaultAt}
-use Rattle.page_image.specs.declared.count.Reached.{Reached}
-use Rattle.page_image.specs.Counting.{HasRead, IsCounted, IsFirstFault}
+use Rattle.record_words.specs.Next.{StandsAt, DataAt, PaddingAt, EndingAt, FaultyAt, IsFaultAt}
+use Rattle.record_words.specs.declared.put.Place.{Place}
+use Rattle.page_image.specs.declared.walk.Reached.{Reached}
+use Rattle.page_image.specs.declared.walk.Passed.{Passed}
+use Rattle.page_image.specs.Counting.{IsCounted, IsFirstFault}
+use Rattle.page_image.specs.Walk.{HasRead, HasPassed, records_at_place}
 
-pub read-start : (bytes : List ℕ) (time : ℕ) → HasRead bytes time [] (record { at = 0; moment = time; count = 0 })
-read-start bytes time = record {
-  whole = refl;
+pub read-start : (bytes : List ℕ) (time : ℕ) (reached : Reached) → reached.at ≡ 0 → reached.moment ≡ time → reached.count ≡ 0 → HasRead bytes time [] reached
+read-start bytes time reached at moment count = record {
+  whole = ap (λ (n : ℕ). drop n bytes) (sym at);
   each = tt;
   in_time = FitsTime-nil time;
-  at_is = refl;
-  moment_is = omega arith;
-  count_is = refl;
+  at_is = at;
+  moment_is = omega (arith, moment);
+  count_is = count;
 }
 
 -- a word that stands behind those read, with the moment and the number of records behind it
@@ -49,7 +52,7 @@ plain_push bytes time words reached w next moment is here fits not_stamp none mo
     (moment_is ∙ ap (λ (m : ℕ). m + delta_of w) is.moment_is ∙ sym (moment_after-push time words w not_stamp))
     (is.count_is ∙ ap length (sym (append-nil (records_of time words)) ∙ ap (λ (rs : List Record). records_of time words ++ rs) (sym none) ∙ sym (records_of-push time words w)))
 
-pub read-data : (bytes : List ℕ) (time : ℕ) (words : List Word) (reached : Reached) (w : Word) (next moment : ℕ) → HasRead bytes time words reached → StandsAt bytes reached.at next w → IsData w → moment < 2 ^ 64
+read-data : (bytes : List ℕ) (time : ℕ) (words : List Word) (reached : Reached) (w : Word) (next moment : ℕ) → HasRead bytes time words reached → StandsAt bytes reached.at next w → IsData w → moment < 2 ^ 64
     → moment ≡ reached.moment + delta_of w → HasRead bytes time (words ++ w ∷ []) (record { at = next; moment = moment; count = reached.count + 1 })
 read-data bytes time words reached w next moment is here holds fits moment_is =
     let more = ap length (records_of-push_data time words w holds) in
@@ -58,37 +61,67 @@ read-data bytes time words reached w next moment is here holds fits moment_is =
     (moment_is ∙ ap (λ (m : ℕ). m + delta_of w) is.moment_is ∙ sym (moment_after-push time words w (IsData-not_stamp w holds)))
     (omega (arith, length-append (records_of time words) (record { moment = moment_after time words + delta_of w; bytes = payload_of w } ∷ [])))
 
-pub read-extend : (bytes : List ℕ) (time : ℕ) (words : List Word) (reached : Reached) (delta next moment : ℕ) → HasRead bytes time words reached → StandsAt bytes reached.at next (time_extend delta) → moment < 2 ^ 64
-    → moment ≡ reached.moment + delta → HasRead bytes time (words ++ time_extend delta ∷ []) (record { at = next; moment = moment; count = reached.count })
-read-extend bytes time words reached delta next moment is here fits moment_is = plain_push bytes time words reached (time_extend delta) next moment is here (λ moves. fits) refl refl moment_is
+-- ---- a word that was passed
 
-pub read-padding : (bytes : List ℕ) (time : ℕ) (words : List Word) (reached : Reached) (delta : ℕ) (skipped : List ℕ) (next : ℕ) → HasRead bytes time words reached → StandsAt bytes reached.at next (padding delta skipped)
-    → HasRead bytes time (words ++ padding delta skipped ∷ []) (record { at = next; moment = reached.moment; count = reached.count })
-read-padding bytes time words reached delta skipped next is here = plain_push bytes time words reached (padding delta skipped) next reached.moment is here (λ moves. absurd moves) refl refl (omega arith)
+pub passed-data : (bytes : List ℕ) (time : ℕ) (words : List Word) (reached : Reached) (delta : ℕ) (place : Place) (next moment : ℕ) → HasRead bytes time words reached → DataAt bytes reached.at delta place next → moment < 2 ^ 64
+    → moment ≡ reached.moment + delta → HasPassed bytes time words (record { payload = Some place; behind = record { at = next; moment = moment; count = reached.count + 1 } })
+passed-data bytes time words reached delta place next moment is here fits moment_is =
+    let read = read-data bytes time words reached here.word next moment is here.at_offset here.is_data fits (moment_is ∙ ap (λ (d : ℕ). reached.moment + d) (sym here.delta_is)) in
+    record {
+      word = here.word;
+      read = read;
+      records_is =
+          records_at-data time words here.word here.is_data
+          ∙ ap (λ (m : ℕ). let r : Record = record { moment = m; bytes = payload_of here.word } in r ∷ []) (sym read.moment_is)
+          ∙ ap (λ (b : List ℕ). let r : Record = record { moment = moment; bytes = b } in r ∷ []) here.payload_is;
+    }
 
-pub read-stamp : (bytes : List ℕ) (time : ℕ) (words : List Word) (reached : Reached) (stamp next : ℕ) → HasRead bytes time words reached → StandsAt bytes reached.at next (time_stamp stamp)
-    → HasRead bytes time (words ++ time_stamp stamp ∷ []) (record { at = next; moment = stamp; count = reached.count })
-read-stamp bytes time words reached stamp next is here =
-    read-push bytes time words reached (time_stamp stamp) next stamp reached.count is here (λ moves. absurd moves)
-    (sym (moment_after-stamp time words stamp))
-    (is.count_is ∙ ap length (sym (append-nil (records_of time words)) ∙ sym (records_of-push time words (time_stamp stamp))))
+pub passed-extend : (bytes : List ℕ) (time : ℕ) (words : List Word) (reached : Reached) (delta next moment : ℕ) → HasRead bytes time words reached → StandsAt bytes reached.at next (time_extend delta) → moment < 2 ^ 64
+    → moment ≡ reached.moment + delta → HasPassed bytes time words (record { payload = None; behind = record { at = next; moment = moment; count = reached.count } })
+passed-extend bytes time words reached delta next moment is here fits moment_is = record {
+  word = time_extend delta;
+  read = plain_push bytes time words reached (time_extend delta) next moment is here (λ moves. fits) refl refl moment_is;
+  records_is = refl;
+}
+
+pub passed-padding : (bytes : List ℕ) (time : ℕ) (words : List Word) (reached : Reached) (next : ℕ) → HasRead bytes time words reached → PaddingAt bytes reached.at next
+    → HasPassed bytes time words (record { payload = None; behind = record { at = next; moment = reached.moment; count = reached.count } })
+passed-padding bytes time words reached next is here = record {
+  word = padding here.delta here.skipped;
+  read = plain_push bytes time words reached (padding here.delta here.skipped) next reached.moment is here.at_offset (λ moves. absurd moves) refl refl (omega arith);
+  records_is = refl;
+}
+
+pub passed-stamp : (bytes : List ℕ) (time : ℕ) (words : List Word) (reached : Reached) (stamp next : ℕ) → HasRead bytes time words reached → StandsAt bytes reached.at next (time_stamp stamp)
+    → HasPassed bytes time words (record { payload = None; behind = record { at = next; moment = stamp; count = reached.count } })
+passed-stamp bytes time words reached stamp next is here = record {
+  word = time_stamp stamp;
+  read =
+      read-push bytes time words reached (time_stamp stamp) next stamp reached.count is here (λ moves. absurd moves)
+      (sym (moment_after-stamp time words stamp))
+      (is.count_is ∙ ap length (sym (append-nil (records_of time words)) ∙ sym (records_of-push time words (time_stamp stamp))));
+  records_is = refl;
+}
 
 -- ---- where the reading ends
 
-counted : (bytes : List ℕ) (time : ℕ) (words : List Word) (reached : Reached) → HasRead bytes time words reached → IsEnding (drop reached.at bytes) → IsCounted bytes time reached.count
-counted bytes time words reached is ending =
-    let reads : Decodes bytes time (records_of time words) = record { words = words; rest = drop reached.at bytes; cut = record { whole = is.whole; each = is.each; ending = ending }; in_time = is.in_time; read = refl } in
+whole_data : (bytes : List ℕ) (time : ℕ) (words : List Word) (reached : Reached) → HasRead bytes time words reached → IsEnding (drop reached.at bytes) → Decodes bytes time (records_of time words)
+whole_data bytes time words reached is ending = record { words = words; rest = drop reached.at bytes; cut = record { whole = is.whole; each = is.each; ending = ending }; in_time = is.in_time; read = refl }
+
+pub whole-ending : (bytes : List ℕ) (time : ℕ) (words : List Word) (reached : Reached) → HasRead bytes time words reached → EndingAt bytes reached.at → Decodes bytes time (records_of time words)
+whole-ending bytes time words reached is ends = whole_data bytes time words reached is (inr ends.ends)
+
+pub whole-all : (bytes : List ℕ) (time : ℕ) (words : List Word) (reached : Reached) → HasRead bytes time words reached → length bytes ≤ reached.at → Decodes bytes time (records_of time words)
+whole-all bytes time words reached is past = whole_data bytes time words reached is (inl (drop_all reached.at bytes past))
+
+-- data that is read whole is counted
+pub counted-whole : (bytes : List ℕ) (time : ℕ) (words : List Word) (reached : Reached) → HasRead bytes time words reached → Decodes bytes time (records_of time words) → IsCounted bytes time reached.count
+counted-whole bytes time words reached is reads =
     let same : records_in time bytes ≡ records_of time words = records_in-Decodes bytes time (records_of time words) reads in
     record {
       reads = subst (Decodes bytes time) (sym same) reads;
       count_is = is.count_is ∙ ap length (sym same);
     }
-
-pub counted-ending : (bytes : List ℕ) (time : ℕ) (words : List Word) (reached : Reached) → HasRead bytes time words reached → EndingAt bytes reached.at → IsCounted bytes time reached.count
-counted-ending bytes time words reached is ends = counted bytes time words reached is (inr ends.ends)
-
-pub counted-all : (bytes : List ℕ) (time : ℕ) (words : List Word) (reached : Reached) → HasRead bytes time words reached → length bytes ≤ reached.at → IsCounted bytes time reached.count
-counted-all bytes time words reached is past = counted bytes time words reached is (inl (drop_all reached.at bytes past))
 
 -- ---- faults
 
@@ -132,3 +165,21 @@ IsData-moves (time_stamp stamp) is = absurd is
 -- a word takes four bytes, so records are few
 pub few_more : (bytes : List ℕ) (at next count : ℕ) (w : Word) → StandsAt bytes at next w → 4 * count ≤ at → 4 * (count + 1) ≤ next
 few_more bytes at next count w here few = let stop = here.next_is in let size = bytes_of_word_ge w in omega arith
+
+-- ---- copies of the records
+
+-- the copies of the records so far, with those of the word that was passed
+pub copied-push : (bytes : List ℕ) (time : ℕ) (words : List Word) (passed : Passed) (before after : List Record) → (is : HasPassed bytes time words passed) → before ≡ records_of time words → after ≡ before ++ records_at_place bytes passed.behind.moment passed.payload
+    → after ≡ records_of time (words ++ is.word ∷ [])
+copied-push bytes time words passed before after is same more =
+    more ∙ ap (λ (rs : List Record). rs ++ records_at_place bytes passed.behind.moment passed.payload) same ∙ ap (λ (rs : List Record). records_of time words ++ rs) (sym is.records_is) ∙ sym (records_of-push time words is.word)
+
+-- data that is read whole has these records
+pub copied-whole : (bytes : List ℕ) (time : ℕ) (words : List Word) (records : List Record) → records ≡ records_of time words → Decodes bytes time (records_of time words) → records ≡ records_in time bytes
+copied-whole bytes time words records same reads = same ∙ sym (records_in-Decodes bytes time (records_of time words) reads)
+
+-- data that reads has no fault
+pub no_fault : (bytes : List ℕ) (time : ℕ) (records : List Record) (f : WordFault) → Decodes bytes time records → IsFirstFault bytes time f → ⊥
+no_fault bytes time records (Cut at) reads first = Decodes-FirstFault bytes time records cut at reads first
+no_fault bytes time records (BadLength at) reads first = Decodes-FirstFault bytes time records bad_length at reads first
+no_fault bytes time records (TimeOverflow at) reads first = Decodes-FirstFault bytes time records time_overflow at reads first

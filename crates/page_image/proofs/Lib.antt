@@ -3,7 +3,6 @@ mod Behind
 mod Putting
 mod Overwriting
 mod Sought
-mod Running
 mod Counting
 mod ImageReads
 mod ImageWrites

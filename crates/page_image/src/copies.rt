@@ -1,67 +1,32 @@
 //! The records of a page, copied.
-ghost use Rattle.std.specs.Prelude.{◌≡◌, ◌+◌, ◌<◌, ◌≤◌, [], length, IfOk, IfSome, IfNone};
-ghost use Rattle.trace_model.specs.Overwriting.{bytes_at};
-ghost use Rattle.page_image.specs.Walk.{FitsLeft, records_left, StandBetween, records_of_step};
+ghost use Rattle.std.specs.Prelude.{◌≡◌, ◌+◌, ◌≤◌, ◌++◌, length, IfOk, IfSome, OnOk};
+ghost use Rattle.page_image.specs.Copies.{copies_of};
+ghost use Rattle.page_image.specs.Walk.{records_at_place};
 
 use crate::page::Page;
-use record_words::{Place, Word, next_word};
+use crate::walk::{Passed, pass_word, start};
 use std::alloc::Global;
 use trace_model::NoMemory;
 
-/// Where a walk over the words of a page stands: the offset of the next word in bytes, and the moment so far.
-#[derive(Clone, Copy)]
-struct Mark {
-    at: usize,
-    moment: u64,
-}
-
-/// A word that was passed: where its payload lies, if it is a record's, and the mark behind it.
-#[derive(Clone, Copy)]
-struct Step {
-    payload: Option<Place>,
-    behind: Mark,
-}
-
-/// Passes the word at a mark. There is no step behind the data, at an ending padding, at a fault, and where
-/// the moment doesn't fit.
-fn next_step(data: &[u8], from: Mark) -> Option<Step>
-    ensures end { IfNone result (FitsLeft «data».now from → records_left «data».now from ≡ []) }
-    ensures passed { IfSome result (λ s. StandBetween «data».now from s.behind (records_of_step «data».now s)) }
-    ensures behind { IfSome result (λ s. from.at < s.behind.at) }
-    ensures within { IfSome result (λ s. s.behind.at ≤ length «data».now) }
-    ensures payload { IfSome result (λ s. IfSome s.payload (λ p. p.start + p.len ≤ length «data».now)) }
+/// Adds a copy of the record of a word that was passed, if it holds one.
+fn add_copy(
+    records: &mut Vec<(u64, Vec<u8>)>,
+    data: &[u8],
+    passed: Passed,
+    alloc: Global,
+) -> Result<(), NoMemory>
+    requires { IfSome passed.payload (λ place. place.start + place.len ≤ length «data».now) }
+    ensures { OnOk result (copies_of records.new.items ≡ copies_of records.old.items ++ records_at_place «data».now passed.behind.moment passed.payload) }
 {
-    if from.at >= data.len() {
-        return None;
+    if let Some(place) = passed.payload {
+        let payload = Vec::from_slice(alloc, &data[place.start..place.start + place.len])?;
+        records.push((passed.behind.moment, payload))?;
     }
-    let Ok(word) = next_word(data, from.at) else {
-        return None;
-    };
-    let (payload, at, moment) = match word {
-        Word::Data { delta, place, next } => (Some(place), next, from.moment.checked_add(delta)?),
-        Word::Pad { next } => (None, next, from.moment),
-        Word::Extend { delta, next } => (None, next, from.moment.checked_add(delta)?),
-        Word::Stamp { time, next } => (None, next, time),
-        Word::End => return None,
-    };
-    Some(Step {
-        payload,
-        behind: Mark { at, moment },
-    })
-}
-
-/// The bytes of a payload.
-fn payload_at(data: &[u8], place: Place, alloc: Global) -> Result<Vec<u8>, NoMemory>
-    requires { place.start + place.len ≤ length «data».now }
-    ensures { IfOk result (λ v. v.items ≡ bytes_at place.start place.len «data».now) }
-{
-    let payload = data[place.start..place.start + place.len].to_vec(alloc)?;
-    Ok(payload)
+    Ok(())
 }
 
 impl Page {
     ghost use Rattle.page_image.specs.Contents.{IsPage, records_of_page};
-    ghost use Rattle.page_image.specs.Copies.{copies_of};
 
     /// The moments and payloads of the records, in order; a payload with the zeros that fill its slot. Where
     /// memory is refused, the answer is `NoMemory`.
@@ -70,15 +35,16 @@ impl Page {
     {
         let data = self.data();
         let mut records = Vec::new(alloc);
-        let mut mark = Mark {
-            at: 0,
-            moment: self.time(),
-        };
-        while let Some(step) = next_step(data, mark) {
-            if let Some(place) = step.payload {
-                records.push((step.behind.moment, payload_at(data, place, alloc)?))?;
-            }
-            mark = step.behind;
+        let mut reached = start(self.time());
+        while reached.at < data.len() {
+            let Ok(found) = pass_word(data, reached) else {
+                return Ok(records);
+            };
+            let Some(passed) = found else {
+                return Ok(records);
+            };
+            add_copy(&mut records, data, passed, alloc)?;
+            reached = passed.behind;
         }
         Ok(records)
     }

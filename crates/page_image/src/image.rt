@@ -99,15 +99,6 @@ fn read_outline(bytes: &[u8]) -> Result<Outline, ImageFault>
     })
 }
 
-/// A copy of these bytes.
-fn copied(alloc: Global, bytes: &[u8]) -> Result<Vec<u8>, AllocError>
-    ensures { IfOk result (λ copy. copy.items ≡ bytes.now) }
-{
-    let mut copy = Vec::with_capacity(alloc, bytes.len())?;
-    copy.extend_from_slice(bytes)?;
-    Ok(copy)
-}
-
 /// The image that was outlined. Its body is a copy of the bytes behind the header.
 fn read(alloc: Global, bytes: &[u8]) -> Result<Image, ImageFault>
     ensures reads { IfOk result (λ image. DecodesImage bytes.now image.time image.size
@@ -117,7 +108,7 @@ fn read(alloc: Global, bytes: &[u8]) -> Result<Image, ImageFault>
     ensures fault { IfErr result (λ f. IsImageFault bytes.now f) }
 {
     let outline = read_outline(bytes)?;
-    let body = copied(alloc, &bytes[HEADER..])?;
+    let body = Vec::from_slice(alloc, &bytes[HEADER..])?;
     Ok(Image {
         time: outline.time,
         size: outline.size,

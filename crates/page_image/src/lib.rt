@@ -10,6 +10,7 @@ mod image;
 mod page;
 mod places;
 mod put;
+mod walk;
 
 pub use body::Body;
 pub use image::{Image, ImageFault, Missed, read_image};

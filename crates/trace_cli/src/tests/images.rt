@@ -115,17 +115,31 @@ const IMAGE_READINGS: [Worked; 9] = [
     },
 ];
 
-// Dumps each image and compares what is printed, and the exit status.
-fn dumps(rt: &(impl Abort + AllocGlobal), images: &[Worked]) -> Result<(), Fail> {
+// A padding, a stamp and a record, eight bytes each.
+const THREE_WORDS: &str =
+    "000000000000000018000000000000003d00000004000000bf0000000200000021000000aabbccdd";
+
+// Dumps an image and compares what is printed, and the exit status.
+fn prints(rt: &(impl Abort + AllocGlobal), name: &str, image: &[u8], wanted: &str, status: u8) {
     let alloc = rt.alloc();
+    let mut printed = Vec::new(alloc);
+    let mut reader = Std::new(image);
+    let answered = dump_to(alloc, &mut reader, &mut Std::new(&mut printed));
+    assert_eq!(rt; printed.as_slice(), wanted.as_bytes(), "{name}");
+    assert_eq!(rt; answered, status, "{name}");
+}
+
+// Dumps each image of a table.
+fn dumps(rt: &(impl Abort + AllocGlobal), images: &[Worked]) -> Result<(), Fail> {
     for worked in images {
-        let name = worked.name;
-        let image = decode(alloc, worked.image)?;
-        let mut printed = Vec::new(alloc);
-        let mut reader = Std::new(image.as_slice());
-        let status = dump_to(alloc, &mut reader, &mut Std::new(&mut printed));
-        assert_eq!(rt; printed.as_slice(), worked.printed.as_bytes(), "{name}");
-        assert_eq!(rt; status, worked.status, "{name}");
+        let image = decode(rt.alloc(), worked.image)?;
+        prints(
+            rt,
+            worked.name,
+            image.as_slice(),
+            worked.printed,
+            worked.status,
+        );
     }
     Ok(())
 }
@@ -140,15 +154,65 @@ fn image_readings(rt: HostRuntime) -> Result<(), Fail> {
     dumps(&rt, &IMAGE_READINGS)
 }
 
+// An image of which only a front is there.
+#[test]
+fn fronts_of_an_image(rt: HostRuntime) -> Result<(), Fail> {
+    let image = decode(rt.alloc(), THREE_WORDS)?;
+    assert_eq!(rt; image.len(), 40);
+    for len in 0..16 {
+        prints(
+            &rt,
+            "a part of a header",
+            &image[..len],
+            "image: TooShort\n",
+            1,
+        );
+    }
+    for len in 16..40 {
+        prints(
+            &rt,
+            "a part of the data",
+            &image[..len],
+            "image: BadSize\n",
+            1,
+        );
+    }
+    Ok(())
+}
+
+// An image of which only a front is there, and which says so.
+#[test]
+fn images_cut_short(rt: HostRuntime) -> Result<(), Fail> {
+    let alloc = rt.alloc();
+    let image = decode(alloc, THREE_WORDS)?;
+    assert_eq!(rt; image.len(), 40);
+    for size in 0..24 {
+        let mut cut = Vec::from_slice(alloc, &image[..16 + size])?;
+        cut[8] = size as u8;
+        let behind = size % 8;
+        if behind == 0 {
+            let head = format!(in alloc; "page 0 size {size} missed none\n")?;
+            prints(&rt, "whole words", cut.as_slice(), &head, 0);
+        } else {
+            let fault = format!(in alloc; "image: Cut at {}\n", size - behind)?;
+            prints(&rt, "a part of a word", cut.as_slice(), &fault, 1);
+        }
+    }
+    let all = "page 0 size 24 missed none\n268435462 aabbccdd\n";
+    prints(&rt, "all words", image.as_slice(), all, 0);
+    Ok(())
+}
+
 // One byte more than the data of a page may have.
 #[test]
 fn too_long_image(rt: HostRuntime) -> Result<(), Fail> {
-    let alloc = rt.alloc();
-    let image = vec![in alloc; 0u8; 16 + 4081]?;
-    let mut printed = Vec::new(alloc);
-    let mut reader = Std::new(image.as_slice());
-    let status = dump_to(alloc, &mut reader, &mut Std::new(&mut printed));
-    assert_eq!(rt; printed.as_slice(), b"image: BadSize\n".as_slice());
-    assert_eq!(rt; status, 1);
+    let image = vec![in rt.alloc(); 0u8; 16 + 4081]?;
+    prints(
+        &rt,
+        "one byte too long",
+        image.as_slice(),
+        "image: BadSize\n",
+        1,
+    );
     Ok(())
 }

@@ -1,6 +1,6 @@
 use Rattle.std.proofs.Common.{◌-◌, ◌*◌, ◌≤◌, length, List}
 use Rattle.trace_model.specs.Words.{Word}
-use Rattle.page_image.specs.Counting.{HasRead}
+use Rattle.page_image.specs.Walk.{HasRead}
 use Rattle.page_image.proofs.count.count_records.Given as goal
 
 abbrev pub invariant-loop-reached : goal.invariant-loop-reached

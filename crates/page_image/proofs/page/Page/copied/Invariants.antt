@@ -1,10 +1,11 @@
-use Rattle.std.proofs.Common.{◌-◌, length}
+use Rattle.std.proofs.Common.{◌≡◌, ◌-◌, ◌*◌, ◌≤◌, length, List}
+use Rattle.trace_model.specs.Words.{Word, records_of}
 use Rattle.page_image.specs.Copies.{copies_of}
-use Rattle.page_image.specs.Walk.{StandBetween}
+use Rattle.page_image.specs.Walk.{HasRead}
 use Rattle.page_image.proofs.page.Page.copied.Given as goal
 
-abbrev pub invariant-loop-step : goal.invariant-loop-step
-invariant-loop-step l = StandBetween l.data (record { at = 0; moment = l.self.time }) l.mark (copies_of l.records.items)
+abbrev pub invariant-loop-reached : goal.invariant-loop-reached
+invariant-loop-reached l = (4 * l.reached.count ≤ l.reached.at) × (l.reached.at ≤ length l.data) × ((words : List Word) × HasRead l.data l.self.time words l.reached × (copies_of l.records.items ≡ records_of l.self.time words))
 
-abbrev pub decreases-loop-step : goal.decreases-loop-step
-decreases-loop-step l = length l.data - l.mark.at
+abbrev pub decreases-loop-reached : goal.decreases-loop-reached
+decreases-loop-reached l = length l.data - l.reached.at

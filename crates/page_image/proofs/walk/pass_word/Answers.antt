@@ -1,11 +1,11 @@
 use Rattle.std.proofs.Common.{arith, refl, subst}
 use Rattle.std.proofs.lemmas.Result.{err_from_is_err_and}
-use Rattle.trace_model.specs.Words.{padding, time_extend, time_stamp}
-use Rattle.record_words.specs.Next.{DataAt, PaddingAt, StandsAt, IsRead}
+use Rattle.trace_model.specs.Words.{time_extend}
+use Rattle.record_words.specs.Next.{DataAt, StandsAt, IsRead}
 use Rattle.record_words.specs.declared.next.Word.{Word as Told}
-use Rattle.page_image.proofs.Counting.{read-data, read-extend, read-stamp, read-padding, counted-ending, overflow-first, few_more, IsData-moves}
+use Rattle.page_image.proofs.Counting.{passed-data, passed-extend, passed-stamp, passed-padding, whole-ending, overflow-first, few_more, IsData-moves}
 use Rattle.trace_model.proofs.Appended.{IsData-not_stamp}
-use Rattle.page_image.proofs.count.step.Goals as goal
+use Rattle.page_image.proofs.walk.pass_word.Goals as goal
 
 pub returns-in_err-moved-in-Data-clause-fault : goal.returns-in_err-moved-in-Data-clause-fault
 returns-in_err-moved-in-Data-clause-fault c = λ time words is.
@@ -31,24 +31,22 @@ returns-in_ok-moved-in-Data-clause-read c = λ time words is.
     let here : DataAt c.args.data.now c.args.reached.at c.in-Data.delta c.in-Data.place c.in-Data.next = subst (λ (w : Told). IsRead c.args.data.now c.args.reached.at w) c.in-Data.is c.in_ok-delta.ensures.word in
     let later = c.in_ok-moved-in-Data.ensures.ok in
     let fits = c.in_ok-moved-in-Data.ensures.fits in
-    let delta = here.delta_is in
-    (here.word, read-data c.args.data.now time words c.args.reached here.word c.in-Data.next _ is here.at_offset here.is_data (omega arith) (omega arith))
+    passed-data c.args.data.now time words c.args.reached c.in-Data.delta c.in-Data.place c.in-Data.next _ is here (omega arith) later
 
 pub returns-in_ok-moved-in-Extend-clause-read : goal.returns-in_ok-moved-in-Extend-clause-read
 returns-in_ok-moved-in-Extend-clause-read c = λ time words is.
     let here : StandsAt c.args.data.now c.args.reached.at c.in-Extend.next (time_extend c.in-Extend.delta) = subst (λ (w : Told). IsRead c.args.data.now c.args.reached.at w) c.in-Extend.is c.in_ok-delta.ensures.word in
     let later = c.in_ok-moved-in-Extend.ensures.ok in
     let fits = c.in_ok-moved-in-Extend.ensures.fits in
-    (time_extend c.in-Extend.delta, read-extend c.args.data.now time words c.args.reached c.in-Extend.delta c.in-Extend.next _ is here (omega arith) later)
+    passed-extend c.args.data.now time words c.args.reached c.in-Extend.delta c.in-Extend.next _ is here (omega arith) later
 
 pub returns-in-Stamp-clause-read : goal.returns-in-Stamp-clause-read
 returns-in-Stamp-clause-read c = λ time words is.
-    (time_stamp c.in-Stamp.stamp, read-stamp c.args.data.now time words c.args.reached c.in-Stamp.stamp c.in-Stamp.next is (subst (λ (w : Told). IsRead c.args.data.now c.args.reached.at w) c.in-Stamp.is c.in_ok-delta.ensures.word))
+    passed-stamp c.args.data.now time words c.args.reached c.in-Stamp.stamp c.in-Stamp.next is (subst (λ (w : Told). IsRead c.args.data.now c.args.reached.at w) c.in-Stamp.is c.in_ok-delta.ensures.word)
 
 pub returns-in-Pad-clause-read : goal.returns-in-Pad-clause-read
 returns-in-Pad-clause-read c = λ time words is.
-    let here : PaddingAt c.args.data.now c.args.reached.at c.in-Pad.next = subst (λ (w : Told). IsRead c.args.data.now c.args.reached.at w) c.in-Pad.is c.in_ok-delta.ensures.word in
-    (padding here.delta here.skipped, read-padding c.args.data.now time words c.args.reached here.delta here.skipped c.in-Pad.next is here.at_offset)
+    passed-padding c.args.data.now time words c.args.reached c.in-Pad.next is (subst (λ (w : Told). IsRead c.args.data.now c.args.reached.at w) c.in-Pad.is c.in_ok-delta.ensures.word)
 
 pub returns-in-End-clause-read : goal.returns-in-End-clause-read
-returns-in-End-clause-read c = λ time words is. counted-ending c.args.data.now time words c.args.reached is (subst (λ (w : Told). IsRead c.args.data.now c.args.reached.at w) c.in-End.is c.in_ok-delta.ensures.word)
+returns-in-End-clause-read c = λ time words is. whole-ending c.args.data.now time words c.args.reached is (subst (λ (w : Told). IsRead c.args.data.now c.args.reached.at w) c.in-End.is c.in_ok-delta.ensures.word)
