@@ -26,3 +26,4 @@ pub mod Images
 pub mod ScriptTable
 pub mod ScriptWrites
 pub mod Joined
+pub mod Windows

@@ -18,6 +18,7 @@ ghost use Rattle.trace_model.specs.Sublist.{IsFront, IsSublist};
 ghost use Rattle.trace_model.specs.Pieces.{HasPieces};
 ghost use Rattle.trace_model.specs.Parcel.{Parcel};
 ghost use Rattle.trace_model.specs.Collection.{IsLeastUpperBound};
+ghost use Rattle.trace_model.specs.Window.{Window, Happening, Deed, window_after, MayHappen, WindowRun, IsWindow};
 
 /// A payload that fills its slot takes just the bytes that the writer reckons with.
 pub fn encoding_len()
@@ -218,4 +219,13 @@ pub fn script_reads_back()
 /// What two lists of parcels have and miss together is the least collection above both.
 pub fn joined_is_least()
     ensures least { (parcels others : List Parcel) → IsLeastUpperBound parcels others (parcels ++ others) }
+{}
+
+/// The counts of a ring's window keep their order, and no more fills are begun from the head on than the
+/// ring has places: over each happening, and so over every run from the start.
+pub fn windows_keep_order()
+    ensures happening { (n : ℕ) (history : List Action) (window : Window) (happening : Happening) →
+        IsWindow n window → MayHappen n history window happening → IsWindow n (window_after window happening) }
+    ensures run { (n start : ℕ) (deeds : List Deed) (window : Window) → 1 ≤ n →
+        WindowRun n start deeds window → IsWindow n window }
 {}
