@@ -27,3 +27,6 @@ pub mod ScriptTable
 pub mod ScriptWrites
 pub mod Joined
 pub mod Windows
+pub mod Elements
+pub mod FirstNumbers
+pub mod Genuine

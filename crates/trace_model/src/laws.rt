@@ -1,5 +1,5 @@
 //! Laws over the definitions, as contracts of functions with empty bodies.
-ghost use Rattle.std.specs.Prelude.{◌≡◌, ◌++◌, ℕ, ◌+◌, ◌^◌, ◌<◌, ◌≤◌, ◌⊎◌, ◌↔◌, List, flat_map, length, Ok, Err, All, EachIndex, slice_index, decimal};
+ghost use Rattle.std.specs.Prelude.{◌≡◌, ◌++◌, ℕ, ◌+◌, ◌^◌, ◌<◌, ◌≤◌, ◌⊎◌, ◌↔◌, List, flat_map, length, Some, Ok, Err, All, EachIndex, slice_get, slice_index, decimal};
 ghost use Rattle.trace_model.specs.Faults.{Cause, IsWordFault, HasWord, HasEnding, HasFault};
 ghost use Rattle.trace_model.specs.FirstFault.{AreBytes, FirstFault};
 ghost use Rattle.trace_model.specs.Image.{Missed, DecodesImage, ImageCause, FirstImageFault, image_of, missed_told};
@@ -16,8 +16,9 @@ ghost use Rattle.trace_model.specs.Words.{Decodes};
 ghost use Rattle.trace_model.specs.Replay.{Answered, TakesPieces, commands_of, history_of_lines, records_taken};
 ghost use Rattle.trace_model.specs.Sublist.{IsFront, IsSublist};
 ghost use Rattle.trace_model.specs.Pieces.{HasPieces};
-ghost use Rattle.trace_model.specs.Parcel.{Parcel};
-ghost use Rattle.trace_model.specs.Collection.{IsLeastUpperBound};
+ghost use Rattle.trace_model.specs.Partition.{Piece, IsPartition, IsNumberedFrom, first_of};
+ghost use Rattle.trace_model.specs.Parcel.{Parcel, AreGenuine};
+ghost use Rattle.trace_model.specs.Collection.{Agree, Has, IsLeastUpperBound};
 ghost use Rattle.trace_model.specs.Window.{Window, Happening, Deed, window_after, MayHappen, WindowRun, IsWindow};
 
 /// A payload that fills its slot takes just the bytes that the writer reckons with.
@@ -219,6 +220,35 @@ pub fn script_reads_back()
 /// What two lists of parcels have and miss together is the least collection above both.
 pub fn joined_is_least()
     ensures least { (parcels others : List Parcel) → IsLeastUpperBound parcels others (parcels ++ others) }
+{}
+
+/// Each piece of a partition has a first number, which is how many records of the whole list stand in front
+/// of the piece's own; from that number on these are the records of the whole list.
+pub fn pieces_have_first_numbers()
+    ensures some { (records : List Record) (pieces : List Piece) (rest : List Record) (place : ℕ) (piece : Piece) →
+        IsPartition records pieces rest → slice_get pieces place ≡ Some piece →
+        (first : ℕ) × (first_of pieces place ≡ Some first) }
+    ensures counted { (records : List Record) (pieces : List Piece) (rest : List Record)
+        (place first : ℕ) (piece : Piece) →
+        IsPartition records pieces rest → slice_get pieces place ≡ Some piece →
+        ((first_of pieces place ≡ Some first) ↔ IsNumberedFrom records pieces rest place piece first) }
+    ensures own_records { (records : List Record) (pieces : List Piece) (rest : List Record)
+        (place first i : ℕ) (piece : Piece) (r : Record) →
+        IsPartition records pieces rest → slice_get pieces place ≡ Some piece →
+        first_of pieces place ≡ Some first →
+        slice_get piece.records i ≡ Some r → slice_get records (first + i) ≡ Some r }
+{}
+
+/// Parcels that are genuine for the partition of their CPU's records hold only those records, under their
+/// numbers, and agree: no number has two records, and none is both held and lost.
+pub fn genuine_parcels_agree()
+    ensures held { (records : ℕ → List Record) (pieces : ℕ → List Piece) (rest : ℕ → List Record)
+        (parcels : List Parcel) (cpu number : ℕ) (r : Record) →
+        ((c : ℕ) → IsPartition (records c) (pieces c) (rest c)) → AreGenuine parcels pieces →
+        Has parcels cpu number r → slice_get (records cpu) number ≡ Some r }
+    ensures agree { (records : ℕ → List Record) (pieces : ℕ → List Piece) (rest : ℕ → List Record)
+        (parcels : List Parcel) →
+        ((c : ℕ) → IsPartition (records c) (pieces c) (rest c)) → AreGenuine parcels pieces → Agree parcels }
 {}
 
 /// The counts of a ring's window keep their order, and no more fills are begun from the head on than the
