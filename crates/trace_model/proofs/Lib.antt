@@ -30,3 +30,4 @@ pub mod Windows
 pub mod Elements
 pub mod FirstNumbers
 pub mod Genuine
+pub mod Collections

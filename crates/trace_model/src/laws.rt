@@ -1,5 +1,6 @@
 //! Laws over the definitions, as contracts of functions with empty bodies.
-ghost use Rattle.std.specs.Prelude.{◌≡◌, ◌++◌, ℕ, ◌+◌, ◌^◌, ◌<◌, ◌≤◌, ◌⊎◌, ◌↔◌, List, flat_map, length, Some, Ok, Err, All, EachIndex, slice_get, slice_index, decimal};
+ghost use Rattle.std.specs.Prelude.{◌≡◌, ◌++◌, ℕ, ◌+◌, ◌^◌, ◌<◌, ◌≤◌, ◌⊎◌, ◌↔◌, List, [], ◌∷◌, flat_map, length, Some, Ok, Err, All, EachIndex, slice_get, slice_index, decimal};
+ghost use Rattle.std.specs.List.{Contains};
 ghost use Rattle.trace_model.specs.Faults.{Cause, IsWordFault, HasWord, HasEnding, HasFault};
 ghost use Rattle.trace_model.specs.FirstFault.{AreBytes, FirstFault};
 ghost use Rattle.trace_model.specs.Image.{Missed, DecodesImage, ImageCause, FirstImageFault, image_of, missed_told};
@@ -18,7 +19,7 @@ ghost use Rattle.trace_model.specs.Sublist.{IsFront, IsSublist};
 ghost use Rattle.trace_model.specs.Pieces.{HasPieces};
 ghost use Rattle.trace_model.specs.Partition.{Piece, IsPartition, IsNumberedFrom, first_of};
 ghost use Rattle.trace_model.specs.Parcel.{Parcel, AreGenuine};
-ghost use Rattle.trace_model.specs.Collection.{Agree, Has, IsLeastUpperBound};
+ghost use Rattle.trace_model.specs.Collection.{Agree, Has, IsBelow, IsSame, IsLeastUpperBound};
 ghost use Rattle.trace_model.specs.Window.{Window, Happening, Deed, window_after, MayHappen, WindowRun, IsWindow};
 
 /// A payload that fills its slot takes just the bytes that the writer reckons with.
@@ -220,6 +221,41 @@ pub fn script_reads_back()
 /// What two lists of parcels have and miss together is the least collection above both.
 pub fn joined_is_least()
     ensures least { (parcels others : List Parcel) → IsLeastUpperBound parcels others (parcels ++ others) }
+{}
+
+/// Collections are ordered by what they have and miss, up to having and missing the same; that is an
+/// equivalence.
+pub fn collections_are_ordered()
+    ensures below_itself { (parcels : List Parcel) → IsBelow parcels parcels }
+    ensures below_below { (parcels others above : List Parcel) →
+        IsBelow parcels others → IsBelow others above → IsBelow parcels above }
+    ensures below_both { (parcels others : List Parcel) →
+        IsBelow parcels others → IsBelow others parcels → IsSame parcels others }
+    ensures same_itself { (parcels : List Parcel) → IsSame parcels parcels }
+    ensures same_back { (parcels others : List Parcel) → IsSame parcels others → IsSame others parcels }
+    ensures same_same { (parcels others more : List Parcel) →
+        IsSame parcels others → IsSame others more → IsSame parcels more }
+{}
+
+/// The order and the repeats of parcels change nothing: the same parcels are the same collection, one that
+/// comes once more leaves it the same, and joining commutes, regroups and forgets what is joined twice.
+/// Parcels lie below more parcels, and what lies below parcels that agree agrees too.
+pub fn order_and_repeats_change_nothing()
+    ensures below_more { (parcels others : List Parcel) →
+        ((p : Parcel) → Contains parcels p → Contains others p) → IsBelow parcels others }
+    ensures same_parcels { (parcels others : List Parcel) →
+        ((p : Parcel) → (Contains parcels p ↔ Contains others p)) → IsSame parcels others }
+    ensures repeated { (parcels : List Parcel) (p : Parcel) →
+        Contains parcels p → IsSame (parcels ++ p ∷ []) parcels }
+    ensures commutes { (parcels others : List Parcel) → IsSame (parcels ++ others) (others ++ parcels) }
+    ensures regroups { (parcels others more : List Parcel) →
+        IsSame ((parcels ++ others) ++ more) (parcels ++ (others ++ more)) }
+    ensures twice { (parcels : List Parcel) → IsSame (parcels ++ parcels) parcels }
+    ensures same_joined { (parcels others like_parcels like_others : List Parcel) →
+        IsSame parcels like_parcels → IsSame others like_others →
+        IsSame (parcels ++ others) (like_parcels ++ like_others) }
+    ensures below_agrees { (parcels others : List Parcel) →
+        IsBelow parcels others → Agree others → Agree parcels }
 {}
 
 /// Each piece of a partition has a first number, which is how many records of the whole list stand in front
