@@ -31,3 +31,5 @@ pub mod Elements
 pub mod FirstNumbers
 pub mod Genuine
 pub mod Collections
+pub mod Listings
+pub mod ListingsMade

@@ -20,6 +20,7 @@ ghost use Rattle.trace_model.specs.Pieces.{HasPieces};
 ghost use Rattle.trace_model.specs.Partition.{Piece, IsPartition, IsNumberedFrom, first_of};
 ghost use Rattle.trace_model.specs.Parcel.{Parcel, AreGenuine};
 ghost use Rattle.trace_model.specs.Collection.{Agree, Has, IsBelow, IsSame, IsLeastUpperBound};
+ghost use Rattle.trace_model.specs.Listing.{Line, IsListing};
 ghost use Rattle.trace_model.specs.Window.{Window, Happening, Deed, window_after, MayHappen, WindowRun, IsWindow};
 
 /// A payload that fills its slot takes just the bytes that the writer reckons with.
@@ -294,4 +295,18 @@ pub fn windows_keep_order()
         IsWindow n window → MayHappen n history window happening → IsWindow n (window_after window happening) }
     ensures run { (n start : ℕ) (deeds : List Deed) (window : Window) → 1 ≤ n →
         WindowRun n start deeds window → IsWindow n window }
+{}
+
+/// What parcels have decides their listing, in which each record stands once. Parcels that agree have a
+/// listing, and in it a CPU and a number have one line at most.
+pub fn listings_are_one()
+    ensures one { (parcels others : List Parcel) (lines other_lines : List Line) →
+        IsSame parcels others → IsListing parcels lines → IsListing others other_lines → lines ≡ other_lines }
+    ensures once { (parcels : List Parcel) (lines : List Line) (j k : ℕ) (line : Line) →
+        IsListing parcels lines → slice_get lines j ≡ Some line → slice_get lines k ≡ Some line → j ≡ k }
+    ensures some { (parcels : List Parcel) → Agree parcels → (lines : List Line) × IsListing parcels lines }
+    ensures one_line { (parcels : List Parcel) (lines : List Line) (j k : ℕ) (a b : Line) →
+        Agree parcels → IsListing parcels lines →
+        slice_get lines j ≡ Some a → slice_get lines k ≡ Some b →
+        a.cpu ≡ b.cpu → a.number ≡ b.number → j ≡ k }
 {}
