@@ -1,5 +1,5 @@
 -- The element at a place of two lists, one behind the other.
-use Rattle.std.proofs.Common.{◌≡◌, ℕ, zero, suc, ◌+◌, ◌<◌, ◌⊎◌, List, [], ◌∷◌, ◌++◌, length, Some, inl, inr, ⊎_elim, refl, ap, ◌∙◌, arith}
+use Rattle.std.proofs.Common.{◌≡◌, ℕ, zero, suc, ◌+◌, ◌⊎◌, List, [], ◌∷◌, ◌++◌, length, Some, inl, inr, ⊎_elim, ap, ◌∙◌, arith}
 use Rattle.std.proofs.lemmas.Option.{none-some}
 use Rattle.std.specs.List.{slice_get}
 

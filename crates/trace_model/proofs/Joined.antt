@@ -1,5 +1,5 @@
 -- The parcels of two collections, one behind the other, are the least collection above both.
-use Rattle.std.proofs.Common.{ℕ, ◌+◌, List, ◌++◌, length, ⊎_elim, ◌∙◌}
+use Rattle.std.proofs.Common.{◌+◌, List, ◌++◌, length, ⊎_elim, ◌∙◌}
 use Rattle.trace_model.specs.Parcel.{Parcel}
 use Rattle.trace_model.specs.Collection.{IsLeastUpperBound}
 use Rattle.trace_model.proofs.Elements.{get_in_front, get_behind, get_in_either}

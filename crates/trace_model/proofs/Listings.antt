@@ -1,13 +1,13 @@
 -- What parcels have decides their listing, and parcels that agree have one.
-use Rattle.std.proofs.Common.{◌≡◌, ℕ, zero, suc, ◌+◌, ◌<◌, ◌⊎◌, inl, inr, ⊎_elim, List, [], ◌∷◌, ◌++◌, length, Some, refl, sym, ap, ◌∙◌, subst, arith}
+use Rattle.std.proofs.Common.{◌≡◌, ℕ, zero, suc, ◌<◌, ◌⊎◌, inl, inr, ⊎_elim, List, [], ◌∷◌, Some, refl, sym, ap, ◌∙◌, subst, arith}
 use Rattle.std.proofs.lemmas.Option.{none-some}
 use Rattle.std.proofs.lemmas.Bool.{cases_lt}
 use Rattle.std.specs.List.{slice_get}
 use Rattle.trace_model.specs.Record.{Record}
-use Rattle.trace_model.specs.Parcel.{Parcel, IsPairOf}
+use Rattle.trace_model.specs.Parcel.{Parcel}
 use Rattle.trace_model.specs.Collection.{Has, Agree, IsBelow, IsSame}
 use Rattle.trace_model.specs.Listing.{Line, IsBefore, IsTimeOrdered, IsListing}
-use Rattle.trace_model.proofs.Elements.{some_is, get_in_front, get_behind, get_in_either}
+use Rattle.trace_model.proofs.Elements.{some_is}
 
 -- ---- the order of lines
 

@@ -1,5 +1,5 @@
 -- The counts of a window keep their order.
-use Rattle.std.proofs.Common.{ℕ, ◌+◌, ◌<◌, ◌≤◌, List, [], ◌∷◌, ◌++◌, subst, arith}
+use Rattle.std.proofs.Common.{ℕ, ◌≤◌, List, [], ◌∷◌, ◌++◌, subst, arith}
 use Rattle.trace_model.specs.History.{Action}
 use Rattle.trace_model.specs.Window.{Window, first_window, Happening, opened_one, released_one, took_one, lost_one, window_after, MayHappen, Deed, acts, happens, WindowRunFrom, WindowRun, IsWindow}
 
