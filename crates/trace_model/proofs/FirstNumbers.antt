@@ -1,5 +1,5 @@
 -- The pieces of a partition lie in the list from their first numbers on, and apart from what was lost.
-use Rattle.std.proofs.Common.{◌≡◌, ℕ, zero, suc, ◌+◌, ◌<◌, ◌≤◌, ◌↔◌, List, [], ◌∷◌, ◌++◌, length, take, drop, Option, Some, refl, sym, ap, ◌∙◌, subst, arith, append_assoc, length-append}
+use Rattle.std.proofs.Common.{◌≡◌, ℕ, zero, suc, ◌+◌, ◌<◌, ◌≤◌, List, [], ◌∷◌, ◌++◌, length, take, drop, Some, refl, sym, ap, ◌∙◌, subst, arith, append_assoc, length-append}
 use Rattle.std.proofs.lemmas.Option.{none-some}
 use Rattle.std.specs.List.{slice_get}
 use Rattle.trace_model.specs.Record.{Record}
@@ -86,6 +86,13 @@ own_records records pieces rest k p first i r parts at is there =
     ∙ get_behind s.before (s.lost ++ (p.records ++ s.behind)) (length s.lost + i)
     ∙ get_behind s.lost (p.records ++ s.behind) i
     ∙ get_in_front p.records s.behind i r there
+
+pub first_within : (records : List Record) (pieces : List Piece) (rest : List Record) (k : ℕ) (p : Piece) (first : ℕ) → IsPartition records pieces rest → slice_get pieces k ≡ Some p → first_of pieces k ≡ Some first → first ≤ length records
+first_within records pieces rest k p first parts at is =
+    let s = count_is_first records pieces rest k p first parts at is in
+    let number = s.number in
+    let all = ap (length {A = Record}) s.whole ∙ length-append s.before (s.lost ++ (p.records ++ s.behind)) in
+    let more = length-append s.lost (p.records ++ s.behind) in omega arith
 
 -- ---- what is lost lies apart from what is held
 

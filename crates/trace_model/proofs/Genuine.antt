@@ -1,5 +1,5 @@
 -- Genuine parcels of one partition for each CPU never clash.
-use Rattle.std.proofs.Common.{◌≡◌, ℕ, ◌+◌, ◌<◌, List, length, Some, sym, ◌∙◌, subst, arith}
+use Rattle.std.proofs.Common.{◌≡◌, ℕ, ◌<◌, List, length, Some, sym, ◌∙◌, subst, arith}
 use Rattle.std.proofs.lemmas.Option.{slice_get_within}
 use Rattle.std.specs.List.{slice_get}
 use Rattle.trace_model.specs.Record.{Record}
@@ -7,7 +7,7 @@ use Rattle.trace_model.specs.Partition.{Piece, IsPartition}
 use Rattle.trace_model.specs.Parcel.{Parcel, IsGenuine, AreGenuine}
 use Rattle.trace_model.specs.Collection.{Has, Misses, Agree}
 use Rattle.trace_model.proofs.Elements.{some_is}
-use Rattle.trace_model.proofs.FirstNumbers.{own_records, held_or_lost}
+use Rattle.trace_model.proofs.FirstNumbers.{own_records, first_within, held_or_lost}
 
 -- what is held under a CPU and a number is that CPU's record of that number
 pub held_of_records : (records : ℕ → List Record) (pieces : ℕ → List Piece) (rest : ℕ → List Record) (parcels : List Parcel) (cpu number : ℕ) (r : Record)
@@ -17,6 +17,16 @@ held_of_records records pieces rest parcels cpu number r parts genuine h =
     let g = genuine h.place parcel h.at in
     (λ i. slice_get (records (h.pair.cpu_is i)) (h.pair.number_is i))
     ∙ own_records (records parcel.cpu) (pieces parcel.cpu) (rest parcel.cpu) g.place record { skipped = parcel.missed; records = parcel.records } parcel.first h.pair.place r (parts parcel.cpu) g.piece_is g.first_is h.pair.record_is
+
+-- what is lost under a CPU and a number was a record of that CPU
+pub lost_of_records : (records : ℕ → List Record) (pieces : ℕ → List Piece) (rest : ℕ → List Record) (parcels : List Parcel) (cpu number : ℕ)
+    → ((c : ℕ) → IsPartition (records c) (pieces c) (rest c)) → AreGenuine parcels pieces → Misses parcels cpu number → number < length (records cpu)
+lost_of_records records pieces rest parcels cpu number parts genuine m =
+    let parcel = m.parcel in
+    let g = genuine m.place parcel m.at in
+    let high = m.missing.high in
+    let within = first_within (records parcel.cpu) (pieces parcel.cpu) (rest parcel.cpu) g.place record { skipped = parcel.missed; records = parcel.records } parcel.first (parts parcel.cpu) g.piece_is g.first_is in
+    subst (λ (c : ℕ). number < length (records c)) (sym m.missing.cpu_is) (omega arith)
 
 -- nothing is held under a number that was lost
 not_held : (pieces : ℕ → List Piece) (parcels : List Parcel) (cpu number : ℕ) (r : Record) → AreGenuine parcels pieces → Has parcels cpu number r → Misses parcels cpu number → ⊥

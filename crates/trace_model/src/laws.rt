@@ -19,7 +19,7 @@ ghost use Rattle.trace_model.specs.Sublist.{IsFront, IsSublist};
 ghost use Rattle.trace_model.specs.Pieces.{HasPieces};
 ghost use Rattle.trace_model.specs.Partition.{Piece, IsPartition, IsNumberedFrom, first_of};
 ghost use Rattle.trace_model.specs.Parcel.{Parcel, AreGenuine};
-ghost use Rattle.trace_model.specs.Collection.{Agree, Has, IsBelow, IsSame, IsLeastUpperBound};
+ghost use Rattle.trace_model.specs.Collection.{Agree, Has, Misses, IsBelow, IsSame, IsLeastUpperBound};
 ghost use Rattle.trace_model.specs.Listing.{Line, IsListing};
 ghost use Rattle.trace_model.specs.Window.{Window, Happening, Deed, window_after, MayHappen, WindowRun, IsWindow};
 
@@ -276,13 +276,17 @@ pub fn pieces_have_first_numbers()
         slice_get piece.records i ≡ Some r → slice_get records (first + i) ≡ Some r }
 {}
 
-/// Parcels that are genuine for the partition of their CPU's records hold only those records, under their
-/// numbers, and agree: no number has two records, and none is both held and lost.
+/// Parcels that are genuine for the partition of their CPU's records hold and miss only those records, under
+/// their numbers, and agree: no number has two records, and none is both held and lost.
 pub fn genuine_parcels_agree()
     ensures held { (records : ℕ → List Record) (pieces : ℕ → List Piece) (rest : ℕ → List Record)
         (parcels : List Parcel) (cpu number : ℕ) (r : Record) →
         ((c : ℕ) → IsPartition (records c) (pieces c) (rest c)) → AreGenuine parcels pieces →
         Has parcels cpu number r → slice_get (records cpu) number ≡ Some r }
+    ensures lost { (records : ℕ → List Record) (pieces : ℕ → List Piece) (rest : ℕ → List Record)
+        (parcels : List Parcel) (cpu number : ℕ) →
+        ((c : ℕ) → IsPartition (records c) (pieces c) (rest c)) → AreGenuine parcels pieces →
+        Misses parcels cpu number → number < length (records cpu) }
     ensures agree { (records : ℕ → List Record) (pieces : ℕ → List Piece) (rest : ℕ → List Record)
         (parcels : List Parcel) →
         ((c : ℕ) → IsPartition (records c) (pieces c) (rest c)) → AreGenuine parcels pieces → Agree parcels }
