@@ -17,3 +17,5 @@ pub mod Rings
 pub mod Parts
 pub mod PartSteps
 pub mod PartRuns
+pub mod WindowRuns
+pub mod ToldSteps

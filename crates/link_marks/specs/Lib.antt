@@ -5,3 +5,5 @@ pub mod KeptHistory
 pub mod KeptContents
 pub mod RingKept
 pub mod KeptParts
+pub mod WindowRuns
+pub mod RunLaws

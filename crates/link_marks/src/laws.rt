@@ -1,4 +1,5 @@
 //! The laws of the ring: each is the contract of a function with an empty body.
+ghost use Rattle.link_marks.specs.RunLaws.{LostAreClosed, NoneIsTakenAndLost, PassedAreTakenOrLost, RunsMoveWindow, TakenAreClosed, WindowKeepsOrder};
 ghost use Rattle.link_marks.specs.Laws.{CommittedIsFront, KeptIsRing, RunsMakeRings, StartHasWindow, StartIsKept, StepsKeepRing, StepsMoveWindow, TakenPartsCommitted};
 
 /// A new ring has all that its steps keep, and its window is the first one.
@@ -18,6 +19,22 @@ pub fn steps_keep_ring()
 /// none is lost but a closed one, in a full ring.
 pub fn steps_move_window()
     ensures window { StepsMoveWindow }
+{}
+
+/// Every run from a new ring is a run of its window, which tells each action of the frames and each fill
+/// that the reader took.
+pub fn runs_move_window()
+    ensures runs { RunsMoveWindow }
+{}
+
+/// Over a run of the window the counts keep their order; each fill below the head was taken or lost, never
+/// both; and either way it had been closed, and one that was lost was so in a full ring.
+pub fn window_runs_keep_order()
+    ensures order { WindowKeepsOrder }
+    ensures passed { PassedAreTakenOrLost }
+    ensures apart { NoneIsTakenAndLost }
+    ensures taken { TakenAreClosed }
+    ensures lost { LostAreClosed }
 {}
 
 /// The committed records are a front of the reserved ones; and after every run the fills that the reader
