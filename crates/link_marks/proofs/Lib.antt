@@ -19,3 +19,4 @@ pub mod PartSteps
 pub mod PartRuns
 pub mod WindowRuns
 pub mod ToldSteps
+pub mod Answered

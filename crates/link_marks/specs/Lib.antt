@@ -7,3 +7,4 @@ pub mod RingKept
 pub mod KeptParts
 pub mod WindowRuns
 pub mod RunLaws
+pub mod AnswerLaws

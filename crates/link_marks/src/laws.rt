@@ -1,5 +1,6 @@
 //! The laws of the ring: each is the contract of a function with an empty body.
 ghost use Rattle.link_marks.specs.RunLaws.{LostAreClosed, NoneIsTakenAndLost, PassedAreTakenOrLost, RunsMoveWindow, TakenAreClosed, WindowKeepsOrder};
+ghost use Rattle.link_marks.specs.AnswerLaws.{CrowdedIsRight, EmptyIsRight, MovingIsRight, SwappedIsRight, WornIsRight};
 ghost use Rattle.link_marks.specs.Laws.{CommittedIsFront, KeptIsRing, RunsMakeRings, StartHasWindow, StartIsKept, StepsKeepRing, StepsMoveWindow, TakenPartsCommitted};
 
 /// A new ring has all that its steps keep, and its window is the first one.
@@ -35,6 +36,21 @@ pub fn window_runs_keep_order()
     ensures apart { NoneIsTakenAndLost }
     ensures taken { TakenAreClosed }
     ensures lost { LostAreClosed }
+{}
+
+/// A frame is refused for want of a page only where none is released, and for want of a fill's number only
+/// where the tail is the last fill that has one.
+pub fn refusals_are_right()
+    ensures crowded { CrowdedIsRight }
+    ensures worn { WornIsRight }
+{}
+
+/// The reader finds nothing only where nothing closed is unread; it is sent away only by a move of the head
+/// whose UPDATE stands; and it takes just the head, closed.
+pub fn reader_answers_are_right()
+    ensures none { EmptyIsRight }
+    ensures moves { MovingIsRight }
+    ensures takes { SwappedIsRight }
 {}
 
 /// The committed records are a front of the reserved ones; and after every run the fills that the reader
