@@ -20,3 +20,4 @@ pub mod PartRuns
 pub mod WindowRuns
 pub mod ToldSteps
 pub mod Answered
+pub mod Relinking

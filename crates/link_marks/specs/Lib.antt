@@ -8,3 +8,4 @@ pub mod KeptParts
 pub mod WindowRuns
 pub mod RunLaws
 pub mod AnswerLaws
+pub mod LinkLaws

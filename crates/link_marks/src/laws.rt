@@ -1,6 +1,7 @@
 //! The laws of the ring: each is the contract of a function with an empty body.
 ghost use Rattle.link_marks.specs.RunLaws.{LostAreClosed, NoneIsTakenAndLost, PassedAreTakenOrLost, RunsMoveWindow, TakenAreClosed, WindowKeepsOrder};
 ghost use Rattle.link_marks.specs.AnswerLaws.{CrowdedIsRight, EmptyIsRight, MovingIsRight, SwappedIsRight, WornIsRight};
+ghost use Rattle.link_marks.specs.LinkLaws.{HeadersAreOwed, HeadersAreSetOnce, LinksStandOnce, OneHeader, OwnersClear, StepsRaiseLinks};
 ghost use Rattle.link_marks.specs.Laws.{CommittedIsFront, KeptIsRing, RunsMakeRings, StartHasWindow, StartIsKept, StepsKeepRing, StepsMoveWindow, TakenPartsCommitted};
 
 /// A new ring has all that its steps keep, and its window is the first one.
@@ -51,6 +52,26 @@ pub fn reader_answers_are_right()
     ensures none { EmptyIsRight }
     ensures moves { MovingIsRight }
     ensures takes { SwappedIsRight }
+{}
+
+/// Each step leaves a link or makes it a later one: so a link value stands once at its place, and a compare
+/// and exchange that comes late fails.
+pub fn links_stand_once()
+    ensures steps { StepsRaiseLinks }
+    ensures once { LinksStandOnce }
+{}
+
+/// One place has a HEADER at most, and it tells the head; of one move of the head at most one step sets it,
+/// over the NORMAL that waited for it, where none stands or with the swap that takes the one before.
+pub fn one_header()
+    ensures alone { OneHeader }
+    ensures owed { HeadersAreOwed }
+    ensures once { HeadersAreSetOnce }
+{}
+
+/// Only the frame that owns an UPDATE clears it, and before that the next HEADER was set.
+pub fn owners_clear()
+    ensures clears { OwnersClear }
 {}
 
 /// The committed records are a front of the reserved ones; and after every run the fills that the reader
