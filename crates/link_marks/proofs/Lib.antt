@@ -21,3 +21,6 @@ pub mod WindowRuns
 pub mod ToldSteps
 pub mod Answered
 pub mod Relinking
+pub mod PackedHistories
+pub mod PackedSteps
+pub mod PackedRuns

@@ -1,5 +1,6 @@
 -- The laws of the ring's runs, as statements: each is the contract of a function of src/laws.rt.
 use Rattle.std.specs.Prelude.{◌≡◌, ℕ, ◌+◌, ◌^◌, ◌<◌, ◌≤◌, ◌⊎◌, List, Contains}
+use Rattle.trace_model.specs.Packing.{IsPacked}
 use Rattle.trace_model.specs.Ring.{Core, IsStart}
 use Rattle.trace_model.specs.Window.{Window, Deed, WindowRun, IsWindow}
 use Rattle.trace_model.specs.Steps.{Exchange, Run}
@@ -33,3 +34,8 @@ TakenAreClosed = (n start : ℕ) (deeds : List Deed) (w : Window) (f : ℕ) → 
 abbrev pub LostAreClosed : Type 0
 LostAreClosed = (n start : ℕ) (deeds : List Deed) (w : Window) (f : ℕ) → WindowRun n start deeds w → Contains (fills_lost start deeds) f
     → (start ≤ f) × (f < w.head) × (f < w.done) × (f + n ≤ w.opened)
+
+-- after every run of steps from a new ring, what was done is packed in its pages: each fill has room in one,
+-- and a fill is begun only behind one that isn't empty, by a close frame or for a record that doesn't fit
+abbrev pub RunsArePacked : Type 0
+RunsArePacked = (n size start : ℕ) (c after : Core) (exchanges : List Exchange) → 2 ≤ n → start + 1 + n ≤ 2 ^ 48 → IsStart n start c → Run n size c exchanges after → IsPacked after.history size
