@@ -7,7 +7,7 @@ use mathlib.Core.Logic.{dite}
 use native.Mathlib.Decide.{ℕ_discrete, dec_le}
 use Rattle.trace_model.specs.Words.{slot_len, encoded_len}
 use Rattle.trace_model.specs.History.{Action, push, push_close, open_fill, reserve, leave, Reservation, Frame, record_frame, close_frame, Written, last_moment, reserved_for, finished_at, acted, written_by, reserved_records}
-use Rattle.trace_model.specs.Packing.{stood, standing, opens_of, cut_from, fills_of, tail_of, len_behind, fill_len, FitsBehind, wanted_by, wanted, Closes, IsPacked}
+use Rattle.trace_model.specs.Packing.{opens_of, cut_from, fills_of, tail_of, len_behind, fill_len, FitsBehind, wanted_by, wanted, Closes, IsPacked}
 use Rattle.trace_model.specs.Frames.{Kind, for_record, for_close}
 use Rattle.trace_model.proofs.Lengths.{slot_len_ge_four, slot_len-slot_len}
 use Rattle.trace_model.proofs.Histories.{last_moment-push}
@@ -111,48 +111,16 @@ fill_more : (xs : List Reservation) (s : Reservation) (moment moment' len : ℕ)
 fill_more [] s moment moment' len = first_more (if nat_le (slot_len len) 112 then 4 else 8) (slot_len len) (encoded_len s.len 0 true) (if nat_lt (moment' - s.moment) (2 ^ 27) then 0 else 8)
 fill_more (x ∷ xs) s moment moment' len = add_le (encoded_len x.len 0 true) _ _ (behind_more x.moment xs s moment moment' len)
 
--- ---- the pushes that stand, and the stack
-
--- the push of a frame
-abbrev pub pushed_by : Frame → Action
-pushed_by (record_frame moment len number) = push moment len
-pushed_by close_frame = push_close
-
-stood_reserve : (stack : List Frame) (xs : List Reservation) → stood (map pushed_by stack) reserve ≡ map pushed_by (acted stack xs reserve).stack
-stood_reserve [] xs = refl
-stood_reserve (record_frame moment len None ∷ stack) xs = refl
-stood_reserve (record_frame moment len (Some number) ∷ stack) xs = refl
-stood_reserve (close_frame ∷ stack) xs = refl
-
-stood_leave : (stack : List Frame) (xs : List Reservation) (payload : Option (List ℕ)) → stood (map pushed_by stack) (leave payload) ≡ map pushed_by (acted stack xs (leave payload)).stack
-stood_leave [] xs payload = refl
-stood_leave (f ∷ stack) xs payload = refl
-
-stood_open : (stack : List Frame) (xs : List Reservation) → stood (map pushed_by stack) open_fill ≡ map pushed_by (acted stack xs open_fill).stack
-stood_open stack xs = refl
-
-stood_one : (stack : List Frame) (xs : List Reservation) (a : Action) → stood (map pushed_by stack) a ≡ map pushed_by (acted stack xs a).stack
-stood_one stack xs (push moment len) = refl
-stood_one stack xs push_close = refl
-stood_one stack xs open_fill = stood_open stack xs
-stood_one stack xs reserve = stood_reserve stack xs
-stood_one stack xs (leave payload) = stood_leave stack xs payload
-
-stood_all : (h : List Action) (w : Written) → fold stood (map pushed_by w.stack) h ≡ map pushed_by (fold (λ (v : Written) (a : Action). acted v.stack v.records a) w h).stack
-stood_all [] w = refl
-stood_all (a ∷ h) w = ap (λ (s : List Action). fold stood s h) (stood_one w.stack w.records a) ∙ stood_all h (acted w.stack w.records a)
-
-pub standing_is : (h : List Action) → standing h ≡ map pushed_by (written_by h).stack
-standing_is h = stood_all h record { stack = []; records = [] }
+-- ---- what the frame on top wants
 
 pub wanted_record : (h : List Action) (moment len : ℕ) (number : Option ℕ) (below : List Frame) → (written_by h).stack ≡ record_frame moment len number ∷ below → wanted h ≡ Some (reserved_for moment len (reserved_records h))
-wanted_record h moment len number below e = ap (λ (s : List Action). wanted_by s (reserved_records h)) (standing_is h ∙ ap (map pushed_by) e)
+wanted_record h moment len number below e = ap (λ (s : List Frame). wanted_by s (reserved_records h)) e
 
 pub wanted_close : (h : List Action) (below : List Frame) → (written_by h).stack ≡ close_frame ∷ below → wanted h ≡ None
-wanted_close h below e = ap (λ (s : List Action). wanted_by s (reserved_records h)) (standing_is h ∙ ap (map pushed_by) e)
+wanted_close h below e = ap (λ (s : List Frame). wanted_by s (reserved_records h)) e
 
-pub closes_close : (h : List Action) (below : List Frame) → (written_by h).stack ≡ close_frame ∷ below → Closes (standing h)
-closes_close h below e = subst Closes (sym (standing_is h ∙ ap (map pushed_by) e)) tt
+pub closes_close : (h : List Action) (below : List Frame) → (written_by h).stack ≡ close_frame ∷ below → Closes (written_by h).stack
+closes_close h below e = subst Closes (sym e) tt
 
 -- ---- the fills have room
 
@@ -190,7 +158,7 @@ room_opened size cuts xs room i = dite (dec_le i (length cuts))
 abbrev pub IsFit : ℕ → List Action → Action → Type 0
 IsFit size front (push moment len) = Unit {0}
 IsFit size front push_close = Unit {0}
-IsFit size front open_fill = (tail_of front ≢ []) × ((r : Reservation) → wanted front ≡ Some r → FitsBehind size (tail_of front) r → ⊥) × (wanted front ≡ None → Closes (standing front))
+IsFit size front open_fill = (tail_of front ≢ []) × ((r : Reservation) → wanted front ≡ Some r → FitsBehind size (tail_of front) r → ⊥) × (wanted front ≡ None → Closes (written_by front).stack)
 IsFit size front reserve = (r : Reservation) → wanted front ≡ Some r → FitsBehind size (tail_of front) r
 IsFit size front (leave payload) = Unit {0}
 
