@@ -17,3 +17,10 @@ pub mod Rings
 pub mod Parts
 pub mod PartSteps
 pub mod PartRuns
+pub mod WindowRuns
+pub mod ToldSteps
+pub mod Answered
+pub mod Relinking
+pub mod PackedHistories
+pub mod PackedSteps
+pub mod PackedRuns

@@ -7,8 +7,9 @@ use Rattle.trace_model.specs.History.{Action, Reservation, reserved_records, set
 use Rattle.trace_model.specs.Packing.{opens_of}
 use Rattle.trace_model.specs.Links.{Link}
 use Rattle.trace_model.specs.Frames.{Frame, moving_in}
-use Rattle.trace_model.specs.Ring.{Held, ReaderPhase, loading_link, loading_done, storing_link, swapping, Reader, Core, IsStart, AreApart, IsRing, IsBehindHead, told, moved, IsAtHead, marked, owed, Moves, IsMoved, IsSwapReady, IsTaken, IsFront, first_of_fill, page_at}
+use Rattle.trace_model.specs.Ring.{Held, ReaderPhase, loading_link, loading_done, storing_link, swapping, Reader, Core, IsStart, AreApart, IsRing, IsBehindHead, told, moved, IsAtHead, marked, owed, Moves, IsMoved, IsSwapReady, IsTaken, first_of_fill, page_at}
 use Rattle.trace_model.specs.Steps.{Event, Answer, Step, Exchange, Run}
+use Rattle.trace_model.specs.Sublist.{IsFront}
 use Rattle.link_marks.specs.Kept.{Stands, MoversDiffer, PhaseKept, FramesKept, LinkKept, is_normal, is_header, is_update, ReaderKept}
 use Rattle.link_marks.specs.KeptHistory.{Passing, WhyPassed}
 use Rattle.link_marks.specs.KeptContents.{PagesKept}
@@ -90,10 +91,10 @@ module _ (n start : ℕ) (c : Core) (r : IsRingKept n start c) where
       let xs : List Reservation = reserved_records c.history in
       let k = committed_front c.history in (
         map finished (drop first (take base xs)),
-        ap (λ (l : List Reservation). map finished l ++ map finished (drop first (take base xs))) (shorter first base xs r.closed)
+        sym (ap (λ (l : List Reservation). map finished l ++ map finished (drop first (take base xs))) (shorter first base xs r.closed)
             ∙ sym (map-append finished (take first (take base xs)) (drop first (take base xs)))
             ∙ ap (map finished) (take-append-drop first (take base xs))
-            ∙ k.agrees,
+            ∙ k.agrees),
       )
 
   why_lost : (f : ℕ) → WhyPassed n c.reader.taken c.opened c.frames f → IsTaken c f ⊎ (f + n ≤ c.opened)

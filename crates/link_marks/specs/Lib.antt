@@ -5,3 +5,7 @@ pub mod KeptHistory
 pub mod KeptContents
 pub mod RingKept
 pub mod KeptParts
+pub mod WindowRuns
+pub mod RunLaws
+pub mod AnswerLaws
+pub mod LinkLaws

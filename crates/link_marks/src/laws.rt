@@ -1,4 +1,7 @@
 //! The laws of the ring: each is the contract of a function with an empty body.
+ghost use Rattle.link_marks.specs.RunLaws.{LostAreClosed, NoneIsTakenAndLost, PassedAreTakenOrLost, RunsArePacked, RunsMoveWindow, TakenAreClosed, WindowKeepsOrder};
+ghost use Rattle.link_marks.specs.AnswerLaws.{CrowdedIsRight, EmptyIsRight, MovingIsRight, SwappedIsRight, WornIsRight};
+ghost use Rattle.link_marks.specs.LinkLaws.{HeadersAreOwed, HeadersAreSetOnce, LinksStandOnce, OneHeader, OwnersClear, StepsRaiseLinks};
 ghost use Rattle.link_marks.specs.Laws.{CommittedIsFront, KeptIsRing, RunsMakeRings, StartHasWindow, StartIsKept, StepsKeepRing, StepsMoveWindow, TakenPartsCommitted};
 
 /// A new ring has all that its steps keep, and its window is the first one.
@@ -18,6 +21,63 @@ pub fn steps_keep_ring()
 /// none is lost but a closed one, in a full ring.
 pub fn steps_move_window()
     ensures window { StepsMoveWindow }
+{}
+
+/// Every run from a new ring is a run of its window, which tells each action of the frames and each fill
+/// that the reader took.
+pub fn runs_move_window()
+    ensures runs { RunsMoveWindow }
+{}
+
+/// Over a run of the window the counts keep their order; each fill below the head was taken or lost, never
+/// both; and either way it had been closed, and one that was lost was so in a full ring.
+pub fn window_runs_keep_order()
+    ensures order { WindowKeepsOrder }
+    ensures passed { PassedAreTakenOrLost }
+    ensures apart { NoneIsTakenAndLost }
+    ensures taken { TakenAreClosed }
+    ensures lost { LostAreClosed }
+{}
+
+/// A frame is refused for want of a page only where none is released, and for want of a fill's number only
+/// where the tail is the last fill that has one.
+pub fn refusals_are_right()
+    ensures crowded { CrowdedIsRight }
+    ensures worn { WornIsRight }
+{}
+
+/// The reader finds nothing only where nothing closed is unread; it is sent away only by a move of the head
+/// whose UPDATE stands; and it takes just the head, closed.
+pub fn reader_answers_are_right()
+    ensures none { EmptyIsRight }
+    ensures moves { MovingIsRight }
+    ensures takes { SwappedIsRight }
+{}
+
+/// Each step leaves a link or makes it a later one: so a link value stands once at its place, and a compare
+/// and exchange that comes late fails.
+pub fn links_stand_once()
+    ensures steps { StepsRaiseLinks }
+    ensures once { LinksStandOnce }
+{}
+
+/// One place has a HEADER at most, and it tells the head; of one move of the head at most one step sets it,
+/// over the NORMAL that waited for it, where none stands or with the swap that takes the one before.
+pub fn one_header()
+    ensures alone { OneHeader }
+    ensures owed { HeadersAreOwed }
+    ensures once { HeadersAreSetOnce }
+{}
+
+/// Only the frame that owns an UPDATE clears it, and before that the next HEADER was set.
+pub fn owners_clear()
+    ensures clears { OwnersClear }
+{}
+
+/// After every run the fills have room in their pages, and each was begun where one had to be: behind one
+/// that isn't empty, by a close frame or for a record that doesn't fit.
+pub fn runs_are_packed()
+    ensures packed { RunsArePacked }
 {}
 
 /// The committed records are a front of the reserved ones; and after every run the fills that the reader

@@ -132,9 +132,9 @@ frames-finished number payload records (record_frame moment len other ∷ stack)
 frames-finished number payload records (close_frame ∷ stack) h = (tt, frames-finished number payload records stack h.1)
 
 -- the payload fills the slot that was reserved for it
-written_with-IsWritten : (payload : List ℕ) (len : ℕ) (before r : Reservation) → written_with payload before ≡ r → before.len ≡ slot_len len → length payload ≡ len → IsWritten r
+written_with-IsWritten : (payload : List ℕ) (len : ℕ) (before r : Reservation) → written_with payload before ≡ r → before.len ≡ slot_len len → slot_len (length payload) ≡ slot_len len → IsWritten r
 written_with-IsWritten payload len before r is slot fits =
-    subst IsWritten is (length-padded payload ∙ ap slot_len fits ∙ sym slot)
+    subst IsWritten is (length-padded payload ∙ fits ∙ sym slot)
 
 leave-IsKept : (f : Frame) (stack : List Frame) (records : List Reservation) (payload : Option (List ℕ)) → MayAct (f ∷ stack) (leave payload) → IsKept (f ∷ stack) records → IsKept stack (left_by f payload records)
 leave-IsKept (record_frame moment len None) stack records payload may h = record {

@@ -26,3 +26,10 @@ pub mod Images
 pub mod ScriptTable
 pub mod ScriptWrites
 pub mod Joined
+pub mod Windows
+pub mod Elements
+pub mod FirstNumbers
+pub mod Genuine
+pub mod Collections
+pub mod Listings
+pub mod ListingsMade

@@ -1,15 +1,12 @@
 -- One word's bytes are read as that word, and what is read as a word is that word's bytes.
-use Rattle.std.proofs.Common.{◌≡◌, ℕ, zero, suc, ◌+◌, ◌-◌, ◌*◌, ◌/◌, ◌%◌, ◌^◌, ◌<◌, ◌≤◌, cond, ltb, leb, eqb, List, [], ◌∷◌, ◌++◌, length, get_or, take, drop, Option, Some, None, refl, sym, ap, ◌∙◌, subst, arith, zero-lt-suc, length-append, length-take-le, take-append-drop, get_or-drop, append_assoc, append-nil, ⊎_elim, take_all}
+use Rattle.std.proofs.Common.{◌≡◌, ℕ, zero, suc, ◌+◌, ◌-◌, ◌*◌, ◌/◌, ◌%◌, ◌^◌, ◌<◌, ◌≤◌, cond, ltb, leb, eqb, List, [], ◌∷◌, ◌++◌, length, take, drop, Option, Some, None, refl, sym, ap, ◌∙◌, subst, arith, zero-lt-suc, length-append, length-take-le, take-append-drop, get_or-drop, append_assoc, append-nil, ⊎_elim, take_all}
 use Rattle.std.proofs.lemmas.Nat.{le_bytes_4, from_le_bytes-to_le_bytes_4, shr_high, mod_low}
 use Rattle.std.proofs.lemmas.List.{take_at, drop_at}
 use Rattle.std.proofs.lemmas.Bool.{cond_both, cond-true, cond-false, le-ltb, ltb-false, le-leb, leb-true, leb-false, eq-eqb, ne_eqb, eqb-true, eqb-false, cases_lt}
 use Rattle.trace_model.specs.Words.{le32, first_word, Word, short_data, long_data, padding, time_extend, time_stamp, bytes_of_word, IsWord, ending_padding}
 use Rattle.trace_model.specs.Reading.{from_le32, part_of, part_with_length, word_behind, word_at_front}
+use Rattle.trace_model.specs.FirstFault.{AreBytes}
 use Rattle.trace_model.proofs.Lengths.{length-le32}
-
--- every one of them is a byte
-abbrev pub AreBytes : List ℕ → Type 0
-AreBytes bytes = (i : ℕ) → get_or bytes i 0 < 256
 
 pub AreBytes-drop : (n : ℕ) (bytes : List ℕ) → AreBytes bytes → AreBytes (drop n bytes)
 AreBytes-drop n bytes small i = subst (λ (b : ℕ). b < 256) (sym (get_or-drop n bytes i 0)) (small (n + i))

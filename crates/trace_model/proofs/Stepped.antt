@@ -6,7 +6,8 @@ use Rattle.std.proofs.lemmas.List.{nil_from_length, drop_at}
 use Rattle.std.proofs.lemmas.Bool.{cond_both, ltb-false}
 use Rattle.trace_model.specs.Words.{Word, short_data, long_data, padding, time_extend, time_stamp, bytes_of_word, IsWord, IsEnding, joined, records_at, records_behind, FitsTime, Decodes}
 use Rattle.trace_model.specs.Reading.{from_le32, part_of, part_with_length, word_behind, word_at_front, words_within, words_in, records_in}
-use Rattle.trace_model.proofs.OneWord.{AreBytes, AreBytes-drop, word_at_front-nil, word_at_front-found}
+use Rattle.trace_model.specs.FirstFault.{AreBytes}
+use Rattle.trace_model.proofs.OneWord.{AreBytes-drop, word_at_front-nil, word_at_front-found}
 
 -- ---- a word takes bytes away
 

@@ -124,13 +124,13 @@ MayReserve [] = ⊥
 MayReserve (record_frame moment len number ∷ stack) = number ≡ None
 MayReserve (close_frame ∷ stack) = ⊥
 
--- A frame that has reserved leaves with a payload of just the length that it was pushed with; any
--- other frame leaves with none.
+-- A frame that has reserved leaves with a payload that takes just the slot which it was pushed for, to the
+-- last byte or with zeros behind it; any other frame leaves with none.
 abbrev pub MayLeave : List Frame → Option (List ℕ) → Type 0
 MayLeave [] payload = ⊥
 MayLeave (record_frame moment len None ∷ stack) payload = payload ≡ None
 MayLeave (record_frame moment len (Some number) ∷ stack) None = ⊥
-MayLeave (record_frame moment len (Some number) ∷ stack) (Some payload) = length payload ≡ len
+MayLeave (record_frame moment len (Some number) ∷ stack) (Some payload) = slot_len (length payload) ≡ slot_len len
 MayLeave (close_frame ∷ stack) payload = payload ≡ None
 
 -- What may be done while these frames stand. A push may come at any time; all else is of the frame on

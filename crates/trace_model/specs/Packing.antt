@@ -1,21 +1,9 @@
 -- The fills of a CPU: which records stand in which page, and when a new page is begun.
 -- After kernel/trace/ring_buffer.c (rb_reserve_next_event, rb_move_tail): a record that doesn't fit in
 -- what the tail page has left goes to the next page. docs/FORMATS.md, "Record words", "The ring".
-use Rattle.std.specs.Prelude.{◌≡◌, ◌≢◌, ℕ, ◌+◌, ◌-◌, ◌<◌, ◌≤◌, true, false, List, [], ◌∷◌, ◌++◌, length, take, drop, fold, Option, Some, None, slice_index_or}
+use Rattle.std.specs.Prelude.{◌≡◌, ◌≢◌, ℕ, ◌+◌, ◌-◌, ◌<◌, ◌≤◌, true, false, List, [], ◌∷◌, ◌++◌, length, take, drop, Option, Some, None, slice_index_or}
 use Rattle.trace_model.specs.Words.{encoded_len}
-use Rattle.trace_model.specs.History.{Action, push, push_close, open_fill, reserve, leave, Reservation, reserved_records, reserved_for}
-
--- the pushes that have no leave, the last one first
-abbrev pub stood : List Action → Action → List Action
-stood stack (push moment len) = push moment len ∷ stack
-stood stack push_close = push_close ∷ stack
-stood stack open_fill = stack
-stood stack reserve = stack
-stood [] (leave payload) = []
-stood (a ∷ stack) (leave payload) = stack
-
-abbrev pub standing : List Action → List Action
-standing history = fold stood [] history
+use Rattle.trace_model.specs.History.{Action, push, push_close, open_fill, reserve, leave, Reservation, Frame, record_frame, close_frame, written_by, reserved_records, reserved_for}
 
 -- how many records were reserved in front of each open, in order
 abbrev pub opens_behind : List Action → List Action → List ℕ
@@ -57,25 +45,19 @@ abbrev pub FitsBehind : ℕ → List Reservation → Reservation → Type 0
 FitsBehind size records r = fill_len (records ++ r ∷ []) ≤ size
 
 -- what the frame on top would reserve: nothing for a close frame
-abbrev pub wanted_by : List Action → List Reservation → Option Reservation
+abbrev pub wanted_by : List Frame → List Reservation → Option Reservation
 wanted_by [] records = None
-wanted_by (push moment len ∷ stack) records = Some (reserved_for moment len records)
-wanted_by (push_close ∷ stack) records = None
-wanted_by (open_fill ∷ stack) records = None
-wanted_by (reserve ∷ stack) records = None
-wanted_by (leave payload ∷ stack) records = None
+wanted_by (record_frame moment len number ∷ stack) records = Some (reserved_for moment len records)
+wanted_by (close_frame ∷ stack) records = None
 
 abbrev pub wanted : List Action → Option Reservation
-wanted history = wanted_by (standing history) (reserved_records history)
+wanted history = wanted_by (written_by history).stack (reserved_records history)
 
 -- the frame on top is a close frame
-abbrev pub Closes : List Action → Type 0
+abbrev pub Closes : List Frame → Type 0
 Closes [] = ⊥
-Closes (push moment len ∷ stack) = ⊥
-Closes (push_close ∷ stack) = Unit {0}
-Closes (open_fill ∷ stack) = ⊥
-Closes (reserve ∷ stack) = ⊥
-Closes (leave payload ∷ stack) = ⊥
+Closes (record_frame moment len number ∷ stack) = ⊥
+Closes (close_frame ∷ stack) = Unit {0}
 
 -- What was done is packed in pages of this size: each fill has room in one; what is reserved fits behind
 -- its fill; and a fill is begun only behind one that isn't empty, by a close frame or for a record that
@@ -85,4 +67,4 @@ pub record IsPacked (history : List Action) (size : ℕ) : Type 0 where
   pub reserves : (front behind : List Action) (r : Reservation) → history ≡ front ++ reserve ∷ behind → wanted front ≡ Some r → FitsBehind size (tail_of front) r
   pub begins : (front behind : List Action) → history ≡ front ++ open_fill ∷ behind → tail_of front ≢ []
   pub needed : (front behind : List Action) (r : Reservation) → history ≡ front ++ open_fill ∷ behind → wanted front ≡ Some r → FitsBehind size (tail_of front) r → ⊥
-  pub asked : (front behind : List Action) → history ≡ front ++ open_fill ∷ behind → wanted front ≡ None → Closes (standing front)
+  pub asked : (front behind : List Action) → history ≡ front ++ open_fill ∷ behind → wanted front ≡ None → Closes (written_by front).stack

@@ -32,3 +32,7 @@ pub record IsGenuine (parcel : Parcel) (pieces : List Piece) : Type 0 where
   pub place : ℕ
   pub piece_is : slice_get pieces place ≡ Some record { skipped = parcel.missed; records = parcel.records }
   pub first_is : first_of pieces place ≡ Some parcel.first
+
+-- each parcel is genuine for the pieces of its own CPU
+abbrev pub AreGenuine : List Parcel → (ℕ → List Piece) → Type 0
+AreGenuine parcels pieces = (k : ℕ) (parcel : Parcel) → slice_get parcels k ≡ Some parcel → IsGenuine parcel (pieces parcel.cpu)

@@ -1,5 +1,5 @@
 -- A list of records cut into what was taken and what was lost between.
-use Rattle.std.specs.Prelude.{◌≡◌, ℕ, zero, suc, ◌+◌, List, [], ◌∷◌, ◌++◌, length, Option, Some, None}
+use Rattle.std.specs.Prelude.{◌≡◌, ℕ, zero, suc, ◌+◌, List, [], ◌∷◌, ◌++◌, length, take, drop, Option, Some, None}
 use Rattle.trace_model.specs.Record.{Record}
 
 -- so many records are skipped, and then these stand
@@ -26,3 +26,15 @@ first_from number (p ∷ pieces) (suc k) = first_from (number + covered p) piece
 
 abbrev pub first_of : List Piece → ℕ → Option ℕ
 first_of pieces k = first_from 0 pieces k
+
+-- The piece at a place has its records from this number on: so many records of the whole list stand in
+-- front of them, those of the pieces before it with what these skip, and those that it skips itself.
+pub record IsNumberedFrom (records : List Record) (pieces : List Piece) (rest : List Record) (place : ℕ) (p : Piece) (first : ℕ) : Type 0 where
+  pub before : List Record
+  pub lost : List Record
+  pub behind : List Record
+  pub whole : records ≡ before ++ (lost ++ (p.records ++ behind))
+  pub parts : IsPartition before (take place pieces) []
+  pub skips : length lost ≡ p.skipped
+  pub others : IsPartition behind (drop (suc place) pieces) rest
+  pub number : first ≡ length before + length lost

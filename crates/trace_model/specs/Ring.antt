@@ -1,13 +1,13 @@
 -- The state of a ring, and what holds of it between any two steps.
 -- After Documentation/trace/ring-buffer-design.rst and kernel/trace/ring_buffer.c (struct
 -- ring_buffer_per_cpu, rb_handle_head_page, rb_get_reader_page); docs/FORMATS.md, "The ring".
-use Rattle.std.specs.Prelude.{◌≡◌, ◌≢◌, ℕ, suc, ◌+◌, ◌-◌, ◌%◌, ◌<◌, ◌≤◌, ◌⊎◌, List, [], ◌∷◌, ◌++◌, length, take, map, Some, slice_index_or, slice_get, slice_set}
-use Rattle.trace_model.specs.Record.{Record}
+use Rattle.std.specs.Prelude.{◌≡◌, ◌≢◌, ℕ, suc, ◌+◌, ◌-◌, ◌%◌, ◌<◌, ◌≤◌, ◌⊎◌, List, [], ◌∷◌, length, take, map, Some, slice_index_or, slice_get, slice_set}
 use Rattle.trace_model.specs.History.{Action, Reservation, reserved_records, committed_records, finished}
 use Rattle.trace_model.specs.Packing.{opens_of, fills_of}
 use Rattle.trace_model.specs.Links.{Link, normal_link, header_link, update_link}
 use Rattle.trace_model.specs.Frames.{Frame, noted_in, moving_in}
 use Rattle.trace_model.specs.Window.{Window}
+use Rattle.trace_model.specs.Sublist.{IsFront}
 
 -- ---- links and places
 
@@ -142,10 +142,6 @@ IsSwapReady n c loading_link = Unit {0}
 IsSwapReady n c (loading_done page fill) = Unit {0}
 IsSwapReady n c (storing_link page fill) = Unit {0}
 IsSwapReady n c (swapping page fill) = c.spare_link ≡ header_link (page_at n c.order (suc fill)) (suc fill)
-
--- the second list begins with the first
-abbrev pub IsFront : List Record → List Record → Type 0
-IsFront front records = (behind : List Record) × (front ++ behind ≡ records)
 
 -- The ring, between any two steps. The pages go round; the window keeps its order; links behind the
 -- head, and to it, are as above; pages hold their fills; what is closed is committed, and a fill that is

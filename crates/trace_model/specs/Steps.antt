@@ -3,7 +3,7 @@
 -- rb_get_reader_page, rb_head_page_replace) and docs/FORMATS.md, "Writer frames" and "The reader". A step
 -- reads or writes one word of the ring at most, with what goes with it in the frame or in the reader.
 use Rattle.std.specs.Prelude.{◌≡◌, ◌≢◌, ℕ, suc, ◌+◌, ◌-◌, ◌%◌, ◌^◌, ◌<◌, ◌≤◌, ◌⊎◌, true, if◌then◌else◌, ◌==◌, nat_lt, List, [], ◌∷◌, ◌++◌, length, map, Option, Some, None, slice_index_or, slice_set}
-use Rattle.trace_model.specs.Words.{encoded_len}
+use Rattle.trace_model.specs.Words.{slot_len, encoded_len}
 use Rattle.trace_model.specs.History.{Action, push, push_close, open_fill, reserve, leave, Reservation, reserved_for, reserved_records, finished_at}
 use Rattle.trace_model.specs.Packing.{FitsBehind}
 use Rattle.trace_model.specs.Links.{Link, normal_link, header_link, update_link}
@@ -11,7 +11,8 @@ use Rattle.trace_model.specs.Frames.{Kind, for_record, for_close, Role, owner, h
 use Rattle.trace_model.specs.Ring.{Held, Taken, ReaderPhase, loading_link, loading_done, storing_link, swapping, Core, link_into, relinked, page_at}
 
 -- A frame is pushed, for a record or for a close; the frame on top makes one step, or is ended with its
--- payload; the reader makes one step, which begins a take where none is under way.
+-- payload, which takes the slot that the record has; the reader makes one step, which begins a take where
+-- none is under way.
 pub data Event : Type 0 where
   pushes : (moment len : ℕ) → Event
   pushes_close : Event
@@ -291,7 +292,7 @@ pub data Step (n size : ℕ) (c : Core) (event : Event) (answer : Answer) (after
   frame_step : (frame : Frame) (below : List Frame) → event ≡ steps → c.frames ≡ frame ∷ below → FrameStep n size c frame below frame.phase answer after → Step n size c event answer after
   frame_lacks : event ≡ steps → c.frames ≡ [] → answer ≡ refused no_frame → after ≡ c → Step n size c event answer after
   end_step : (payload : List ℕ) (frame : Frame) (below : List Frame) (number moment len : ℕ) → event ≡ ends payload → c.frames ≡ frame ∷ below → frame.phase ≡ reserved number → frame.kind ≡ for_record moment len
-      → length payload ≡ len → answer ≡ ended_answer below → after ≡ after_leave c frame below (Some payload)
+      → slot_len (length payload) ≡ slot_len len → answer ≡ ended_answer below → after ≡ after_leave c frame below (Some payload)
       → Step n size c event answer after
   end_lacks : (payload : List ℕ) → event ≡ ends payload → c.frames ≡ [] → answer ≡ refused no_frame → after ≡ c → Step n size c event answer after
   end_early : (payload : List ℕ) (frame : Frame) (below : List Frame) → event ≡ ends payload → c.frames ≡ frame ∷ below → number_in frame.phase ≡ None → answer ≡ refused not_reserved → after ≡ c → Step n size c event answer after

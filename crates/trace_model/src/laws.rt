@@ -1,5 +1,6 @@
 //! Laws over the definitions, as contracts of functions with empty bodies.
-ghost use Rattle.std.specs.Prelude.{◌≡◌, ◌++◌, ℕ, ◌+◌, ◌^◌, ◌<◌, ◌≤◌, ◌⊎◌, ◌↔◌, List, flat_map, length, Ok, Err, All, EachIndex, slice_index, decimal};
+ghost use Rattle.std.specs.Prelude.{◌≡◌, ◌++◌, ℕ, ◌+◌, ◌^◌, ◌<◌, ◌≤◌, ◌⊎◌, ◌↔◌, List, [], ◌∷◌, flat_map, length, Some, Ok, Err, All, EachIndex, slice_get, slice_index, decimal};
+ghost use Rattle.std.specs.List.{Contains};
 ghost use Rattle.trace_model.specs.Faults.{Cause, IsWordFault, HasWord, HasEnding, HasFault};
 ghost use Rattle.trace_model.specs.FirstFault.{AreBytes, FirstFault};
 ghost use Rattle.trace_model.specs.Image.{Missed, DecodesImage, ImageCause, FirstImageFault, image_of, missed_told};
@@ -16,8 +17,11 @@ ghost use Rattle.trace_model.specs.Words.{Decodes};
 ghost use Rattle.trace_model.specs.Replay.{Answered, TakesPieces, commands_of, history_of_lines, records_taken};
 ghost use Rattle.trace_model.specs.Sublist.{IsFront, IsSublist};
 ghost use Rattle.trace_model.specs.Pieces.{HasPieces};
-ghost use Rattle.trace_model.specs.Parcel.{Parcel};
-ghost use Rattle.trace_model.specs.Collection.{IsLeastUpperBound};
+ghost use Rattle.trace_model.specs.Partition.{Piece, IsPartition, IsNumberedFrom, first_of};
+ghost use Rattle.trace_model.specs.Parcel.{Parcel, AreGenuine};
+ghost use Rattle.trace_model.specs.Collection.{Agree, Has, Misses, IsBelow, IsSame, IsLeastUpperBound};
+ghost use Rattle.trace_model.specs.Listing.{Line, IsListing};
+ghost use Rattle.trace_model.specs.Window.{Window, Happening, Deed, window_after, MayHappen, WindowRun, IsWindow};
 
 /// A payload that fills its slot takes just the bytes that the writer reckons with.
 pub fn encoding_len()
@@ -218,4 +222,95 @@ pub fn script_reads_back()
 /// What two lists of parcels have and miss together is the least collection above both.
 pub fn joined_is_least()
     ensures least { (parcels others : List Parcel) → IsLeastUpperBound parcels others (parcels ++ others) }
+{}
+
+/// Collections are ordered by what they have and miss, up to having and missing the same; that is an
+/// equivalence.
+pub fn collections_are_ordered()
+    ensures below_itself { (parcels : List Parcel) → IsBelow parcels parcels }
+    ensures below_below { (parcels others above : List Parcel) →
+        IsBelow parcels others → IsBelow others above → IsBelow parcels above }
+    ensures below_both { (parcels others : List Parcel) →
+        IsBelow parcels others → IsBelow others parcels → IsSame parcels others }
+    ensures same_itself { (parcels : List Parcel) → IsSame parcels parcels }
+    ensures same_back { (parcels others : List Parcel) → IsSame parcels others → IsSame others parcels }
+    ensures same_same { (parcels others more : List Parcel) →
+        IsSame parcels others → IsSame others more → IsSame parcels more }
+{}
+
+/// The order and the repeats of parcels change nothing: the same parcels are the same collection, one that
+/// comes once more leaves it the same, and joining commutes, regroups and forgets what is joined twice.
+/// Parcels lie below more parcels, and what lies below parcels that agree agrees too.
+pub fn order_and_repeats_change_nothing()
+    ensures below_more { (parcels others : List Parcel) →
+        ((p : Parcel) → Contains parcels p → Contains others p) → IsBelow parcels others }
+    ensures same_parcels { (parcels others : List Parcel) →
+        ((p : Parcel) → (Contains parcels p ↔ Contains others p)) → IsSame parcels others }
+    ensures repeated { (parcels : List Parcel) (p : Parcel) →
+        Contains parcels p → IsSame (parcels ++ p ∷ []) parcels }
+    ensures commutes { (parcels others : List Parcel) → IsSame (parcels ++ others) (others ++ parcels) }
+    ensures regroups { (parcels others more : List Parcel) →
+        IsSame ((parcels ++ others) ++ more) (parcels ++ (others ++ more)) }
+    ensures twice { (parcels : List Parcel) → IsSame (parcels ++ parcels) parcels }
+    ensures same_joined { (parcels others like_parcels like_others : List Parcel) →
+        IsSame parcels like_parcels → IsSame others like_others →
+        IsSame (parcels ++ others) (like_parcels ++ like_others) }
+    ensures below_agrees { (parcels others : List Parcel) →
+        IsBelow parcels others → Agree others → Agree parcels }
+{}
+
+/// Each piece of a partition has a first number, which is how many records of the whole list stand in front
+/// of the piece's own; from that number on these are the records of the whole list.
+pub fn pieces_have_first_numbers()
+    ensures some { (records : List Record) (pieces : List Piece) (rest : List Record) (place : ℕ) (piece : Piece) →
+        IsPartition records pieces rest → slice_get pieces place ≡ Some piece →
+        (first : ℕ) × (first_of pieces place ≡ Some first) }
+    ensures counted { (records : List Record) (pieces : List Piece) (rest : List Record)
+        (place first : ℕ) (piece : Piece) →
+        IsPartition records pieces rest → slice_get pieces place ≡ Some piece →
+        ((first_of pieces place ≡ Some first) ↔ IsNumberedFrom records pieces rest place piece first) }
+    ensures own_records { (records : List Record) (pieces : List Piece) (rest : List Record)
+        (place first i : ℕ) (piece : Piece) (r : Record) →
+        IsPartition records pieces rest → slice_get pieces place ≡ Some piece →
+        first_of pieces place ≡ Some first →
+        slice_get piece.records i ≡ Some r → slice_get records (first + i) ≡ Some r }
+{}
+
+/// Parcels that are genuine for the partition of their CPU's records hold and miss only those records, under
+/// their numbers, and agree: no number has two records, and none is both held and lost.
+pub fn genuine_parcels_agree()
+    ensures held { (records : ℕ → List Record) (pieces : ℕ → List Piece) (rest : ℕ → List Record)
+        (parcels : List Parcel) (cpu number : ℕ) (r : Record) →
+        ((c : ℕ) → IsPartition (records c) (pieces c) (rest c)) → AreGenuine parcels pieces →
+        Has parcels cpu number r → slice_get (records cpu) number ≡ Some r }
+    ensures lost { (records : ℕ → List Record) (pieces : ℕ → List Piece) (rest : ℕ → List Record)
+        (parcels : List Parcel) (cpu number : ℕ) →
+        ((c : ℕ) → IsPartition (records c) (pieces c) (rest c)) → AreGenuine parcels pieces →
+        Misses parcels cpu number → number < length (records cpu) }
+    ensures agree { (records : ℕ → List Record) (pieces : ℕ → List Piece) (rest : ℕ → List Record)
+        (parcels : List Parcel) →
+        ((c : ℕ) → IsPartition (records c) (pieces c) (rest c)) → AreGenuine parcels pieces → Agree parcels }
+{}
+
+/// The counts of a ring's window keep their order, and no more fills are begun from the head on than the
+/// ring has places: over each happening, and so over every run from the start.
+pub fn windows_keep_order()
+    ensures happening { (n : ℕ) (history : List Action) (window : Window) (happening : Happening) →
+        IsWindow n window → MayHappen n history window happening → IsWindow n (window_after window happening) }
+    ensures run { (n start : ℕ) (deeds : List Deed) (window : Window) → 1 ≤ n →
+        WindowRun n start deeds window → IsWindow n window }
+{}
+
+/// What parcels have decides their listing, in which each record stands once. Parcels that agree have a
+/// listing, and in it a CPU and a number have one line at most.
+pub fn listings_are_one()
+    ensures one { (parcels others : List Parcel) (lines other_lines : List Line) →
+        IsSame parcels others → IsListing parcels lines → IsListing others other_lines → lines ≡ other_lines }
+    ensures once { (parcels : List Parcel) (lines : List Line) (j k : ℕ) (line : Line) →
+        IsListing parcels lines → slice_get lines j ≡ Some line → slice_get lines k ≡ Some line → j ≡ k }
+    ensures some { (parcels : List Parcel) → Agree parcels → (lines : List Line) × IsListing parcels lines }
+    ensures one_line { (parcels : List Parcel) (lines : List Line) (j k : ℕ) (a b : Line) →
+        Agree parcels → IsListing parcels lines →
+        slice_get lines j ≡ Some a → slice_get lines k ≡ Some b →
+        a.cpu ≡ b.cpu → a.number ≡ b.number → j ≡ k }
 {}

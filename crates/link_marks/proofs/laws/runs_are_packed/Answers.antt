@@ -1,0 +1,5 @@
+use Rattle.link_marks.proofs.PackedRuns.{runs_packed}
+use Rattle.link_marks.proofs.laws.runs_are_packed.Goals as goal
+
+pub returns : goal.returns
+returns c = record { packed = runs_packed }

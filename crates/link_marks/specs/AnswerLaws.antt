@@ -1,0 +1,46 @@
+-- The laws of a ring's answers, as statements: each is the contract of a function of src/laws.rt.
+use Rattle.std.specs.Prelude.{◌≡◌, ℕ, ◌+◌, ◌^◌, ◌<◌, ◌≤◌, ◌⊎◌}
+use Rattle.trace_model.specs.Frames.{crowded, worn}
+use Rattle.trace_model.specs.Links.{update_link}
+use Rattle.trace_model.specs.Ring.{link_into, page_at, Taken, Core, window_of, IsMoved, IsTaken}
+use Rattle.trace_model.specs.Window.{IsCrowded}
+use Rattle.trace_model.specs.Steps.{Event, Answer, refused, empty, moving, swapped, Step}
+use Rattle.link_marks.specs.RingKept.{IsRingKept}
+
+-- each fill from the first to this one was taken, or lost with a whole round of fills begun behind it
+abbrev pub ArePassed : ℕ → ℕ → Core → ℕ → Type 0
+ArePassed n start c f = (g : ℕ) → start ≤ g → g < f → IsTaken c g ⊎ (g + n ≤ c.opened)
+
+-- a frame is refused as crowded only where no page is released
+abbrev pub CrowdedIsRight : Type 0
+CrowdedIsRight = (n size : ℕ) (c : Core) (event : Event) (after : Core) → Step n size c event (refused crowded) after → IsCrowded n (window_of c)
+
+-- a frame is refused as worn only where a page is released, and the tail is the last fill that has a number
+abbrev pub WornIsRight : Type 0
+WornIsRight = (n size start : ℕ) (c : Core) (event : Event) (after : Core) → IsRingKept n start c → Step n size c event (refused worn) after
+    → (c.opened + n ≡ 2 ^ 48) × (IsCrowded n (window_of c) → ⊥)
+
+-- the reader finds nothing only where the head is the first fill that isn't closed, and then it takes nothing
+abbrev pub EmptyIsRight : Type 0
+EmptyIsRight = (n size start : ℕ) (c : Core) (event : Event) (done : ℕ) (after : Core) → IsRingKept n start c → Step n size c event (empty done) after
+    → (c.head ≡ done) × (c.done ≡ done) × ArePassed n start c done × (after.reader.taken ≡ c.reader.taken)
+
+-- A move of the head stands in the reader's way: all fills below this one are passed, which is no less than
+-- the reader knew; and the UPDATE of just one frame stands.
+pub record IsInTheWay (n start : ℕ) (c : Core) (fill : ℕ) : Type 0 where
+  pub passed : ArePassed n start c fill
+  pub fill_le : fill ≤ c.head
+  pub hint_le : c.reader.hint ≤ fill
+  pub lost : ℕ
+  pub lost_lt : lost < c.head
+  pub stands : link_into n c.links (lost + n) ≡ update_link (page_at n c.order (lost + n)) lost
+  pub owner : IsMoved c.frames (lost + n)
+
+abbrev pub MovingIsRight : Type 0
+MovingIsRight = (n size start : ℕ) (c : Core) (event : Event) (fill : ℕ) (after : Core) → IsRingKept n start c → Step n size c event (moving fill) after
+    → IsInTheWay n start c fill × (after.reader.taken ≡ c.reader.taken)
+
+-- what is taken is the head, and that is closed
+abbrev pub SwappedIsRight : Type 0
+SwappedIsRight = (n size start : ℕ) (c : Core) (event : Event) (t : Taken) (after : Core) → IsRingKept n start c → Step n size c event (swapped t) after
+    → (t.fill ≡ c.head) × (c.head < c.done) × (after.head ≡ c.head + 1)

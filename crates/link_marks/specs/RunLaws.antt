@@ -1,0 +1,41 @@
+-- The laws of the ring's runs, as statements: each is the contract of a function of src/laws.rt.
+use Rattle.std.specs.Prelude.{◌≡◌, ℕ, ◌+◌, ◌^◌, ◌<◌, ◌≤◌, ◌⊎◌, List, Contains}
+use Rattle.trace_model.specs.Packing.{IsPacked}
+use Rattle.trace_model.specs.Ring.{Core, IsStart}
+use Rattle.trace_model.specs.Window.{Window, Deed, WindowRun, IsWindow}
+use Rattle.trace_model.specs.Steps.{Exchange, Run}
+use Rattle.link_marks.specs.WindowRuns.{fills_taken, fills_lost, IsToldBy}
+
+-- every run of steps from a new ring is a run of its window: deeds, each allowed where it stands, tell what
+-- the frames did, where the window is now, and which fills the reader took
+abbrev pub RunsMoveWindow : Type 0
+RunsMoveWindow = (n size start : ℕ) (c after : Core) (exchanges : List Exchange) → 2 ≤ n → start + 1 + n ≤ 2 ^ 48 → IsStart n start c → Run n size c exchanges after
+    → (deeds : List Deed) × IsToldBy n start after deeds
+
+-- over a run of the window its counts keep their order
+abbrev pub WindowKeepsOrder : Type 0
+WindowKeepsOrder = (n start : ℕ) (deeds : List Deed) (w : Window) → 1 ≤ n → WindowRun n start deeds w → IsWindow n w
+
+-- just the fills from the start to the head were taken or lost
+abbrev pub PassedAreTakenOrLost : Type 0
+PassedAreTakenOrLost = (n start : ℕ) (deeds : List Deed) (w : Window) (f : ℕ) → WindowRun n start deeds w → start ≤ f → f < w.head
+    → Contains (fills_taken start deeds) f ⊎ Contains (fills_lost start deeds) f
+
+-- no fill is both taken and lost
+abbrev pub NoneIsTakenAndLost : Type 0
+NoneIsTakenAndLost = (start : ℕ) (deeds : List Deed) (f : ℕ) → Contains (fills_taken start deeds) f → Contains (fills_lost start deeds) f → ⊥
+
+-- a fill that was taken had been closed
+abbrev pub TakenAreClosed : Type 0
+TakenAreClosed = (n start : ℕ) (deeds : List Deed) (w : Window) (f : ℕ) → WindowRun n start deeds w → Contains (fills_taken start deeds) f
+    → (start ≤ f) × (f < w.head) × (f < w.done)
+
+-- so had one that was lost; and all places behind it were taken by fills
+abbrev pub LostAreClosed : Type 0
+LostAreClosed = (n start : ℕ) (deeds : List Deed) (w : Window) (f : ℕ) → WindowRun n start deeds w → Contains (fills_lost start deeds) f
+    → (start ≤ f) × (f < w.head) × (f < w.done) × (f + n ≤ w.opened)
+
+-- after every run of steps from a new ring, what was done is packed in its pages: each fill has room in one,
+-- and a fill is begun only behind one that isn't empty, by a close frame or for a record that doesn't fit
+abbrev pub RunsArePacked : Type 0
+RunsArePacked = (n size start : ℕ) (c after : Core) (exchanges : List Exchange) → 2 ≤ n → start + 1 + n ≤ 2 ^ 48 → IsStart n start c → Run n size c exchanges after → IsPacked after.history size
