@@ -17,3 +17,6 @@ pub mod Rings
 pub mod Parts
 pub mod PartSteps
 pub mod PartRuns
+pub mod ExamplesComputed
+pub mod ExamplesSound
+pub mod ExamplesTried

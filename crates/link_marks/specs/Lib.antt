@@ -5,3 +5,4 @@ pub mod KeptHistory
 pub mod KeptContents
 pub mod RingKept
 pub mod KeptParts
+pub mod Examples

@@ -1,4 +1,5 @@
 //! The laws of the ring: each is the contract of a function with an empty body.
+ghost use Rattle.link_marks.specs.Examples.{FirstRecord, HaltedHeadMove, HelpersAtTheHead, InnerReservesFirst, LateSwap, NestedWriter};
 ghost use Rattle.link_marks.specs.Laws.{CommittedIsFront, KeptIsRing, RunsMakeRings, StartHasWindow, StartIsKept, StepsKeepRing, StepsMoveWindow, TakenPartsCommitted};
 
 /// A new ring has all that its steps keep, and its window is the first one.
@@ -25,4 +26,14 @@ pub fn steps_move_window()
 pub fn taken_parts_committed()
     ensures front { CommittedIsFront }
     ensures parts { TakenPartsCommitted }
+{}
+
+/// The worked examples are runs of steps from a new ring.
+pub fn examples_are_runs()
+    ensures first_record { FirstRecord }
+    ensures nested_writer { NestedWriter }
+    ensures inner_reserves_first { InnerReservesFirst }
+    ensures halted_head_move { HaltedHeadMove }
+    ensures helpers_at_the_head { HelpersAtTheHead }
+    ensures late_swap { LateSwap }
 {}
