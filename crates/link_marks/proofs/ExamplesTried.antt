@@ -12,7 +12,7 @@ use Rattle.link_marks.proofs.ExamplesSound.{event_in, answer_in, Gives, run_soun
 abbrev nothing : Held
 nothing = record { first = 0; records = [] }
 
-abbrev two_pages : Core
+abbrev pub two_pages : Core
 two_pages = record {
   links = header_link 0 0 ∷ normal_link 1 1 ∷ [];
   order = 0 ∷ 1 ∷ [];
@@ -27,7 +27,7 @@ two_pages = record {
   history = [];
 }
 
-abbrev four_pages : Core
+abbrev pub four_pages : Core
 four_pages = record {
   links = header_link 0 0 ∷ normal_link 1 1 ∷ normal_link 2 2 ∷ normal_link 3 3 ∷ [];
   order = 0 ∷ 1 ∷ 2 ∷ 3 ∷ [];
@@ -42,7 +42,7 @@ four_pages = record {
   history = [];
 }
 
-two_start : IsStart 2 0 two_pages
+pub two_start : IsStart 2 0 two_pages
 two_start = record {
   places = refl;
   first_link = refl;
@@ -77,7 +77,7 @@ two_start = record {
     held_at (suc (suc zero)) low = refl
     held_at (suc (suc (suc p))) low = absurd (omega arith)
 
-four_start : IsStart 4 0 four_pages
+pub four_start : IsStart 4 0 four_pages
 four_start = record {
   places = refl;
   first_link = refl;
@@ -119,11 +119,11 @@ four_start = record {
     held_at (suc (suc (suc (suc (suc p))))) low = absurd (omega arith)
 
 -- the last state of what was computed
-abbrev last_of : Core → Option Ran → Core
+abbrev pub last_of : Core → Option Ran → Core
 last_of c None = c
 last_of c (Some r) = r.last
 
-abbrev last_from : ℕ → ℕ → Core → List Exchange → Core
+abbrev pub last_from : ℕ → ℕ → Core → List Exchange → Core
 last_from n size c exchanges = last_of c (run_of n size c (map event_in exchanges))
 
 tried : (n size : ℕ) (start : Core) (exchanges : List Exchange) (committed : List Record) → IsStart n 0 start

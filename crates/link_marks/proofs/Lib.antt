@@ -20,3 +20,4 @@ pub mod PartRuns
 pub mod ExamplesComputed
 pub mod ExamplesSound
 pub mod ExamplesTried
+pub mod ExamplesRefused

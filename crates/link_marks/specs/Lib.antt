@@ -6,3 +6,4 @@ pub mod KeptContents
 pub mod RingKept
 pub mod KeptParts
 pub mod Examples
+pub mod ExamplesWrong

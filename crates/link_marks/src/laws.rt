@@ -1,5 +1,6 @@
 //! The laws of the ring: each is the contract of a function with an empty body.
 ghost use Rattle.link_marks.specs.Examples.{FirstRecord, HaltedHeadMove, HelpersAtTheHead, InnerReservesFirst, LateSwap, NestedWriter};
+ghost use Rattle.link_marks.specs.ExamplesWrong.{HelperClearsTheUpdate, InnerEndPublishes, LosesWhileAPlaceIsFree, SwapIgnoresTheFill, TakesTheTail, TwoHeads};
 ghost use Rattle.link_marks.specs.Laws.{CommittedIsFront, KeptIsRing, RunsMakeRings, StartHasWindow, StartIsKept, StepsKeepRing, StepsMoveWindow, TakenPartsCommitted};
 
 /// A new ring has all that its steps keep, and its window is the first one.
@@ -36,4 +37,14 @@ pub fn examples_are_runs()
     ensures halted_head_move { HaltedHeadMove }
     ensures helpers_at_the_head { HelpersAtTheHead }
     ensures late_swap { LateSwap }
+{}
+
+/// Wrong steps make no rings, so none of them is a step.
+pub fn wrong_steps_are_refused()
+    ensures loses_while_a_place_is_free { LosesWhileAPlaceIsFree }
+    ensures takes_the_tail { TakesTheTail }
+    ensures helper_clears_the_update { HelperClearsTheUpdate }
+    ensures two_heads { TwoHeads }
+    ensures swap_ignores_the_fill { SwapIgnoresTheFill }
+    ensures inner_end_publishes { InnerEndPublishes }
 {}
