@@ -21,3 +21,5 @@ pub mod ExamplesComputed
 pub mod ExamplesSound
 pub mod ExamplesTried
 pub mod ExamplesRefused
+pub mod ExamplesReady
+pub mod ExamplesGiven
