@@ -58,7 +58,7 @@ same_link_true a b e =
     let (p, f) = both_true (a.page == b.page) (a.fill == b.fill) rest in
     link_is a b.mark b.page b.fill (same_mark_true a.mark b.mark m) (eqb-true a.page b.page p) (eqb-true a.fill b.fill f)
 
-same_link_refl : (a : Link) → same_link a a ≡ true
+pub same_link_refl : (a : Link) → same_link a a ≡ true
 same_link_refl a =
     if_true (same_mark a.mark a.mark) (if a.page == a.page then a.fill == a.fill else false) (same_mark_refl a.mark)
     ∙ if_true (a.page == a.page) (a.fill == a.fill) (eq-eqb a.page a.page refl)
@@ -196,7 +196,7 @@ read_sound n c (swapping page fill) = by_if (SwapStep n c page fill) (same_link 
 
 -- ---- the whole
 
-too_long_true : (size len : ℕ) → too_long_for size len ≡ true → IsTooLong size len
+pub too_long_true : (size len : ℕ) → too_long_for size len ≡ true → IsTooLong size len
 too_long_true size len e = by_len (nat_lt size len) refl e
   where
     by_len : (b : Bool) → nat_lt size len ≡ b → (if b then true else nat_lt size (encoded_len len 0 true)) ≡ true → IsTooLong size len

@@ -23,3 +23,4 @@ pub mod ExamplesTried
 pub mod ExamplesRefused
 pub mod ExamplesReady
 pub mod ExamplesGiven
+pub mod ExamplesDetermined

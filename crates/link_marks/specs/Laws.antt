@@ -61,3 +61,7 @@ MayAsk c reads = Unit {0}
 abbrev pub EachEventIsAStep : Type 0
 EachEventIsAStep = (n size start : ℕ) (c before : Core) (exchanges : List Exchange) (event : Event) → 2 ≤ n → start + 1 + n ≤ 2 ^ 48 → IsStart n start c → Run n size c exchanges before → MayAsk before event
     → (answer : Answer) × (after : Core) × Step n size before event answer after
+
+-- and only one: the event determines its answer and the state after it, whatever the state
+abbrev pub StepsAreDetermined : Type 0
+StepsAreDetermined = (n size : ℕ) (c : Core) (event : Event) (answer answer' : Answer) (after after' : Core) → Step n size c event answer after → Step n size c event answer' after' → (answer ≡ answer') × (after ≡ after')

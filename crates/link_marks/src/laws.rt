@@ -1,7 +1,7 @@
 //! The laws of the ring: each is the contract of a function with an empty body.
 ghost use Rattle.link_marks.specs.Examples.{FirstRecord, HaltedHeadMove, HelpersAtTheHead, InnerReservesFirst, LateSwap, NestedWriter};
 ghost use Rattle.link_marks.specs.ExamplesWrong.{HelperClearsTheUpdate, InnerEndPublishes, LosesWhileAPlaceIsFree, SwapIgnoresTheFill, TakesTheTail, TwoHeads};
-ghost use Rattle.link_marks.specs.Laws.{CommittedIsFront, EachEventIsAStep, KeptIsRing, RunsMakeRings, StartHasWindow, StartIsKept, StepsKeepRing, StepsMoveWindow, TakenPartsCommitted};
+ghost use Rattle.link_marks.specs.Laws.{CommittedIsFront, EachEventIsAStep, KeptIsRing, RunsMakeRings, StartHasWindow, StartIsKept, StepsAreDetermined, StepsKeepRing, StepsMoveWindow, TakenPartsCommitted};
 
 /// A new ring has all that its steps keep, and its window is the first one.
 pub fn start_is_kept()
@@ -49,7 +49,8 @@ pub fn wrong_steps_are_refused()
     ensures inner_end_publishes { InnerEndPublishes }
 {}
 
-/// Every event is a step, after every run: no frame and no reader is ever stuck.
+/// Every event is a step, after every run: no frame and no reader is ever stuck. And it is only one.
 pub fn each_event_is_a_step()
     ensures steps { EachEventIsAStep }
+    ensures determined { StepsAreDetermined }
 {}
