@@ -6,7 +6,7 @@ use Rattle.trace_model.specs.Packing.{fill_len}
 use Rattle.trace_model.specs.Links.{Mark, normal, header, update, Link, normal_link, header_link, update_link}
 use Rattle.trace_model.specs.Frames.{Kind, for_record, for_close, Role, owner, helper, Phase, reserving, looking, claiming, looking_next, marking, clearing, opening, reserved, releasing, Frame, too_deep, too_long, late_moment, crowded, worn, no_frame, not_reserved}
 use Rattle.trace_model.specs.Ring.{ReaderPhase, loading_link, loading_done, storing_link, swapping, Core, link_into, page_at}
-use Rattle.trace_model.specs.Steps.{Event, pushes, pushes_close, steps, ends, reads, Answer, pushed, going, reserved_as, gone, refused, reading, empty, moving, swapped, with_action, in_phase, with_link, with_held, held_by, tail_page, leave_answer, after_leave, begun_on, begun_answer, after_next, begun, reader_at, taken_from, after_swap, ended_answer, Exchange}
+use Rattle.trace_model.specs.Steps.{Event, pushes, pushes_close, steps, ends, reads, Answer, pushed, going, reserved_as, gone, refused, reading, empty, moving, swapped, with_action, in_phase, with_link, with_held, held_by, tail_page, leave_answer, after_leave, begun_on, begun_answer, after_next, begun, reader_at, taken_from, after_swap, ended_answer}
 
 pub record Outcome : Type 0 where
   pub answer : Answer

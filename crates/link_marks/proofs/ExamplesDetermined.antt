@@ -1,16 +1,16 @@
 -- Every step is the one that the function computes: so an event has one answer and one state after it.
-use Rattle.std.proofs.Common.{◌≡◌, ◌≢◌, ℕ, suc, ◌+◌, ◌-◌, ◌^◌, ◌<◌, ◌≤◌, inl, inr, ⊎_elim, Bool, true, false, if◌then◌else◌, ◌==◌, nat_lt, nat_le, List, [], ◌∷◌, ◌++◌, length, Option, Some, None, refl, sym, ap, ◌∙◌, subst, arith}
+use Rattle.std.proofs.Common.{◌≡◌, ◌≢◌, ℕ, suc, ◌+◌, ◌-◌, ◌^◌, ⊎_elim, Bool, true, false, if◌then◌else◌, ◌==◌, nat_lt, nat_le, List, [], ◌∷◌, ◌++◌, length, Option, Some, None, refl, sym, ap, ◌∙◌, subst, arith}
 use Rattle.std.proofs.lemmas.Bool.{ltb-false, leb-true, lt-ltb, le-ltb, le-leb, lt-leb, eq-eqb, ne_eqb}
 use Rattle.trace_model.specs.Words.{encoded_len}
-use Rattle.trace_model.specs.History.{Reservation, reserve, reserved_for, reserved_records}
+use Rattle.trace_model.specs.History.{Reservation, reserve, reserved_records}
 use Rattle.trace_model.specs.Packing.{FitsBehind}
 use Rattle.trace_model.specs.Links.{Link, normal_link, header_link, update_link}
-use Rattle.trace_model.specs.Frames.{Kind, for_record, for_close, Role, owner, helper, Phase, reserving, looking, claiming, looking_next, marking, clearing, opening, reserved, releasing, Frame, Refusal, too_deep, too_long, late_moment, not_reserved}
+use Rattle.trace_model.specs.Frames.{Kind, for_record, for_close, Role, owner, helper, Phase, reserving, looking, claiming, looking_next, marking, clearing, opening, reserved, releasing, Frame, Refusal, not_reserved}
 use Rattle.trace_model.specs.Ring.{ReaderPhase, loading_link, loading_done, storing_link, swapping, Core, link_into}
-use Rattle.trace_model.specs.Steps.{Event, Answer, pushed, going, refused, with_action, with_held, with_link, in_phase, reader_at, held_by, tail_page, number_in, GoesOn, NeedsPage, BeginsAnew, ReserveStep, reserves, finds_nothing, is_crowded, is_worn, notes, LookStep, look_late, sees_free, sees_header, sees_update, ClaimStep, claim_late, claims, claim_fails, NextStep, next_late, sees_normal, sees_other, MarkStep, mark_late, marks, mark_fails, ClearStep, clears, OpenStep, open_late, opens, ReleaseStep, releases, releases_last, FrameStep, LoadStep, loads_header, loads_update, loads_owed, loads_passed, LoadDoneStep, finds_none, finds_closed, StoreStep, SwapStep, swaps, swap_fails, ReadStep, after_next, IsTooLong, PushRefused, four_stand, has_no_room, comes_late, Step, push_step, push_refused, close_step, close_refused, frame_step, frame_lacks, end_step, end_lacks, end_early, read_step}
+use Rattle.trace_model.specs.Steps.{Event, Answer, going, refused, with_action, with_held, with_link, in_phase, reader_at, held_by, tail_page, number_in, NeedsPage, BeginsAnew, ReserveStep, reserves, finds_nothing, is_crowded, is_worn, notes, LookStep, look_late, sees_free, sees_header, sees_update, ClaimStep, claim_late, claims, claim_fails, NextStep, next_late, sees_normal, sees_other, MarkStep, mark_late, marks, mark_fails, ClearStep, clears, OpenStep, open_late, opens, ReleaseStep, releases, releases_last, FrameStep, LoadStep, loads_header, loads_update, loads_owed, loads_passed, LoadDoneStep, finds_none, finds_closed, SwapStep, swaps, swap_fails, ReadStep, after_next, IsTooLong, PushRefused, four_stand, has_no_room, comes_late, Step, push_step, push_refused, close_step, close_refused, frame_step, frame_lacks, end_step, end_lacks, end_early, read_step}
 use Rattle.link_marks.specs.Laws.{StepsAreDetermined}
 use Rattle.link_marks.proofs.Phases.{none_some}
-use Rattle.link_marks.proofs.ExamplesComputed.{Outcome, gives, same_link, anew, goes_on, needs_page, record_len, close_of, reserve_of, look_at, look_of, claim_of, next_at, next_of, mark_at, mark_of, clear_of, open_of, release_of, frame_of, load_at, read_of, too_long_for, push_of, close_push_of, steps_of, full_end, end_in, end_of, step_of}
+use Rattle.link_marks.proofs.ExamplesComputed.{Outcome, gives, same_link, anew, goes_on, needs_page, record_len, close_of, reserve_of, look_at, look_of, claim_of, next_at, next_of, mark_at, mark_of, clear_of, open_of, release_of, frame_of, load_at, read_of, too_long_for, push_of, steps_of, full_end, end_in, end_of, step_of}
 use Rattle.link_marks.proofs.ExamplesSound.{same_link_true, same_link_refl, too_long_true}
 
 -- what is computed is this answer and this state

@@ -1,20 +1,20 @@
 -- The function that computes a step gives one from every state that a run reaches.
-use Rattle.std.proofs.Common.{◌≡◌, ◌≢◌, ℕ, suc, ◌+◌, ◌-◌, ◌%◌, ◌^◌, ◌<◌, ◌≤◌, Bool, true, false, if◌then◌else◌, ◌==◌, nat_lt, nat_le, List, [], ◌∷◌, length, get_or, Option, Some, None, refl, sym, ap, ◌∙◌, subst, mod-lt, mod-eq_of_lt, arith}
+use Rattle.std.proofs.Common.{◌≡◌, ℕ, suc, ◌+◌, ◌-◌, ◌%◌, ◌^◌, ◌<◌, ◌≤◌, Bool, true, false, if◌then◌else◌, ◌==◌, nat_lt, nat_le, List, [], ◌∷◌, length, get_or, Option, Some, None, refl, sym, ap, ◌∙◌, subst, mod-lt, mod-eq_of_lt, arith}
 use Rattle.std.proofs.lemmas.Bool.{ltb-false, leb-false, eqb-true, eqb-false}
 use mathlib.Core.Logic.{dite}
 use native.Mathlib.Decide.{ℕ_discrete}
 use Rattle.trace_model.specs.History.{Reservation}
 use Rattle.trace_model.specs.Links.{Mark, normal, header, update, Link, normal_link, header_link, update_link}
 use Rattle.trace_model.specs.Frames.{Kind, for_record, for_close, Role, owner, helper, Phase, reserving, looking, claiming, looking_next, marking, clearing, opening, reserved, releasing, Frame}
-use Rattle.trace_model.specs.Ring.{ReaderPhase, loading_link, loading_done, storing_link, swapping, Core, IsStart, link_into, page_at}
-use Rattle.trace_model.specs.Steps.{Event, pushes, pushes_close, steps, ends, reads, Answer, held_by, tail_page, after_leave, after_swap, Step, Exchange, Run}
+use Rattle.trace_model.specs.Ring.{ReaderPhase, loading_link, loading_done, storing_link, swapping, Core, link_into}
+use Rattle.trace_model.specs.Steps.{Event, pushes, pushes_close, steps, ends, reads, Answer, held_by, tail_page, Step}
 use Rattle.link_marks.specs.Kept.{PhaseKept, LinksKept}
 use Rattle.link_marks.specs.Laws.{MayAsk, EachEventIsAStep}
 use Rattle.link_marks.proofs.Turns.{at_place, link_turn}
 use Rattle.link_marks.proofs.Inside.{normal_tells, header_tells, update_tells, owned_by}
 use Rattle.link_marks.proofs.Stacks.{top_kept}
 use Rattle.link_marks.proofs.Rings.{ring_start, ring_run}
-use Rattle.link_marks.proofs.ExamplesComputed.{Outcome, gives, same_link, anew, goes_on, needs_page, record_len, reserves_in, close_of, reserve_of, look_at, look_of, claim_of, next_at, next_of, mark_at, mark_of, clear_of, open_of, release_of, frame_of, load_at, read_of, too_long_for, push_of, close_push_of, steps_of, full_end, end_in, end_of, step_of}
+use Rattle.link_marks.proofs.ExamplesComputed.{Outcome, same_link, needs_page, record_len, close_of, reserve_of, look_at, look_of, claim_of, next_at, next_of, mark_at, mark_of, clear_of, open_of, release_of, frame_of, load_at, read_of, too_long_for, push_of, close_push_of, steps_of, full_end, end_in, end_of, step_of}
 use Rattle.link_marks.proofs.ExamplesSound.{Sound, step_sound, link_is, same_link_false}
 use Rattle.link_marks.proofs.ExamplesReady.{IsForRecord, PhaseReady, StackReady, Ready, start_ready, run_ready}
 

@@ -1,6 +1,6 @@
 -- What each step keeps so that there is a next one: a frame that opens its page has seen the head's HEADER set;
 -- only a frame that stands alone closes fills; and only a record frame has reserved.
-use Rattle.std.proofs.Common.{◌≡◌, ◌≢◌, ℕ, suc, ◌+◌, ◌-◌, ◌%◌, ◌<◌, ◌≤◌, List, [], ◌∷◌, ◌++◌, length, map, Option, Some, None, refl, sym, ap, ◌∙◌, subst, arith, length-set}
+use Rattle.std.proofs.Common.{◌≡◌, ◌≢◌, ℕ, suc, ◌+◌, ◌%◌, ◌<◌, ◌≤◌, List, [], ◌∷◌, ◌++◌, length, map, Option, Some, None, refl, sym, ap, ◌∙◌, subst, arith, length-set}
 use Rattle.std.specs.Prelude.{◌==◌}
 use Rattle.std.proofs.lemmas.Bool.{cond_both}
 use mathlib.Core.Logic.{dite}
@@ -9,11 +9,11 @@ use Rattle.trace_model.specs.History.{Action, leave}
 use Rattle.trace_model.specs.Links.{Link, normal_link, header_link, update_link}
 use Rattle.trace_model.specs.Frames.{Kind, for_record, for_close, Role, owner, helper, Phase, reserving, looking, claiming, looking_next, marking, clearing, opening, reserved, releasing, Frame}
 use Rattle.trace_model.specs.Ring.{Held, ReaderPhase, loading_link, loading_done, storing_link, swapping, Reader, Core, IsStart, link_into, relinked, page_at}
-use Rattle.trace_model.specs.Steps.{Event, Answer, with_link, in_phase, after_leave, begun_on, finished_in, record_of, begun, after_next, BeginsAnew, ReserveStep, reserves, finds_nothing, is_crowded, is_worn, notes, LookStep, look_late, sees_free, sees_header, sees_update, ClaimStep, claim_late, claims, claim_fails, NextStep, next_late, sees_normal, sees_other, MarkStep, mark_late, marks, mark_fails, ClearStep, clears, OpenStep, open_late, opens, ReleaseStep, releases, releases_last, FrameStep, LoadStep, loads_header, loads_update, loads_owed, loads_passed, LoadDoneStep, finds_none, finds_closed, StoreStep, SwapStep, swaps, swap_fails, ReadStep, after_swap, Step, push_step, push_refused, close_step, close_refused, frame_step, frame_lacks, end_step, end_lacks, end_early, read_step, Exchange, Run}
-use Rattle.link_marks.specs.Kept.{PhaseKept, FramesKept, LinkKept, is_normal, is_header, is_update, ReaderKept, LinksKept}
-use Rattle.link_marks.proofs.Turns.{link_here, link_turn}
-use Rattle.link_marks.proofs.Phases.{normal_ne_header, normal_ne_update, header_ne_update, before_set}
-use Rattle.link_marks.proofs.Inside.{normal_tells, header_tells, owned_by, normal_inside, header_inside, next_inside, fill_at}
+use Rattle.trace_model.specs.Steps.{Event, Answer, in_phase, after_leave, begun_on, finished_in, record_of, begun, after_next, BeginsAnew, ReserveStep, reserves, finds_nothing, is_crowded, is_worn, notes, LookStep, look_late, sees_free, sees_header, sees_update, ClaimStep, claim_late, claims, claim_fails, NextStep, next_late, sees_normal, sees_other, MarkStep, mark_late, marks, mark_fails, ClearStep, clears, OpenStep, open_late, opens, ReleaseStep, releases, releases_last, FrameStep, LoadStep, loads_header, loads_update, loads_owed, loads_passed, LoadDoneStep, finds_none, finds_closed, StoreStep, SwapStep, swaps, swap_fails, ReadStep, Step, push_step, push_refused, close_step, close_refused, frame_step, frame_lacks, end_step, end_lacks, end_early, read_step, Exchange, Run}
+use Rattle.link_marks.specs.Kept.{PhaseKept, LinkKept, is_normal, is_header, is_update, ReaderKept, LinksKept}
+use Rattle.link_marks.proofs.Turns.{link_here}
+use Rattle.link_marks.proofs.Phases.{normal_ne_header, normal_ne_update, before_set}
+use Rattle.link_marks.proofs.Inside.{header_tells, owned_by, normal_inside, header_inside, next_inside, fill_at}
 use Rattle.link_marks.proofs.Stacks.{top_kept}
 use Rattle.link_marks.proofs.EachStep.{step_kept}
 

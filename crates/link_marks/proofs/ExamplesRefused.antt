@@ -1,11 +1,11 @@
 -- The wrong steps make no rings.
-use Rattle.std.proofs.Common.{◌≡◌, ◌≢◌, ℕ, zero, suc, ◌+◌, ◌^◌, ◌<◌, ◌≤◌, List, [], ◌∷◌, ◌++◌, length, map, Option, Some, None, refl, sym, ap, ◌∙◌, ⊎_elim, arith}
+use Rattle.std.proofs.Common.{◌≡◌, ℕ, suc, ◌+◌, ◌^◌, ◌<◌, ◌≤◌, List, [], length, map, Option, Some, refl, ap, ⊎_elim, arith}
 use Rattle.std.specs.List.{slice_get}
 use Rattle.trace_model.specs.Record.{Record}
 use Rattle.trace_model.specs.Links.{Link, normal_link, update_link, mark_code}
 use Rattle.trace_model.specs.Ring.{Taken, Core, link_into, page_at, IsStart, IsRing, IsBehindHead, told, moved, IsAtHead, marked, owed}
-use Rattle.trace_model.specs.Steps.{Event, Answer, Step, Exchange, Run}
-use Rattle.trace_model.specs.Frames.{for_record, owner, looking_next, clearing, marking}
+use Rattle.trace_model.specs.Steps.{Exchange}
+use Rattle.trace_model.specs.Frames.{for_record, owner, looking_next}
 use Rattle.link_marks.specs.ExamplesWrong.{to_free_places, with_head_lost, to_open_tail, with_tail_taken, to_helped_move, with_update_cleared, to_passed_mark, with_second_head, to_late_swap, with_late_swap, to_inner_end, with_page_closed, IsWrongStep, LosesWhileAPlaceIsFree, TakesTheTail, HelperClearsTheUpdate, TwoHeads, SwapIgnoresTheFill, InnerEndPublishes}
 use Rattle.link_marks.proofs.Phases.{none_some}
 use Rattle.link_marks.proofs.Rings.{ring_start, ring_step, ring_run, is_ring}

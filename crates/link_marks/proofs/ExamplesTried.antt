@@ -4,7 +4,7 @@ use Rattle.trace_model.specs.Record.{Record}
 use Rattle.trace_model.specs.Links.{normal_link, header_link}
 use Rattle.trace_model.specs.Ring.{Held, Core, IsStart, link_into, loading_link}
 use Rattle.trace_model.specs.History.{committed_records}
-use Rattle.trace_model.specs.Steps.{Exchange, Run}
+use Rattle.trace_model.specs.Steps.{Exchange}
 use Rattle.link_marks.specs.Examples.{at, all, four, IsExample, first_record, FirstRecord, nested_writer, NestedWriter, inner_reserves_first, InnerReservesFirst, halted_head_move, HaltedHeadMove, helpers_at_the_head, HelpersAtTheHead, late_swap, LateSwap}
 use Rattle.link_marks.proofs.ExamplesComputed.{Ran, run_of}
 use Rattle.link_marks.proofs.ExamplesSound.{event_in, answer_in, Gives, run_sound}

@@ -1,10 +1,9 @@
 -- Worked examples of a ring: what is asked of a new one, event by event, and what it answers. They are the
 -- scripts and logs of docs/FORMATS.md, line by line; docs/MODEL.md tells them as tables.
-use Rattle.std.specs.Prelude.{◌≡◌, ℕ, ◌+◌, List, [], ◌∷◌, ◌++◌, length, replicate, Some}
+use Rattle.std.specs.Prelude.{◌≡◌, ℕ, List, [], ◌∷◌, ◌++◌, length, replicate, Some}
 use Rattle.trace_model.specs.Record.{Record}
 use Rattle.trace_model.specs.History.{Reservation, committed_records}
-use Rattle.trace_model.specs.Words.{slot_len}
-use Rattle.trace_model.specs.Ring.{Taken, Core, IsStart}
+use Rattle.trace_model.specs.Ring.{Core, IsStart}
 use Rattle.trace_model.specs.Steps.{pushes, pushes_close, steps, ends, reads, Answer, pushed, going, reserved_as, pending, full, gone, reading, empty, moving, swapped, Exchange, Run}
 
 -- ---- what is asked and answered

@@ -1,5 +1,5 @@
 -- Wrong steps: what each would make of a state that a run from a new ring reaches.
-use Rattle.std.specs.Prelude.{◌≡◌, ℕ, ◌+◌, List, [], ◌∷◌, ◌++◌}
+use Rattle.std.specs.Prelude.{ℕ, ◌+◌, List, [], ◌∷◌, ◌++◌}
 use Rattle.trace_model.specs.Links.{normal_link, header_link}
 use Rattle.trace_model.specs.Ring.{Core, IsStart, IsRing}
 use Rattle.trace_model.specs.Steps.{Event, Answer, going, reserved_as, pending, gone, reading, with_link, after_swap, Step, Exchange, Run}
