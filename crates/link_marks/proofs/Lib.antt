@@ -24,3 +24,10 @@ pub mod Relinking
 pub mod PackedHistories
 pub mod PackedSteps
 pub mod PackedRuns
+pub mod ExamplesComputed
+pub mod ExamplesSound
+pub mod ExamplesTried
+pub mod ExamplesRefused
+pub mod ExamplesReady
+pub mod ExamplesGiven
+pub mod ExamplesDetermined

@@ -1,8 +1,9 @@
 -- The laws of the ring, as statements: each is the contract of a function of src/laws.rt.
-use Rattle.std.specs.Prelude.{◌≡◌, ℕ, ◌+◌, ◌^◌, ◌≤◌, ◌⊎◌, List, length, map, take}
+use Rattle.std.specs.Prelude.{◌≡◌, ℕ, ◌+◌, ◌^◌, ◌≤◌, ◌⊎◌, List, ◌∷◌, length, map, take}
 use Rattle.trace_model.specs.Ring.{Core, IsStart, IsRing, window_of}
 use Rattle.trace_model.specs.Window.{first_window, Happening, WindowStep}
-use Rattle.trace_model.specs.Steps.{Event, Answer, Step, Exchange, Run}
+use Rattle.trace_model.specs.Frames.{for_record, reserved, Frame}
+use Rattle.trace_model.specs.Steps.{Event, pushes, pushes_close, steps, ends, reads, Answer, Step, Exchange, Run}
 use Rattle.trace_model.specs.Record.{Record}
 use Rattle.trace_model.specs.History.{Action, reserved_records, settled_front, finished, committed_records}
 use Rattle.trace_model.specs.Partition.{IsPartition}
@@ -46,3 +47,21 @@ CommittedIsFront = (history : List Action) → map finished (take (length (reser
 abbrev pub StepsMoveWindow : Type 0
 StepsMoveWindow = (n size start : ℕ) (c : Core) (event : Event) (answer : Answer) (after : Core) → IsRingKept n start c → Step n size c event answer after
     → (window_of after ≡ window_of c) ⊎ ((what : Happening) × WindowStep n c.history (window_of c) what (window_of after))
+
+-- the payload that ends a frame which has reserved has the length with which the frame was pushed; nothing is
+-- asked of any other event
+abbrev pub MayAsk : Core → Event → Type 0
+MayAsk c (pushes moment len) = Unit {0}
+MayAsk c pushes_close = Unit {0}
+MayAsk c steps = Unit {0}
+MayAsk c (ends payload) = (frame : Frame) (below : List Frame) (number moment len : ℕ) → c.frames ≡ frame ∷ below → frame.phase ≡ reserved number → frame.kind ≡ for_record moment len → length payload ≡ len
+MayAsk c reads = Unit {0}
+
+-- after every run from a new ring, each event is a step: it has an answer and a state after it
+abbrev pub EachEventIsAStep : Type 0
+EachEventIsAStep = (n size start : ℕ) (c before : Core) (exchanges : List Exchange) (event : Event) → 2 ≤ n → start + 1 + n ≤ 2 ^ 48 → IsStart n start c → Run n size c exchanges before → MayAsk before event
+    → (answer : Answer) × (after : Core) × Step n size before event answer after
+
+-- and only one: the event determines its answer and the state after it, whatever the state
+abbrev pub StepsAreDetermined : Type 0
+StepsAreDetermined = (n size : ℕ) (c : Core) (event : Event) (answer answer' : Answer) (after after' : Core) → Step n size c event answer after → Step n size c event answer' after' → (answer ≡ answer') × (after ≡ after')

@@ -9,3 +9,5 @@ pub mod WindowRuns
 pub mod RunLaws
 pub mod AnswerLaws
 pub mod LinkLaws
+pub mod Examples
+pub mod ExamplesWrong

@@ -2,7 +2,9 @@
 ghost use Rattle.link_marks.specs.RunLaws.{LostAreClosed, NoneIsTakenAndLost, PassedAreTakenOrLost, RunsArePacked, RunsMoveWindow, TakenAreClosed, WindowKeepsOrder};
 ghost use Rattle.link_marks.specs.AnswerLaws.{CrowdedIsRight, EmptyIsRight, MovingIsRight, SwappedIsRight, WornIsRight};
 ghost use Rattle.link_marks.specs.LinkLaws.{HeadersAreOwed, HeadersAreSetOnce, LinksStandOnce, OneHeader, OwnersClear, StepsRaiseLinks};
-ghost use Rattle.link_marks.specs.Laws.{CommittedIsFront, KeptIsRing, RunsMakeRings, StartHasWindow, StartIsKept, StepsKeepRing, StepsMoveWindow, TakenPartsCommitted};
+ghost use Rattle.link_marks.specs.Examples.{FirstRecord, HaltedHeadMove, HelpersAtTheHead, InnerReservesFirst, LateSwap, NestedWriter};
+ghost use Rattle.link_marks.specs.ExamplesWrong.{HelperClearsTheUpdate, InnerEndPublishes, LosesWhileAPlaceIsFree, SwapIgnoresTheFill, TakesTheTail, TwoHeads};
+ghost use Rattle.link_marks.specs.Laws.{CommittedIsFront, EachEventIsAStep, KeptIsRing, RunsMakeRings, StartHasWindow, StartIsKept, StepsAreDetermined, StepsKeepRing, StepsMoveWindow, TakenPartsCommitted};
 
 /// A new ring has all that its steps keep, and its window is the first one.
 pub fn start_is_kept()
@@ -85,4 +87,30 @@ pub fn runs_are_packed()
 pub fn taken_parts_committed()
     ensures front { CommittedIsFront }
     ensures parts { TakenPartsCommitted }
+{}
+
+/// The worked examples are runs of steps from a new ring.
+pub fn examples_are_runs()
+    ensures first_record { FirstRecord }
+    ensures nested_writer { NestedWriter }
+    ensures inner_reserves_first { InnerReservesFirst }
+    ensures halted_head_move { HaltedHeadMove }
+    ensures helpers_at_the_head { HelpersAtTheHead }
+    ensures late_swap { LateSwap }
+{}
+
+/// Wrong steps make no rings, so none of them is a step.
+pub fn wrong_steps_are_refused()
+    ensures loses_while_a_place_is_free { LosesWhileAPlaceIsFree }
+    ensures takes_the_tail { TakesTheTail }
+    ensures helper_clears_the_update { HelperClearsTheUpdate }
+    ensures two_heads { TwoHeads }
+    ensures swap_ignores_the_fill { SwapIgnoresTheFill }
+    ensures inner_end_publishes { InnerEndPublishes }
+{}
+
+/// Every event is a step, after every run: no frame and no reader is ever stuck. And it is only one.
+pub fn each_event_is_a_step()
+    ensures steps { EachEventIsAStep }
+    ensures determined { StepsAreDetermined }
 {}
