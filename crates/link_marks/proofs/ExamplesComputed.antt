@@ -1,6 +1,6 @@
 -- One step of a ring as a function: what it answers and leaves, or nothing where no step is made.
 use Rattle.std.proofs.Common.{ℕ, suc, ◌+◌, ◌-◌, ◌^◌, Bool, true, false, if◌then◌else◌, ◌==◌, nat_lt, nat_le, List, [], ◌∷◌, ◌++◌, length, Option, Some, None}
-use Rattle.trace_model.specs.Words.{encoded_len}
+use Rattle.trace_model.specs.Words.{encoded_len, slot_len}
 use Rattle.trace_model.specs.History.{Reservation, push, push_close, reserve, reserved_for, reserved_records}
 use Rattle.trace_model.specs.Packing.{fill_len}
 use Rattle.trace_model.specs.Links.{Mark, normal, header, update, Link, normal_link, header_link, update_link}
@@ -155,7 +155,7 @@ steps_of n size c (frame ∷ below) = frame_of n size c frame below frame.phase
 
 -- the end of a frame that has reserved, where the payload has its length
 abbrev pub full_end : Core → Frame → List Frame → List ℕ → Kind → Option Outcome
-full_end c frame below payload (for_record moment len) = if length payload == len then gives (ended_answer below) (after_leave c frame below (Some payload)) else None
+full_end c frame below payload (for_record moment len) = if slot_len (length payload) == slot_len len then gives (ended_answer below) (after_leave c frame below (Some payload)) else None
 full_end c frame below payload for_close = None
 
 abbrev pub end_in : Core → Frame → List Frame → List ℕ → Phase → Option Outcome

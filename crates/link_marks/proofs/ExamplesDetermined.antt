@@ -1,7 +1,7 @@
 -- Every step is the one that the function computes: so an event has one answer and one state after it.
 use Rattle.std.proofs.Common.{◌≡◌, ◌≢◌, ℕ, suc, ◌+◌, ◌-◌, ◌^◌, ⊎_elim, Bool, true, false, if◌then◌else◌, ◌==◌, nat_lt, nat_le, List, [], ◌∷◌, ◌++◌, length, Option, Some, None, refl, sym, ap, ◌∙◌, subst, arith}
 use Rattle.std.proofs.lemmas.Bool.{ltb-false, leb-true, lt-ltb, le-ltb, le-leb, lt-leb, eq-eqb, ne_eqb}
-use Rattle.trace_model.specs.Words.{encoded_len}
+use Rattle.trace_model.specs.Words.{encoded_len, slot_len}
 use Rattle.trace_model.specs.History.{Reservation, reserve, reserved_records}
 use Rattle.trace_model.specs.Packing.{FitsBehind}
 use Rattle.trace_model.specs.Links.{Link, normal_link, header_link, update_link}
@@ -231,7 +231,7 @@ step_is n size c event answer after (frame_step frame below e top step) = ap (st
 step_is n size c event answer after (frame_lacks e none a is) = ap (step_of n size c) e ∙ ap (steps_of n size c) none ∙ here _ answer _ after a is
 step_is n size c event answer after (end_step payload frame below number moment len e top at kind size_is a is) =
     ap (step_of n size c) e ∙ ap (end_of c payload) top ∙ ap (end_in c frame below payload) at ∙ ap (full_end c frame below payload) kind
-    ∙ if_yes (length payload == len) _ _ (eq-eqb (length payload) len size_is) ∙ here _ answer _ after a is
+    ∙ if_yes (slot_len (length payload) == slot_len len) _ _ (eq-eqb (slot_len (length payload)) (slot_len len) size_is) ∙ here _ answer _ after a is
 step_is n size c event answer after (end_lacks payload e none a is) = ap (step_of n size c) e ∙ ap (end_of c payload) none ∙ here _ answer _ after a is
 step_is n size c event answer after (end_early payload frame below e top none a is) = ap (step_of n size c) e ∙ ap (end_of c payload) top ∙ early_is c frame below payload frame.phase none ∙ here _ answer _ after a is
 step_is n size c event answer after (read_step e step) = ap (step_of n size c) e ∙ read_is n c answer after c.reader.phase step

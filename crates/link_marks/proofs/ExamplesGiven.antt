@@ -3,6 +3,7 @@ use Rattle.std.proofs.Common.{◌≡◌, ℕ, suc, ◌+◌, ◌-◌, ◌%◌, �
 use Rattle.std.proofs.lemmas.Bool.{ltb-false, leb-false, eqb-true, eqb-false}
 use mathlib.Core.Logic.{dite}
 use native.Mathlib.Decide.{ℕ_discrete}
+use Rattle.trace_model.specs.Words.{slot_len}
 use Rattle.trace_model.specs.History.{Reservation}
 use Rattle.trace_model.specs.Links.{Mark, normal, header, update, Link, normal_link, header_link, update_link}
 use Rattle.trace_model.specs.Frames.{Kind, for_record, for_close, Role, owner, helper, Phase, reserving, looking, claiming, looking_next, marking, clearing, opening, reserved, releasing, Frame}
@@ -168,12 +169,12 @@ steps_given n size c [] k r none = tt
 steps_given n size c (frame ∷ below) k r top =
     frame_given n size c frame below k r top frame.phase (top_kept n c frame below k top) (subst (StackReady n c.links c.head) top r.stack).0
 
-full_end_given : (c : Core) (frame : Frame) (below : List Frame) (payload : List ℕ) (kind : Kind) → IsForRecord kind → ((moment len : ℕ) → kind ≡ for_record moment len → length payload ≡ len) → Given (full_end c frame below payload kind)
-full_end_given c frame below payload (for_record moment len) is fits = given_if (length payload == len) _ _ (λ e. tt) (λ e. eqb-false (length payload) len e (fits moment len refl))
+full_end_given : (c : Core) (frame : Frame) (below : List Frame) (payload : List ℕ) (kind : Kind) → IsForRecord kind → ((moment len : ℕ) → kind ≡ for_record moment len → slot_len (length payload) ≡ slot_len len) → Given (full_end c frame below payload kind)
+full_end_given c frame below payload (for_record moment len) is fits = given_if (slot_len (length payload) == slot_len len) _ _ (λ e. tt) (λ e. eqb-false (slot_len (length payload)) (slot_len len) e (fits moment len refl))
 full_end_given c frame below payload for_close is fits = absurd is
 
 end_in_given : (n : ℕ) (c : Core) (frame : Frame) (below : List Frame) (payload : List ℕ) (phase : Phase) → PhaseReady n c.links c.head frame.kind below phase → frame.phase ≡ phase
-    → ((number moment len : ℕ) → frame.phase ≡ reserved number → frame.kind ≡ for_record moment len → length payload ≡ len)
+    → ((number moment len : ℕ) → frame.phase ≡ reserved number → frame.kind ≡ for_record moment len → slot_len (length payload) ≡ slot_len len)
     → Given (end_in c frame below payload phase)
 end_in_given n c frame below payload reserving r at fits = tt
 end_in_given n c frame below payload (looking noted) r at fits = tt

@@ -75,4 +75,4 @@ pub inner_end_publishes : InnerEndPublishes
 inner_end_publishes = refused 2 32 two_pages to_inner_end with_page_closed (omega arith) (omega arith) two_start (refl, refl) breaks
   where
     breaks : IsRing 2 0 (with_page_closed (last_from 2 32 two_pages to_inner_end)) → ⊥
-    breaks r = let (behind, e) = r.closed in let z : suc (suc (length behind)) ≡ 0 = ap (λ (l : List Record). length l) e in omega arith
+    breaks r = let (behind, e) = r.closed in let z : 0 ≡ suc (suc (length behind)) = ap (λ (l : List Record). length l) e in omega arith

@@ -1,7 +1,7 @@
 -- What the function computes is a step, and what it computes of a list of events is a run.
 use Rattle.std.proofs.Common.{◌≡◌, ◌≢◌, ℕ, suc, ◌+◌, ◌-◌, ◌^◌, inl, inr, ⊎_elim, Bool, true, false, if◌then◌else◌, ◌==◌, nat_lt, nat_le, List, [], ◌∷◌, length, map, Option, Some, None, refl, sym, ap, ◌∙◌, subst, arith}
 use Rattle.std.proofs.lemmas.Bool.{ltb-true, ltb-false, leb-true, leb-false, eqb-true, eqb-false, eq-eqb, both_ways}
-use Rattle.trace_model.specs.Words.{encoded_len}
+use Rattle.trace_model.specs.Words.{encoded_len, slot_len}
 use Rattle.trace_model.specs.History.{Reservation, reserved_for, reserved_records}
 use Rattle.trace_model.specs.Links.{Mark, normal, header, update, Link, normal_link, header_link, update_link}
 use Rattle.trace_model.specs.Frames.{Kind, for_record, for_close, Role, owner, helper, Phase, reserving, looking, claiming, looking_next, marking, clearing, opening, reserved, releasing, Frame, too_deep, too_long, late_moment}
@@ -230,8 +230,8 @@ steps_sound n size c (frame ∷ below) top = sound_as (FrameStep n size c frame 
 
 module _ (n size : ℕ) (c : Core) (payload : List ℕ) where
   full_end_sound : (frame : Frame) (below : List Frame) (number : ℕ) (kind : Kind) → c.frames ≡ frame ∷ below → frame.phase ≡ reserved number → frame.kind ≡ kind → Sound (Step n size c (ends payload)) (full_end c frame below payload kind)
-  full_end_sound frame below number (for_record moment len) top at is = by_if (Step n size c (ends payload)) (length payload == len) _ _
-      (λ e. end_step payload frame below number moment len refl top at is (eqb-true (length payload) len e) refl refl) (λ e. tt)
+  full_end_sound frame below number (for_record moment len) top at is = by_if (Step n size c (ends payload)) (slot_len (length payload) == slot_len len) _ _
+      (λ e. end_step payload frame below number moment len refl top at is (eqb-true (slot_len (length payload)) (slot_len len) e) refl refl) (λ e. tt)
   full_end_sound frame below number for_close top at is = tt
 
   end_in_sound : (frame : Frame) (below : List Frame) (phase : Phase) → c.frames ≡ frame ∷ below → frame.phase ≡ phase → Sound (Step n size c (ends payload)) (end_in c frame below payload phase)

@@ -54,7 +54,7 @@ abbrev pub MayAsk : Core → Event → Type 0
 MayAsk c (pushes moment len) = Unit {0}
 MayAsk c pushes_close = Unit {0}
 MayAsk c steps = Unit {0}
-MayAsk c (ends payload) = (frame : Frame) (below : List Frame) (number moment len : ℕ) → c.frames ≡ frame ∷ below → frame.phase ≡ reserved number → frame.kind ≡ for_record moment len → length payload ≡ len
+MayAsk c (ends payload) = (frame : Frame) (below : List Frame) (number moment len : ℕ) → c.frames ≡ frame ∷ below → frame.phase ≡ reserved number → frame.kind ≡ for_record moment len → slot_len (length payload) ≡ slot_len len
 MayAsk c reads = Unit {0}
 
 -- after every run from a new ring, each event is a step: it has an answer and a state after it
