@@ -24,3 +24,4 @@ pub mod ExamplesRefused
 pub mod ExamplesReady
 pub mod ExamplesGiven
 pub mod ExamplesDetermined
+pub mod ExamplesStarts

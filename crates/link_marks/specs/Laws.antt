@@ -65,3 +65,14 @@ EachEventIsAStep = (n size start : ℕ) (c before : Core) (exchanges : List Exch
 -- and only one: the event determines its answer and the state after it, whatever the state
 abbrev pub StepsAreDetermined : Type 0
 StepsAreDetermined = (n size : ℕ) (c : Core) (event : Event) (answer answer' : Answer) (after after' : Core) → Step n size c event answer after → Step n size c event answer' after' → (answer ≡ answer') × (after ≡ after')
+
+abbrev pub events_of : List Exchange → List Event
+events_of exchanges = map (λ x. x.event) exchanges
+
+-- so the same events from the same state have the same answers, and lead to the same state
+abbrev pub RunsAreDetermined : Type 0
+RunsAreDetermined = (n size : ℕ) (c after after' : Core) (exchanges others : List Exchange) → events_of exchanges ≡ events_of others → Run n size c exchanges after → Run n size c others after' → (exchanges ≡ others) × (after ≡ after')
+
+-- there is a new ring of each number of places, whatever the number of its first fill, and only one
+abbrev pub NewRingIsOne : Type 0
+NewRingIsOne = (n start : ℕ) → 1 ≤ n → (c : Core) × IsStart n start c × ((other : Core) → IsStart n start other → other ≡ c)
