@@ -25,3 +25,4 @@ pub mod ExamplesReady
 pub mod ExamplesGiven
 pub mod ExamplesDetermined
 pub mod ExamplesStarts
+pub mod ExamplesMoves

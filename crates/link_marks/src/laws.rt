@@ -1,7 +1,7 @@
 //! The laws of the ring: each is the contract of a function with an empty body.
 ghost use Rattle.link_marks.specs.Examples.{FirstRecord, HaltedHeadMove, HelpersAtTheHead, InnerReservesFirst, LateSwap, NestedWriter};
 ghost use Rattle.link_marks.specs.ExamplesWrong.{HelperClearsTheUpdate, InnerEndPublishes, LosesWhileAPlaceIsFree, SwapIgnoresTheFill, TakesTheTail, TwoHeads};
-ghost use Rattle.link_marks.specs.Laws.{CommittedIsFront, EachEventIsAStep, KeptIsRing, NewRingIsOne, RunsAreDetermined, RunsMakeRings, StartHasWindow, StartIsKept, StepsAreDetermined, StepsKeepRing, StepsMoveWindow, TakenPartsCommitted};
+ghost use Rattle.link_marks.specs.Laws.{ClosesNeedNoFrame, CommittedIsFront, EachEventIsAStep, KeptIsRing, LossesNeedAFullRing, NewRingIsOne, RunsAreDetermined, RunsMakeRings, StartHasWindow, StartIsKept, StepsAreDetermined, StepsKeepRing, StepsMoveWindow, TakenPartsCommitted};
 
 /// A new ring has all that its steps keep, and its window is the first one.
 pub fn start_is_kept()
@@ -63,4 +63,10 @@ pub fn steps_are_determined()
 /// There is a new ring of each number of places, and only one.
 pub fn new_ring_is_one()
     ensures one { NewRingIsOne }
+{}
+
+/// The head moves by a take of it, or in a full ring; and a fill is closed only where each push has its leave.
+pub fn fills_are_lost_in_a_full_ring()
+    ensures losses { LossesNeedAFullRing }
+    ensures closes { ClosesNeedNoFrame }
 {}
