@@ -65,7 +65,8 @@ pub fn new_ring_is_one()
     ensures one { NewRingIsOne }
 {}
 
-/// The head moves by a take of it, or in a full ring; and a fill is closed only where each push has its leave.
+/// The head moves by a take of it, or in a full ring; and a fill is closed only where each push has its
+/// leave.
 pub fn fills_are_lost_in_a_full_ring()
     ensures losses { LossesNeedAFullRing }
     ensures closes { ClosesNeedNoFrame }
