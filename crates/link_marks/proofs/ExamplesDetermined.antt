@@ -7,8 +7,8 @@ use Rattle.trace_model.specs.Packing.{FitsBehind}
 use Rattle.trace_model.specs.Links.{Link, normal_link, header_link, update_link}
 use Rattle.trace_model.specs.Frames.{Kind, for_record, for_close, Role, owner, helper, Phase, reserving, looking, claiming, looking_next, marking, clearing, opening, reserved, releasing, Frame, Refusal, not_reserved}
 use Rattle.trace_model.specs.Ring.{ReaderPhase, loading_link, loading_done, storing_link, swapping, Core, link_into}
-use Rattle.trace_model.specs.Steps.{Event, Answer, going, refused, with_action, with_held, with_link, in_phase, reader_at, held_by, tail_page, number_in, NeedsPage, BeginsAnew, ReserveStep, reserves, finds_nothing, is_crowded, is_worn, notes, LookStep, look_late, sees_free, sees_header, sees_update, ClaimStep, claim_late, claims, claim_fails, NextStep, next_late, sees_normal, sees_other, MarkStep, mark_late, marks, mark_fails, ClearStep, clears, OpenStep, open_late, opens, ReleaseStep, releases, releases_last, FrameStep, LoadStep, loads_header, loads_update, loads_owed, loads_passed, LoadDoneStep, finds_none, finds_closed, SwapStep, swaps, swap_fails, ReadStep, after_next, IsTooLong, PushRefused, four_stand, has_no_room, comes_late, Step, push_step, push_refused, close_step, close_refused, frame_step, frame_lacks, end_step, end_lacks, end_early, read_step}
-use Rattle.link_marks.specs.Laws.{StepsAreDetermined}
+use Rattle.trace_model.specs.Steps.{Event, Answer, going, refused, with_action, with_held, with_link, in_phase, reader_at, held_by, tail_page, number_in, NeedsPage, BeginsAnew, ReserveStep, reserves, finds_nothing, is_crowded, is_worn, notes, LookStep, look_late, sees_free, sees_header, sees_update, ClaimStep, claim_late, claims, claim_fails, NextStep, next_late, sees_normal, sees_other, MarkStep, mark_late, marks, mark_fails, ClearStep, clears, OpenStep, open_late, opens, ReleaseStep, releases, releases_last, FrameStep, LoadStep, loads_header, loads_update, loads_owed, loads_passed, LoadDoneStep, finds_none, finds_closed, SwapStep, swaps, swap_fails, ReadStep, after_next, IsTooLong, PushRefused, four_stand, has_no_room, comes_late, Run, Step, push_step, push_refused, close_step, close_refused, frame_step, frame_lacks, end_step, end_lacks, end_early, read_step}
+use Rattle.link_marks.specs.Laws.{StepsAreDetermined, events_of, RunsAreDetermined}
 use Rattle.link_marks.proofs.Phases.{none_some}
 use Rattle.link_marks.proofs.ExamplesComputed.{Outcome, gives, same_link, anew, goes_on, needs_page, record_len, close_of, reserve_of, look_at, look_of, claim_of, next_at, next_of, mark_at, mark_of, clear_of, open_of, release_of, frame_of, load_at, read_of, too_long_for, push_of, steps_of, full_end, end_in, end_of, step_of}
 use Rattle.link_marks.proofs.ExamplesSound.{same_link_true, same_link_refl, too_long_true}
@@ -248,3 +248,29 @@ pub steps_are_determined : StepsAreDetermined
 steps_are_determined n size c event answer answer' after after' one other =
     let same = sym (step_is n size c event answer after one) ∙ step_is n size c event answer' after' other in
     (ap (answer_or answer) same, ap (after_or after) same)
+
+head_or : Event → List Event → Event
+head_or d [] = d
+head_or d (e ∷ es) = e
+
+rest_of : List Event → List Event
+rest_of [] = []
+rest_of (e ∷ es) = es
+
+heads_same : (a b : Event) (xs ys : List Event) → ◌≡◌ {A = List Event} (a ∷ xs) (b ∷ ys) → a ≡ b
+unfolding head_or
+heads_same a b xs ys e = ap (head_or a) e
+
+rests_same : (a b : Event) (xs ys : List Event) → ◌≡◌ {A = List Event} (a ∷ xs) (b ∷ ys) → xs ≡ ys
+unfolding rest_of
+rests_same a b xs ys e = ap rest_of e
+
+pub runs_are_determined : RunsAreDetermined
+runs_are_determined n size c after after' [] [] e run other = (refl, sym run ∙ other)
+runs_are_determined n size c after after' [] (y ∷ ys) e run other = let z = ap (λ (l : List Event). length l) e in absurd (omega arith)
+runs_are_determined n size c after after' (x ∷ xs) [] e run other = let z = ap (λ (l : List Event). length l) e in absurd (omega arith)
+runs_are_determined n size c after after' (x ∷ xs) (y ∷ ys) e (between, step, run) (between', step', run') =
+    let event = heads_same x.event y.event (events_of xs) (events_of ys) e in
+    let (answer, state) = steps_are_determined n size c x.event x.answer y.answer between between' step (subst (λ (ev : Event). Step n size c ev y.answer between') (sym event) step') in
+    let (rest, last) = runs_are_determined n size between after after' xs ys (rests_same x.event y.event (events_of xs) (events_of ys) e) run (subst (λ (s : Core). Run n size s ys after') (sym state) run') in
+    (λ i. record { event = event i; answer = answer i } ∷ rest i, last)

@@ -31,3 +31,5 @@ pub mod ExamplesRefused
 pub mod ExamplesReady
 pub mod ExamplesGiven
 pub mod ExamplesDetermined
+pub mod ExamplesStarts
+pub mod ExamplesMoves

@@ -81,9 +81,9 @@ take_of answer = taking (reading ∷ reading ∷ reading ∷ answer ∷ [])
 
 -- ---- runs
 
--- From a new ring of n places these exchanges are a run, and then these records are committed.
+-- From the new ring of n places these exchanges are a run, and then these records are committed.
 abbrev pub IsExample : (n size : ℕ) → List Exchange → List Record → Type 0
-IsExample n size exchanges committed = (start after : Core) × IsStart n 0 start × Run n size start exchanges after × (committed_records after.history ≡ committed)
+IsExample n size exchanges committed = (start : Core) → IsStart n 0 start → (after : Core) × Run n size start exchanges after × (committed_records after.history ≡ committed)
 
 -- ---- the examples
 

@@ -1,11 +1,11 @@
 -- The laws of the ring, as statements: each is the contract of a function of src/laws.rt.
-use Rattle.std.specs.Prelude.{◌≡◌, ℕ, ◌+◌, ◌^◌, ◌≤◌, ◌⊎◌, List, ◌∷◌, length, map, take}
-use Rattle.trace_model.specs.Ring.{Core, IsStart, IsRing, window_of}
+use Rattle.std.specs.Prelude.{◌≡◌, ℕ, ◌+◌, ◌^◌, ◌≤◌, ◌⊎◌, List, ◌∷◌, length, map, take, IsTrue}
+use Rattle.trace_model.specs.Ring.{Taken, Core, IsStart, IsRing, window_of}
 use Rattle.trace_model.specs.Window.{first_window, Happening, WindowStep}
 use Rattle.trace_model.specs.Frames.{for_record, reserved, Frame}
-use Rattle.trace_model.specs.Steps.{Event, pushes, pushes_close, steps, ends, reads, Answer, Step, Exchange, Run}
+use Rattle.trace_model.specs.Steps.{Event, pushes, pushes_close, steps, ends, reads, Answer, swapped, Step, Exchange, Run}
 use Rattle.trace_model.specs.Record.{Record}
-use Rattle.trace_model.specs.History.{Action, reserved_records, settled_front, finished, committed_records}
+use Rattle.trace_model.specs.History.{Action, is_settled, reserved_records, settled_front, finished, committed_records}
 use Rattle.trace_model.specs.Partition.{IsPartition}
 use Rattle.link_marks.specs.KeptParts.{pieces_of, HaveFirsts}
 use Rattle.link_marks.specs.RingKept.{IsRingKept}
@@ -65,3 +65,29 @@ EachEventIsAStep = (n size start : ℕ) (c before : Core) (exchanges : List Exch
 -- and only one: the event determines its answer and the state after it, whatever the state
 abbrev pub StepsAreDetermined : Type 0
 StepsAreDetermined = (n size : ℕ) (c : Core) (event : Event) (answer answer' : Answer) (after after' : Core) → Step n size c event answer after → Step n size c event answer' after' → (answer ≡ answer') × (after ≡ after')
+
+abbrev pub events_of : List Exchange → List Event
+events_of exchanges = map (λ x. x.event) exchanges
+
+-- so the same events from the same state have the same answers, and lead to the same state
+abbrev pub RunsAreDetermined : Type 0
+RunsAreDetermined = (n size : ℕ) (c after after' : Core) (exchanges others : List Exchange) → events_of exchanges ≡ events_of others → Run n size c exchanges after → Run n size c others after' → (exchanges ≡ others) × (after ≡ after')
+
+-- there is a new ring of each number of places, whatever the number of its first fill, and only one
+abbrev pub NewRingIsOne : Type 0
+NewRingIsOne = (n start : ℕ) → 1 ≤ n → (c : Core) × IsStart n start c × ((other : Core) → IsStart n start other → other ≡ c)
+
+-- The head stays; or it was taken, as the answer says; or it was lost, in a full ring, and the reader knows
+-- nothing of it.
+abbrev pub HeadMoves : ℕ → Core → Answer → Core → Type 0
+HeadMoves n c answer after = (after.head ≡ c.head) ⊎ (((t : Taken) × (answer ≡ swapped t) × (t.fill ≡ c.head) × (after.head ≡ c.head + 1)) ⊎ ((c.opened ≡ c.head + n) × (after.head ≡ c.head + 1) × (after.reader ≡ c.reader)))
+
+abbrev pub LossesNeedAFullRing : Type 0
+LossesNeedAFullRing = (n size start : ℕ) (c : Core) (event : Event) (answer : Answer) (after : Core) → IsRingKept n start c → Step n size c event answer after → HeadMoves n c answer after
+
+-- no fill is closed; or the oldest one is, where each push has its leave
+abbrev pub DoneMoves : Core → Core → Type 0
+DoneMoves c after = (after.done ≡ c.done) ⊎ (IsTrue (is_settled c.history) × (after.done ≡ c.done + 1))
+
+abbrev pub ClosesNeedNoFrame : Type 0
+ClosesNeedNoFrame = (n size start : ℕ) (c : Core) (event : Event) (answer : Answer) (after : Core) → IsRingKept n start c → Step n size c event answer after → DoneMoves c after

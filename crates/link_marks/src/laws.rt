@@ -4,7 +4,7 @@ ghost use Rattle.link_marks.specs.AnswerLaws.{CrowdedIsRight, EmptyIsRight, Movi
 ghost use Rattle.link_marks.specs.LinkLaws.{HeadersAreOwed, HeadersAreSetOnce, LinksStandOnce, OneHeader, OwnersClear, StepsRaiseLinks};
 ghost use Rattle.link_marks.specs.Examples.{FirstRecord, HaltedHeadMove, HelpersAtTheHead, InnerReservesFirst, LateSwap, NestedWriter};
 ghost use Rattle.link_marks.specs.ExamplesWrong.{HelperClearsTheUpdate, InnerEndPublishes, LosesWhileAPlaceIsFree, SwapIgnoresTheFill, TakesTheTail, TwoHeads};
-ghost use Rattle.link_marks.specs.Laws.{CommittedIsFront, EachEventIsAStep, KeptIsRing, RunsMakeRings, StartHasWindow, StartIsKept, StepsAreDetermined, StepsKeepRing, StepsMoveWindow, TakenPartsCommitted};
+ghost use Rattle.link_marks.specs.Laws.{ClosesNeedNoFrame, CommittedIsFront, EachEventIsAStep, KeptIsRing, LossesNeedAFullRing, NewRingIsOne, RunsAreDetermined, RunsMakeRings, StartHasWindow, StartIsKept, StepsAreDetermined, StepsKeepRing, StepsMoveWindow, TakenPartsCommitted};
 
 /// A new ring has all that its steps keep, and its window is the first one.
 pub fn start_is_kept()
@@ -89,7 +89,7 @@ pub fn taken_parts_committed()
     ensures parts { TakenPartsCommitted }
 {}
 
-/// The worked examples are runs of steps from a new ring.
+/// The worked examples are runs of steps from the new ring.
 pub fn examples_are_runs()
     ensures first_record { FirstRecord }
     ensures nested_writer { NestedWriter }
@@ -109,8 +109,25 @@ pub fn wrong_steps_are_refused()
     ensures inner_end_publishes { InnerEndPublishes }
 {}
 
-/// Every event is a step, after every run: no frame and no reader is ever stuck. And it is only one.
+/// Every event is a step, after every run: in no state that a run reaches is one without an answer.
 pub fn each_event_is_a_step()
     ensures steps { EachEventIsAStep }
-    ensures determined { StepsAreDetermined }
+{}
+
+/// An event has one answer and one state after it; so the answers of the examples are the only ones.
+pub fn steps_are_determined()
+    ensures steps { StepsAreDetermined }
+    ensures runs { RunsAreDetermined }
+{}
+
+/// There is a new ring of each number of places, and only one.
+pub fn new_ring_is_one()
+    ensures one { NewRingIsOne }
+{}
+
+/// The head moves by a take of it, or in a full ring; and a fill is closed only where each push has its
+/// leave.
+pub fn fills_are_lost_in_a_full_ring()
+    ensures losses { LossesNeedAFullRing }
+    ensures closes { ClosesNeedNoFrame }
 {}

@@ -1,6 +1,5 @@
-use Rattle.link_marks.proofs.ExamplesDetermined.{steps_are_determined}
 use Rattle.link_marks.proofs.ExamplesGiven.{each_event_is_a_step}
 use Rattle.link_marks.proofs.laws.each_event_is_a_step.Goals as goal
 
 pub returns : goal.returns
-returns c = record { steps = each_event_is_a_step; determined = steps_are_determined }
+returns c = record { steps = each_event_is_a_step }
