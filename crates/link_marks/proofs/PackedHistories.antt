@@ -10,7 +10,6 @@ use Rattle.trace_model.specs.History.{Action, push, push_close, open_fill, reser
 use Rattle.trace_model.specs.Packing.{stood, standing, opens_of, cut_from, fills_of, tail_of, len_behind, fill_len, FitsBehind, wanted_by, wanted, Closes, IsPacked}
 use Rattle.trace_model.specs.Frames.{Kind, for_record, for_close}
 use Rattle.trace_model.proofs.Lengths.{slot_len_ge_four, slot_len-slot_len}
-use Rattle.trace_model.proofs.Histories.{last_moment-push}
 use Rattle.link_marks.specs.KeptContents.{IsRising}
 use Rattle.link_marks.proofs.Phases.{none_some}
 use Rattle.link_marks.proofs.Cuts.{reserved_before, reserved_last, opened_before, opened_last}

@@ -1,5 +1,5 @@
 -- The laws of the ring's runs, as statements: each is the contract of a function of src/laws.rt.
-use Rattle.std.specs.Prelude.{◌≡◌, ℕ, ◌+◌, ◌^◌, ◌<◌, ◌≤◌, ◌⊎◌, List, Contains}
+use Rattle.std.specs.Prelude.{ℕ, ◌+◌, ◌^◌, ◌<◌, ◌≤◌, ◌⊎◌, List, Contains}
 use Rattle.trace_model.specs.Packing.{IsPacked}
 use Rattle.trace_model.specs.Ring.{Core, IsStart}
 use Rattle.trace_model.specs.Window.{Window, Deed, WindowRun, IsWindow}
