@@ -1,5 +1,5 @@
 //! The laws of the ring: each is the contract of a function with an empty body.
-ghost use Rattle.link_marks.specs.RunLaws.{LostAreClosed, NoneIsTakenAndLost, PassedAreTakenOrLost, RunsArePacked, RunsMoveWindow, TakenAreClosed, WindowKeepsOrder};
+ghost use Rattle.link_marks.specs.RunLaws.{LostAreClosed, NoneIsTakenAndLost, PassedAreTakenOrLost, RunsAreHistories, RunsArePacked, RunsMoveWindow, TakenAreClosed, WindowKeepsOrder};
 ghost use Rattle.link_marks.specs.AnswerLaws.{CrowdedIsRight, EmptyIsRight, MovingIsRight, SwappedIsRight, WornIsRight};
 ghost use Rattle.link_marks.specs.LinkLaws.{HeadersAreOwed, HeadersAreSetOnce, LinksStandOnce, OneHeader, OwnersClear, StepsRaiseLinks};
 ghost use Rattle.link_marks.specs.Laws.{CommittedIsFront, KeptIsRing, RunsMakeRings, StartHasWindow, StartIsKept, StepsKeepRing, StepsMoveWindow, TakenPartsCommitted};
@@ -72,6 +72,11 @@ pub fn one_header()
 /// Only the frame that owns an UPDATE clears it, and before that the next HEADER was set.
 pub fn owners_clear()
     ensures clears { OwnersClear }
+{}
+
+/// After every run what the frames did is a history: each action is one that the stack allowed.
+pub fn runs_are_histories()
+    ensures histories { RunsAreHistories }
 {}
 
 /// After every run the fills have room in their pages, and each was begun where one had to be: behind one
