@@ -25,3 +25,4 @@ pub mod PackedHistories
 pub mod PackedSteps
 pub mod PackedRuns
 pub mod Disciplined
+pub mod FullFills

@@ -66,7 +66,7 @@ fill_len-alike cuts xs ys i same = sym (fill_len-plain (get_or (cut_from 0 cuts 
 abbrev pub tail_at : List ℕ → List Reservation → List Reservation
 tail_at cuts xs = get_or (cut_from 0 cuts xs) (length cuts) []
 
-length-cut_from : (from : ℕ) (cuts : List ℕ) (xs : List Reservation) → length (cut_from from cuts xs) ≡ suc (length cuts)
+pub length-cut_from : (from : ℕ) (cuts : List ℕ) (xs : List Reservation) → length (cut_from from cuts xs) ≡ suc (length cuts)
 length-cut_from from [] xs = refl
 length-cut_from from (cut ∷ cuts) xs = ap suc (length-cut_from cut cuts xs)
 
@@ -241,7 +241,7 @@ abbrev pub NeedsFill : ℕ → List ℕ → List Reservation → Kind → Type 0
 NeedsFill size cuts xs (for_record moment len) = FitsBehind size (tail_at cuts xs) (reserved_for moment len xs) → ⊥
 NeedsFill size cuts xs for_close = tail_at cuts xs ≢ []
 
-plain_nil : (xs : List Reservation) → map plain xs ≡ [] → xs ≡ []
+pub plain_nil : (xs : List Reservation) → map plain xs ≡ [] → xs ≡ []
 plain_nil [] e = refl
 plain_nil (x ∷ xs) e = cc
 

@@ -1,10 +1,11 @@
 -- The laws of the ring's runs, as statements: each is the contract of a function of src/laws.rt.
-use Rattle.std.specs.Prelude.{ℕ, ◌+◌, ◌^◌, ◌<◌, ◌≤◌, ◌⊎◌, List, Contains}
-use Rattle.trace_model.specs.History.{IsHistory}
-use Rattle.trace_model.specs.Packing.{IsPacked}
+use Rattle.std.specs.Prelude.{ℕ, ◌+◌, ◌^◌, ◌<◌, ◌≤◌, ◌≢◌, ◌⊎◌, List, [], length, slice_index_or, Contains}
+use Rattle.trace_model.specs.History.{Action, IsHistory}
+use Rattle.trace_model.specs.Packing.{fills_of, IsPacked}
 use Rattle.trace_model.specs.Ring.{Core, IsStart}
 use Rattle.trace_model.specs.Window.{Window, Deed, WindowRun, IsWindow}
 use Rattle.trace_model.specs.Steps.{Exchange, Run}
+use Rattle.link_marks.specs.RingKept.{IsRingKept}
 use Rattle.link_marks.specs.WindowRuns.{fills_taken, fills_lost, IsToldBy}
 
 -- every run of steps from a new ring is a run of its window: deeds, each allowed where it stands, tell what
@@ -12,6 +13,10 @@ use Rattle.link_marks.specs.WindowRuns.{fills_taken, fills_lost, IsToldBy}
 abbrev pub RunsMoveWindow : Type 0
 RunsMoveWindow = (n size start : ℕ) (c after : Core) (exchanges : List Exchange) → 2 ≤ n → start + 1 + n ≤ 2 ^ 48 → IsStart n start c → Run n size c exchanges after
     → (deeds : List Deed) × IsToldBy n start after deeds
+
+-- over a run the counts only rise: so what was once passed, closed or begun stays so
+abbrev pub CountsRise : Type 0
+CountsRise = (n size start : ℕ) (c after : Core) (exchanges : List Exchange) → IsRingKept n start c → Run n size c exchanges after → (c.head ≤ after.head) × (c.done ≤ after.done) × (c.opened ≤ after.opened)
 
 -- over a run of the window its counts keep their order
 abbrev pub WindowKeepsOrder : Type 0
@@ -44,3 +49,7 @@ RunsArePacked = (n size start : ℕ) (c after : Core) (exchanges : List Exchange
 -- and it keeps the discipline of the stack: each action is one that the frames that stood allowed
 abbrev pub RunsAreHistories : Type 0
 RunsAreHistories = (n size start : ℕ) (c after : Core) (exchanges : List Exchange) → 2 ≤ n → start + 1 + n ≤ 2 ^ 48 → IsStart n start c → Run n size c exchanges after → IsHistory after.history
+
+-- in a packed history every fill but the last holds a record
+abbrev pub PackedFillsAreFull : Type 0
+PackedFillsAreFull = (history : List Action) (size k : ℕ) → IsPacked history size → k + 1 < length (fills_of history) → slice_index_or (fills_of history) k [] ≢ []

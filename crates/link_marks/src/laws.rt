@@ -1,5 +1,5 @@
 //! The laws of the ring: each is the contract of a function with an empty body.
-ghost use Rattle.link_marks.specs.RunLaws.{LostAreClosed, NoneIsTakenAndLost, PassedAreTakenOrLost, RunsAreHistories, RunsArePacked, RunsMoveWindow, TakenAreClosed, WindowKeepsOrder};
+ghost use Rattle.link_marks.specs.RunLaws.{CountsRise, LostAreClosed, NoneIsTakenAndLost, PackedFillsAreFull, PassedAreTakenOrLost, RunsAreHistories, RunsArePacked, RunsMoveWindow, TakenAreClosed, WindowKeepsOrder};
 ghost use Rattle.link_marks.specs.AnswerLaws.{CrowdedIsRight, EmptyIsRight, MovingIsRight, SwappedIsRight, WornIsRight};
 ghost use Rattle.link_marks.specs.LinkLaws.{HeadersAreOwed, HeadersAreSetOnce, LinksStandOnce, OneHeader, OwnersClear, StepsRaiseLinks, UpdatesAreClaimed};
 ghost use Rattle.link_marks.specs.Laws.{CommittedIsFront, KeptIsRing, RunsMakeRings, StartHasWindow, StartIsKept, StepsKeepRing, StepsMoveWindow, TakenPartsCommitted};
@@ -24,9 +24,10 @@ pub fn steps_move_window()
 {}
 
 /// Every run from a new ring is a run of its window, which tells each action of the frames and each fill
-/// that the reader took.
+/// that the reader took; and its counts only rise.
 pub fn runs_move_window()
     ensures runs { RunsMoveWindow }
+    ensures rises { CountsRise }
 {}
 
 /// Over a run of the window the counts keep their order; each fill below the head was taken or lost, never
@@ -82,9 +83,10 @@ pub fn runs_are_histories()
 {}
 
 /// After every run the fills have room in their pages, and each was begun where one had to be: behind one
-/// that isn't empty, by a close frame or for a record that doesn't fit.
+/// that isn't empty, by a close frame or for a record that doesn't fit; so only the last can be empty.
 pub fn runs_are_packed()
     ensures packed { RunsArePacked }
+    ensures full { PackedFillsAreFull }
 {}
 
 /// The committed records are a front of the reserved ones; and after every run the fills that the reader
