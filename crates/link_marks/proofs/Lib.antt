@@ -26,3 +26,4 @@ pub mod PackedSteps
 pub mod PackedRuns
 pub mod Disciplined
 pub mod FullFills
+pub mod TakenFull

@@ -1,8 +1,8 @@
 -- The laws of the ring's runs, as statements: each is the contract of a function of src/laws.rt.
-use Rattle.std.specs.Prelude.{ℕ, ◌+◌, ◌^◌, ◌<◌, ◌≤◌, ◌≢◌, ◌⊎◌, List, [], length, slice_index_or, Contains}
+use Rattle.std.specs.Prelude.{◌≡◌, ℕ, ◌+◌, ◌^◌, ◌<◌, ◌≤◌, ◌≢◌, ◌⊎◌, List, [], length, Some, slice_get, slice_index_or, Contains}
 use Rattle.trace_model.specs.History.{Action, IsHistory}
 use Rattle.trace_model.specs.Packing.{fills_of, IsPacked}
-use Rattle.trace_model.specs.Ring.{Core, IsStart}
+use Rattle.trace_model.specs.Ring.{Taken, Core, IsStart}
 use Rattle.trace_model.specs.Window.{Window, Deed, WindowRun, IsWindow}
 use Rattle.trace_model.specs.Steps.{Exchange, Run}
 use Rattle.link_marks.specs.RingKept.{IsRingKept}
@@ -53,3 +53,11 @@ RunsAreHistories = (n size start : ℕ) (c after : Core) (exchanges : List Excha
 -- in a packed history every fill but the last holds a record
 abbrev pub PackedFillsAreFull : Type 0
 PackedFillsAreFull = (history : List Action) (size k : ℕ) → IsPacked history size → k + 1 < length (fills_of history) → slice_index_or (fills_of history) k [] ≢ []
+
+-- each of these fills holds a record
+abbrev pub HoldRecords : List Taken → Type 0
+HoldRecords taken = (k : ℕ) (t : Taken) → slice_get taken k ≡ Some t → t.held.records ≢ []
+
+-- so no page that the reader takes is empty
+abbrev pub TakenHoldRecords : Type 0
+TakenHoldRecords = (n size start : ℕ) (c after : Core) (exchanges : List Exchange) → 2 ≤ n → start + 1 + n ≤ 2 ^ 48 → IsStart n start c → Run n size c exchanges after → HoldRecords after.reader.taken

@@ -1,5 +1,5 @@
 //! The laws of the ring: each is the contract of a function with an empty body.
-ghost use Rattle.link_marks.specs.RunLaws.{CountsRise, LostAreClosed, NoneIsTakenAndLost, PackedFillsAreFull, PassedAreTakenOrLost, RunsAreHistories, RunsArePacked, RunsMoveWindow, TakenAreClosed, WindowKeepsOrder};
+ghost use Rattle.link_marks.specs.RunLaws.{CountsRise, LostAreClosed, NoneIsTakenAndLost, PackedFillsAreFull, PassedAreTakenOrLost, RunsAreHistories, RunsArePacked, RunsMoveWindow, TakenAreClosed, TakenHoldRecords, WindowKeepsOrder};
 ghost use Rattle.link_marks.specs.AnswerLaws.{CrowdedIsRight, EmptyIsRight, MovingIsRight, SwappedIsRight, WornIsRight};
 ghost use Rattle.link_marks.specs.LinkLaws.{HeadersAreOwed, HeadersAreSetOnce, LinksStandOnce, OneHeader, OwnersClear, StepsRaiseLinks, UpdatesAreClaimed};
 ghost use Rattle.link_marks.specs.Laws.{CommittedIsFront, KeptIsRing, RunsMakeRings, StartHasWindow, StartIsKept, StepsKeepRing, StepsMoveWindow, TakenPartsCommitted};
@@ -83,10 +83,12 @@ pub fn runs_are_histories()
 {}
 
 /// After every run the fills have room in their pages, and each was begun where one had to be: behind one
-/// that isn't empty, by a close frame or for a record that doesn't fit; so only the last can be empty.
+/// that isn't empty, by a close frame or for a record that doesn't fit; so only the last can be empty, and
+/// the reader takes no empty page.
 pub fn runs_are_packed()
     ensures packed { RunsArePacked }
     ensures full { PackedFillsAreFull }
+    ensures taken { TakenHoldRecords }
 {}
 
 /// The committed records are a front of the reserved ones; and after every run the fills that the reader
