@@ -27,3 +27,4 @@ pub mod PackedRuns
 pub mod Disciplined
 pub mod FullFills
 pub mod TakenFull
+pub mod Refusals

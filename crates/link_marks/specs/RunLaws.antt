@@ -22,7 +22,7 @@ CountsRise = (n size start : ℕ) (c after : Core) (exchanges : List Exchange) �
 abbrev pub WindowKeepsOrder : Type 0
 WindowKeepsOrder = (n start : ℕ) (deeds : List Deed) (w : Window) → 1 ≤ n → WindowRun n start deeds w → IsWindow n w
 
--- just the fills from the start to the head were taken or lost
+-- each fill from the start to the head was taken or lost
 abbrev pub PassedAreTakenOrLost : Type 0
 PassedAreTakenOrLost = (n start : ℕ) (deeds : List Deed) (w : Window) (f : ℕ) → WindowRun n start deeds w → start ≤ f → f < w.head
     → Contains (fills_taken start deeds) f ⊎ Contains (fills_lost start deeds) f
@@ -36,7 +36,7 @@ abbrev pub TakenAreClosed : Type 0
 TakenAreClosed = (n start : ℕ) (deeds : List Deed) (w : Window) (f : ℕ) → WindowRun n start deeds w → Contains (fills_taken start deeds) f
     → (start ≤ f) × (f < w.head) × (f < w.done)
 
--- so had one that was lost; and all places behind it were taken by fills
+-- so had one that was lost; and a whole round of fills is begun behind it
 abbrev pub LostAreClosed : Type 0
 LostAreClosed = (n start : ℕ) (deeds : List Deed) (w : Window) (f : ℕ) → WindowRun n start deeds w → Contains (fills_lost start deeds) f
     → (start ≤ f) × (f < w.head) × (f < w.done) × (f + n ≤ w.opened)

@@ -1,6 +1,6 @@
 //! The laws of the ring: each is the contract of a function with an empty body.
 ghost use Rattle.link_marks.specs.RunLaws.{CountsRise, LostAreClosed, NoneIsTakenAndLost, PackedFillsAreFull, PassedAreTakenOrLost, RunsAreHistories, RunsArePacked, RunsMoveWindow, TakenAreClosed, TakenHoldRecords, WindowKeepsOrder};
-ghost use Rattle.link_marks.specs.AnswerLaws.{CrowdedIsRight, EmptyIsRight, MovingIsRight, SwappedIsRight, WornIsRight};
+ghost use Rattle.link_marks.specs.AnswerLaws.{CrowdedIsRight, EmptyIsRight, MovingIsRight, RefusalsAreDue, SwappedIsRight, WornIsRight};
 ghost use Rattle.link_marks.specs.LinkLaws.{HeadersAreOwed, HeadersAreSetOnce, LinksStandOnce, OneHeader, OwnersClear, StepsRaiseLinks, UpdatesAreClaimed};
 ghost use Rattle.link_marks.specs.Laws.{CommittedIsFront, KeptIsRing, RunsMakeRings, StartHasWindow, StartIsKept, StepsKeepRing, StepsMoveWindow, TakenPartsCommitted};
 
@@ -41,10 +41,11 @@ pub fn window_runs_keep_order()
 {}
 
 /// A frame is refused for want of a page only where none is released, and for want of a fill's number only
-/// where the tail is the last fill that has one.
+/// where the tail is the last fill that has one; and there a frame that needs a page is refused.
 pub fn refusals_are_right()
     ensures crowded { CrowdedIsRight }
     ensures worn { WornIsRight }
+    ensures due { RefusalsAreDue }
 {}
 
 /// The reader finds nothing only where nothing closed is unread; it is sent away only by a move of the head
