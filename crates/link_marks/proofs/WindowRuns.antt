@@ -1,10 +1,10 @@
 -- Runs of the window: their counts keep their order, and which fills they take and lose.
-use Rattle.std.proofs.Common.{◌≡◌, ℕ, zero, suc, ◌+◌, ◌<◌, ◌≤◌, ◌⊎◌, List, [], ◌∷◌, ◌++◌, refl, sym, ap, ◌∙◌, subst, inl, inr, ⊎_elim, arith, append_assoc, append-nil}
+use Rattle.std.proofs.Common.{◌≡◌, ℕ, zero, suc, ◌+◌, ◌<◌, ◌≤◌, ◌⊎◌, List, [], ◌∷◌, ◌++◌, refl, sym, ap, subst, inl, inr, ⊎_elim, arith, append_assoc, append-nil}
 use Rattle.std.specs.Prelude.{Contains}
 use mathlib.Core.Logic.{dite}
 use native.Mathlib.Decide.{ℕ_discrete}
 use Rattle.trace_model.specs.History.{Action}
-use Rattle.trace_model.specs.Window.{Window, first_window, Happening, opened_one, released_one, took_one, lost_one, window_after, Deed, acts, happens, actions_of, WindowRunFrom, IsWindow}
+use Rattle.trace_model.specs.Window.{Window, first_window, opened_one, released_one, took_one, lost_one, window_after, Deed, acts, happens, actions_of, WindowRunFrom, IsWindow}
 use Rattle.trace_model.specs.Ring.{Taken}
 use Rattle.link_marks.specs.WindowRuns.{fills_taken, fills_lost, numbers_of}
 
@@ -26,12 +26,12 @@ pub first_is_window : (n start : ℕ) → 1 ≤ n → IsWindow n (first_window s
 first_is_window n start some = record { head_le = omega arith; done_lt = omega arith; opened_le = omega arith }
 
 -- the counts only rise
-record Rises (w after : Window) : Type 0 where
-  head : w.head ≤ after.head
-  done : w.done ≤ after.done
-  opened : w.opened ≤ after.opened
+pub record Rises (w after : Window) : Type 0 where
+  pub head : w.head ≤ after.head
+  pub done : w.done ≤ after.done
+  pub opened : w.opened ≤ after.opened
 
-run_rises : (n : ℕ) (history : List Action) (w after : Window) (deeds : List Deed) → WindowRunFrom n history w deeds after → Rises w after
+pub run_rises : (n : ℕ) (history : List Action) (w after : Window) (deeds : List Deed) → WindowRunFrom n history w deeds after → Rises w after
 run_rises n history w after [] run = subst (Rises w) run record { head = omega arith; done = omega arith; opened = omega arith }
 run_rises n history w after (acts a ∷ deeds) run = run_rises n (history ++ a ∷ []) w after deeds run
 run_rises n history w after (happens opened_one ∷ deeds) run = let r = run_rises n history (window_after w opened_one) after deeds run.1 in

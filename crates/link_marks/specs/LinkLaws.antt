@@ -40,13 +40,34 @@ HeadersAreOwed = (n size start : ℕ) (c : Core) (event : Event) (answer : Answe
     → link_into n after.links f ≡ header_link page fill
     → IsHeaderSet n c event after f page fill
 
--- of all steps of a run at most one sets the HEADER of a fill: where it was set, no later step sets it
+-- of all steps of a run at most one sets the HEADER of a fill: once it is set, no later step sets it, there or
+-- elsewhere
 abbrev pub HeadersAreSetOnce : Type 0
-HeadersAreSetOnce = (n size start : ℕ) (c between : Core) (exchanges : List Exchange) (event : Event) (answer : Answer) (after : Core) (f page other_page fill : ℕ) → IsRingKept n start c → link_into n c.links f ≡ header_link page fill
+HeadersAreSetOnce = (n size start : ℕ) (c between : Core) (exchanges : List Exchange) (event : Event) (answer : Answer) (after : Core) (f g page other_page fill : ℕ) → IsRingKept n start c → link_into n c.links f ≡ header_link page fill
     → Run n size c exchanges between
     → Step n size between event answer after
-    → link_into n between.links f ≢ header_link other_page fill
-    → link_into n after.links f ≢ header_link other_page fill
+    → link_into n between.links g ≢ header_link other_page fill
+    → link_into n after.links g ≢ header_link other_page fill
+
+-- An UPDATE is set over the head's HEADER, by a frame that then owns it; and so the head is lost, closed and in
+-- a full ring.
+pub record IsClaimed (n : ℕ) (c : Core) (event : Event) (after : Core) (f page lost : ℕ) : Type 0 where
+  pub by_frame : event ≡ steps
+  pub was_head : link_into n c.links f ≡ header_link page lost
+  pub lost_is : lost ≡ c.head
+  pub closed : lost < c.done
+  pub full : c.opened ≡ lost + n
+  pub passed : after.head ≡ c.head + 1
+  pub top : Frame
+  pub below : List Frame
+  pub is_top : after.frames ≡ top ∷ below
+  pub owns : moving_in top.phase ≡ Some (lost + n)
+
+abbrev pub UpdatesAreClaimed : Type 0
+UpdatesAreClaimed = (n size start : ℕ) (c : Core) (event : Event) (answer : Answer) (after : Core) (f page lost : ℕ) → IsRingKept n start c → Step n size c event answer after
+    → link_into n c.links f ≢ update_link page lost
+    → link_into n after.links f ≡ update_link page lost
+    → IsClaimed n c event after f page lost
 
 -- An UPDATE of a lost fill is cleared by the frame that owns it, to the NORMAL of the fill to open; and before
 -- that the HEADER behind the lost fill was set: it stands, or the head has moved on from there.
