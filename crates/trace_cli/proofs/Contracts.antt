@@ -4,6 +4,7 @@ use Rattle.std.proofs.lemmas.List.Concat.{flat_map-append}
 use Rattle.std.proofs.lemmas.List.Elements.{Contains-append_left}
 use Rattle.trace_model.specs.Record.{Record}
 use Rattle.trace_model.specs.Script.{Script, deliver}
+use Rattle.trace_model.specs.Log.{LogLine, Logs, IsLoggedReplay}
 use Rattle.trace_model.specs.Replay.{Taking, Answered, pairs_of, taking_list, takings_of, commands_of, IsDelivered, IsUncountedReplay}
 use Rattle.trace_cli.specs.declared.plain_collector.Held.{Held}
 use Rattle.trace_cli.specs.declared.replay.Run.{Run}
@@ -28,7 +29,7 @@ taken_at_all answered t d =
     let cut = ap takings_of d.lines_are ∙ flat_map-append (λ (x : Answered). taking_list x.taking) d.before (a ∷ d.behind) in
     subst (λ (ts : List Taking). Contains ts t) (sym cut) (Contains-append_left (takings_of d.before) (takings_of (a ∷ d.behind)) t d.taken_before)
 
-pub run_meets_contract : (script : Script) (answered : List Answered) (run : Run) → commands_of answered ≡ map (λ line. line.1) script.commands → IsRun script.size answered run → IsUncountedReplay script (collected_of run.collector)
+run_meets_contract : (script : Script) (answered : List Answered) (run : Run) → commands_of answered ≡ map (λ line. line.1) script.commands → IsRun script.size answered run → IsUncountedReplay script (collected_of run.collector)
 run_meets_contract script answered run commands h = record {
   answered = answered;
   one_each = commands;
@@ -51,3 +52,9 @@ run_meets_contract script answered run commands h = record {
         flat_map-Contains pairs_held run.collector page.0 pair page.1 (pairs_of_held page.0 pair marked (subst (λ (u : Taking). Contains (pairs_of u) pair) (sym page.2) given.2)),
   );
 }
+
+-- a run whose log tells what its commands met
+pub logged_run_meets_contract : (script : Script) (answered : List Answered) (run : Run) (log : List LogLine) → commands_of answered ≡ map (λ line. line.1) script.commands → IsRun script.size answered run → Logs script.size [] (map (λ line. line.0) script.commands) answered log → IsLoggedReplay script log (collected_of run.collector)
+unfolding run_meets_contract
+logged_run_meets_contract script answered run log commands h logged =
+    record { replay = run_meets_contract script answered run commands h; logged = logged }

@@ -1,7 +1,8 @@
 -- What a delivery does to the taken pages.
-use Rattle.std.proofs.Common.{◌≡◌, ℕ, zero, suc, ◌+◌, ◌<◌, true, List, [], ◌∷◌, length, get_or, set, map, refl, sym, ap, ◌∙◌, arith, ⊎_elim}
+use Rattle.std.proofs.Common.{◌≡◌, ℕ, zero, suc, ◌+◌, ◌<◌, cond, true, List, [], ◌∷◌, length, get_or, set, map, refl, sym, ap, ◌∙◌, arith, ⊎_elim}
 use Rattle.trace_cli.specs.declared.plain_collector.Held.{Held}
-use Rattle.trace_cli.specs.Collected.{with_delivery}
+use Rattle.trace_model.specs.Log.{Delivery, new_page, known_page, not_taken}
+use Rattle.trace_cli.specs.Collected.{brought_of, with_delivery}
 use Rattle.std.specs.Cmp.{ranked, nat_cmp_is}
 use Rattle.std.specs.Ordering.{nat_cmp, is_lt, ordering_index}
 use Rattle.std.specs.declared.cmp.Ordering.TheVariants.{Less, Equal, Greater}
@@ -46,14 +47,24 @@ apart xs up i k in-i in-k ne same =
     (λ above. ⊎_elim (λ lt. let far = rising_far xs up k i lt in-i in omega arith) (λ ge. ne (omega arith)) (cases_lt k i))
     (cases_lt i k)
 
+-- no page but the one at this place has this fill
+abbrev pub IsAlone : ℕ → List Held → ℕ → Type 0
+IsAlone fill held at = (k : ℕ) → k < length held → (k ≡ at → ⊥) → get_or (fills held) k 0 ≡ fill → ⊥
+
+-- no page has this fill
+abbrev pub IsNowhere : ℕ → List Held → Type 0
+IsNowhere fill held = (k : ℕ) → k < length held → get_or (fills held) k 0 ≡ fill → ⊥
+
 -- the search found the page of this fill
-pub found_delivery : (fill : ℕ) (held : List Held) (at : ℕ) (h : Held) → IsStrictlyIncreasing (fills held) → at < length held → h ≡ get_or held at h → nat_cmp (get_or held at h).taking.fill fill ≡ Equal → set held at (record h { delivered = true }) ≡ map (with_delivery fill) held
-found_delivery fill held at h up inside is tied =
-    let there : (get_or held at h).taking.fill ≡ fill = ranked (get_or held at h).taking.fill fill Equal (sym tied) in
-    let same : h.taking.fill ≡ fill = ap (λ (x : Held). x.taking.fill) is ∙ there in
+pub found_fill : (fill : ℕ) (held : List Held) (at : ℕ) (h : Held) → h ≡ get_or held at h → nat_cmp (get_or held at h).taking.fill fill ≡ Equal → h.taking.fill ≡ fill
+found_fill fill held at h is tied =
+    ap (λ (x : Held). x.taking.fill) is ∙ ranked (get_or held at h).taking.fill fill Equal (sym tied)
+
+pub found_alone : (fill : ℕ) (held : List Held) (at : ℕ) (h : Held) → IsStrictlyIncreasing (fills held) → at < length held → h ≡ get_or held at h → h.taking.fill ≡ fill → IsAlone fill held at
+found_alone fill held at h up inside is same k lt ne e =
     let count = length-map held (λ (x : Held). x.taking.fill) in
-    let read : get_or (fills held) at 0 ≡ fill = get_or-map (λ (x : Held). x.taking.fill) held at h 0 inside ∙ there in
-    one_delivery fill held at h inside is same (λ k lt ne e. apart (fills held) up at k (omega arith) (omega arith) ne (e ∙ sym read))
+    let read : get_or (fills held) at 0 ≡ fill = get_or-map (λ (x : Held). x.taking.fill) held at h 0 inside ∙ ap (λ (x : Held). x.taking.fill) (sym is) ∙ same in
+    apart (fills held) up at k (omega (arith, count)) (omega (arith, count)) ne (e ∙ sym read)
 
 -- some page, where there are any
 some_page : (held : List Held) (k : ℕ) → k < length held → Held
@@ -70,13 +81,33 @@ fills_sorted held up = λ k d _ inside.
     ap is_lt (sym greater)
 
 -- the search found no page of this fill
-pub no_page_found : (fill : ℕ) (held : List Held) (i : ℕ) → IsStrictlyIncreasing (fills held) → (IsNonDecreasingBy (λ y. ordering_index (nat_cmp y.taking.fill fill)) held → IsPartitionPoint (λ y. nat_cmp y.taking.fill fill ≡ Less) (λ y. nat_cmp y.taking.fill fill ≡ Greater) held i) → held ≡ map (with_delivery fill) held
-no_page_found fill held i up search_says =
+pub found_nowhere : (fill : ℕ) (held : List Held) (i : ℕ) → IsStrictlyIncreasing (fills held) → (IsNonDecreasingBy (λ y. ordering_index (nat_cmp y.taking.fill fill)) held → IsPartitionPoint (λ y. nat_cmp y.taking.fill fill ≡ Less) (λ y. nat_cmp y.taking.fill fill ≡ Greater) held i) → IsNowhere fill held
+found_nowhere fill held i up search_says k inside e =
     let parts = search_says (searchable_from_sorted nat_cmp_total (λ (x : Held). x.taking.fill) held fill (fills_sorted held up)) in
-    no_delivery fill held (λ k inside e.
     let d = some_page held k inside in
     let read : (get_or held k d).taking.fill ≡ fill = sym (get_or-map (λ (x : Held). x.taking.fill) held k d 0 inside) ∙ e in
     ⊎_elim
     (λ below. let less = ranked (get_or held k d).taking.fill fill Less (sym (parts.0 k d (omega arith) below)) in omega arith)
     (λ above. let greater = ranked (get_or held k d).taking.fill fill Greater (sym (parts.1 k d above inside)) in omega arith)
-    (cases_lt k i))
+    (cases_lt k i)
+
+-- ---- what a delivery brings
+
+pub brought_past : (fill : ℕ) (h : Held) (held : List Held) → (h.taking.fill ≡ fill → ⊥) → brought_of fill (h ∷ held) ≡ brought_of fill held
+brought_past fill h held other = grind arith
+
+pub brought_here : (fill : ℕ) (h : Held) (held : List Held) → h.taking.fill ≡ fill → brought_of fill (h ∷ held) ≡ cond h.delivered known_page new_page
+brought_here fill h held same = grind arith
+
+pub brought_nowhere : (fill : ℕ) (held : List Held) → IsNowhere fill held → brought_of fill held ≡ not_taken
+brought_nowhere fill [] none = refl
+brought_nowhere fill (h ∷ held) none =
+    brought_past fill h held (none 0 (omega arith)) ∙ brought_nowhere fill held (λ k lt. none (suc k) (omega arith))
+
+pub brought_at : (fill : ℕ) (held : List Held) (at : ℕ) (h : Held) → at < length held → h ≡ get_or held at h → h.taking.fill ≡ fill → IsAlone fill held at → brought_of fill held ≡ cond h.delivered known_page new_page
+brought_at fill [] at h inside is same others = absurd (omega arith)
+brought_at fill (x ∷ held) zero h inside is same others =
+    brought_here fill x held (ap (λ (y : Held). y.taking.fill) (sym is) ∙ same) ∙ ap (λ (y : Held). cond y.delivered known_page new_page) (sym is)
+brought_at fill (x ∷ held) (suc at) h inside is same others =
+    brought_past fill x held (others 0 (omega arith) (λ e. absurd (omega arith)))
+    ∙ brought_at fill held at h (omega arith) is same (λ k lt ne. others (suc k) (omega arith) (λ e. ne (omega arith)))

@@ -1,4 +1,5 @@
 pub mod CommandLineLemmas
+pub mod CommandLineExamples
 pub mod Rising
 pub mod Deliveries
 pub mod Lines
@@ -8,6 +9,7 @@ pub mod Numbered
 pub mod Appending
 pub mod PagesKept
 pub mod Runs
+pub mod Logged
 pub mod Contracts
 pub mod SoFar
 pub mod ImageFaultLemmas

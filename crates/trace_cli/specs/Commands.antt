@@ -1,19 +1,21 @@
 -- What the commands of the program answer to a text.
-use Rattle.std.specs.Prelude.{◌≡◌, ℕ, ◌⊎◌, List}
+use Rattle.std.specs.Prelude.{◌≡◌, ℕ, Bool, ◌⊎◌, List}
 use Rattle.trace_model.specs.Record.{Record}
 use Rattle.trace_model.specs.Script.{Script, ParsesScript, LineFault, FirstScriptFault}
-use Rattle.trace_model.specs.Replay.{IsUncountedReplay}
+use Rattle.trace_model.specs.Log.{LogLine, IsLoggedReplay}
 use Rattle.trace_model.specs.Image.{Missed, DecodesImage, ImageCause, FirstImageFault}
-use Rattle.trace_model.specs.Printing.{printed_world, printed_fault, printed_image, printed_image_fault}
+use Rattle.trace_model.specs.Printing.{printed_replay, printed_fault, printed_image, printed_image_fault}
 use Rattle.trace_cli.specs.declared.status.TheConstants.{DONE, REFUSED}
 
--- the text spells a script, and these bytes are the printing of what a replay of it leaves
-pub record PrintsReplay (text bytes : List ℕ) (status : ℕ) : Type 0 where
+-- the text spells a script, and these bytes are the printing of a replay of it: its log, if it is asked
+-- for, and what it leaves
+pub record PrintsReplay (asked : Bool) (text bytes : List ℕ) (status : ℕ) : Type 0 where
   pub script : Script
   pub spelled : ParsesScript text script
+  pub log : List LogLine
   pub collected : List (ℕ × Record)
-  pub replayed : IsUncountedReplay script collected
-  pub printed : bytes ≡ printed_world collected
+  pub replayed : IsLoggedReplay script log collected
+  pub printed : bytes ≡ printed_replay asked log collected
   pub done : status ≡ DONE
 
 -- the text has a first fault, and these bytes are its line
@@ -25,8 +27,8 @@ pub record PrintsFault (text bytes : List ℕ) (status : ℕ) : Type 0 where
   pub refused : status ≡ REFUSED
 
 -- What `replay` answers to a text. A text spells a script or has a first fault, and never both.
-abbrev pub ReplayGives : List ℕ → List ℕ → ℕ → Type 0
-ReplayGives text bytes status = PrintsReplay text bytes status ⊎ PrintsFault text bytes status
+abbrev pub ReplayGives : Bool → List ℕ → List ℕ → ℕ → Type 0
+ReplayGives asked text bytes status = PrintsReplay asked text bytes status ⊎ PrintsFault text bytes status
 
 -- the text is a page image, and these bytes are the printing of its reading
 pub record PrintsImage (text bytes : List ℕ) (status : ℕ) : Type 0 where

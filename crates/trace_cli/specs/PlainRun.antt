@@ -1,10 +1,11 @@
--- What a command does to the pages and the collector.
+-- What a command does to the pages and the collector, and what it meets there.
 use Rattle.std.specs.Prelude.{false, if◌then◌else◌, List, [], ◌∷◌, ◌++◌, length, map, Option, Some, None}
 use Rattle.trace_model.specs.Script.{Command, write, close, take_page, deliver}
 use Rattle.trace_model.specs.Replay.{Taking, is_writable}
+use Rattle.trace_model.specs.Log.{LogEvent, delivered, refusal_of, write_event, take_event}
 use Rattle.trace_cli.specs.declared.plain_collector.Held.{Held}
 use Rattle.trace_cli.specs.declared.replay.Run.{Run}
-use Rattle.trace_cli.specs.Collected.{with_delivery}
+use Rattle.trace_cli.specs.Collected.{brought_of, with_delivery}
 use Rattle.trace_cli.specs.PlainPages.{written, closed, taking_from, without_oldest}
 
 -- the pages held, and one more that was taken
@@ -18,3 +19,10 @@ obeyed run (write cpu moment payload) = if is_writable run.list.size moment (len
 obeyed run (close cpu) = record run { list = closed run.list }
 obeyed run (take_page cpu) = record { list = without_oldest run.list; collector = with_taking (taking_from run.list) run.collector }
 obeyed run (deliver collector cpu fill) = record run { collector = map (with_delivery fill) run.collector }
+
+-- what the command meets in this run
+abbrev pub met_by : Run → Command → Option LogEvent
+met_by run (write cpu moment payload) = write_event cpu (refusal_of run.list.size moment (length payload))
+met_by run (close cpu) = None
+met_by run (take_page cpu) = Some (take_event cpu (taking_from run.list))
+met_by run (deliver collector cpu fill) = Some (delivered collector cpu fill (brought_of fill run.collector))

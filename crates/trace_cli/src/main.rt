@@ -9,6 +9,8 @@ pub mod dump;
 pub mod ends;
 pub mod image_printer;
 pub mod input;
+pub mod log;
+pub mod log_printer;
 pub mod output;
 pub mod page_write;
 pub mod plain_collector;
@@ -50,11 +52,11 @@ fn main(rt: HostRuntime) -> ExitCode {
     let mut input = Std::new(rt.stdin());
     let mut output = Std::new(rt.stdout());
     let status = match given_call(&rt) {
-        Ok(Call::Replay) => replay_to(rt.alloc(), &mut input, &mut output),
+        Ok(Call::Replay { log }) => replay_to(rt.alloc(), &mut input, &mut output, log),
         Ok(Call::Dump) => dump_to(rt.alloc(), &mut input, &mut output),
         Err(CallFault::NoMemory) => tell_no_memory(&mut output),
         Err(CallFault::Usage) => {
-            let _ = eprintln!(rt; "usage: tracering replay | dump");
+            let _ = eprintln!(rt; "usage: tracering replay [--log] | dump");
             USAGE
         }
     };

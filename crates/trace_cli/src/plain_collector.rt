@@ -1,4 +1,5 @@
 //! The pages that were taken from the plain list, and which of them the collector has.
+use crate::log::Delivery;
 use crate::taken::Taken;
 use std::alloc::Global;
 use std::marker::Model;
@@ -9,6 +10,24 @@ use trace_model::{FillNo, NoMemory};
 pub struct Held {
     pub taking: Taken,
     pub delivered: bool,
+}
+
+impl Held {
+    ghost use Rattle.std.specs.Prelude.{◌≡◌, true, if◌then◌else◌};
+    ghost use Rattle.trace_model.specs.Log.{new_page, known_page};
+    ghost use Rattle.trace_cli.specs.LogTypes.{shown_delivery};
+
+    /// Delivers the page, and answers what that brings.
+    fn deliver(&mut self) -> Delivery
+        ensures held { self.new ≡ record self.old { delivered = true } }
+        ensures brought { shown_delivery result ≡ (if self.old.delivered then known_page else new_page) }
+    {
+        if self.delivered {
+            return Delivery::Known;
+        }
+        self.delivered = true;
+        Delivery::New
+    }
 }
 
 /// The taken pages by rising fill, each delivered to the one collector or not.
@@ -31,7 +50,8 @@ impl Model for PlainCollector {
 
 impl PlainCollector {
     ghost use Rattle.std.specs.Prelude.{◌≡◌, ◌<◌, [], ◌∷◌, ◌++◌, false, map, All, OnOk, OnErr};
-    ghost use Rattle.trace_cli.specs.Collected.{with_delivery};
+    ghost use Rattle.trace_cli.specs.Collected.{brought_of, with_delivery};
+    ghost use Rattle.trace_cli.specs.LogTypes.{shown_delivery};
 
     /// No page is taken yet.
     pub fn new(alloc: Global) -> PlainCollector
@@ -56,15 +76,18 @@ impl PlainCollector {
         Ok(())
     }
 
-    /// Delivers the page of this fill, if it was taken. A page that was delivered before stays so.
-    pub fn deliver(&mut self, fill: FillNo)
-        ensures { self.new ≡ map (with_delivery fill.0) self.old }
+    /// Delivers the page of this fill, if it was taken, and answers what that brings. A page that was
+    /// delivered before stays so.
+    pub fn deliver(&mut self, fill: FillNo) -> Delivery
+        ensures held { self.new ≡ map (with_delivery fill.0) self.old }
+        ensures brought { shown_delivery result ≡ brought_of fill.0 self.old }
     {
         let found = self
             .held
             .binary_search_by_key(&fill.0, |held| held.taking.fill().0);
-        if let Ok(at) = found {
-            self.held[at].delivered = true;
+        match found {
+            Ok(at) => self.held[at].deliver(),
+            Err(_) => Delivery::NotTaken,
         }
     }
 

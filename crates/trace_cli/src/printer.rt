@@ -1,5 +1,5 @@
 //! The printing of what a collector has.
-ghost use Rattle.std.specs.Prelude.{◌≡◌, ◌<◌, ◌++◌, OnOk, IfOk, flat_map};
+ghost use Rattle.std.specs.Prelude.{◌≡◌, ◌<◌, ◌++◌, OnOk, flat_map};
 ghost use Rattle.std.specs.Char.{digit_char};
 ghost use Rattle.std.specs.Fmt.{decimal};
 ghost use Rattle.trace_model.specs.Text.{hex_text};
@@ -11,7 +11,6 @@ ghost use Rattle.page_image.specs.Copies.{copy_of};
 use crate::plain_collector::{Held, PlainCollector};
 use crate::taken::Taken;
 use itoa::Buffer;
-use std::alloc::Global;
 use trace_model::{CpuId, Moment, NoMemory, RecordNo};
 
 /// The digit of a number below 16, in lower case.
@@ -110,18 +109,17 @@ fn put_delivered(out: &mut Vec<u8>, cpu: CpuId, held: &[Held]) -> Result<(), NoM
     Ok(())
 }
 
-/// The text of this collector: its head line, and a line for each record, all of this CPU.
-pub fn print_collector(
-    alloc: Global,
+/// Puts the text of this collector: its head line, and a line for each record, all of this CPU.
+pub fn put_collector(
+    out: &mut Vec<u8>,
     number: u64,
     cpu: CpuId,
     collector: &PlainCollector,
-) -> Result<Vec<u8>, NoMemory>
-    ensures { IfOk result (λ text. text.items ≡ printed_collector number cpu.0 (collected_of collector.now)) }
+) -> Result<(), NoMemory>
+    ensures { OnOk result (out.new.items ≡ out.old.items ++ printed_collector number cpu.0 (collected_of collector.now)) }
 {
-    let mut text = Vec::from_slice(alloc, b"collector ")?;
-    put_number(&mut text, number)?;
-    text.push(b'\n')?;
-    put_delivered(&mut text, cpu, collector.held())?;
-    Ok(text)
+    out.extend_from_slice(b"collector ")?;
+    put_number(out, number)?;
+    out.push(b'\n')?;
+    put_delivered(out, cpu, collector.held())
 }

@@ -111,7 +111,7 @@ fn failing_ends(rt: HostRuntime) -> Result<(), Fail> {
             inner: script.as_slice(),
             calls_left: call,
         });
-        let status = replay_to(alloc, &mut reader, &mut Std::new(&mut text));
+        let status = replay_to(alloc, &mut reader, &mut Std::new(&mut text), false);
         let (want_status, want) = if call < 9 { (4, "") } else { (1, LINE) };
         assert_eq!(rt; status, want_status, "read {call}");
         assert_eq!(rt; text.as_slice(), want.as_bytes(), "read {call}");
@@ -123,7 +123,7 @@ fn failing_ends(rt: HostRuntime) -> Result<(), Fail> {
             inner: &mut text,
             calls_left: call,
         });
-        let status = replay_to(alloc, &mut Std::new(script.as_slice()), &mut writer);
+        let status = replay_to(alloc, &mut Std::new(script.as_slice()), &mut writer, true);
         let (want_status, told) = if call < 16 { (4, call) } else { (1, 16) };
         assert_eq!(rt; status, want_status, "write {call}");
         assert_eq!(rt; text.as_slice(), &LINE.as_bytes()[..told], "write {call}");
@@ -132,6 +132,7 @@ fn failing_ends(rt: HostRuntime) -> Result<(), Fail> {
         alloc,
         &mut Std::new(script.as_slice()),
         &mut Std::new(Closed),
+        false,
     );
     assert_eq!(rt; closed, 4);
     Ok(())
@@ -141,7 +142,12 @@ fn failing_ends(rt: HostRuntime) -> Result<(), Fail> {
 fn endless_input(rt: HostRuntime) {
     let alloc = rt.alloc();
     let mut text = Vec::new(alloc);
-    let status = replay_to(alloc, &mut Std::new(Endless), &mut Std::new(&mut text));
+    let status = replay_to(
+        alloc,
+        &mut Std::new(Endless),
+        &mut Std::new(&mut text),
+        true,
+    );
     assert_eq!(rt; status, 4);
     assert_eq!(rt; text.len(), 0);
 }
@@ -174,7 +180,9 @@ fn no_memory_for_an_answer(rt: HostRuntime) {
 #[test]
 fn command_lines(rt: HostRuntime) -> Result<(), Fail> {
     let alloc = rt.alloc();
-    assert_eq!(rt; call_of(alloc, &["tracering", "replay"]), Ok(Call::Replay));
+    let bare = Call::Replay { log: false };
+    let logged = Call::Replay { log: true };
+    assert_eq!(rt; call_of(alloc, &["tracering", "replay"]), Ok(bare));
     assert_eq!(rt; call_of(alloc, &["tracering", "dump"]), Ok(Call::Dump));
     let refused = [
         ["tracering", ""],
@@ -193,15 +201,26 @@ fn command_lines(rt: HostRuntime) -> Result<(), Fail> {
             "{words:?}"
         );
     }
-    for word in ["--log", "--help", "-h", "script", "replay", "-", "--"] {
+    let answers = [
+        ("--log", Ok(logged)),
+        ("--", Ok(bare)),
+        ("--help", Err(CallFault::Usage)),
+        ("-h", Err(CallFault::Usage)),
+        ("--log=true", Err(CallFault::Usage)),
+        ("-l", Err(CallFault::Usage)),
+        ("log", Err(CallFault::Usage)),
+        ("script", Err(CallFault::Usage)),
+        ("replay", Err(CallFault::Usage)),
+        ("-", Err(CallFault::Usage)),
+    ];
+    for (word, want) in answers {
         let words = ["tracering", "replay", word];
-        let want = if word == "--" {
-            Ok(Call::Replay)
-        } else {
-            Err(CallFault::Usage)
-        };
         assert_eq!(rt; call_of(alloc, words.as_slice()), want, "{words:?}");
     }
+    let dumped = ["tracering", "dump", "--log"];
+    assert_eq!(rt; call_of(alloc, dumped.as_slice()), Err(CallFault::Usage));
+    let twice = ["tracering", "replay", "--log", "--log"];
+    assert_eq!(rt; call_of(alloc, twice.as_slice()), Err(CallFault::Usage));
     assert_eq!(rt; call_of(alloc, &["tracering"]), Err(CallFault::Usage));
     Ok(())
 }

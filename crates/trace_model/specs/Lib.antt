@@ -13,6 +13,7 @@ pub mod ScriptLimits
 pub mod ScriptReading
 pub mod ScriptWriting
 pub mod Replay
+pub mod Log
 pub mod Printing
 pub mod Laws
 pub mod FirstFault

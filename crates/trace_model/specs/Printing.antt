@@ -1,10 +1,11 @@
--- What is printed: collectors, page images, the fault of a script or of an image, want of memory.
--- docs/FORMATS.md, "Printed text".
-use Rattle.std.specs.Prelude.{ℕ, List, [], ◌∷◌, ◌++◌, flat_map, codes}
+-- What is printed: the log, collectors, page images, the fault of a script or of an image, want of memory.
+-- docs/FORMATS.md, "Printed text" and "Log".
+use Rattle.std.specs.Prelude.{ℕ, Bool, if◌then◌else◌, List, [], ◌∷◌, ◌++◌, flat_map, codes}
 use Rattle.std.specs.Fmt.{decimal}
 use Rattle.trace_model.specs.Record.{Record}
 use Rattle.trace_model.specs.Text.{hex_text}
 use Rattle.trace_model.specs.Script.{LineFault, fault_text}
+use Rattle.trace_model.specs.Log.{Refusal, too_long, late_moment, Delivery, new_page, known_page, not_taken, LogEvent, refused, taken, empty, delivered, LogLine}
 use Rattle.trace_model.specs.Faults.{Cause, cut, bad_length, time_overflow}
 use Rattle.trace_model.specs.Image.{Missed, none, unknown, counted, ImageCause, too_short, bad_size, bad_count, bad_word}
 
@@ -21,6 +22,40 @@ printed_collector collector cpu collected =
 -- the world that a replay leaves: for now one collector and one CPU
 abbrev pub printed_world : List (ℕ × Record) → List ℕ
 printed_world collected = printed_collector 0 0 collected
+
+-- the name of why a write is refused
+abbrev pub refusal_text : Refusal → List ℕ
+refusal_text too_long = codes "TooLong"
+refusal_text late_moment = codes "LateMoment"
+
+-- the word for what a delivery brings
+abbrev pub delivery_text : Delivery → List ℕ
+delivery_text new_page = codes "new"
+delivery_text known_page = codes "known"
+delivery_text not_taken = codes "not-taken"
+
+-- a page that was taken: its fill, the number of its first record, how many records it holds, and how
+-- many were missed in front of them
+abbrev pub page_text : ℕ → ℕ → ℕ → ℕ → List ℕ
+page_text fill first count missed =
+    codes " taken fill " ++ decimal fill ++ codes " first " ++ decimal first ++ codes " count " ++ decimal count ++ codes " missed " ++ decimal missed
+
+-- what a command met, as it is logged
+abbrev pub event_text : LogEvent → List ℕ
+event_text (refused cpu refusal) = codes "c" ++ decimal cpu ++ codes " refused " ++ refusal_text refusal
+event_text (taken cpu fill first count missed) = codes "c" ++ decimal cpu ++ page_text fill first count missed
+event_text (empty cpu) = codes "c" ++ decimal cpu ++ codes " empty"
+event_text (delivered collector cpu fill delivery) =
+    codes "d " ++ decimal collector ++ codes " c" ++ decimal cpu ++ 32 ∷ decimal fill ++ 32 ∷ delivery_text delivery
+
+-- a line of the log: the number of the script's line, and what its command met
+abbrev pub printed_log_line : LogLine → List ℕ
+printed_log_line line = decimal line.number ++ 32 ∷ event_text line.event ++ 10 ∷ []
+
+-- what a replay prints: its log, if it is asked for, and then the world
+abbrev pub printed_replay : Bool → List LogLine → List (ℕ × Record) → List ℕ
+printed_replay asked log collected =
+    (if asked then flat_map printed_log_line log else []) ++ printed_world collected
 
 -- the line that tells which line of a script is at fault, and how
 abbrev pub printed_fault : ℕ → LineFault → List ℕ

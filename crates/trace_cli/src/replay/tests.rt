@@ -1,4 +1,4 @@
-use crate::printer::print_collector;
+use crate::printer::put_collector;
 use crate::replay::replay;
 use std::alloc::Global;
 use std::test::Fail;
@@ -41,7 +41,9 @@ fn printed(alloc: Global, pages: usize, commands: Vec<Command>) -> Result<Vec<u8
         commands: lines,
     };
     let world = replay(alloc, &script)?;
-    Ok(print_collector(alloc, 0, CPU, &world.collector)?)
+    let mut text = Vec::new(alloc);
+    put_collector(&mut text, 0, CPU, &world.collector)?;
+    Ok(text)
 }
 
 #[test]
