@@ -1,5 +1,6 @@
 -- What was done on a ring keeps the discipline of the stack: each action is one that the frames allow.
 use Rattle.std.proofs.Common.{◌≡◌, ◌≢◌, ℕ, ◌+◌, ◌^◌, ◌≤◌, List, [], ◌∷◌, ◌++◌, length, Option, Some, None, refl, sym, ap, ◌∙◌, subst, ⊎_elim}
+use Rattle.trace_model.specs.Words.{slot_len}
 use Rattle.trace_model.specs.History as history
 use Rattle.trace_model.specs.History.{Action, push, push_close, open_fill, reserve, leave, written_by, MayLeave, MayAct, IsHistory}
 use Rattle.trace_model.specs.Frames.{Kind, for_record, for_close, Phase, reserving, looking, claiming, looking_next, marking, clearing, opening, reserved, releasing, Frame}
@@ -88,7 +89,7 @@ module _ (start n : ℕ) (c : Core) (frame : Frame) (below : List Frame) (h : Hi
   disciplined_frame size releasing answer after same (releases_last alone last a is) = same_kept after _ is k
 
   -- a frame ends with its payload
-  ends_with : (payload : List ℕ) (number moment len : ℕ) → frame.phase ≡ reserved number → frame.kind ≡ for_record moment len → length payload ≡ len → IsHistory (c.history ++ leave (Some payload) ∷ [])
+  ends_with : (payload : List ℕ) (number moment len : ℕ) → frame.phase ≡ reserved number → frame.kind ≡ for_record moment len → slot_len (length payload) ≡ slot_len len → IsHistory (c.history ++ leave (Some payload) ∷ [])
   ends_with payload number moment len phase kind slot = acts_on c.history (leave (Some payload)) k
       (subst (λ (s : List history.Frame). MayLeave s (Some payload)) (sym (stack_top (reserved number) phase (λ e. cc) ∙ ap (λ (x : Phase). written_frame frame.kind x ∷ shown below) phase ∙ ap (λ (x : Kind). written_frame x (reserved number) ∷ shown below) kind)) slot)
 

@@ -5,6 +5,7 @@ use Rattle.trace_model.specs.Window.{first_window, Happening, WindowStep}
 use Rattle.trace_model.specs.Frames.{for_record, reserved, Frame}
 use Rattle.trace_model.specs.Steps.{Event, pushes, pushes_close, steps, ends, reads, Answer, swapped, Step, Exchange, Run}
 use Rattle.trace_model.specs.Record.{Record}
+use Rattle.trace_model.specs.Words.{slot_len}
 use Rattle.trace_model.specs.History.{Action, is_settled, reserved_records, settled_front, finished, committed_records}
 use Rattle.trace_model.specs.Partition.{IsPartition}
 use Rattle.link_marks.specs.KeptParts.{pieces_of, HaveFirsts}
@@ -48,8 +49,8 @@ abbrev pub StepsMoveWindow : Type 0
 StepsMoveWindow = (n size start : ℕ) (c : Core) (event : Event) (answer : Answer) (after : Core) → IsRingKept n start c → Step n size c event answer after
     → (window_of after ≡ window_of c) ⊎ ((what : Happening) × WindowStep n c.history (window_of c) what (window_of after))
 
--- the payload that ends a frame which has reserved has the length with which the frame was pushed; nothing is
--- asked of any other event
+-- the payload that ends a frame which has reserved takes just the slot that it was given; nothing is asked of
+-- any other event
 abbrev pub MayAsk : Core → Event → Type 0
 MayAsk c (pushes moment len) = Unit {0}
 MayAsk c pushes_close = Unit {0}
