@@ -4,7 +4,8 @@ use Rattle.std.proofs.Common.{◌≡◌, ◌≢◌, ℕ, suc, ◌+◌, ◌<◌, 
 use mathlib.Core.Logic.{dite}
 use native.Mathlib.Decide.{ℕ_discrete}
 use Rattle.trace_model.specs.History as history
-use Rattle.trace_model.specs.History.{Action, push, push_close, open_fill, reserve, leave, Written, acted, written_by, reserved_records}
+use Rattle.trace_model.specs.History.{Action, push, push_close, open_fill, reserve, leave, Written, acted, written_by, reserved_records, MayReserve, MayLeave, MayOpen, MayAct}
+use Rattle.trace_model.proofs.Allowed.{IsHistory-push}
 use Rattle.trace_model.specs.Links.{Link, header_link}
 use Rattle.trace_model.specs.Frames.{Kind, for_record, for_close, Role, owner, helper, Phase, reserving, looking, claiming, looking_next, marking, clearing, opening, reserved, releasing, Frame}
 use Rattle.trace_model.specs.Window.{Happening, opened_one, released_one, took_one, lost_one, WindowStep}
@@ -15,7 +16,7 @@ use Rattle.link_marks.specs.KeptHistory.{written_frame, shown_on, shown, Passing
 use Rattle.link_marks.proofs.Phases.{none_some, pair_is}
 use Rattle.link_marks.proofs.Inside.{header_inside, header_tells, fill_at}
 use Rattle.link_marks.proofs.Stacks.{top_kept}
-use Rattle.link_marks.proofs.Histories.{written_snoc, opened_stack, left_stack, reserved_stack, settled_at_rest, shown_standing, shown_alike, shown_left, taken_more, taken_last, why_stays, passing_on, passing_left}
+use Rattle.link_marks.proofs.Histories.{written_snoc, opened_stack, left_stack, reserved_stack, settled_at_rest, shown_standing, may_open, may_leave, shown_alike, shown_left, taken_more, taken_last, why_stays, passing_on, passing_left}
 
 -- ---- what is known of history and lost fills
 
@@ -28,6 +29,7 @@ module _ (n start : ℕ) (c : Core) (frame : Frame) (below : List Frame) (h : Hi
       → ((page : ℕ) → passed_in frame.phase ≡ Some (spot c.opened page) → (page' : ℕ) × (passed_in phase ≡ Some (spot c.opened page')))
       → HistoryKept n start (in_phase c frame below phase)
   history_goes phase stands stands' same passes = record {
+    allowed = h.allowed;
     stack = top_shown ∙ shown_alike frame.kind frame.phase phase (shown below) stands stands' same;
     lost = λ f low high. why_stays n c.reader.taken c.reader.taken c.opened c.opened c.frames (record { kind = frame.kind; phase = phase } ∷ below) f (λ t. t) (omega arith)
         (λ p. inr (refl, passing_on frame below (record { kind = frame.kind; phase = phase } ∷ below) c.opened (λ page at. inl (passes page at)) (λ q. inr q) (subst (λ (fs : List Frame). Passing fs c.opened) top p)))
@@ -35,8 +37,9 @@ module _ (n start : ℕ) (c : Core) (frame : Frame) (below : List Frame) (h : Hi
   }
 
   -- the frame on top leaves, about to open no fill
-  history_leaves : (payload : Option (List ℕ)) → frame.phase ≢ releasing → ((page : ℕ) → passed_in frame.phase ≡ Some (spot c.opened page) → ⊥) → HistoryKept n start (after_leave c frame below payload)
-  history_leaves payload stands passes = record {
+  history_leaves : (payload : Option (List ℕ)) → frame.phase ≢ releasing → MayLeave (written_frame frame.kind frame.phase ∷ shown below) payload → ((page : ℕ) → passed_in frame.phase ≡ Some (spot c.opened page) → ⊥) → HistoryKept n start (after_leave c frame below payload)
+  history_leaves payload stands may passes = record {
+    allowed = IsHistory-push c.history (leave payload) h.allowed (subst (λ (s : List history.Frame). MayLeave s payload) (sym (top_shown ∙ shown_standing frame.kind frame.phase (shown below) stands)) may);
     stack = left_stack c.history (written_frame frame.kind frame.phase) (shown below) payload (top_shown ∙ shown_standing frame.kind frame.phase (shown below) stands) ∙ sym (shown_left c frame below);
     lost = λ f low high. why_stays n c.reader.taken c.reader.taken c.opened c.opened c.frames (frames_left c frame below) f (λ t. t) (omega arith)
         (λ p. inr (refl, passing_on frame below (frames_left c frame below) c.opened (λ page at. absurd (passes page at)) (passing_left c frame below c.opened) (subst (λ (fs : List Frame). Passing fs c.opened) top p)))
@@ -46,11 +49,12 @@ module _ (n start : ℕ) (c : Core) (frame : Frame) (below : List Frame) (h : Hi
   -- a fill was begun by this frame or another
   history_anew : (kind : Kind) → frame.phase ≢ releasing → number_in frame.phase ≡ None → ((page : ℕ) → passed_in frame.phase ≡ Some (spot c.opened page) → ⊥) → HistoryKept n start (begun_on kind c frame below)
   history_anew (for_record moment len) stands none passes = history_goes reserving stands (λ e. cc) none (λ page at. absurd (passes page at))
-  history_anew for_close stands none passes = history_leaves None stands passes
+  history_anew for_close stands none passes = history_leaves None stands (may_leave frame.kind frame.phase (shown below) none) passes
 
 -- a fill is begun
-history_begun : (n start : ℕ) (c : Core) (page : ℕ) → HistoryKept n start c → HistoryKept n start (begun c page)
-history_begun n start c page h = record {
+history_begun : (n start : ℕ) (c : Core) (page : ℕ) → HistoryKept n start c → MayOpen (written_by c.history).stack → HistoryKept n start (begun c page)
+history_begun n start c page h may = record {
+  allowed = IsHistory-push c.history open_fill h.allowed may;
   stack = opened_stack c.history (shown c.frames) h.stack;
   lost = λ f low high. why_stays n c.reader.taken c.reader.taken c.opened (c.opened + 1) c.frames c.frames f (λ t. t) (omega arith) (λ p. inl (omega arith)) (h.lost f low high);
 }
@@ -72,9 +76,9 @@ module _ (n size start : ℕ) (c : Core) (frame : Frame) (below : List Frame) (k
     window = inl refl;
   }
 
-  leaves : (after : Core) (old : Phase) (payload : Option (List ℕ)) → frame.phase ≡ old → old ≢ releasing → passed_in old ≡ None → after ≡ after_leave c frame below payload → Owed n start c after
-  leaves after old payload same stands none is = subst (Owed n start c) (sym is) record {
-    kept = history_leaves n start c frame below h top payload (λ e. stands (sym same ∙ e)) (λ page at. none_some (sym (ap passed_in same ∙ none) ∙ at));
+  leaves : (after : Core) (old : Phase) (payload : Option (List ℕ)) → frame.phase ≡ old → old ≢ releasing → MayLeave (written_frame frame.kind old ∷ shown below) payload → passed_in old ≡ None → after ≡ after_leave c frame below payload → Owed n start c after
+  leaves after old payload same stands may none is = subst (Owed n start c) (sym is) record {
+    kept = history_leaves n start c frame below h top payload (λ e. stands (sym same ∙ e)) (subst (λ (x : Phase). MayLeave (written_frame frame.kind x ∷ shown below) payload) (sym same) may) (λ page at. none_some (sym (ap passed_in same ∙ none) ∙ at));
     window = inl refl;
   }
 
@@ -96,9 +100,10 @@ module _ (n size start : ℕ) (c : Core) (frame : Frame) (below : List Frame) (k
   one_spot noted page f page' e = sym (pair_is noted page f page' e).0
 
   reserve_owed : (answer : Answer) (after : Core) → frame.phase ≡ reserving → ReserveStep n size c frame below answer after → Owed n start c after
-  reserve_owed answer after same (reserves moment len r kind r_is fits a is) = subst (Owed n start c) (sym is) record {
+  reserve_owed answer after same (reserves moment len r kind r_is fits a is) = let stack = top_shown n start c frame below h top ∙ ap (λ (p : Phase). shown_on p frame.kind (shown below)) same ∙ ap (λ (x : Kind). written_frame x reserving ∷ shown below) kind in subst (Owed n start c) (sym is) record {
     kept = record {
-      stack = reserved_stack c.history moment len (shown below) (top_shown n start c frame below h top ∙ ap (λ (p : Phase). shown_on p frame.kind (shown below)) same ∙ ap (λ (x : Kind). written_frame x reserving ∷ shown below) kind)
+      allowed = IsHistory-push c.history reserve h.allowed (subst MayReserve (sym stack) refl);
+      stack = reserved_stack c.history moment len (shown below) stack
           ∙ ap (λ (x : Kind). written_frame x (reserved (length (reserved_records c.history))) ∷ shown below) (sym kind);
       lost = λ f low high. why_stays n c.reader.taken c.reader.taken c.opened c.opened c.frames (record { kind = frame.kind; phase = reserved (length (reserved_records c.history)) } ∷ below) f (λ t. t) (omega arith)
           (λ p. inr (refl, passing_on frame below (record { kind = frame.kind; phase = reserved (length (reserved_records c.history)) } ∷ below) c.opened (λ page at. absurd (none_some (sym (ap passed_in same) ∙ at))) (λ q. inr q) (subst (λ (fs : List Frame). Passing fs c.opened) top p)))
@@ -106,9 +111,9 @@ module _ (n size start : ℕ) (c : Core) (frame : Frame) (below : List Frame) (k
     };
     window = inl refl;
   }
-  reserve_owed answer after same (finds_nothing kind none a is) = leaves after reserving None same (λ e. cc) refl is
-  reserve_owed answer after same (is_crowded needs full a is) = leaves after reserving None same (λ e. cc) refl is
-  reserve_owed answer after same (is_worn needs full last a is) = leaves after reserving None same (λ e. cc) refl is
+  reserve_owed answer after same (finds_nothing kind none a is) = leaves after reserving None same (λ e. cc) (may_leave frame.kind reserving (shown below) refl) refl is
+  reserve_owed answer after same (is_crowded needs full a is) = leaves after reserving None same (λ e. cc) (may_leave frame.kind reserving (shown below) refl) refl is
+  reserve_owed answer after same (is_worn needs full last a is) = leaves after reserving None same (λ e. cc) (may_leave frame.kind reserving (shown below) refl) refl is
   reserve_owed answer after same (notes needs room small a is) = goes after reserving (looking c.opened) same (λ e. cc) (λ e. cc) refl (λ page at. absurd (none_some at)) is
 
   look_owed : (noted : ℕ) (answer : Answer) (after : Core) → frame.phase ≡ looking noted → LookStep n c frame below noted answer after → Owed n start c after
@@ -126,6 +131,7 @@ module _ (n size start : ℕ) (c : Core) (frame : Frame) (below : List Frame) (k
       let frames : List Frame = record { kind = frame.kind; phase = looking_next owner noted page } ∷ below in
       subst (Owed n start c) (sym is) record {
         kept = record {
+          allowed = h.allowed;
           stack = top_shown n start c frame below h top ∙ shown_alike frame.kind frame.phase (looking_next owner noted page) (shown below) (λ e. claim_stands (sym same ∙ e)) (λ e. cc) (ap number_in same);
           lost = λ f low high. dite (ℕ_discrete f c.head)
               (λ e. inr (inr (omega arith, inl (page, ap (λ (o : ℕ). Some (spot o page)) now))))
@@ -151,7 +157,7 @@ module _ (n size start : ℕ) (c : Core) (frame : Frame) (below : List Frame) (k
 
   clear_owed : (noted page : ℕ) (answer : Answer) (after : Core) → frame.phase ≡ clearing noted page → ClearStep n c frame below noted page answer after → Owed n start c after
   clear_owed noted page answer after same (clears lost sum at a is) = subst (Owed n start c) (sym is) record {
-    kept = let kept = history_goes n start c frame below h top (opening noted page) (λ e. clear_stands (sym same ∙ e)) (λ e. cc) (ap number_in same) (λ p at_p. (p, sym (ap passed_in same) ∙ at_p)) in record { stack = kept.stack; lost = kept.lost };
+    kept = let kept = history_goes n start c frame below h top (opening noted page) (λ e. clear_stands (sym same ∙ e)) (λ e. cc) (ap number_in same) (λ p at_p. (p, sym (ap passed_in same) ∙ at_p)) in record { allowed = kept.allowed; stack = kept.stack; lost = kept.lost };
     window = inl refl;
   }
     where
@@ -160,13 +166,14 @@ module _ (n size start : ℕ) (c : Core) (frame : Frame) (below : List Frame) (k
 
   release_owed : (answer : Answer) (after : Core) → frame.phase ≡ releasing → ReleaseStep c frame below answer after → Owed n start c after
   release_owed answer after same (releases alone more a is) = subst (Owed n start c) (sym is) record {
-    kept = record { stack = h.stack; lost = h.lost };
+    kept = record { allowed = h.allowed; stack = h.stack; lost = h.lost };
     window = inr (released_one, record { may = (omega arith, settled_at_rest c.history (top_shown n start c frame below h top ∙ ap (λ (p : Phase). shown_on p frame.kind (shown below)) same ∙ ap shown alone)); after_is = refl });
   }
   release_owed answer after same (releases_last alone last a is) =
       let none : (written_by c.history).stack ≡ [] = top_shown n start c frame below h top ∙ ap (λ (p : Phase). shown_on p frame.kind (shown below)) same ∙ ap shown alone in
       subst (Owed n start c) (sym is) record {
         kept = record {
+          allowed = h.allowed;
           stack = none;
           lost = λ f low high. why_stays n c.reader.taken c.reader.taken c.opened c.opened c.frames [] f (λ t. t) (omega arith)
               (λ p. inr (refl, passing_on frame below [] c.opened (λ q is_q. none_some (sym (ap passed_in same) ∙ is_q)) (λ q. subst (λ (fs : List Frame). Passing fs c.opened) alone q) (subst (λ (fs : List Frame). Passing fs c.opened) top p)))
@@ -178,7 +185,7 @@ module _ (n size start : ℕ) (c : Core) (frame : Frame) (below : List Frame) (k
 module _ (n size start : ℕ) (c : Core) (frame : Frame) (below : List Frame) (k : LinksKept n c) (h : HistoryKept n start c) (top : c.frames ≡ frame ∷ below) where
   -- a link is set, and the frame goes on
   with_link_owed : (after : Core) (g : ℕ) (l : Link) → Owed n start c after → Owed n start c (record after { links = (with_link n c g l).links })
-  with_link_owed after g l owed = record { kept = record { stack = owed.kept.stack; lost = owed.kept.lost }; window = owed.window }
+  with_link_owed after g l owed = record { kept = record { allowed = owed.kept.allowed; stack = owed.kept.stack; lost = owed.kept.lost }; window = owed.window }
 
   mark_owed : (role : Role) (noted page next : ℕ) (answer : Answer) (after : Core) → frame.phase ≡ marking role noted page next → MarkStep n c frame below role noted page next answer after → Owed n start c after
   mark_owed role noted page next answer after same (mark_late helps step) = anew n size start c frame below k h top noted answer after (marking role noted page next) same (λ e. cc) refl (one_spot n size start c frame below k h top noted page) step
@@ -191,12 +198,15 @@ module _ (n size start : ℕ) (c : Core) (frame : Frame) (below : List Frame) (k
   begun_window (for_record moment len) page = refl
   begun_window for_close page = refl
 
+  opens_for : (old : Phase) → frame.phase ≡ old → number_in old ≡ None → old ≢ releasing → MayOpen (written_by c.history).stack
+  opens_for old same none stands = subst MayOpen (sym (top_shown n start c frame below h top ∙ shown_standing frame.kind frame.phase (shown below) (λ e. stands (sym same ∙ e)))) (may_open frame.kind frame.phase (shown below) (ap number_in same ∙ none))
+
   open_owed : (noted page : ℕ) (answer : Answer) (after : Core) → frame.phase ≡ opening noted page → OpenStep n c frame below noted page answer after → Owed n start c after
   open_owed noted page answer after same (open_late step) = anew n size start c frame below k h top noted answer after (opening noted page) same (λ e. cc) refl (one_spot n size start c frame below k h top noted page) step
   open_owed noted page answer after same (opens now a is) =
       let (open_yet, inside, page_is) = (subst (PhaseKept n c.links c.order c.head c.done c.opened) same (top_kept n c frame below k top)).passed noted page refl in
       subst (Owed n start c) (sym is) record {
-        kept = history_anew n start (begun c page) frame below (history_begun n start c page h) top frame.kind (λ e. open_stands (sym same ∙ e)) (ap number_in same)
+        kept = history_anew n start (begun c page) frame below (history_begun n start c page h (opens_for (opening noted page) same refl (λ e. cc))) top frame.kind (λ e. open_stands (sym same ∙ e)) (ap number_in same)
             (λ p at. let e = one_spot n size start c frame below k h top noted page (c.opened + 1) p (sym (ap passed_in same) ∙ at) in absurd (omega arith));
         window = inr (opened_one, record { may = omega arith; after_is = begun_window frame.kind page });
       }
@@ -220,7 +230,7 @@ frame_owed n size start c frame below releasing answer after k h top same step =
 module _ (n start : ℕ) (c : Core) (k : LinksKept n c) (h : HistoryKept n start c) where
   -- the reader goes on, and takes nothing
   reader_owed : (after : Core) (spare_link : Link) (phase : ReaderPhase) (hint : ℕ) → after ≡ record c { spare_link = spare_link; reader = record { phase = phase; hint = hint; expected = c.reader.expected; taken = c.reader.taken } } → Owed n start c after
-  reader_owed after spare_link phase hint is = subst (Owed n start c) (sym is) record { kept = record { stack = h.stack; lost = h.lost }; window = inl refl }
+  reader_owed after spare_link phase hint is = subst (Owed n start c) (sym is) record { kept = record { allowed = h.allowed; stack = h.stack; lost = h.lost }; window = inl refl }
 
   load_owed : (answer : Answer) (after : Core) → LoadStep n c answer after → Owed n start c after
   load_owed answer after (loads_header page fill at a is) = reader_owed after c.spare_link (loading_done page fill) fill is
@@ -240,6 +250,7 @@ module _ (n start : ℕ) (c : Core) (k : LinksKept n c) (h : HistoryKept n start
       let t : Taken = taken_from c page fill in
       subst (Owed n start c) (sym is) record {
         kept = record {
+          allowed = h.allowed;
           stack = h.stack;
           lost = λ f low high. dite (ℕ_discrete f c.head)
               (λ e. inl (subst (TakenIn (c.reader.taken ++ t ∷ [])) (here ∙ sym e) (taken_last c.reader.taken t)))
@@ -257,11 +268,12 @@ module _ (n start : ℕ) (c : Core) (k : LinksKept n c) (h : HistoryKept n start
 
 -- ---- every step
 
-pushed_owed : (n start : ℕ) (c after : Core) (kind : Kind) (action : Action) → HistoryKept n start c → ((acted (written_by c.history).stack (written_by c.history).records action).stack ≡ written_frame kind reserving ∷ (written_by c.history).stack)
+pushed_owed : (n start : ℕ) (c after : Core) (kind : Kind) (action : Action) → HistoryKept n start c → MayAct (written_by c.history).stack action → ((acted (written_by c.history).stack (written_by c.history).records action).stack ≡ written_frame kind reserving ∷ (written_by c.history).stack)
     → after ≡ record c { frames = record { kind = kind; phase = reserving } ∷ c.frames; history = c.history ++ action ∷ [] }
     → Owed n start c after
-pushed_owed n start c after kind action h pushes is = subst (Owed n start c) (sym is) record {
+pushed_owed n start c after kind action h may pushes is = subst (Owed n start c) (sym is) record {
   kept = record {
+    allowed = IsHistory-push c.history action h.allowed may;
     stack = ap (λ (w : Written). w.stack) (written_snoc c.history action) ∙ pushes ∙ ap (λ (s : List history.Frame). written_frame kind reserving ∷ s) h.stack;
     lost = λ f low high. why_stays n c.reader.taken c.reader.taken c.opened c.opened c.frames (record { kind = kind; phase = reserving } ∷ c.frames) f (λ t. t) (omega arith) (λ p. inr (refl, inr p)) (h.lost f low high);
   };
@@ -269,13 +281,13 @@ pushed_owed n start c after kind action h pushes is = subst (Owed n start c) (sy
 }
 
 pub step_owed : (n size start : ℕ) (c : Core) (event : Event) (answer : Answer) (after : Core) → LinksKept n c → HistoryKept n start c → Step n size c event answer after → Owed n start c after
-step_owed n size start c event answer after k h (push_step moment len e few fits early a is) = pushed_owed n start c after (for_record moment len) (push moment len) h refl is
+step_owed n size start c event answer after k h (push_step moment len e few fits early a is) = pushed_owed n start c after (for_record moment len) (push moment len) h tt refl is
 step_owed n size start c event answer after k h (push_refused moment len why e refused a is) = subst (Owed n start c) (sym is) record { kept = h; window = inl refl }
-step_owed n size start c event answer after k h (close_step e few a is) = pushed_owed n start c after for_close push_close h refl is
+step_owed n size start c event answer after k h (close_step e few a is) = pushed_owed n start c after for_close push_close h tt refl is
 step_owed n size start c event answer after k h (close_refused e many a is) = subst (Owed n start c) (sym is) record { kept = h; window = inl refl }
 step_owed n size start c event answer after k h (frame_step frame below e top step) = frame_owed n size start c frame below frame.phase answer after k h top refl step
 step_owed n size start c event answer after k h (frame_lacks e none a is) = subst (Owed n start c) (sym is) record { kept = h; window = inl refl }
-step_owed n size start c event answer after k h (end_step payload frame below number moment len e top phase kind slot a is) = leaves n size start c frame below k h top after (reserved number) (Some payload) phase (λ e'. cc) refl is
+step_owed n size start c event answer after k h (end_step payload frame below number moment len e top phase kind slot a is) = leaves n size start c frame below k h top after (reserved number) (Some payload) phase (λ e'. cc) (subst (λ (x : Kind). MayLeave (written_frame x (reserved number) ∷ shown below) (Some payload)) (sym kind) slot) refl is
 step_owed n size start c event answer after k h (end_lacks payload e none a is) = subst (Owed n start c) (sym is) record { kept = h; window = inl refl }
 step_owed n size start c event answer after k h (end_early payload frame below e top none a is) = subst (Owed n start c) (sym is) record { kept = h; window = inl refl }
 step_owed n size start c event answer after k h (read_step e step) = read_owed n start c k h c.reader.phase answer after k.reader step

@@ -113,8 +113,8 @@ fill_more (x ∷ xs) s moment moment' len = add_le (encoded_len x.len 0 true) _ 
 
 -- ---- what the frame on top wants
 
-pub wanted_record : (h : List Action) (moment len : ℕ) (number : Option ℕ) (below : List Frame) → (written_by h).stack ≡ record_frame moment len number ∷ below → wanted h ≡ Some (reserved_for moment len (reserved_records h))
-wanted_record h moment len number below e = ap (λ (s : List Frame). wanted_by s (reserved_records h)) e
+pub wanted_record : (h : List Action) (moment len : ℕ) (below : List Frame) → (written_by h).stack ≡ record_frame moment len None ∷ below → wanted h ≡ Some (reserved_for moment len (reserved_records h))
+wanted_record h moment len below e = ap (λ (s : List Frame). wanted_by s (reserved_records h)) e
 
 pub wanted_close : (h : List Action) (below : List Frame) → (written_by h).stack ≡ close_frame ∷ below → wanted h ≡ None
 wanted_close h below e = ap (λ (s : List Frame). wanted_by s (reserved_records h)) e
@@ -243,13 +243,13 @@ needs_reserved size cuts xs s for_close rising needs = λ none. snoc_some (tail_
 pub some_reservation : (a b : Reservation) → Some a ≡ Some b → a ≡ b
 some_reservation a b e = cc
 
-pub fit_open_record : (size : ℕ) (h : List Action) (moment len : ℕ) (number : Option ℕ) (below : List Frame) → (written_by h).stack ≡ record_frame moment len number ∷ below → FitsPage size (for_record moment len)
+pub fit_open_record : (size : ℕ) (h : List Action) (moment len : ℕ) (below : List Frame) → (written_by h).stack ≡ record_frame moment len None ∷ below → FitsPage size (for_record moment len)
     → NeedsFill size (opens_of h) (reserved_records h) (for_record moment len)
     → IsFit size h open_fill
-fit_open_record size h moment len number below stack fits needs = (
+fit_open_record size h moment len below stack fits needs = (
   λ none. needs (subst (λ (l : List Reservation). FitsBehind size l (reserved_for moment len (reserved_records h))) (sym (sym (tail_is h) ∙ none)) (alone_fits fits)),
-  λ r is fits. needs (subst (λ (l : List Reservation). FitsBehind size l (reserved_for moment len (reserved_records h))) (tail_is h) (subst (FitsBehind size (tail_of h)) (some_reservation r (reserved_for moment len (reserved_records h)) (sym is ∙ wanted_record h moment len number below stack)) fits)),
-  λ is. absurd (none_some (sym is ∙ wanted_record h moment len number below stack)),
+  λ r is fits. needs (subst (λ (l : List Reservation). FitsBehind size l (reserved_for moment len (reserved_records h))) (tail_is h) (subst (FitsBehind size (tail_of h)) (some_reservation r (reserved_for moment len (reserved_records h)) (sym is ∙ wanted_record h moment len below stack)) fits)),
+  λ is. absurd (none_some (sym is ∙ wanted_record h moment len below stack)),
 )
   where
     alone_fits : encoded_len len 0 true ≤ size → FitsBehind size [] (reserved_for moment len (reserved_records h))
