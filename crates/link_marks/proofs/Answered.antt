@@ -5,10 +5,10 @@ use Rattle.std.proofs.lemmas.Bool.{cond_both}
 use mathlib.Core.Logic.{dite}
 use native.Mathlib.Decide.{dec_le}
 use Rattle.trace_model.specs.Frames.{Kind, for_record, for_close, Phase, reserving, looking, claiming, looking_next, marking, clearing, opening, reserved, releasing, Frame, Refusal, too_deep, too_long, late_moment, crowded, worn, no_frame, not_reserved}
-use Rattle.trace_model.specs.Links.{Link, normal_link, header_link, update_link}
-use Rattle.trace_model.specs.Ring.{link_into, page_at, ReaderPhase, loading_link, loading_done, storing_link, swapping, Taken, Core, IsMoved, IsRing}
+use Rattle.trace_model.specs.Links.{Link, normal_link, update_link}
+use Rattle.trace_model.specs.Ring.{link_into, page_at, ReaderPhase, loading_link, loading_done, storing_link, swapping, Taken, Core}
 use Rattle.trace_model.specs.Steps.{Event, Answer, pushed, going, reserved_as, pending, full, gone, refused, reading, empty, moving, swapped, leave_answer, begun_answer, begun, BeginsAnew, reserves, finds_nothing, is_crowded, is_worn, notes, look_late, sees_free, sees_header, sees_update, claim_late, claims, claim_fails, next_late, sees_normal, sees_other, mark_late, marks, mark_fails, clears, open_late, opens, releases, releases_last, FrameStep, PushRefused, four_stand, has_no_room, comes_late, ended_answer, Step, push_step, push_refused, close_step, close_refused, frame_step, frame_lacks, end_step, end_lacks, end_early, read_step, loads_header, loads_update, loads_owed, loads_passed, finds_none, finds_closed, swaps, swap_fails, ReadStep}
-use Rattle.link_marks.specs.Kept.{Stands, LinkKept, is_normal, is_header, is_update, ReaderKept, LinksKept}
+use Rattle.link_marks.specs.Kept.{Stands, LinkKept, is_normal, is_header, is_update, ReaderKept}
 use Rattle.link_marks.specs.RingKept.{IsRingKept}
 use Rattle.link_marks.specs.AnswerLaws.{ArePassed, IsInTheWay}
 use Rattle.link_marks.proofs.Turns.{at_place, one_place}

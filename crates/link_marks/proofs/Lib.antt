@@ -24,3 +24,4 @@ pub mod Relinking
 pub mod PackedHistories
 pub mod PackedSteps
 pub mod PackedRuns
+pub mod Disciplined

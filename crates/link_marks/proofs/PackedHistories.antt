@@ -10,7 +10,6 @@ use Rattle.trace_model.specs.History.{Action, push, push_close, open_fill, reser
 use Rattle.trace_model.specs.Packing.{opens_of, cut_from, fills_of, tail_of, len_behind, fill_len, FitsBehind, wanted_by, wanted, Closes, IsPacked}
 use Rattle.trace_model.specs.Frames.{Kind, for_record, for_close}
 use Rattle.trace_model.proofs.Lengths.{slot_len_ge_four, slot_len-slot_len}
-use Rattle.trace_model.proofs.Histories.{last_moment-push}
 use Rattle.link_marks.specs.KeptContents.{IsRising}
 use Rattle.link_marks.proofs.Phases.{none_some}
 use Rattle.link_marks.proofs.Cuts.{reserved_before, reserved_last, opened_before, opened_last}
@@ -171,12 +170,12 @@ first_is a b xs ys e = cc
 rest_is : (a b : Action) (xs ys : List Action) → ◌≡◌ {A = List Action} (a ∷ xs) (b ∷ ys) → xs ≡ ys
 rest_is a b xs ys e = cc
 
-not_nil : (front behind : List Action) (x : Action) → [] ≡ front ++ x ∷ behind → ⊥
+pub not_nil : (front behind : List Action) (x : Action) → [] ≡ front ++ x ∷ behind → ⊥
 not_nil [] behind x e = cc
 not_nil (y ∷ front) behind x e = cc
 
 -- a place in a list with one element more is the last one, or stands in the list
-snoc_place : (h front behind : List Action) (a x : Action) → h ++ a ∷ [] ≡ front ++ x ∷ behind → ((h ≡ front) × (a ≡ x)) ⊎ ((rest : List Action) × (h ≡ front ++ x ∷ rest))
+pub snoc_place : (h front behind : List Action) (a x : Action) → h ++ a ∷ [] ≡ front ++ x ∷ behind → ((h ≡ front) × (a ≡ x)) ⊎ ((rest : List Action) × (h ≡ front ++ x ∷ rest))
 snoc_place [] [] behind a x e = inl (refl, first_is a x [] behind e)
 snoc_place [] (y ∷ front) behind a x e = absurd (not_nil front behind x (rest_is a y [] (front ++ x ∷ behind) e))
 snoc_place (z ∷ h) [] behind a x e = inr (h, ap (λ (b : Action). b ∷ h) (first_is z x (h ++ a ∷ []) behind e))

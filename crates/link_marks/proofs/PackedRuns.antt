@@ -1,7 +1,7 @@
 -- What was done on a ring is packed in pages, after every run from a new one.
-use Rattle.std.proofs.Common.{ℕ, ◌+◌, ◌^◌, ◌≤◌, List, [], ◌∷◌, sym, subst, arith}
-use Rattle.trace_model.specs.History.{Action, reserved_records}
-use Rattle.trace_model.specs.Packing.{opens_of, IsPacked}
+use Rattle.std.proofs.Common.{ℕ, ◌+◌, ◌^◌, ◌≤◌, List, [], ◌∷◌, sym, subst}
+use Rattle.trace_model.specs.History.{Action}
+use Rattle.trace_model.specs.Packing.{IsPacked}
 use Rattle.trace_model.specs.Frames.{Frame}
 use Rattle.trace_model.specs.Ring.{Core, IsStart}
 use Rattle.trace_model.specs.Steps.{Exchange, Run}

@@ -8,9 +8,9 @@ use native.Mathlib.Decide.{dec_le}
 use Rattle.trace_model.specs.Words.{encoded_len}
 use Rattle.trace_model.specs.History as history
 use Rattle.trace_model.specs.History.{Action, push, push_close, open_fill, reserve, leave, Reservation, written_by, reserved_records, reserved_for}
-use Rattle.trace_model.specs.Packing.{opens_of, cut_from, tail_of, FitsBehind, wanted}
+use Rattle.trace_model.specs.Packing.{opens_of, cut_from, FitsBehind}
 use Rattle.trace_model.specs.Frames.{Kind, for_record, for_close, Role, owner, helper, Phase, reserving, looking, claiming, looking_next, marking, clearing, opening, reserved, releasing, Frame, noted_in}
-use Rattle.trace_model.specs.Ring.{Held, ReaderPhase, loading_link, loading_done, storing_link, swapping, Core, page_at}
+use Rattle.trace_model.specs.Ring.{Held, ReaderPhase, loading_link, loading_done, storing_link, swapping, Core}
 use Rattle.trace_model.specs.Steps.{Event, Answer, IsTooLong, NeedsPage, held_by, tail_page, in_phase, after_leave, after_next, frames_left, record_of, number_in, begun, begun_on, BeginsAnew, ReserveStep, reserves, finds_nothing, is_crowded, is_worn, notes, look_late, sees_free, sees_header, sees_update, claim_late, claims, claim_fails, next_late, sees_normal, sees_other, mark_late, marks, mark_fails, clears, OpenStep, open_late, opens, releases, releases_last, FrameStep, Step, push_step, push_refused, close_step, close_refused, frame_step, frame_lacks, end_step, end_lacks, end_early, read_step, loads_header, loads_update, loads_owed, loads_passed, finds_none, finds_closed, swaps, swap_fails, ReadStep}
 use Rattle.link_marks.specs.Kept.{FramesKept, LinksKept}
 use Rattle.link_marks.specs.KeptHistory.{written_frame, shown, HistoryKept}

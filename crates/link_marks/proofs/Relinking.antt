@@ -4,25 +4,37 @@ use Rattle.std.proofs.lemmas.List.{get_or-set_other}
 use mathlib.Core.Logic.{dite}
 use native.Mathlib.Decide.{ℕ_discrete}
 use Rattle.trace_model.specs.Links.{Link, normal_link, header_link, update_link}
-use Rattle.trace_model.specs.Frames.{Kind, for_record, for_close, Role, owner, helper, Phase, reserving, looking, claiming, looking_next, marking, clearing, opening, reserved, releasing, Frame, moving_in}
+use Rattle.trace_model.specs.Frames.{Kind, for_record, for_close, owner, Phase, reserving, looking, claiming, looking_next, marking, clearing, opening, reserved, releasing, Frame, moving_in}
 use Rattle.trace_model.specs.Ring.{link_into, relinked, page_at, ReaderPhase, loading_link, loading_done, storing_link, swapping, Core}
 use Rattle.trace_model.specs.Steps.{Event, steps, reads, Answer, begun, begun_on, BeginsAnew, reserves, finds_nothing, is_crowded, is_worn, notes, look_late, sees_free, sees_header, sees_update, claim_late, claims, claim_fails, next_late, sees_normal, sees_other, mark_late, marks, mark_fails, clears, open_late, opens, releases, releases_last, FrameStep, Step, push_step, push_refused, close_step, close_refused, frame_step, frame_lacks, end_step, end_lacks, end_early, read_step, loads_header, loads_update, loads_owed, loads_passed, finds_none, finds_closed, swaps, swap_fails, ReadStep, Exchange, Run}
 use Rattle.link_marks.specs.Kept.{PhaseKept, LinkKept, is_normal, is_header, is_update, ReaderKept, LinksKept}
 use Rattle.link_marks.specs.RingKept.{IsRingKept}
-use Rattle.link_marks.specs.LinkLaws.{age_of, IsHeaderSet, IsCleared}
+use Rattle.link_marks.specs.LinkLaws.{age_of, IsHeaderSet, IsClaimed, IsCleared}
 use Rattle.link_marks.proofs.Turns.{at_place, link_here}
 use Rattle.link_marks.proofs.Phases.{normal_ne_header, normal_ne_update, header_ne_update, IsSet}
-use Rattle.link_marks.proofs.Inside.{header_tells, next_inside, owned_by, fill_at, behind_closed}
+use Rattle.link_marks.proofs.Inside.{header_inside, header_tells, next_inside, owned_by, fill_at, behind_closed}
 use Rattle.link_marks.proofs.Stacks.{top_kept}
 use Rattle.link_marks.proofs.Rings.{ring_step, ring_run}
 
 -- ---- what a step sets
 
+-- the head is lost to the frame on top, for the fill that this frame noted
+pub record IsLost (n : ℕ) (c after : Core) (noted lost : ℕ) : Type 0 where
+  pub sum : lost + n ≡ noted
+  pub here : lost ≡ c.head
+  pub closed : lost < c.done
+  pub full : noted ≡ c.opened
+  pub passed : after.head ≡ c.head + 1
+  pub top : Frame
+  pub below : List Frame
+  pub is_top : after.frames ≡ top ∷ below
+  pub owns : moving_in top.phase ≡ Some noted
+
 -- the links are as they were; or the head's HEADER is an UPDATE; or the HEADER that was owed is set; or a
 -- frame's UPDATE is cleared; or the reader takes the head
 pub data Relinks (n : ℕ) (c : Core) (event : Event) (after : Core) : Type 0 where
   leaves_links : after.links ≡ c.links → Relinks n c event after
-  claims_head : (noted page lost : ℕ) → link_into n c.links noted ≡ header_link page lost → after.links ≡ relinked n c.links noted (update_link page lost) → Relinks n c event after
+  claims_head : (noted page lost : ℕ) → event ≡ steps → IsLost n c after noted lost → link_into n c.links noted ≡ header_link page lost → after.links ≡ relinked n c.links noted (update_link page lost) → Relinks n c event after
   marks_head : (lost next : ℕ) → event ≡ steps → suc lost ≡ c.head → after.head ≡ c.head → link_into n c.links (suc lost) ≡ normal_link next (suc lost) → after.links ≡ relinked n c.links (suc lost) (header_link next (suc lost)) → Relinks n c event after
   clears_own : (frame : Frame) (below : List Frame) (noted page lost : ℕ) → event ≡ steps → c.frames ≡ frame ∷ below → moving_in frame.phase ≡ Some noted → lost + n ≡ noted → IsSet n c.links c.order c.head c.done c.opened lost
       → link_into n c.links noted ≡ update_link page lost
@@ -54,7 +66,13 @@ module _ (n size : ℕ) (c : Core) (event : Event) (frame : Frame) (below : List
   relinks_frame (looking noted) answer after same (sees_header page lost now sum at a is) = stays n c event after _ is refl
   relinks_frame (looking noted) answer after same (sees_update page lost now sum at a is) = stays n c event after _ is refl
   relinks_frame (claiming noted page) answer after same (claim_late step) = anew n c event frame below noted answer after step
-  relinks_frame (claiming noted page) answer after same (claims lost now sum at a is) = claims_head noted page lost at (ap (λ (x : Core). x.links) is)
+  relinks_frame (claiming noted page) answer after same (claims lost now sum at a is) =
+      let (open_yet, begun_yet, room, small) = (subst (PhaseKept n c.links c.order c.head c.done c.opened) same (top_kept n c frame below k top)).noted noted refl in
+      let unread = k.head_le in let within = k.opened_le in
+      let (here, page_is, head_at) = header_inside n c k noted page lost (omega arith) (omega arith) sum at in
+      claims_head noted page lost steps_is
+      record { sum = sum; here = here; closed = omega arith; full = now; passed = ap (λ (x : Core). x.head) is; top = record { kind = frame.kind; phase = looking_next owner noted page }; below = below; is_top = ap (λ (x : Core). x.frames) is; owns = refl }
+      at (ap (λ (x : Core). x.links) is)
   relinks_frame (claiming noted page) answer after same (claim_fails now other a is) = stays n c event after _ is refl
   relinks_frame (looking_next role noted page) answer after same (next_late helps step) = anew n c event frame below noted answer after step
   relinks_frame (looking_next role noted page) answer after same (sees_normal lost next goes_on sum at a is) = stays n c event after _ is refl
@@ -118,7 +136,7 @@ set_else n links f g l ne = get_or-set_other links (g % n) (f % n) l (normal_lin
 -- what a step makes of the link into one place
 pub data Turn (n : ℕ) (c : Core) (event : Event) (after : Core) (f : ℕ) : Type 0 where
   stands_still : link_into n after.links f ≡ link_into n c.links f → Turn n c event after f
-  to_update : (page lost : ℕ) → link_into n c.links f ≡ header_link page lost → link_into n after.links f ≡ update_link page lost → Turn n c event after f
+  to_update : (page lost : ℕ) → event ≡ steps → IsLost n c after (lost + n) lost → link_into n c.links f ≡ header_link page lost → link_into n after.links f ≡ update_link page lost → Turn n c event after f
   to_header : (page fill : ℕ) → link_into n c.links f ≡ normal_link page fill → link_into n after.links f ≡ header_link page fill → fill ≡ after.head
       → ((event ≡ steps) × (c.head ≡ fill) × (link_into n c.links c.head ≡ normal_link page fill)) ⊎ ((event ≡ reads) × (c.head + 1 ≡ fill))
       → Turn n c event after f
@@ -129,8 +147,8 @@ pub data Turn (n : ℕ) (c : Core) (event : Event) (after : Core) (f : ℕ) : Ty
 
 turn_of : (n : ℕ) (c : Core) (event : Event) (after : Core) (f : ℕ) → 1 ≤ n → length c.links ≡ n → Relinks n c event after → Turn n c event after f
 turn_of n c event after f some wide (leaves_links same) = stands_still (ap (λ (l : List Link). link_into n l f) same)
-turn_of n c event after f some wide (claims_head noted page lost at is) = dite (ℕ_discrete (f % n) (noted % n))
-    (λ e. to_update page lost (same_place n c.links f noted e ∙ at) (ap (λ (l : List Link). link_into n l f) is ∙ set_here n c.links f noted (update_link page lost) some wide e))
+turn_of n c event after f some wide (claims_head noted page lost by lose at is) = dite (ℕ_discrete (f % n) (noted % n))
+    (λ e. to_update page lost by (subst (λ (o : ℕ). IsLost n c after o lost) (sym lose.sum) lose) (same_place n c.links f noted e ∙ at) (ap (λ (l : List Link). link_into n l f) is ∙ set_here n c.links f noted (update_link page lost) some wide e))
     (λ ne. stands_still (ap (λ (l : List Link). link_into n l f) is ∙ set_else n c.links f noted (update_link page lost) ne))
 turn_of n c event after f some wide (marks_head lost next by here head at is) = dite (ℕ_discrete (f % n) (suc lost % n))
     (λ e. to_header next (suc lost) (same_place n c.links f (suc lost) e ∙ at) (ap (λ (l : List Link). link_into n l f) is ∙ set_here n c.links f (suc lost) (header_link next (suc lost)) some wide e) (here ∙ sym head)
@@ -159,7 +177,7 @@ Rises l m = (m ≡ l) ⊎ (age_of l < age_of m)
 
 raised : (n : ℕ) (c : Core) (event : Event) (after : Core) (f : ℕ) → 1 ≤ n → Turn n c event after f → Rises (link_into n c.links f) (link_into n after.links f)
 raised n c event after f some (stands_still same) = inl same
-raised n c event after f some (to_update page lost was is) = let a = ap age_of was in let b = ap age_of is in inr (omega arith)
+raised n c event after f some (to_update page lost by lose was is) = let a = ap age_of was in let b = ap age_of is in inr (omega arith)
 raised n c event after f some (to_header page fill was is head by) = let a = ap age_of was in let b = ap age_of is in inr (omega arith)
 raised n c event after f some (to_next frame below page lost by top own set was is) = let a = ap age_of was in let b = ap age_of is in inr (omega arith)
 raised n c event after f some (to_spare page other fill was is) = let a = ap age_of was in let b = ap age_of is in inr (omega arith)
@@ -220,7 +238,7 @@ no_header n c k page fill waits g other_page other_fill at = let (a, p, place) =
 
 header_set : (n : ℕ) (c : Core) (event : Event) (after : Core) (f page fill : ℕ) → LinksKept n c → Turn n c event after f → link_into n c.links f ≢ header_link page fill → link_into n after.links f ≡ header_link page fill → IsHeaderSet n c event after f page fill
 header_set n c event after f page fill k (stands_still same) ne is = absurd (ne (sym same ∙ is))
-header_set n c event after f page fill k (to_update p lost was now) ne is = absurd (header_ne_update page fill p lost (sym is ∙ now))
+header_set n c event after f page fill k (to_update p lost by lose was now) ne is = absurd (header_ne_update page fill p lost (sym is ∙ now))
 header_set n c event after f page fill k (to_header p g was now head by) ne is =
     let pages : p ≡ page = page_of (header_link p g) (header_link page fill) (sym now ∙ is) in
     let fills : g ≡ fill = fill_of (header_link p g) (header_link page fill) (sym now ∙ is) in record {
@@ -249,6 +267,31 @@ headers_once n size start c between exchanges event answer after f page other_pa
 
 -- ---- the UPDATE
 
+claimed : (n : ℕ) (c : Core) (event : Event) (after : Core) (f page lost : ℕ) → Turn n c event after f → link_into n c.links f ≢ update_link page lost → link_into n after.links f ≡ update_link page lost → IsClaimed n c event after f page lost
+claimed n c event after f page lost (stands_still same) ne is = absurd (ne (sym same ∙ is))
+claimed n c event after f page lost (to_update p u by lose was now) ne is =
+    let pages : p ≡ page = page_of (update_link p u) (update_link page lost) (sym now ∙ is) in
+    let fills : u ≡ lost = fill_of (update_link p u) (update_link page lost) (sym now ∙ is) in
+    let sum = lose.sum in let here = lose.here in let closed = lose.closed in let full = lose.full in record {
+      by_frame = by;
+      was_head = was ∙ (λ i. header_link (pages i) (fills i));
+      lost_is = sym fills ∙ lose.here;
+      closed = omega arith;
+      full = omega arith;
+      passed = lose.passed;
+      top = lose.top;
+      below = lose.below;
+      is_top = lose.is_top;
+      owns = lose.owns ∙ ap (λ (x : ℕ). Some (x + n)) fills;
+    }
+claimed n c event after f page lost (to_header p g was now head by) ne is = absurd (header_ne_update p g page lost (sym now ∙ is))
+claimed n c event after f page lost (to_next frame below p u by top own set was now) ne is = absurd (normal_ne_update p (u + n) page lost (sym now ∙ is))
+claimed n c event after f page lost (to_spare p other g was now) ne is = absurd (normal_ne_update other (g + n) page lost (sym now ∙ is))
+
+pub updates_claimed : (n size start : ℕ) (c : Core) (event : Event) (answer : Answer) (after : Core) (f page lost : ℕ) → IsRingKept n start c → Step n size c event answer after → link_into n c.links f ≢ update_link page lost → link_into n after.links f ≡ update_link page lost
+    → IsClaimed n c event after f page lost
+updates_claimed n size start c event answer after f page lost r step ne is = claimed n c event after f page lost (turn_step n size c event answer after f r.links step) ne is
+
 -- the head's link isn't NORMAL: so it is the HEADER
 head_marked : (n : ℕ) (c : Core) (k : LinksKept n c) → ((seen : ℕ) → link_into n c.links c.head ≢ normal_link seen c.head) → LinkKept n c.links c.order c.head c.frames c.head → link_into n c.links c.head ≡ header_link (page_at n c.order c.head) c.head
 head_marked n c k set (is_normal e owed) = absurd (set (page_at n c.order c.head) e)
@@ -257,7 +300,7 @@ head_marked n c k set (is_update lost sum e st) = let (u, u_sum, below, open_yet
 
 cleared : (n : ℕ) (c : Core) (event : Event) (after : Core) (f page lost : ℕ) → LinksKept n c → Turn n c event after f → link_into n c.links f ≡ update_link page lost → link_into n after.links f ≢ update_link page lost → IsCleared n c event after f page lost
 cleared n c event after f page lost k (stands_still same) at ne = absurd (ne (same ∙ at))
-cleared n c event after f page lost k (to_update p u was now) at ne = absurd (header_ne_update p u page lost (sym was ∙ at))
+cleared n c event after f page lost k (to_update p u by lose was now) at ne = absurd (header_ne_update p u page lost (sym was ∙ at))
 cleared n c event after f page lost k (to_header p g was now head by) at ne = absurd (normal_ne_update p g page lost (sym was ∙ at))
 cleared n c event after f page lost k (to_next frame below p u by top own set was now) at ne =
     let pages : p ≡ page = page_of (update_link p u) (update_link page lost) (sym was ∙ at) in

@@ -1,9 +1,9 @@
 -- Every run of a ring is a run of its window: each step is told by deeds.
-use Rattle.std.proofs.Common.{◌≡◌, ℕ, suc, ◌+◌, ◌^◌, ◌<◌, ◌≤◌, List, [], ◌∷◌, ◌++◌, None, Some, refl, sym, ap, ◌∙◌, subst, arith, append_assoc, append-nil}
+use Rattle.std.proofs.Common.{◌≡◌, ℕ, ◌+◌, ◌^◌, ◌<◌, ◌≤◌, List, [], ◌∷◌, ◌++◌, None, Some, refl, sym, ap, ◌∙◌, subst, arith, append_assoc, append-nil}
 use Rattle.trace_model.specs.History.{Action, push, push_close, open_fill, reserve, leave}
 use Rattle.trace_model.specs.Frames.{Kind, for_record, for_close, Phase, reserving, looking, claiming, looking_next, marking, clearing, opening, reserved, releasing, Frame}
 use Rattle.trace_model.specs.Window.{Window, first_window, opened_one, released_one, took_one, lost_one, Deed, acts, happens, actions_of, WindowRunFrom}
-use Rattle.trace_model.specs.Ring.{Taken, ReaderPhase, loading_link, loading_done, storing_link, swapping, Reader, Core, IsStart, window_of}
+use Rattle.trace_model.specs.Ring.{ReaderPhase, loading_link, loading_done, storing_link, swapping, Reader, Core, IsStart, window_of}
 use Rattle.trace_model.specs.Steps.{Event, Answer, begun, begun_on, BeginsAnew, reserves, finds_nothing, is_crowded, is_worn, notes, look_late, sees_free, sees_header, sees_update, claim_late, claims, claim_fails, next_late, sees_normal, sees_other, mark_late, marks, mark_fails, clears, open_late, opens, releases, releases_last, FrameStep, Step, push_step, push_refused, close_step, close_refused, frame_step, frame_lacks, end_step, end_lacks, end_early, read_step, loads_header, loads_update, loads_owed, loads_passed, finds_none, finds_closed, swaps, swap_fails, ReadStep, taken_from, Exchange, Run}
 use Rattle.link_marks.specs.Kept.{PhaseKept, ReaderKept, LinksKept}
 use Rattle.link_marks.specs.KeptHistory.{shown_on, shown, HistoryKept}

@@ -1,10 +1,10 @@
 -- Runs of the window: their counts keep their order, and which fills they take and lose.
-use Rattle.std.proofs.Common.{◌≡◌, ℕ, zero, suc, ◌+◌, ◌<◌, ◌≤◌, ◌⊎◌, List, [], ◌∷◌, ◌++◌, refl, sym, ap, ◌∙◌, subst, inl, inr, ⊎_elim, arith, append_assoc, append-nil}
+use Rattle.std.proofs.Common.{◌≡◌, ℕ, zero, suc, ◌+◌, ◌<◌, ◌≤◌, ◌⊎◌, List, [], ◌∷◌, ◌++◌, refl, sym, ap, subst, inl, inr, ⊎_elim, arith, append_assoc, append-nil}
 use Rattle.std.specs.Prelude.{Contains}
 use mathlib.Core.Logic.{dite}
 use native.Mathlib.Decide.{ℕ_discrete}
 use Rattle.trace_model.specs.History.{Action}
-use Rattle.trace_model.specs.Window.{Window, first_window, Happening, opened_one, released_one, took_one, lost_one, window_after, Deed, acts, happens, actions_of, WindowRunFrom, IsWindow}
+use Rattle.trace_model.specs.Window.{Window, first_window, opened_one, released_one, took_one, lost_one, window_after, Deed, acts, happens, actions_of, WindowRunFrom, IsWindow}
 use Rattle.trace_model.specs.Ring.{Taken}
 use Rattle.link_marks.specs.WindowRuns.{fills_taken, fills_lost, numbers_of}
 

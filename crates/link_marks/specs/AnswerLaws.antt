@@ -4,7 +4,7 @@ use Rattle.trace_model.specs.Frames.{crowded, worn}
 use Rattle.trace_model.specs.Links.{update_link}
 use Rattle.trace_model.specs.Ring.{link_into, page_at, Taken, Core, window_of, IsMoved, IsTaken}
 use Rattle.trace_model.specs.Window.{IsCrowded}
-use Rattle.trace_model.specs.Steps.{Event, Answer, refused, empty, moving, swapped, Step}
+use Rattle.trace_model.specs.Steps.{Event, refused, empty, moving, swapped, Step}
 use Rattle.link_marks.specs.RingKept.{IsRingKept}
 
 -- each fill from the first to this one was taken, or lost with a whole round of fills begun behind it

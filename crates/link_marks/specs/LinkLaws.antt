@@ -48,6 +48,26 @@ HeadersAreSetOnce = (n size start : ℕ) (c between : Core) (exchanges : List Ex
     → link_into n between.links f ≢ header_link other_page fill
     → link_into n after.links f ≢ header_link other_page fill
 
+-- An UPDATE is set over the head's HEADER, by a frame that then owns it; and so the head is lost, closed and in
+-- a full ring.
+pub record IsClaimed (n : ℕ) (c : Core) (event : Event) (after : Core) (f page lost : ℕ) : Type 0 where
+  pub by_frame : event ≡ steps
+  pub was_head : link_into n c.links f ≡ header_link page lost
+  pub lost_is : lost ≡ c.head
+  pub closed : lost < c.done
+  pub full : c.opened ≡ lost + n
+  pub passed : after.head ≡ c.head + 1
+  pub top : Frame
+  pub below : List Frame
+  pub is_top : after.frames ≡ top ∷ below
+  pub owns : moving_in top.phase ≡ Some (lost + n)
+
+abbrev pub UpdatesAreClaimed : Type 0
+UpdatesAreClaimed = (n size start : ℕ) (c : Core) (event : Event) (answer : Answer) (after : Core) (f page lost : ℕ) → IsRingKept n start c → Step n size c event answer after
+    → link_into n c.links f ≢ update_link page lost
+    → link_into n after.links f ≡ update_link page lost
+    → IsClaimed n c event after f page lost
+
 -- An UPDATE of a lost fill is cleared by the frame that owns it, to the NORMAL of the fill to open; and before
 -- that the HEADER behind the lost fill was set: it stands, or the head has moved on from there.
 pub record IsCleared (n : ℕ) (c : Core) (event : Event) (after : Core) (f page lost : ℕ) : Type 0 where

@@ -1,5 +1,6 @@
 -- The laws of the ring's runs, as statements: each is the contract of a function of src/laws.rt.
-use Rattle.std.specs.Prelude.{◌≡◌, ℕ, ◌+◌, ◌^◌, ◌<◌, ◌≤◌, ◌⊎◌, List, Contains}
+use Rattle.std.specs.Prelude.{ℕ, ◌+◌, ◌^◌, ◌<◌, ◌≤◌, ◌⊎◌, List, Contains}
+use Rattle.trace_model.specs.History.{IsHistory}
 use Rattle.trace_model.specs.Packing.{IsPacked}
 use Rattle.trace_model.specs.Ring.{Core, IsStart}
 use Rattle.trace_model.specs.Window.{Window, Deed, WindowRun, IsWindow}
@@ -39,3 +40,7 @@ LostAreClosed = (n start : ℕ) (deeds : List Deed) (w : Window) (f : ℕ) → W
 -- and a fill is begun only behind one that isn't empty, by a close frame or for a record that doesn't fit
 abbrev pub RunsArePacked : Type 0
 RunsArePacked = (n size start : ℕ) (c after : Core) (exchanges : List Exchange) → 2 ≤ n → start + 1 + n ≤ 2 ^ 48 → IsStart n start c → Run n size c exchanges after → IsPacked after.history size
+
+-- and it keeps the discipline of the stack: each action is one that the frames that stood allowed
+abbrev pub RunsAreHistories : Type 0
+RunsAreHistories = (n size start : ℕ) (c after : Core) (exchanges : List Exchange) → 2 ≤ n → start + 1 + n ≤ 2 ^ 48 → IsStart n start c → Run n size c exchanges after → IsHistory after.history

@@ -1,7 +1,7 @@
 -- A run of a ring, told as deeds: which fills they take, and which they lose.
 -- docs/FORMATS.md, "The ring".
 use Rattle.std.specs.Prelude.{◌≡◌, ℕ, ◌+◌, List, [], ◌∷◌}
-use Rattle.trace_model.specs.Window.{Happening, opened_one, released_one, took_one, lost_one, Deed, acts, happens, actions_of, WindowRun}
+use Rattle.trace_model.specs.Window.{opened_one, released_one, took_one, lost_one, Deed, acts, happens, actions_of, WindowRun}
 use Rattle.trace_model.specs.Ring.{Taken, Core, window_of}
 
 -- the fills that the deeds take, from this head on, in order

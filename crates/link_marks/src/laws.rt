@@ -1,7 +1,7 @@
 //! The laws of the ring: each is the contract of a function with an empty body.
-ghost use Rattle.link_marks.specs.RunLaws.{LostAreClosed, NoneIsTakenAndLost, PassedAreTakenOrLost, RunsArePacked, RunsMoveWindow, TakenAreClosed, WindowKeepsOrder};
+ghost use Rattle.link_marks.specs.RunLaws.{LostAreClosed, NoneIsTakenAndLost, PassedAreTakenOrLost, RunsAreHistories, RunsArePacked, RunsMoveWindow, TakenAreClosed, WindowKeepsOrder};
 ghost use Rattle.link_marks.specs.AnswerLaws.{CrowdedIsRight, EmptyIsRight, MovingIsRight, SwappedIsRight, WornIsRight};
-ghost use Rattle.link_marks.specs.LinkLaws.{HeadersAreOwed, HeadersAreSetOnce, LinksStandOnce, OneHeader, OwnersClear, StepsRaiseLinks};
+ghost use Rattle.link_marks.specs.LinkLaws.{HeadersAreOwed, HeadersAreSetOnce, LinksStandOnce, OneHeader, OwnersClear, StepsRaiseLinks, UpdatesAreClaimed};
 ghost use Rattle.link_marks.specs.Laws.{CommittedIsFront, KeptIsRing, RunsMakeRings, StartHasWindow, StartIsKept, StepsKeepRing, StepsMoveWindow, TakenPartsCommitted};
 
 /// A new ring has all that its steps keep, and its window is the first one.
@@ -69,9 +69,16 @@ pub fn one_header()
     ensures once { HeadersAreSetOnce }
 {}
 
-/// Only the frame that owns an UPDATE clears it, and before that the next HEADER was set.
+/// An UPDATE is set over the head's HEADER, in a full ring; only the frame that set it clears it, and before
+/// that the next HEADER was set.
 pub fn owners_clear()
+    ensures claims { UpdatesAreClaimed }
     ensures clears { OwnersClear }
+{}
+
+/// After every run what the frames did is a history: each action is one that the stack allowed.
+pub fn runs_are_histories()
+    ensures histories { RunsAreHistories }
 {}
 
 /// After every run the fills have room in their pages, and each was begun where one had to be: behind one
