@@ -24,4 +24,3 @@ pub mod Relinking
 pub mod PackedHistories
 pub mod PackedSteps
 pub mod PackedRuns
-pub mod Disciplined
