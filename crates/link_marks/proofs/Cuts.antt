@@ -25,6 +25,11 @@ pub IsRising-least : (from : ℕ) (cuts : List ℕ) (to : ℕ) → IsRising from
 IsRising-least from [] to r = r
 IsRising-least from (cut ∷ cuts) to r = let low = r.0 in let rest = IsRising-least cut cuts to r.1 in omega arith
 
+-- one more piece than there are cuts
+pub length-cut_from : (from : ℕ) (cuts : List ℕ) (xs : List Reservation) → length (cut_from from cuts xs) ≡ suc (length cuts)
+length-cut_from from [] xs = refl
+length-cut_from from (cut ∷ cuts) xs = ap suc (length-cut_from cut cuts xs)
+
 -- where an open stands, the number of records in front of it
 pub opens_at : List Action → Action → List ℕ
 opens_at front (push moment len) = []

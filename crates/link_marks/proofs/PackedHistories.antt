@@ -12,7 +12,7 @@ use Rattle.trace_model.specs.Frames.{Kind, for_record, for_close}
 use Rattle.trace_model.proofs.Lengths.{slot_len_ge_four, slot_len-slot_len}
 use Rattle.link_marks.specs.KeptContents.{IsRising}
 use Rattle.link_marks.proofs.Phases.{none_some}
-use Rattle.link_marks.proofs.Cuts.{reserved_before, reserved_last, opened_before, opened_last}
+use Rattle.link_marks.proofs.Cuts.{length-cut_from, reserved_before, reserved_last, opened_before, opened_last}
 
 -- ---- a record without its bytes
 
@@ -65,10 +65,6 @@ fill_len-alike cuts xs ys i same = sym (fill_len-plain (get_or (cut_from 0 cuts 
 
 abbrev pub tail_at : List ℕ → List Reservation → List Reservation
 tail_at cuts xs = get_or (cut_from 0 cuts xs) (length cuts) []
-
-length-cut_from : (from : ℕ) (cuts : List ℕ) (xs : List Reservation) → length (cut_from from cuts xs) ≡ suc (length cuts)
-length-cut_from from [] xs = refl
-length-cut_from from (cut ∷ cuts) xs = ap suc (length-cut_from cut cuts xs)
 
 cut-past : (from : ℕ) (cuts : List ℕ) (xs : List Reservation) (i : ℕ) → length cuts < i → get_or (cut_from from cuts xs) i [] ≡ []
 cut-past from [] xs zero past = absurd (omega arith)

@@ -143,14 +143,17 @@ IsSwapReady n c (loading_done page fill) = Unit {0}
 IsSwapReady n c (storing_link page fill) = Unit {0}
 IsSwapReady n c (swapping page fill) = c.spare_link ≡ header_link (page_at n c.order (suc fill)) (suc fill)
 
--- The ring, between any two steps. The pages go round; the window keeps its order; links behind the
--- head, and to it, are as above; pages hold their fills; what is closed is committed, and a fill that is
--- lost was lost in a full ring; and what a frame or the reader has seen is no more than was true.
+-- The ring, between any two steps. The pages go round; the window keeps its order, from the first fill on,
+-- and the fills begun are those of the history; links behind the head, and to it, are as above; pages hold
+-- their fills; what is closed is committed, and a fill that is lost was lost in a full ring; and what a frame
+-- or the reader has seen is no more than was true.
 pub record IsRing (n start : ℕ) (c : Core) : Type 0 where
   pub apart : AreApart n c.order c.spare
   pub head_le : c.head ≤ c.done
   pub done_lt : c.done < c.opened
   pub opened_le : c.opened ≤ c.head + n
+  pub from_start : start ≤ c.head
+  pub begun : c.opened ≡ start + length (fills_of c.history)
   pub behind_head : (f : ℕ) → c.head < f → f < c.head + n → IsBehindHead n c f
   pub at_head : IsAtHead n c
   pub contents : (f : ℕ) → c.head ≤ f → f < c.opened → HoldsFill n start c f
