@@ -182,5 +182,5 @@ ring_start n start c some fits s = let links = start_kept n start c s some fits 
   contents = subst (λ (h : List Action). PagesKept n start c.order c.held (opens_of h) (reserved_records h) c.head c.opened) (sym s.history) (nothing_done n start c (omega arith) links.apart s);
   closed = subst (λ (h : List Action). first_of_fill h start c.done ≤ length (reserved_records (settled_front h))) (sym s.history)
       (subst (λ (i : ℕ). get_or (0 ∷ []) i 0 ≤ 0) (let e : 0 ≡ c.done - start = omega arith in e) (let z : 0 ≤ 0 = omega arith in z));
-  parts = subst (λ (x : Reader). PartsKept start c.history c.head x.expected x.taken) (sym s.reader) record { expected_le = omega arith; parts = refl; total = refl; firsts = λ k t at. absurd (none_some at) };
+  parts = subst (λ (x : Reader). PartsKept start c.history c.head x.expected x.taken) (sym s.reader) record { expected_le = omega arith; parts = refl; total = refl; firsts = λ k t at. absurd (none_some at); fills = record { each = λ k t at. absurd (none_some at); rising = λ j k a b less at_j at_k. absurd (none_some at_j) }; below = λ k t at. absurd (none_some at) };
 }

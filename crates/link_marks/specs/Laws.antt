@@ -1,6 +1,6 @@
 -- The laws of the ring, as statements: each is the contract of a function of src/laws.rt.
 use Rattle.std.specs.Prelude.{◌≡◌, ℕ, ◌+◌, ◌^◌, ◌≤◌, ◌⊎◌, List, length, map, take}
-use Rattle.trace_model.specs.Ring.{Core, IsStart, IsRing, window_of}
+use Rattle.trace_model.specs.Ring.{Core, IsStart, IsRing, AreFillsOf, window_of}
 use Rattle.trace_model.specs.Window.{first_window, Happening, WindowStep}
 use Rattle.trace_model.specs.Steps.{Event, Answer, Step, Exchange, Run}
 use Rattle.trace_model.specs.Record.{Record}
@@ -35,6 +35,10 @@ RunsMakeRings = (n size start : ℕ) (c after : Core) (exchanges : List Exchange
 abbrev pub TakenPartsCommitted : Type 0
 TakenPartsCommitted = (n size start : ℕ) (c after : Core) (exchanges : List Exchange) → 2 ≤ n → start + 1 + n ≤ 2 ^ 48 → IsStart n start c → Run n size c exchanges after
     → ((rest : List Record) × IsPartition (committed_records after.history) (pieces_of after.reader.taken) rest) × HaveFirsts after.reader.taken
+
+-- and each of these is a fill of what the frames did, whole and under that fill's number, which rise
+abbrev pub TakenAreFills : Type 0
+TakenAreFills = (n size start : ℕ) (c after : Core) (exchanges : List Exchange) → 2 ≤ n → start + 1 + n ≤ 2 ^ 48 → IsStart n start c → Run n size c exchanges after → AreFillsOf start after.history after.reader.taken
 
 -- whatever the frames did, the committed records are the first ones that were reserved, as they are by now
 abbrev pub CommittedIsFront : Type 0

@@ -2,7 +2,7 @@
 ghost use Rattle.link_marks.specs.RunLaws.{LostAreClosed, NoneIsTakenAndLost, PassedAreTakenOrLost, RunsAreHistories, RunsArePacked, RunsMoveWindow, TakenAreClosed, WindowKeepsOrder};
 ghost use Rattle.link_marks.specs.AnswerLaws.{CrowdedIsRight, EmptyIsRight, MovingIsRight, SwappedIsRight, WornIsRight};
 ghost use Rattle.link_marks.specs.LinkLaws.{HeadersAreOwed, HeadersAreSetOnce, LinksStandOnce, OneHeader, OwnersClear, StepsRaiseLinks, UpdatesAreClaimed};
-ghost use Rattle.link_marks.specs.Laws.{CommittedIsFront, KeptIsRing, RunsMakeRings, StartHasWindow, StartIsKept, StepsKeepRing, StepsMoveWindow, TakenPartsCommitted};
+ghost use Rattle.link_marks.specs.Laws.{CommittedIsFront, KeptIsRing, RunsMakeRings, StartHasWindow, StartIsKept, StepsKeepRing, StepsMoveWindow, TakenAreFills, TakenPartsCommitted};
 
 /// A new ring has all that its steps keep, and its window is the first one.
 pub fn start_is_kept()
@@ -87,9 +87,10 @@ pub fn runs_are_packed()
     ensures packed { RunsArePacked }
 {}
 
-/// The committed records are a front of the reserved ones; and after every run the fills that the reader
-/// took, with the records lost between, part them.
+/// The committed records are a front of the reserved ones; and after every run what the reader took are
+/// whole fills, their numbers rising, which with the records lost between part the committed ones.
 pub fn taken_parts_committed()
     ensures front { CommittedIsFront }
     ensures parts { TakenPartsCommitted }
+    ensures fills { TakenAreFills }
 {}
