@@ -24,3 +24,6 @@ pub mod Relinking
 pub mod PackedHistories
 pub mod PackedSteps
 pub mod PackedRuns
+pub mod FullFills
+pub mod TakenFull
+pub mod Refusals

@@ -205,7 +205,7 @@ abbrev pub NeedsFill : ℕ → List ℕ → List Reservation → Kind → Type 0
 NeedsFill size cuts xs (for_record moment len) = FitsBehind size (tail_at cuts xs) (reserved_for moment len xs) → ⊥
 NeedsFill size cuts xs for_close = tail_at cuts xs ≢ []
 
-plain_nil : (xs : List Reservation) → map plain xs ≡ [] → xs ≡ []
+pub plain_nil : (xs : List Reservation) → map plain xs ≡ [] → xs ≡ []
 plain_nil [] e = refl
 plain_nil (x ∷ xs) e = cc
 

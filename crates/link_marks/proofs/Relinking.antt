@@ -257,13 +257,17 @@ too_old : (l m : Link) (page other_page fill : ℕ) → l ≡ header_link page f
 too_old l m page other_page fill at (inl e) is = normal_ne_header other_page fill page fill (sym is ∙ e ∙ at)
 too_old l m page other_page fill at (inr more) is = let a = ap age_of at in let b = ap age_of is in omega arith
 
-pub headers_once : (n size start : ℕ) (c between : Core) (exchanges : List Exchange) (event : Event) (answer : Answer) (after : Core) (f page other_page fill : ℕ) → IsRingKept n start c → link_into n c.links f ≡ header_link page fill → Run n size c exchanges between
+pub headers_once : (n size start : ℕ) (c between : Core) (exchanges : List Exchange) (event : Event) (answer : Answer) (after : Core) (f g page other_page fill : ℕ) → IsRingKept n start c → link_into n c.links f ≡ header_link page fill → Run n size c exchanges between
     → Step n size between event answer after
-    → link_into n between.links f ≢ header_link other_page fill
-    → link_into n after.links f ≢ header_link other_page fill
-headers_once n size start c between exchanges event answer after f page other_page fill r at run step ne is =
-    let set = headers_owed n size start between event answer after f other_page fill (ring_run n size start c between exchanges r run) step ne is in
-    too_old (link_into n c.links f) (link_into n between.links f) page other_page fill at (raised_run n size start c between exchanges f r run) set.waited
+    → link_into n between.links g ≢ header_link other_page fill
+    → link_into n after.links g ≢ header_link other_page fill
+headers_once n size start c between exchanges event answer after f g page other_page fill r at run step ne is =
+    let r' = ring_run n size start c between exchanges r run in
+    let set = headers_owed n size start between event answer after g other_page fill r' step ne is in
+    let (here, page_is, place) = header_at n c r.links f page fill at in
+    let (there, other_is, other_place) = header_at n after (ring_step n size start between event answer after r' step).links g other_page fill is in
+    let same : f % n ≡ g % n = sym place ∙ ap (λ (k : ℕ). k % n) (sym here ∙ there) ∙ other_place in
+    too_old (link_into n c.links f) (link_into n between.links f) page other_page fill at (raised_run n size start c between exchanges f r run) (same_place n between.links f g same ∙ set.waited)
 
 -- ---- the UPDATE
 

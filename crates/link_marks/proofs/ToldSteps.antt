@@ -13,8 +13,8 @@ use Rattle.link_marks.proofs.Inside.{header_inside, header_tells, fill_at}
 use Rattle.link_marks.proofs.Stacks.{top_kept}
 use Rattle.link_marks.proofs.Histories.{settled_at_rest}
 use Rattle.link_marks.proofs.HistorySteps.{top_shown}
-use Rattle.link_marks.proofs.WindowRuns.{run-append, taken-append, actions-append, numbers-push}
-use Rattle.link_marks.proofs.Rings.{ring_start, ring_step}
+use Rattle.link_marks.proofs.WindowRuns.{run_rises, run-append, taken-append, actions-append, numbers-push}
+use Rattle.link_marks.proofs.Rings.{ring_start, ring_step, ring_run}
 
 -- the deeds lead from one state to another
 pub record Leads (n : ℕ) (c after : Core) : Type 0 where
@@ -138,13 +138,19 @@ leads_run n size start c after [] r run = subst (Leads n c) run (idle n c c refl
 leads_run n size start c after (x ∷ exchanges) r (between, step, run) = leads_on n c between after (leads_step n size start c x.event x.answer between r.links r.history step)
     (leads_run n size start between after exchanges (ring_step n size start c x.event x.answer between r step) run)
 
-from_start : (n start : ℕ) (c after : Core) → IsStart n start c → (x : Leads n c after) → IsToldBy n start after x.deeds
-from_start n start c after s x =
+from_start : (n start : ℕ) (c after : Core) → IsStart n start c → IsRingKept n start after → (x : Leads n c after) → IsToldBy n start after x.deeds
+from_start n start c after s r x =
     let first : window_of c ≡ first_window start = λ i. record { head = s.head i; done = s.done i; opened = s.opened i } in record {
       acted = sym (x.acted ∙ ap (λ (h : List Action). h ++ actions_of x.deeds) s.history);
       window = subst (λ (w : Window). WindowRunFrom n [] w x.deeds (window_of after)) first (subst (λ (h : List Action). WindowRunFrom n h (window_of c) x.deeds (window_of after)) s.history x.window);
       took = ap (λ (f : ℕ). fills_taken f x.deeds) (sym s.head) ∙ sym (x.took ∙ ap (λ (r : Reader). numbers_of r.taken ++ fills_taken c.head x.deeds) s.reader);
+      begun = r.contents.begun;
     }
 
 pub run_told : (n size start : ℕ) (c after : Core) (exchanges : List Exchange) → 2 ≤ n → start + 1 + n ≤ 2 ^ 48 → IsStart n start c → Run n size c exchanges after → (deeds : List Deed) × IsToldBy n start after deeds
-run_told n size start c after exchanges some fits s run = let x = leads_run n size start c after exchanges (ring_start n start c some fits s) run in (x.deeds, from_start n start c after s x)
+run_told n size start c after exchanges some fits s run = let r = ring_start n start c some fits s in let x = leads_run n size start c after exchanges r run in
+    (x.deeds, from_start n start c after s (ring_run n size start c after exchanges r run) x)
+
+pub counts_rise : (n size start : ℕ) (c after : Core) (exchanges : List Exchange) → IsRingKept n start c → Run n size c exchanges after → (c.head ≤ after.head) × (c.done ≤ after.done) × (c.opened ≤ after.opened)
+counts_rise n size start c after exchanges r run = let x = leads_run n size start c after exchanges r run in
+    let k = run_rises n c.history (window_of c) (window_of after) x.deeds x.window in (k.head, k.done, k.opened)

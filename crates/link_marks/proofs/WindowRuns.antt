@@ -26,12 +26,12 @@ pub first_is_window : (n start : ℕ) → 1 ≤ n → IsWindow n (first_window s
 first_is_window n start some = record { head_le = omega arith; done_lt = omega arith; opened_le = omega arith }
 
 -- the counts only rise
-record Rises (w after : Window) : Type 0 where
-  head : w.head ≤ after.head
-  done : w.done ≤ after.done
-  opened : w.opened ≤ after.opened
+pub record Rises (w after : Window) : Type 0 where
+  pub head : w.head ≤ after.head
+  pub done : w.done ≤ after.done
+  pub opened : w.opened ≤ after.opened
 
-run_rises : (n : ℕ) (history : List Action) (w after : Window) (deeds : List Deed) → WindowRunFrom n history w deeds after → Rises w after
+pub run_rises : (n : ℕ) (history : List Action) (w after : Window) (deeds : List Deed) → WindowRunFrom n history w deeds after → Rises w after
 run_rises n history w after [] run = subst (Rises w) run record { head = omega arith; done = omega arith; opened = omega arith }
 run_rises n history w after (acts a ∷ deeds) run = run_rises n (history ++ a ∷ []) w after deeds run
 run_rises n history w after (happens opened_one ∷ deeds) run = let r = run_rises n history (window_after w opened_one) after deeds run.1 in

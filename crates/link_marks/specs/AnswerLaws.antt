@@ -1,15 +1,30 @@
 -- The laws of a ring's answers, as statements: each is the contract of a function of src/laws.rt.
-use Rattle.std.specs.Prelude.{◌≡◌, ℕ, ◌+◌, ◌^◌, ◌<◌, ◌≤◌, ◌⊎◌}
-use Rattle.trace_model.specs.Frames.{crowded, worn}
+use Rattle.std.specs.Prelude.{◌≡◌, ℕ, ◌+◌, ◌^◌, ◌<◌, ◌≤◌, ◌⊎◌, List, ◌∷◌}
+use Rattle.trace_model.specs.Frames.{reserving, Frame, crowded, worn}
 use Rattle.trace_model.specs.Links.{update_link}
 use Rattle.trace_model.specs.Ring.{link_into, page_at, Taken, Core, window_of, IsMoved, IsTaken}
 use Rattle.trace_model.specs.Window.{IsCrowded}
-use Rattle.trace_model.specs.Steps.{Event, refused, empty, moving, swapped, Step}
+use Rattle.trace_model.specs.Steps.{Event, steps, Answer, NeedsPage, refused, empty, moving, swapped, Step}
 use Rattle.link_marks.specs.RingKept.{IsRingKept}
 
 -- each fill from the first to this one was taken, or lost with a whole round of fills begun behind it
 abbrev pub ArePassed : ℕ → ℕ → Core → ℕ → Type 0
 ArePassed n start c f = (g : ℕ) → start ≤ g → g < f → IsTaken c g ⊎ (g + n ≤ c.opened)
+
+-- The frame on top is about to reserve, and needs a page: its record doesn't fit in the tail page, or it closes
+-- one that holds a record.
+pub record IsInNeed (n size : ℕ) (c : Core) : Type 0 where
+  pub top : Frame
+  pub below : List Frame
+  pub is_top : c.frames ≡ top ∷ below
+  pub about : top.phase ≡ reserving
+  pub needs : NeedsPage n size c top.kind
+
+-- such a frame is refused as crowded where no page is released; and where one is, as worn where the tail is the
+-- last fill that has a number
+abbrev pub RefusalsAreDue : Type 0
+RefusalsAreDue = (n size : ℕ) (c : Core) (answer : Answer) (after : Core) → Step n size c steps answer after → IsInNeed n size c
+    → (IsCrowded n (window_of c) → answer ≡ refused crowded) × ((IsCrowded n (window_of c) → ⊥) → 2 ^ 48 ≤ c.opened + n → answer ≡ refused worn)
 
 -- a frame is refused as crowded only where no page is released
 abbrev pub CrowdedIsRight : Type 0

@@ -40,13 +40,14 @@ HeadersAreOwed = (n size start : ℕ) (c : Core) (event : Event) (answer : Answe
     → link_into n after.links f ≡ header_link page fill
     → IsHeaderSet n c event after f page fill
 
--- of all steps of a run at most one sets the HEADER of a fill: where it was set, no later step sets it
+-- of all steps of a run at most one sets the HEADER of a fill: once it is set, no later step sets it, there or
+-- elsewhere
 abbrev pub HeadersAreSetOnce : Type 0
-HeadersAreSetOnce = (n size start : ℕ) (c between : Core) (exchanges : List Exchange) (event : Event) (answer : Answer) (after : Core) (f page other_page fill : ℕ) → IsRingKept n start c → link_into n c.links f ≡ header_link page fill
+HeadersAreSetOnce = (n size start : ℕ) (c between : Core) (exchanges : List Exchange) (event : Event) (answer : Answer) (after : Core) (f g page other_page fill : ℕ) → IsRingKept n start c → link_into n c.links f ≡ header_link page fill
     → Run n size c exchanges between
     → Step n size between event answer after
-    → link_into n between.links f ≢ header_link other_page fill
-    → link_into n after.links f ≢ header_link other_page fill
+    → link_into n between.links g ≢ header_link other_page fill
+    → link_into n after.links g ≢ header_link other_page fill
 
 -- An UPDATE is set over the head's HEADER, by a frame that then owns it; and so the head is lost, closed and in
 -- a full ring.

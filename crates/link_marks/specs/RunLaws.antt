@@ -1,10 +1,11 @@
 -- The laws of the ring's runs, as statements: each is the contract of a function of src/laws.rt.
-use Rattle.std.specs.Prelude.{ℕ, ◌+◌, ◌^◌, ◌<◌, ◌≤◌, ◌⊎◌, List, Contains}
-use Rattle.trace_model.specs.History.{IsHistory}
-use Rattle.trace_model.specs.Packing.{IsPacked}
-use Rattle.trace_model.specs.Ring.{Core, IsStart}
+use Rattle.std.specs.Prelude.{◌≡◌, ℕ, ◌+◌, ◌^◌, ◌<◌, ◌≤◌, ◌≢◌, ◌⊎◌, List, [], length, Some, slice_get, slice_index_or, Contains}
+use Rattle.trace_model.specs.History.{Action, IsHistory}
+use Rattle.trace_model.specs.Packing.{fills_of, IsPacked}
+use Rattle.trace_model.specs.Ring.{Taken, Core, IsStart}
 use Rattle.trace_model.specs.Window.{Window, Deed, WindowRun, IsWindow}
 use Rattle.trace_model.specs.Steps.{Exchange, Run}
+use Rattle.link_marks.specs.RingKept.{IsRingKept}
 use Rattle.link_marks.specs.WindowRuns.{fills_taken, fills_lost, IsToldBy}
 
 -- every run of steps from a new ring is a run of its window: deeds, each allowed where it stands, tell what
@@ -13,11 +14,15 @@ abbrev pub RunsMoveWindow : Type 0
 RunsMoveWindow = (n size start : ℕ) (c after : Core) (exchanges : List Exchange) → 2 ≤ n → start + 1 + n ≤ 2 ^ 48 → IsStart n start c → Run n size c exchanges after
     → (deeds : List Deed) × IsToldBy n start after deeds
 
+-- over a run the counts only rise: so what was once passed, closed or begun stays so
+abbrev pub CountsRise : Type 0
+CountsRise = (n size start : ℕ) (c after : Core) (exchanges : List Exchange) → IsRingKept n start c → Run n size c exchanges after → (c.head ≤ after.head) × (c.done ≤ after.done) × (c.opened ≤ after.opened)
+
 -- over a run of the window its counts keep their order
 abbrev pub WindowKeepsOrder : Type 0
 WindowKeepsOrder = (n start : ℕ) (deeds : List Deed) (w : Window) → 1 ≤ n → WindowRun n start deeds w → IsWindow n w
 
--- just the fills from the start to the head were taken or lost
+-- each fill from the start to the head was taken or lost
 abbrev pub PassedAreTakenOrLost : Type 0
 PassedAreTakenOrLost = (n start : ℕ) (deeds : List Deed) (w : Window) (f : ℕ) → WindowRun n start deeds w → start ≤ f → f < w.head
     → Contains (fills_taken start deeds) f ⊎ Contains (fills_lost start deeds) f
@@ -31,7 +36,7 @@ abbrev pub TakenAreClosed : Type 0
 TakenAreClosed = (n start : ℕ) (deeds : List Deed) (w : Window) (f : ℕ) → WindowRun n start deeds w → Contains (fills_taken start deeds) f
     → (start ≤ f) × (f < w.head) × (f < w.done)
 
--- so had one that was lost; and all places behind it were taken by fills
+-- so had one that was lost; and a whole round of fills is begun behind it
 abbrev pub LostAreClosed : Type 0
 LostAreClosed = (n start : ℕ) (deeds : List Deed) (w : Window) (f : ℕ) → WindowRun n start deeds w → Contains (fills_lost start deeds) f
     → (start ≤ f) × (f < w.head) × (f < w.done) × (f + n ≤ w.opened)
@@ -44,3 +49,15 @@ RunsArePacked = (n size start : ℕ) (c after : Core) (exchanges : List Exchange
 -- and it keeps the discipline of the stack: each action is one that the frames that stood allowed
 abbrev pub RunsAreHistories : Type 0
 RunsAreHistories = (n size start : ℕ) (c after : Core) (exchanges : List Exchange) → 2 ≤ n → start + 1 + n ≤ 2 ^ 48 → IsStart n start c → Run n size c exchanges after → IsHistory after.history
+
+-- in a packed history every fill but the last holds a record
+abbrev pub PackedFillsAreFull : Type 0
+PackedFillsAreFull = (history : List Action) (size k : ℕ) → IsPacked history size → k + 1 < length (fills_of history) → slice_index_or (fills_of history) k [] ≢ []
+
+-- each of these fills holds a record
+abbrev pub HoldRecords : List Taken → Type 0
+HoldRecords taken = (k : ℕ) (t : Taken) → slice_get taken k ≡ Some t → t.held.records ≢ []
+
+-- so no page that the reader takes is empty
+abbrev pub TakenHoldRecords : Type 0
+TakenHoldRecords = (n size start : ℕ) (c after : Core) (exchanges : List Exchange) → 2 ≤ n → start + 1 + n ≤ 2 ^ 48 → IsStart n start c → Run n size c exchanges after → HoldRecords after.reader.taken

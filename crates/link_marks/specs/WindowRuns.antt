@@ -1,6 +1,7 @@
 -- A run of a ring, told as deeds: which fills they take, and which they lose.
 -- docs/FORMATS.md, "The ring".
-use Rattle.std.specs.Prelude.{◌≡◌, ℕ, ◌+◌, List, [], ◌∷◌}
+use Rattle.std.specs.Prelude.{◌≡◌, ℕ, ◌+◌, List, [], ◌∷◌, length}
+use Rattle.trace_model.specs.Packing.{opens_of}
 use Rattle.trace_model.specs.Window.{opened_one, released_one, took_one, lost_one, Deed, acts, happens, actions_of, WindowRun}
 use Rattle.trace_model.specs.Ring.{Taken, Core, window_of}
 
@@ -27,8 +28,9 @@ numbers_of [] = []
 numbers_of (t ∷ taken) = t.fill ∷ numbers_of taken
 
 -- These deeds of a ring from its start are what its frames did, in order, lead to its window, and take the
--- fills that its reader took.
+-- fills that its reader took; and as many fills are begun as the frames opened, behind the first.
 pub record IsToldBy (n start : ℕ) (c : Core) (deeds : List Deed) : Type 0 where
   pub acted : actions_of deeds ≡ c.history
   pub window : WindowRun n start deeds (window_of c)
   pub took : fills_taken start deeds ≡ numbers_of c.reader.taken
+  pub begun : c.opened ≡ start + 1 + length (opens_of c.history)

@@ -1,6 +1,6 @@
 //! The laws of the ring: each is the contract of a function with an empty body.
-ghost use Rattle.link_marks.specs.RunLaws.{LostAreClosed, NoneIsTakenAndLost, PassedAreTakenOrLost, RunsAreHistories, RunsArePacked, RunsMoveWindow, TakenAreClosed, WindowKeepsOrder};
-ghost use Rattle.link_marks.specs.AnswerLaws.{CrowdedIsRight, EmptyIsRight, MovingIsRight, SwappedIsRight, WornIsRight};
+ghost use Rattle.link_marks.specs.RunLaws.{CountsRise, LostAreClosed, NoneIsTakenAndLost, PackedFillsAreFull, PassedAreTakenOrLost, RunsAreHistories, RunsArePacked, RunsMoveWindow, TakenAreClosed, TakenHoldRecords, WindowKeepsOrder};
+ghost use Rattle.link_marks.specs.AnswerLaws.{CrowdedIsRight, EmptyIsRight, MovingIsRight, RefusalsAreDue, SwappedIsRight, WornIsRight};
 ghost use Rattle.link_marks.specs.LinkLaws.{HeadersAreOwed, HeadersAreSetOnce, LinksStandOnce, OneHeader, OwnersClear, StepsRaiseLinks, UpdatesAreClaimed};
 ghost use Rattle.link_marks.specs.Laws.{CommittedIsFront, KeptIsRing, RunsMakeRings, StartHasWindow, StartIsKept, StepsKeepRing, StepsMoveWindow, TakenAreFills, TakenPartsCommitted};
 
@@ -24,9 +24,10 @@ pub fn steps_move_window()
 {}
 
 /// Every run from a new ring is a run of its window, which tells each action of the frames and each fill
-/// that the reader took.
+/// that the reader took; and its counts only rise.
 pub fn runs_move_window()
     ensures runs { RunsMoveWindow }
+    ensures rises { CountsRise }
 {}
 
 /// Over a run of the window the counts keep their order; each fill below the head was taken or lost, never
@@ -40,10 +41,11 @@ pub fn window_runs_keep_order()
 {}
 
 /// A frame is refused for want of a page only where none is released, and for want of a fill's number only
-/// where the tail is the last fill that has one.
+/// where the tail is the last fill that has one; and there a frame that needs a page is refused.
 pub fn refusals_are_right()
     ensures crowded { CrowdedIsRight }
     ensures worn { WornIsRight }
+    ensures due { RefusalsAreDue }
 {}
 
 /// The reader finds nothing only where nothing closed is unread; it is sent away only by a move of the head
@@ -82,9 +84,12 @@ pub fn runs_are_histories()
 {}
 
 /// After every run the fills have room in their pages, and each was begun where one had to be: behind one
-/// that isn't empty, by a close frame or for a record that doesn't fit.
+/// that isn't empty, by a close frame or for a record that doesn't fit; so only the last can be empty, and
+/// the reader takes no empty page.
 pub fn runs_are_packed()
     ensures packed { RunsArePacked }
+    ensures full { PackedFillsAreFull }
+    ensures taken { TakenHoldRecords }
 {}
 
 /// The committed records are a front of the reserved ones; and after every run what the reader took are
