@@ -1,6 +1,6 @@
 -- Each step keeps what is known of the frames' history and of lost fills, and is a step of the window or
 -- leaves it as it was.
-use Rattle.std.proofs.Common.{◌≡◌, ◌≢◌, ℕ, suc, ◌+◌, ◌<◌, ◌⊎◌, List, [], ◌∷◌, ◌++◌, length, Option, Some, None, refl, sym, ap, ◌∙◌, subst, inl, inr, arith}
+use Rattle.std.proofs.Common.{◌≡◌, ◌≢◌, ℕ, suc, ◌+◌, ◌<◌, ◌⊎◌, List, [], ◌∷◌, ◌++◌, length, Option, Some, None, refl, sym, ap, ◌∙◌, subst, inl, inr, ⊎_elim, arith, append-nil}
 use mathlib.Core.Logic.{dite}
 use native.Mathlib.Decide.{ℕ_discrete}
 use Rattle.trace_model.specs.History as history
@@ -8,9 +8,11 @@ use Rattle.trace_model.specs.History.{Action, push, push_close, open_fill, reser
 use Rattle.trace_model.proofs.Allowed.{IsHistory-push}
 use Rattle.trace_model.specs.Links.{Link, header_link}
 use Rattle.trace_model.specs.Frames.{Kind, for_record, for_close, Role, owner, helper, Phase, reserving, looking, claiming, looking_next, marking, clearing, opening, reserved, releasing, Frame}
-use Rattle.trace_model.specs.Window.{Happening, opened_one, released_one, took_one, lost_one, WindowStep}
+use Rattle.trace_model.specs.Window.{Happening, opened_one, released_one, took_one, lost_one}
 use Rattle.trace_model.specs.Ring.{Taken, ReaderPhase, loading_link, loading_done, storing_link, swapping, Core, window_of}
 use Rattle.trace_model.specs.Steps.{Event, Answer, with_link, in_phase, after_leave, frames_left, number_in, begun, begun_on, after_next, BeginsAnew, ReserveStep, reserves, finds_nothing, is_crowded, is_worn, notes, LookStep, look_late, sees_free, sees_header, sees_update, ClaimStep, claim_late, claims, claim_fails, NextStep, next_late, sees_normal, sees_other, MarkStep, mark_late, marks, mark_fails, ClearStep, clears, OpenStep, open_late, opens, ReleaseStep, releases, releases_last, FrameStep, Step, push_step, push_refused, close_step, close_refused, frame_step, frame_lacks, end_step, end_lacks, end_early, read_step, LoadStep, loads_header, loads_update, loads_owed, loads_passed, LoadDoneStep, finds_none, finds_closed, SwapStep, swaps, swap_fails, ReadStep, taken_from}
+use Rattle.trace_model.specs.Sublist.{IsFront}
+use Rattle.link_marks.specs.Laws.{IsShown, Happened}
 use Rattle.link_marks.specs.Kept.{spot, passed_in, PhaseKept, ReaderKept, LinksKept}
 use Rattle.link_marks.specs.KeptHistory.{written_frame, shown_on, shown, Passing, TakenIn, HistoryKept}
 use Rattle.link_marks.proofs.Phases.{none_some, pair_is}
@@ -64,7 +66,7 @@ history_begun n start c page h may = record {
 -- what a step owes: what is known stays so, and the window makes a step or none
 pub record Owed (n start : ℕ) (c after : Core) : Type 0 where
   pub kept : HistoryKept n start after
-  pub window : (window_of after ≡ window_of c) ⊎ ((what : Happening) × WindowStep n c.history (window_of c) what (window_of after))
+  pub window : ((window_of after ≡ window_of c) × (after.reader.taken ≡ c.reader.taken)) ⊎ ((what : Happening) × Happened n c what after)
 
 module _ (n size start : ℕ) (c : Core) (frame : Frame) (below : List Frame) (k : LinksKept n c) (h : HistoryKept n start c) (top : c.frames ≡ frame ∷ below) where
   goes : (after : Core) (old phase : Phase) → frame.phase ≡ old → old ≢ releasing → phase ≢ releasing → number_in old ≡ number_in phase
@@ -73,24 +75,28 @@ module _ (n size start : ℕ) (c : Core) (frame : Frame) (below : List Frame) (k
       → Owed n start c after
   goes after old phase same stands stands' number passes is = subst (Owed n start c) (sym is) record {
     kept = history_goes n start c frame below h top phase (λ e. stands (sym same ∙ e)) stands' (ap number_in same ∙ number) (λ page at. passes page (sym (ap passed_in same) ∙ at));
-    window = inl refl;
+    window = inl (refl, refl);
   }
 
   leaves : (after : Core) (old : Phase) (payload : Option (List ℕ)) → frame.phase ≡ old → old ≢ releasing → MayLeave (written_frame frame.kind old ∷ shown below) payload → passed_in old ≡ None → after ≡ after_leave c frame below payload → Owed n start c after
   leaves after old payload same stands may none is = subst (Owed n start c) (sym is) record {
     kept = history_leaves n start c frame below h top payload (λ e. stands (sym same ∙ e)) (subst (λ (x : Phase). MayLeave (written_frame frame.kind x ∷ shown below) payload) (sym same) may) (λ page at. none_some (sym (ap passed_in same ∙ none) ∙ at));
-    window = inl refl;
+    window = inl (refl, refl);
   }
 
   same_window : (kind : Kind) → window_of (begun_on kind c frame below) ≡ window_of c
   same_window (for_record moment len) = refl
   same_window for_close = refl
 
+  same_taken : (kind : Kind) → (begun_on kind c frame below).reader.taken ≡ c.reader.taken
+  same_taken (for_record moment len) = refl
+  same_taken for_close = refl
+
   anew : (noted : ℕ) (answer : Answer) (after : Core) (old : Phase) → frame.phase ≡ old → old ≢ releasing → number_in old ≡ None → ((f page : ℕ) → passed_in old ≡ Some (spot f page) → f ≡ noted) → BeginsAnew c frame below noted answer after
       → Owed n start c after
   anew noted answer after old same stands number only step = subst (Owed n start c) (sym step.after_is) record {
     kept = history_anew n start c frame below h top frame.kind (λ e. stands (sym same ∙ e)) (ap number_in same ∙ number) (λ page at. step.passed (sym (only c.opened page (sym (ap passed_in same) ∙ at))));
-    window = inl (same_window frame.kind);
+    window = inl (same_window frame.kind, same_taken frame.kind);
   }
 
   pub no_spot : (noted : ℕ) (old : Phase) → passed_in old ≡ None → (f page : ℕ) → passed_in old ≡ Some (spot f page) → f ≡ noted
@@ -109,7 +115,7 @@ module _ (n size start : ℕ) (c : Core) (frame : Frame) (below : List Frame) (k
           (λ p. inr (refl, passing_on frame below (record { kind = frame.kind; phase = reserved (length (reserved_records c.history)) } ∷ below) c.opened (λ page at. absurd (none_some (sym (ap passed_in same) ∙ at))) (λ q. inr q) (subst (λ (fs : List Frame). Passing fs c.opened) top p)))
           (h.lost f low high);
     };
-    window = inl refl;
+    window = inl (refl, refl);
   }
   reserve_owed answer after same (finds_nothing kind none a is) = leaves after reserving None same (λ e. cc) (may_leave frame.kind reserving (shown below) refl) refl is
   reserve_owed answer after same (is_crowded needs full a is) = leaves after reserving None same (λ e. cc) (may_leave frame.kind reserving (shown below) refl) refl is
@@ -139,7 +145,7 @@ module _ (n size start : ℕ) (c : Core) (frame : Frame) (below : List Frame) (k
               (λ p. inr (refl, passing_on frame below frames c.opened (λ q is_q. absurd (none_some (sym (ap passed_in same) ∙ is_q))) (λ q. inr q) (subst (λ (fs : List Frame). Passing fs c.opened) top p)))
               (h.lost f low (omega arith)));
         };
-        window = inr (lost_one, record { may = (omega arith, omega arith); after_is = refl });
+        window = inr (lost_one, record { step = record { may = (omega arith, omega arith); after_is = refl }; shown = (refl, refl) });
       }
     where
       claim_stands : claiming noted page ≢ releasing
@@ -158,7 +164,7 @@ module _ (n size start : ℕ) (c : Core) (frame : Frame) (below : List Frame) (k
   clear_owed : (noted page : ℕ) (answer : Answer) (after : Core) → frame.phase ≡ clearing noted page → ClearStep n c frame below noted page answer after → Owed n start c after
   clear_owed noted page answer after same (clears lost sum at a is) = subst (Owed n start c) (sym is) record {
     kept = let kept = history_goes n start c frame below h top (opening noted page) (λ e. clear_stands (sym same ∙ e)) (λ e. cc) (ap number_in same) (λ p at_p. (p, sym (ap passed_in same) ∙ at_p)) in record { allowed = kept.allowed; stack = kept.stack; lost = kept.lost };
-    window = inl refl;
+    window = inl (refl, refl);
   }
     where
       clear_stands : clearing noted page ≢ releasing
@@ -167,7 +173,7 @@ module _ (n size start : ℕ) (c : Core) (frame : Frame) (below : List Frame) (k
   release_owed : (answer : Answer) (after : Core) → frame.phase ≡ releasing → ReleaseStep c frame below answer after → Owed n start c after
   release_owed answer after same (releases alone more a is) = subst (Owed n start c) (sym is) record {
     kept = record { allowed = h.allowed; stack = h.stack; lost = h.lost };
-    window = inr (released_one, record { may = (omega arith, settled_at_rest c.history (top_shown n start c frame below h top ∙ ap (λ (p : Phase). shown_on p frame.kind (shown below)) same ∙ ap shown alone)); after_is = refl });
+    window = inr (released_one, record { step = record { may = (omega arith, settled_at_rest c.history (top_shown n start c frame below h top ∙ ap (λ (p : Phase). shown_on p frame.kind (shown below)) same ∙ ap shown alone)); after_is = refl }; shown = (refl, refl) });
   }
   release_owed answer after same (releases_last alone last a is) =
       let none : (written_by c.history).stack ≡ [] = top_shown n start c frame below h top ∙ ap (λ (p : Phase). shown_on p frame.kind (shown below)) same ∙ ap shown alone in
@@ -179,13 +185,19 @@ module _ (n size start : ℕ) (c : Core) (frame : Frame) (below : List Frame) (k
               (λ p. inr (refl, passing_on frame below [] c.opened (λ q is_q. none_some (sym (ap passed_in same) ∙ is_q)) (λ q. subst (λ (fs : List Frame). Passing fs c.opened) alone q) (subst (λ (fs : List Frame). Passing fs c.opened) top p)))
               (h.lost f low high);
         };
-        window = inr (released_one, record { may = (omega arith, settled_at_rest c.history none); after_is = refl });
+        window = inr (released_one, record { step = record { may = (omega arith, settled_at_rest c.history none); after_is = refl }; shown = (refl, refl) });
       }
 
 module _ (n size start : ℕ) (c : Core) (frame : Frame) (below : List Frame) (k : LinksKept n c) (h : HistoryKept n start c) (top : c.frames ≡ frame ∷ below) where
+  relinked_shown : (after : Core) (g : ℕ) (l : Link) (what : Happening) → IsShown c after what → IsShown c (record after { links = (with_link n c g l).links }) what
+  relinked_shown after g l opened_one s = s
+  relinked_shown after g l released_one s = s
+  relinked_shown after g l took_one s = s
+  relinked_shown after g l lost_one s = s
+
   -- a link is set, and the frame goes on
   with_link_owed : (after : Core) (g : ℕ) (l : Link) → Owed n start c after → Owed n start c (record after { links = (with_link n c g l).links })
-  with_link_owed after g l owed = record { kept = record { allowed = owed.kept.allowed; stack = owed.kept.stack; lost = owed.kept.lost }; window = owed.window }
+  with_link_owed after g l owed = record { kept = record { allowed = owed.kept.allowed; stack = owed.kept.stack; lost = owed.kept.lost }; window = ⊎_elim (λ stays. inl stays) (λ (what, h). inr (what, record { step = h.step; shown = relinked_shown after g l what h.shown })) owed.window }
 
   mark_owed : (role : Role) (noted page next : ℕ) (answer : Answer) (after : Core) → frame.phase ≡ marking role noted page next → MarkStep n c frame below role noted page next answer after → Owed n start c after
   mark_owed role noted page next answer after same (mark_late helps step) = anew n size start c frame below k h top noted answer after (marking role noted page next) same (λ e. cc) refl (one_spot n size start c frame below k h top noted page) step
@@ -198,6 +210,14 @@ module _ (n size start : ℕ) (c : Core) (frame : Frame) (below : List Frame) (k
   begun_window (for_record moment len) page = refl
   begun_window for_close page = refl
 
+  begun_front : (kind : Kind) (page : ℕ) → IsFront (c.history ++ open_fill ∷ []) (begun_on kind (begun c page) frame below).history
+  begun_front (for_record moment len) page = ([], sym (append-nil (c.history ++ open_fill ∷ [])))
+  begun_front for_close page = (leave None ∷ [], refl)
+
+  begun_reader : (kind : Kind) (page : ℕ) → (begun_on kind (begun c page) frame below).reader ≡ c.reader
+  begun_reader (for_record moment len) page = refl
+  begun_reader for_close page = refl
+
   opens_for : (old : Phase) → frame.phase ≡ old → number_in old ≡ None → old ≢ releasing → MayOpen (written_by c.history).stack
   opens_for old same none stands = subst MayOpen (sym (top_shown n start c frame below h top ∙ shown_standing frame.kind frame.phase (shown below) (λ e. stands (sym same ∙ e)))) (may_open frame.kind frame.phase (shown below) (ap number_in same ∙ none))
 
@@ -208,7 +228,7 @@ module _ (n size start : ℕ) (c : Core) (frame : Frame) (below : List Frame) (k
       subst (Owed n start c) (sym is) record {
         kept = history_anew n start (begun c page) frame below (history_begun n start c page h (opens_for (opening noted page) same refl (λ e. cc))) top frame.kind (λ e. open_stands (sym same ∙ e)) (ap number_in same)
             (λ p at. let e = one_spot n size start c frame below k h top noted page (c.opened + 1) p (sym (ap passed_in same) ∙ at) in absurd (omega arith));
-        window = inr (opened_one, record { may = omega arith; after_is = begun_window frame.kind page });
+        window = inr (opened_one, record { step = record { may = omega arith; after_is = begun_window frame.kind page }; shown = (begun_front frame.kind page, begun_reader frame.kind page) });
       }
     where
       open_stands : opening noted page ≢ releasing
@@ -222,7 +242,7 @@ frame_owed n size start c frame below (looking_next role noted page) answer afte
 frame_owed n size start c frame below (marking role noted page next) answer after k h top same step = mark_owed n size start c frame below k h top role noted page next answer after same step
 frame_owed n size start c frame below (clearing noted page) answer after k h top same step = clear_owed n size start c frame below k h top noted page answer after same step
 frame_owed n size start c frame below (opening noted page) answer after k h top same step = open_owed n size start c frame below k h top noted page answer after same step
-frame_owed n size start c frame below (reserved number) answer after k h top same step = subst (Owed n start c) (sym step.1) record { kept = h; window = inl refl }
+frame_owed n size start c frame below (reserved number) answer after k h top same step = subst (Owed n start c) (sym step.1) record { kept = h; window = inl (refl, refl) }
 frame_owed n size start c frame below releasing answer after k h top same step = release_owed n size start c frame below k h top answer after same step
 
 -- ---- the steps of the reader
@@ -230,7 +250,7 @@ frame_owed n size start c frame below releasing answer after k h top same step =
 module _ (n start : ℕ) (c : Core) (k : LinksKept n c) (h : HistoryKept n start c) where
   -- the reader goes on, and takes nothing
   reader_owed : (after : Core) (spare_link : Link) (phase : ReaderPhase) (hint : ℕ) → after ≡ record c { spare_link = spare_link; reader = record { phase = phase; hint = hint; expected = c.reader.expected; taken = c.reader.taken } } → Owed n start c after
-  reader_owed after spare_link phase hint is = subst (Owed n start c) (sym is) record { kept = record { allowed = h.allowed; stack = h.stack; lost = h.lost }; window = inl refl }
+  reader_owed after spare_link phase hint is = subst (Owed n start c) (sym is) record { kept = record { allowed = h.allowed; stack = h.stack; lost = h.lost }; window = inl (refl, refl) }
 
   load_owed : (answer : Answer) (after : Core) → LoadStep n c answer after → Owed n start c after
   load_owed answer after (loads_header page fill at a is) = reader_owed after c.spare_link (loading_done page fill) fill is
@@ -256,7 +276,7 @@ module _ (n start : ℕ) (c : Core) (k : LinksKept n c) (h : HistoryKept n start
               (λ e. inl (subst (TakenIn (c.reader.taken ++ t ∷ [])) (here ∙ sym e) (taken_last c.reader.taken t)))
               (λ ne. why_stays n c.reader.taken (c.reader.taken ++ t ∷ []) c.opened c.opened c.frames c.frames f (taken_more c.reader.taken t f) (omega arith) (λ p. inr (refl, p)) (h.lost f low (omega arith)));
         };
-        window = inr (took_one, record { may = omega arith; after_is = refl });
+        window = inr (took_one, record { step = record { may = omega arith; after_is = refl }; shown = (refl, t, here, refl) });
       }
   swap_owed page fill answer after closed (swap_fails at a is) = reader_owed after c.spare_link loading_link (suc fill) is
 
@@ -277,17 +297,17 @@ pushed_owed n start c after kind action h may pushes is = subst (Owed n start c)
     stack = ap (λ (w : Written). w.stack) (written_snoc c.history action) ∙ pushes ∙ ap (λ (s : List history.Frame). written_frame kind reserving ∷ s) h.stack;
     lost = λ f low high. why_stays n c.reader.taken c.reader.taken c.opened c.opened c.frames (record { kind = kind; phase = reserving } ∷ c.frames) f (λ t. t) (omega arith) (λ p. inr (refl, inr p)) (h.lost f low high);
   };
-  window = inl refl;
+  window = inl (refl, refl);
 }
 
 pub step_owed : (n size start : ℕ) (c : Core) (event : Event) (answer : Answer) (after : Core) → LinksKept n c → HistoryKept n start c → Step n size c event answer after → Owed n start c after
 step_owed n size start c event answer after k h (push_step moment len e few fits early a is) = pushed_owed n start c after (for_record moment len) (push moment len) h tt refl is
-step_owed n size start c event answer after k h (push_refused moment len why e refused a is) = subst (Owed n start c) (sym is) record { kept = h; window = inl refl }
+step_owed n size start c event answer after k h (push_refused moment len why e refused a is) = subst (Owed n start c) (sym is) record { kept = h; window = inl (refl, refl) }
 step_owed n size start c event answer after k h (close_step e few a is) = pushed_owed n start c after for_close push_close h tt refl is
-step_owed n size start c event answer after k h (close_refused e many a is) = subst (Owed n start c) (sym is) record { kept = h; window = inl refl }
+step_owed n size start c event answer after k h (close_refused e many a is) = subst (Owed n start c) (sym is) record { kept = h; window = inl (refl, refl) }
 step_owed n size start c event answer after k h (frame_step frame below e top step) = frame_owed n size start c frame below frame.phase answer after k h top refl step
-step_owed n size start c event answer after k h (frame_lacks e none a is) = subst (Owed n start c) (sym is) record { kept = h; window = inl refl }
+step_owed n size start c event answer after k h (frame_lacks e none a is) = subst (Owed n start c) (sym is) record { kept = h; window = inl (refl, refl) }
 step_owed n size start c event answer after k h (end_step payload frame below number moment len e top phase kind slot a is) = leaves n size start c frame below k h top after (reserved number) (Some payload) phase (λ e'. cc) (subst (λ (x : Kind). MayLeave (written_frame x (reserved number) ∷ shown below) (Some payload)) (sym kind) slot) refl is
-step_owed n size start c event answer after k h (end_lacks payload e none a is) = subst (Owed n start c) (sym is) record { kept = h; window = inl refl }
-step_owed n size start c event answer after k h (end_early payload frame below e top none a is) = subst (Owed n start c) (sym is) record { kept = h; window = inl refl }
+step_owed n size start c event answer after k h (end_lacks payload e none a is) = subst (Owed n start c) (sym is) record { kept = h; window = inl (refl, refl) }
+step_owed n size start c event answer after k h (end_early payload frame below e top none a is) = subst (Owed n start c) (sym is) record { kept = h; window = inl (refl, refl) }
 step_owed n size start c event answer after k h (read_step e step) = read_owed n start c k h c.reader.phase answer after k.reader step

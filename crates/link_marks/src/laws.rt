@@ -2,7 +2,7 @@
 ghost use Rattle.link_marks.specs.RunLaws.{CountsRise, LostAreClosed, NoneIsTakenAndLost, PackedFillsAreFull, PassedAreTakenOrLost, RunsAreHistories, RunsArePacked, RunsMoveWindow, TakenAreClosed, TakenHoldRecords, WindowKeepsOrder};
 ghost use Rattle.link_marks.specs.AnswerLaws.{CrowdedIsRight, EmptyIsRight, MovingIsRight, RefusalsAreDue, SwappedIsRight, WornIsRight};
 ghost use Rattle.link_marks.specs.LinkLaws.{HeadersAreOwed, HeadersAreSetOnce, LinksStandOnce, OneHeader, OwnersClear, StepsRaiseLinks, UpdatesAreClaimed};
-ghost use Rattle.link_marks.specs.Laws.{CommittedIsFront, KeptIsRing, RunsMakeRings, StartHasWindow, StartIsKept, StepsKeepRing, StepsMoveWindow, TakenAreFills, TakenPartsCommitted};
+ghost use Rattle.link_marks.specs.Laws.{CommittedIsFront, KeptIsRing, NothingHappens, OneHappening, RunsMakeRings, StartHasWindow, StartIsKept, StepsKeepRing, StepsMoveWindow, TakenAreFills, TakenPartsCommitted};
 
 /// A new ring has all that its steps keep, and its window is the first one.
 pub fn start_is_kept()
@@ -17,10 +17,13 @@ pub fn steps_keep_ring()
     ensures runs { RunsMakeRings }
 {}
 
-/// Every step is a step of the window, or leaves it as it was: so no fill is both taken and lost, and
-/// none is lost but a closed one, in a full ring.
+/// Every step is one step of the window, the one that the history and the taken pages show, or leaves the
+/// window and what was taken as they were: so no fill is both taken and lost, and none is lost but a closed
+/// one, in a full ring.
 pub fn steps_move_window()
     ensures window { StepsMoveWindow }
+    ensures one { OneHappening }
+    ensures none { NothingHappens }
 {}
 
 /// Every run from a new ring is a run of its window, which tells each action of the frames and each fill
