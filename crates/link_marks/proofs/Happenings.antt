@@ -1,5 +1,5 @@
 -- What happens to a ring's window in one step is one happening.
-use Rattle.std.proofs.Common.{◌≡◌, ℕ, ◌+◌, List, [], ◌∷◌, ◌++◌, length, refl, sym, ap, ◌∙◌, arith, length-append}
+use Rattle.std.proofs.Common.{◌≡◌, ℕ, List, [], ◌∷◌, ◌++◌, length, refl, sym, ap, ◌∙◌, arith, length-append}
 use Rattle.trace_model.specs.Window.{Window, Happening, opened_one, released_one, took_one, lost_one, window_after}
 use Rattle.trace_model.specs.Ring.{Taken, Reader, Core, window_of}
 use Rattle.link_marks.specs.Laws.{Happened}
