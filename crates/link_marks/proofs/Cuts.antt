@@ -1,7 +1,7 @@
 -- Records cut into fills: what a reservation, an open and an end change.
-use Rattle.std.proofs.Common.{◌≡◌, ℕ, zero, suc, ◌-◌, ◌<◌, ◌≤◌, List, [], ◌∷◌, ◌++◌, length, get_or, take, drop, Option, Some, None, refl, sym, ap, ◌∙◌, arith, length-drop, append_assoc, append-nil}
+use Rattle.std.proofs.Common.{◌≡◌, ℕ, zero, suc, ◌+◌, ◌-◌, ◌<◌, ◌≤◌, List, [], ◌∷◌, ◌++◌, length, get_or, take, drop, Option, Some, None, refl, sym, ap, ◌∙◌, arith, length-drop, append_assoc, append-nil}
 use Rattle.std.specs.Prelude.{nat_lt, if◌then◌else◌}
-use Rattle.std.proofs.lemmas.List.{drop-append-le, take-append-le, take_all, drop_all}
+use Rattle.std.proofs.lemmas.List.{drop-take, drop-append-le, take-append-le, take_all, drop_all}
 use Rattle.std.proofs.lemmas.Bool.{cond_both, cond-true, cond-false, le-ltb, lt-ltb}
 use mathlib.Core.Logic.{dite}
 use native.Mathlib.Decide.{dec_le}
@@ -24,6 +24,19 @@ IsRising-snoc from (cut ∷ cuts) to r = (r.0, IsRising-snoc cut cuts to r.1)
 pub IsRising-least : (from : ℕ) (cuts : List ℕ) (to : ℕ) → IsRising from cuts to → from ≤ to
 IsRising-least from [] to r = r
 IsRising-least from (cut ∷ cuts) to r = let low = r.0 in let rest = IsRising-least cut cuts to r.1 in omega arith
+
+-- one more piece than there are cuts
+pub length-cut_from : (from : ℕ) (cuts : List ℕ) (xs : List Reservation) → length (cut_from from cuts xs) ≡ suc (length cuts)
+length-cut_from from [] xs = refl
+length-cut_from from (cut ∷ cuts) xs = ap suc (length-cut_from cut cuts xs)
+
+-- a piece stays the same behind which there is a cut, where the list does up to that cut
+pub cut-stays : {A : Type 0} (from : ℕ) (cuts more : List ℕ) (to : ℕ) (xs ys : List A) (i : ℕ) → IsRising from cuts to → i < length cuts → take (get_or (from ∷ cuts) (suc i) 0) ys ≡ take (get_or (from ∷ cuts) (suc i) 0) xs
+    → get_or (cut_from from (cuts ++ more) ys) i [] ≡ get_or (cut_from from cuts xs) i []
+cut-stays from [] more to xs ys i r low same = absurd (omega arith)
+cut-stays {A = A} from (cut ∷ cuts) more to xs ys zero r low same = let least = r.0 in let sum : from + (cut - from) ≡ cut = omega arith in
+    sym (drop-take from (cut - from) ys) ∙ ap (λ (m : ℕ). drop from (take m ys)) sum ∙ ap (drop {A = A} from) same ∙ ap (λ (m : ℕ). drop from (take m xs)) (sym sum) ∙ drop-take from (cut - from) xs
+cut-stays from (cut ∷ cuts) more to xs ys (suc i) r low same = cut-stays cut cuts more to xs ys i r.1 (omega arith) same
 
 -- where an open stands, the number of records in front of it
 pub opens_at : List Action → Action → List ℕ

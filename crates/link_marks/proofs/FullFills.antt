@@ -6,9 +6,9 @@ use native.Mathlib.Decide.{ℕ_discrete}
 use Rattle.trace_model.specs.History.{Action, push, push_close, open_fill, reserve, leave, Reservation, Frame, record_frame, close_frame, acted, written_by, reserved_records}
 use Rattle.trace_model.specs.Packing.{opens_of, cut_from, fills_of, tail_of, IsPacked}
 use Rattle.link_marks.specs.KeptContents.{IsRising}
-use Rattle.link_marks.proofs.Cuts.{IsRising-more, IsRising-snoc, reserved_before, opened_before, opens_of-push, opens_of-push_close, opens_of-reserve, opens_of-leave, opens_of-open_fill}
+use Rattle.link_marks.proofs.Cuts.{length-cut_from, IsRising-more, IsRising-snoc, reserved_before, opened_before, opens_of-push, opens_of-push_close, opens_of-reserve, opens_of-leave, opens_of-open_fill}
 use Rattle.link_marks.proofs.ContentSteps.{records_snoc}
-use Rattle.link_marks.proofs.PackedHistories.{plain, plain-finished, cut-plain, plain_nil, tail_is, length-cut_from}
+use Rattle.link_marks.proofs.PackedHistories.{plain, plain-finished, cut-plain, plain_nil, tail_is}
 
 -- what an action makes of the records: one more of them, or the same but for bytes
 abbrev Grown : List Reservation → List Reservation → Type 0

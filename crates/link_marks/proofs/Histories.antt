@@ -1,10 +1,10 @@
 -- Each step keeps what is known of the frames' history, and of the fills that were lost.
-use Rattle.std.proofs.Common.{◌≡◌, ◌≢◌, ℕ, zero, suc, ◌+◌, ◌<◌, ◌≤◌, ◌⊎◌, List, [], ◌∷◌, ◌++◌, length, Option, Some, None, refl, sym, ap, ◌∙◌, inl, inr, ⊎_elim, arith}
+use Rattle.std.proofs.Common.{◌≡◌, ◌≢◌, ℕ, zero, suc, ◌+◌, ◌<◌, ◌≤◌, ◌⊎◌, List, [], ◌∷◌, ◌++◌, length, Option, Some, None, refl, sym, ap, ◌∙◌, subst, inl, inr, ⊎_elim, arith}
 use Rattle.std.specs.Prelude.{◌==◌, IsTrue}
 use Rattle.std.proofs.lemmas.Bool.{cond_both}
 use Rattle.std.proofs.lemmas.List.Sums.{fold-append}
 use Rattle.trace_model.specs.History as history
-use Rattle.trace_model.specs.History.{Action, push, push_close, open_fill, reserve, leave, Reservation, Written, acted, written_by, reserved_records, is_settled}
+use Rattle.trace_model.specs.History.{Action, push, push_close, open_fill, reserve, leave, Reservation, Written, acted, written_by, reserved_records, is_settled, MayOpen, MayLeave}
 use Rattle.trace_model.specs.Frames.{Kind, for_record, for_close, Phase, reserving, looking, claiming, looking_next, marking, clearing, opening, reserved, releasing, Frame}
 use Rattle.trace_model.specs.Ring.{Taken, Core}
 use Rattle.trace_model.specs.Steps.{frames_left, number_in}
@@ -46,6 +46,15 @@ shown_standing kind releasing below ne = absurd (ne refl)
 written_alike : (kind : Kind) (p q : Phase) → number_in p ≡ number_in q → written_frame kind p ≡ written_frame kind q
 written_alike (for_record moment len) p q e = ap (λ (x : Option ℕ). history.record_frame moment len x) e
 written_alike for_close p q e = refl
+
+-- a frame that has no record may begin a fill, and leave with no payload
+pub may_open : (kind : Kind) (phase : Phase) (below : List history.Frame) → number_in phase ≡ None → MayOpen (written_frame kind phase ∷ below)
+may_open (for_record moment len) phase below none = none
+may_open for_close phase below none = tt
+
+pub may_leave : (kind : Kind) (phase : Phase) (below : List history.Frame) → number_in phase ≡ None → MayLeave (written_frame kind phase ∷ below) None
+may_leave (for_record moment len) phase below none = subst (λ (x : Option ℕ). MayLeave (history.record_frame moment len x ∷ below) None) (sym none) refl
+may_leave for_close phase below none = refl
 
 pub shown_alike : (kind : Kind) (p q : Phase) (below : List history.Frame) → p ≢ releasing → q ≢ releasing → number_in p ≡ number_in q → shown_on p kind below ≡ shown_on q kind below
 shown_alike kind p q below not_p not_q e = shown_standing kind p below not_p ∙ ap (λ (f : history.Frame). f ∷ below) (written_alike kind p q e) ∙ sym (shown_standing kind q below not_q)

@@ -8,6 +8,7 @@ pub mod EachStep
 pub mod Start
 pub mod Histories
 pub mod HistorySteps
+pub mod Happenings
 pub mod Cuts
 pub mod Pages
 pub mod ContentSteps

@@ -1,18 +1,18 @@
 -- What was done stays packed by one more action: the fills have room, and the action was allowed.
-use Rattle.std.proofs.Common.{◌≡◌, ◌≢◌, ℕ, zero, suc, ◌+◌, ◌-◌, ◌^◌, ◌<◌, ◌≤◌, ◌⊎◌, true, false, max, List, [], ◌∷◌, ◌++◌, length, get_or, take, drop, map, fold, Option, Some, None, refl, sym, ap, ◌∙◌, subst, inl, inr, ⊎_elim, arith, append_assoc, length-append}
+use Rattle.std.proofs.Common.{◌≡◌, ◌≢◌, ℕ, zero, suc, ◌+◌, ◌-◌, ◌^◌, ◌<◌, ◌≤◌, ◌⊎◌, true, false, max, List, [], ◌∷◌, ◌++◌, length, get_or, take, drop, map, Option, Some, None, refl, sym, ap, ◌∙◌, subst, inl, inr, ⊎_elim, arith, append_assoc, length-append}
 use Rattle.std.specs.Prelude.{nat_lt, nat_le, if◌then◌else◌}
 use Rattle.std.proofs.lemmas.Bool.{cond_both}
 use Rattle.std.proofs.lemmas.List.{map_push}
 use mathlib.Core.Logic.{dite}
 use native.Mathlib.Decide.{ℕ_discrete, dec_le}
 use Rattle.trace_model.specs.Words.{slot_len, encoded_len}
-use Rattle.trace_model.specs.History.{Action, push, push_close, open_fill, reserve, leave, Reservation, Frame, record_frame, close_frame, Written, last_moment, reserved_for, finished_at, acted, written_by, reserved_records}
+use Rattle.trace_model.specs.History.{Action, push, push_close, open_fill, reserve, leave, Reservation, Frame, record_frame, close_frame, last_moment, reserved_for, finished_at, written_by, reserved_records}
 use Rattle.trace_model.specs.Packing.{opens_of, cut_from, fills_of, tail_of, len_behind, fill_len, FitsBehind, wanted_by, wanted, Closes, IsPacked}
 use Rattle.trace_model.specs.Frames.{Kind, for_record, for_close}
 use Rattle.trace_model.proofs.Lengths.{slot_len_ge_four, slot_len-slot_len}
 use Rattle.link_marks.specs.KeptContents.{IsRising}
 use Rattle.link_marks.proofs.Phases.{none_some}
-use Rattle.link_marks.proofs.Cuts.{reserved_before, reserved_last, opened_before, opened_last}
+use Rattle.link_marks.proofs.Cuts.{length-cut_from, reserved_before, reserved_last, opened_before, opened_last}
 
 -- ---- a record without its bytes
 
@@ -66,10 +66,6 @@ fill_len-alike cuts xs ys i same = sym (fill_len-plain (get_or (cut_from 0 cuts 
 abbrev pub tail_at : List ℕ → List Reservation → List Reservation
 tail_at cuts xs = get_or (cut_from 0 cuts xs) (length cuts) []
 
-pub length-cut_from : (from : ℕ) (cuts : List ℕ) (xs : List Reservation) → length (cut_from from cuts xs) ≡ suc (length cuts)
-length-cut_from from [] xs = refl
-length-cut_from from (cut ∷ cuts) xs = ap suc (length-cut_from cut cuts xs)
-
 cut-past : (from : ℕ) (cuts : List ℕ) (xs : List Reservation) (i : ℕ) → length cuts < i → get_or (cut_from from cuts xs) i [] ≡ []
 cut-past from [] xs zero past = absurd (omega arith)
 cut-past from [] xs (suc i) past = refl
@@ -112,8 +108,8 @@ fill_more (x ∷ xs) s moment moment' len = add_le (encoded_len x.len 0 true) _ 
 
 -- ---- what the frame on top wants
 
-pub wanted_record : (h : List Action) (moment len : ℕ) (number : Option ℕ) (below : List Frame) → (written_by h).stack ≡ record_frame moment len number ∷ below → wanted h ≡ Some (reserved_for moment len (reserved_records h))
-wanted_record h moment len number below e = ap (λ (s : List Frame). wanted_by s (reserved_records h)) e
+pub wanted_record : (h : List Action) (moment len : ℕ) (below : List Frame) → (written_by h).stack ≡ record_frame moment len None ∷ below → wanted h ≡ Some (reserved_for moment len (reserved_records h))
+wanted_record h moment len below e = ap (λ (s : List Frame). wanted_by s (reserved_records h)) e
 
 pub wanted_close : (h : List Action) (below : List Frame) → (written_by h).stack ≡ close_frame ∷ below → wanted h ≡ None
 wanted_close h below e = ap (λ (s : List Frame). wanted_by s (reserved_records h)) e
@@ -242,13 +238,13 @@ needs_reserved size cuts xs s for_close rising needs = λ none. snoc_some (tail_
 pub some_reservation : (a b : Reservation) → Some a ≡ Some b → a ≡ b
 some_reservation a b e = cc
 
-pub fit_open_record : (size : ℕ) (h : List Action) (moment len : ℕ) (number : Option ℕ) (below : List Frame) → (written_by h).stack ≡ record_frame moment len number ∷ below → FitsPage size (for_record moment len)
+pub fit_open_record : (size : ℕ) (h : List Action) (moment len : ℕ) (below : List Frame) → (written_by h).stack ≡ record_frame moment len None ∷ below → FitsPage size (for_record moment len)
     → NeedsFill size (opens_of h) (reserved_records h) (for_record moment len)
     → IsFit size h open_fill
-fit_open_record size h moment len number below stack fits needs = (
+fit_open_record size h moment len below stack fits needs = (
   λ none. needs (subst (λ (l : List Reservation). FitsBehind size l (reserved_for moment len (reserved_records h))) (sym (sym (tail_is h) ∙ none)) (alone_fits fits)),
-  λ r is fits. needs (subst (λ (l : List Reservation). FitsBehind size l (reserved_for moment len (reserved_records h))) (tail_is h) (subst (FitsBehind size (tail_of h)) (some_reservation r (reserved_for moment len (reserved_records h)) (sym is ∙ wanted_record h moment len number below stack)) fits)),
-  λ is. absurd (none_some (sym is ∙ wanted_record h moment len number below stack)),
+  λ r is fits. needs (subst (λ (l : List Reservation). FitsBehind size l (reserved_for moment len (reserved_records h))) (tail_is h) (subst (FitsBehind size (tail_of h)) (some_reservation r (reserved_for moment len (reserved_records h)) (sym is ∙ wanted_record h moment len below stack)) fits)),
+  λ is. absurd (none_some (sym is ∙ wanted_record h moment len below stack)),
 )
   where
     alone_fits : encoded_len len 0 true ≤ size → FitsBehind size [] (reserved_for moment len (reserved_records h))

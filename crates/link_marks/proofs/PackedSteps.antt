@@ -102,9 +102,9 @@ tail_held n start c k t = let count = t.begun in let unread = k.head_le in let b
     ∙ ap (λ (i : ℕ). get_or (cut_from 0 (opens_of c.history) (reserved_records c.history)) i []) (let e : (c.opened - 1) - start ≡ length (opens_of c.history) = omega arith in e)
 
 -- a frame may open the fill that it noted
-fit_open : (size : ℕ) (h : List Action) (kind : Kind) (phase : Phase) (rest : List history.Frame) → (written_by h).stack ≡ written_frame kind phase ∷ rest → FitsPage size kind → NeedsFill size (opens_of h) (reserved_records h) kind → IsFit size h open_fill
-fit_open size h (for_record moment len) phase rest stack fits needs = fit_open_record size h moment len (number_in phase) rest stack fits needs
-fit_open size h for_close phase rest stack fits needs = fit_open_close size h rest stack needs
+fit_open : (size : ℕ) (h : List Action) (kind : Kind) (phase : Phase) (rest : List history.Frame) → (written_by h).stack ≡ written_frame kind phase ∷ rest → number_in phase ≡ None → FitsPage size kind → NeedsFill size (opens_of h) (reserved_records h) kind → IsFit size h open_fill
+fit_open size h (for_record moment len) phase rest stack none fits needs = fit_open_record size h moment len rest (stack ∙ ap (λ (x : Option ℕ). history.record_frame moment len x ∷ rest) none) fits needs
+fit_open size h for_close phase rest stack none fits needs = fit_open_close size h rest stack needs
 
 module _ (n size start : ℕ) (c : Core) (frame : Frame) (below : List Frame) (k : LinksKept n c) (h : HistoryKept n start c) (t : ContentsKept n start c) (q : PackedKept size c) (top : c.frames ≡ frame ∷ below) where
   p : PackedAt size c.history c.opened (frame ∷ below)
@@ -138,7 +138,7 @@ module _ (n size start : ℕ) (c : Core) (frame : Frame) (below : List Frame) (k
       let room_for : FitsBehind size (tail_at cuts xs) s = subst (FitsBehind size (tail_at cuts xs)) r_is (subst (λ (l : List Reservation). FitsBehind size l r) (tail_held n start c k t) fits) in
       subst (PackedKept size) (sym is) record {
         room = refilled size cuts (opens_of (h0 ++ reserve ∷ [])) (xs ++ s ∷ []) (reserved_records (h0 ++ reserve ∷ [])) (opens_of-reserve c.history) (ap (map plain) records) (room_reserved size cuts xs s t.rising room_for p.room);
-        fit = fit_more size c.history reserve p.fit (λ r' wants. subst (λ (l : List Reservation). FitsBehind size l r') (sym (tail_is c.history)) (subst (FitsBehind size (tail_at cuts xs)) (some_reservation s r' (sym (wanted_record c.history moment len None (shown below) stack) ∙ wants)) room_for));
+        fit = fit_more size c.history reserve p.fit (λ r' wants. subst (λ (l : List Reservation). FitsBehind size l r') (sym (tail_is c.history)) (subst (FitsBehind size (tail_at cuts xs)) (some_reservation s r' (sym (wanted_record c.history moment len (shown below) stack) ∙ wants)) room_for));
         needs = reneeded size cuts (opens_of (h0 ++ reserve ∷ [])) (xs ++ s ∷ []) (reserved_records (h0 ++ reserve ∷ [])) c.opened (record { kind = frame.kind; phase = reserved (length xs) } ∷ below) (opens_of-reserve c.history) (ap (map plain) records)
             ((p.needs.0.0, λ noted. absurd (none_some noted)), needs_same size cuts cuts xs (xs ++ s ∷ []) c.opened below (λ x. needs_reserved size cuts xs s x t.rising) p.needs.1);
       }
@@ -157,7 +157,7 @@ module _ (n size start : ℕ) (c : Core) (frame : Frame) (below : List Frame) (k
       let records : reserved_records (h0 ++ open_fill ∷ []) ≡ xs = records_snoc c.history open_fill in
       let begins : PackedAt size (h0 ++ open_fill ∷ []) (c.opened + 1) (frame ∷ below) = record {
         room = refilled size (cuts ++ length xs ∷ []) (opens_of (h0 ++ open_fill ∷ [])) xs (reserved_records (h0 ++ open_fill ∷ [])) (opens_of-open_fill c.history) (ap (map plain) records) (room_opened size cuts xs p.room);
-        fit = fit_more size c.history open_fill p.fit (fit_open size c.history frame.kind frame.phase (shown below) stack p.needs.0.0 (p.needs.0.1 (ap noted_in same ∙ ap Some now)));
+        fit = fit_more size c.history open_fill p.fit (fit_open size c.history frame.kind frame.phase (shown below) stack (ap number_in same) p.needs.0.0 (p.needs.0.1 (ap noted_in same ∙ ap Some now)));
         needs = needs_opened n c size cuts (opens_of (h0 ++ open_fill ∷ [])) xs (reserved_records (h0 ++ open_fill ∷ [])) (frame ∷ below) (subst (FramesKept n c.links c.order c.head c.done c.opened) top k.frames) p.needs;
       } in
       subst (PackedKept size) (sym is) (packed_begun_on size (begun c page) frame below (shown below) begins frame.kind (opened_stack c.history (written_frame frame.kind frame.phase ∷ shown below) stack))

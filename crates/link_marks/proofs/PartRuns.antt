@@ -1,9 +1,9 @@
 -- Each step keeps the taken fills and the lost ones the parts of the records.
 use Rattle.std.proofs.Common.{◌≡◌, ℕ, ◌+◌, ◌-◌, ◌≤◌, List, [], ◌∷◌, ◌++◌, length, get_or, Some, None, refl, sym, ap, ◌∙◌, subst, arith, length-append}
-use Rattle.trace_model.specs.History.{Action, push, push_close, open_fill, reserve, leave, reserved_records}
+use Rattle.trace_model.specs.History.{Action, push, push_close, open_fill, reserve, leave, Reservation, reserved_records}
 use Rattle.trace_model.specs.Packing.{opens_of}
 use Rattle.trace_model.specs.Frames.{Kind, for_record, for_close, Phase, reserving, looking, claiming, looking_next, marking, clearing, opening, reserved, releasing, Frame}
-use Rattle.trace_model.specs.Ring.{ReaderPhase, loading_link, loading_done, storing_link, swapping, Core, page_at}
+use Rattle.trace_model.specs.Ring.{ReaderPhase, loading_link, loading_done, storing_link, swapping, Core, page_at, first_of_fill}
 use Rattle.trace_model.specs.Steps.{Event, Answer, begun, begun_on, BeginsAnew, reserves, finds_nothing, is_crowded, is_worn, notes, look_late, sees_free, sees_header, sees_update, claim_late, claims, claim_fails, next_late, sees_normal, sees_other, mark_late, marks, mark_fails, clears, open_late, opens, releases, releases_last, FrameStep, Step, push_step, push_refused, close_step, close_refused, frame_step, frame_lacks, end_step, end_lacks, end_early, read_step, loads_header, loads_update, loads_owed, loads_passed, finds_none, finds_closed, swaps, swap_fails, ReadStep, taken_from, held_by}
 use Rattle.link_marks.specs.Kept.{PhaseKept, ReaderKept, LinksKept}
 use Rattle.link_marks.specs.KeptHistory.{HistoryKept}
@@ -11,8 +11,10 @@ use Rattle.link_marks.specs.KeptContents.{ContentsKept, ClosedKept}
 use Rattle.link_marks.specs.KeptParts.{PartsKept, PartsOf}
 use Rattle.link_marks.proofs.Stacks.{top_kept}
 use Rattle.link_marks.proofs.Inside.{header_inside, header_tells, fill_at}
-use Rattle.link_marks.proofs.Cuts.{opens_of-open_fill}
-use Rattle.link_marks.proofs.Committed.{committed_len, committed_len-more, first_below}
+use Rattle.link_marks.proofs.Cuts.{IsRising-snoc, opens_of-open_fill}
+use Rattle.link_marks.proofs.ContentSteps.{records_snoc}
+use Rattle.link_marks.specs.KeptContents.{IsRising}
+use Rattle.link_marks.proofs.Committed.{committed_len, first_more, first_below}
 use Rattle.link_marks.proofs.Parts.{first_rises_to}
 use Rattle.link_marks.proofs.PartSteps.{parts_more, parts_lost, parts_taken}
 
@@ -20,14 +22,18 @@ module _ (n start : ℕ) (c : Core) (k : LinksKept n c) (t : ContentsKept n star
   counted : c.head - start ≤ length (opens_of c.history)
   counted = let a = t.begun in let b = k.done_lt in let d = k.head_le in omega arith
 
-  -- what the reader expects is committed
-  pub settled : c.reader.expected ≤ committed_len c.history
-  settled = let a = t.begun in let b = k.done_lt in let d = k.head_le in let e = t.from_start in let le = q.expected_le in
+  -- what is taken or lost is committed
+  head_settled : first_of_fill c.history start c.head ≤ committed_len c.history
+  head_settled = let a = t.begun in let b = k.done_lt in let d = k.head_le in let e = t.from_start in
       let rises = first_rises_to (opens_of c.history) (length (reserved_records c.history)) (c.head - start) (c.done - c.head) (omega arith) t.rising in
       let same = ap (λ (i : ℕ). get_or (0 ∷ opens_of c.history) i 0) (let s : (c.head - start) + (c.done - c.head) ≡ c.done - start = omega arith in s) in omega arith
 
+  -- and so is what the reader expects
+  pub settled : c.reader.expected ≤ committed_len c.history
+  settled = let le = q.expected_le in let low = head_settled in omega arith
+
   parts_acts : (a : Action) → PartsKept start (c.history ++ a ∷ []) c.head c.reader.expected c.reader.taken
-  parts_acts a = parts_more start c.history a c.head c.reader.expected c.reader.taken counted settled q
+  parts_acts a = parts_more start c.history a c.head c.reader.expected c.reader.taken counted t.rising head_settled q
 
   parts_begun : (kind : Kind) (frame : Frame) (below : List Frame) → PartsOf start (begun_on kind c frame below)
   parts_begun (for_record moment len) frame below = q
@@ -37,7 +43,9 @@ module _ (n start : ℕ) (c : Core) (k : LinksKept n c) (t : ContentsKept n star
   parts_begins (for_record moment len) page frame below = parts_acts open_fill
   parts_begins for_close page frame below = parts_more start (c.history ++ open_fill ∷ []) (leave None) c.head c.reader.expected c.reader.taken
       (let low = counted in omega (arith, ap (length {A = ℕ}) (opens_of-open_fill c.history), length-append (opens_of c.history) (length (reserved_records c.history) ∷ [])))
-      (let low = settled in let more = committed_len-more c.history open_fill in omega arith)
+      (subst (λ (l : List ℕ). IsRising 0 l (length (reserved_records (c.history ++ open_fill ∷ [])))) (sym (opens_of-open_fill c.history))
+      (subst (λ (l : List Reservation). IsRising 0 (opens_of c.history ++ length (reserved_records c.history) ∷ []) (length l)) (sym (records_snoc c.history open_fill)) (IsRising-snoc 0 (opens_of c.history) (length (reserved_records c.history)) t.rising)))
+      (first_more c.history open_fill (c.head - start) counted head_settled)
       (parts_acts open_fill)
 
   anew : (frame : Frame) (below : List Frame) (noted : ℕ) (answer : Answer) (after : Core) → BeginsAnew c frame below noted answer after → PartsOf start after
@@ -89,7 +97,7 @@ parts_read n start c (swapping page fill) answer after k t facts q (swaps at a i
     let behind = k.done_lt in let count = t.begun in let from_start = t.from_start in
     subst (PartsOf start) (sym is) (parts_taken start c.history c.head c.reader.expected c.reader.taken from_start (omega arith) t.rising
     (first_below 0 (opens_of c.history) (length (reserved_records c.history)) (c.head - start) (omega arith) t.rising)
-    (taken_from c page fill)
+    (taken_from c page fill) here
     (ap (held_by c) (told.2 ∙ ap (page_at n c.order) told.1) ∙ t.each c.head (omega arith) (omega arith))
     refl q)
 parts_read n start c (swapping page fill) answer after k t facts q (swap_fails at a is) = subst (PartsOf start) (sym is) q

@@ -2,41 +2,69 @@
 use Rattle.std.proofs.Common.{◌≡◌, ℕ, suc, ◌+◌, ◌-◌, ◌<◌, ◌≤◌, ⊎_elim, List, [], ◌∷◌, ◌++◌, length, get_or, take, map, Some, sym, ap, ◌∙◌, subst, arith, length-append, length-take-le, append_assoc}
 use Rattle.std.proofs.lemmas.List.{map-append, length-map}
 use Rattle.std.proofs.Math.ListN.{get_or-append}
+use Rattle.std.specs.List.{slice_get}
+use Rattle.std.proofs.lemmas.Option.{slice_get_within}
 use Rattle.trace_model.specs.Record.{Record}
 use Rattle.trace_model.specs.History.{Action, Reservation, Frame, written_by, reserved_records, finished}
-use Rattle.trace_model.specs.Packing.{opens_of, fills_of}
+use Rattle.trace_model.specs.Packing.{opens_of, cut_from, fills_of}
 use Rattle.trace_model.specs.Partition.{Piece, IsPartition, first_of}
-use Rattle.trace_model.specs.Ring.{Held, Taken, first_of_fill}
+use Rattle.trace_model.specs.Ring.{Held, Taken, first_of_fill, IsFillOf, AreFillsOf}
 use Rattle.link_marks.specs.KeptContents.{IsRising}
 use Rattle.link_marks.specs.KeptParts.{covered_by, piece_of, pieces_of, PartsKept}
-use Rattle.link_marks.proofs.Cuts.{opens_at, opens_more}
+use Rattle.link_marks.proofs.Cuts.{length-cut_from, cut-stays, opens_at, opens_more}
 use Rattle.link_marks.proofs.Committed.{Behind, committed_front, take_acted, committed_len, first_below}
 use Rattle.link_marks.proofs.ContentSteps.{records_snoc}
-use Rattle.link_marks.proofs.Parts.{first_old, first_new, covered_by-snoc, get_snoc, partition_snoc, fill_behind, first_rises, take_split, take_map}
+use Rattle.link_marks.proofs.Parts.{first_old, first_new, covered_by-snoc, get_snoc, partition_snoc, fill_behind, first_rises, first_rises_to, take_split, take_map}
 
 -- what is committed stays so, with one action more
-frozen : (h : List Action) (a : Action) (e : ℕ) → e ≤ committed_len h → take e (map finished (reserved_records (h ++ a ∷ []))) ≡ take e (map finished (reserved_records h))
-frozen h a e low = let k = committed_front h in
-    take_map finished e (reserved_records (h ++ a ∷ []))
-    ∙ ap (λ (l : List Reservation). map finished (take e l)) (records_snoc h a)
-    ∙ ap (map finished) (take_acted e (written_by h).stack (written_by h).records a (let within = k.within in omega arith) (fewer (committed_len h) e low (written_by h).stack k.behind))
-    ∙ sym (take_map finished e (reserved_records h))
+frozen_yet : (h : List Action) (a : Action) (e : ℕ) → e ≤ committed_len h → take e (reserved_records (h ++ a ∷ [])) ≡ take e (reserved_records h)
+frozen_yet h a e low = let k = committed_front h in
+    ap (λ (l : List Reservation). take e l) (records_snoc h a)
+    ∙ take_acted e (written_by h).stack (written_by h).records a (let within = k.within in omega arith) (fewer (committed_len h) e low (written_by h).stack k.behind)
   where
     fewer : (most least : ℕ) → least ≤ most → (stack : List Frame) → Behind most stack → Behind least stack
     fewer most least le [] b = tt
     fewer most least le (f ∷ stack) b = ((λ k e. let low = b.0 k e in omega arith), fewer most least le stack b.1)
 
+frozen : (h : List Action) (a : Action) (e : ℕ) → e ≤ committed_len h → take e (map finished (reserved_records (h ++ a ∷ []))) ≡ take e (map finished (reserved_records h))
+frozen h a e low = take_map finished e (reserved_records (h ++ a ∷ [])) ∙ ap (map finished) (frozen_yet h a e low) ∙ sym (take_map finished e (reserved_records h))
+
 -- the first number of a fill that is begun stays the same
-first_stays : (h : List Action) (a : Action) (i : ℕ) → i ≤ length (opens_of h) → get_or (0 ∷ opens_of (h ++ a ∷ [])) i 0 ≡ get_or (0 ∷ opens_of h) i 0
+pub first_stays : (h : List Action) (a : Action) (i : ℕ) → i ≤ length (opens_of h) → get_or (0 ∷ opens_of (h ++ a ∷ [])) i 0 ≡ get_or (0 ∷ opens_of h) i 0
 first_stays h a i low = ap (λ (l : List ℕ). get_or (0 ∷ l) i 0) (opens_more [] h a) ∙ get_or-append (0 ∷ opens_of h) (opens_at h a) 0 i (let l : i < suc (length (opens_of h)) = omega arith in l)
 
+-- a fill that is closed stays the same
+fill_stays : (h : List Action) (a : Action) (i : ℕ) → i < length (opens_of h) → IsRising 0 (opens_of h) (length (reserved_records h)) → get_or (0 ∷ opens_of h) (suc i) 0 ≤ committed_len h → get_or (fills_of (h ++ a ∷ [])) i [] ≡ get_or (fills_of h) i []
+fill_stays h a i low r done = ap (λ (l : List ℕ). get_or (cut_from 0 l (reserved_records (h ++ a ∷ []))) i []) (opens_more [] h a)
+    ∙ cut-stays 0 (opens_of h) (opens_at h a) (length (reserved_records h)) (reserved_records h) (reserved_records (h ++ a ∷ [])) i r low (frozen_yet h a (get_or (0 ∷ opens_of h) (suc i) 0) done)
+
+length-fills : (h : List Action) → length (fills_of h) ≡ suc (length (opens_of h))
+length-fills h = length-cut_from 0 (opens_of h) (reserved_records h)
+
+taken_stays : (start : ℕ) (h : List Action) (a : Action) (t : Taken) → t.fill - start < length (opens_of h) → IsRising 0 (opens_of h) (length (reserved_records h)) → get_or (0 ∷ opens_of h) (suc (t.fill - start)) 0 ≤ committed_len h → IsFillOf start h t → IsFillOf start (h ++ a ∷ []) t
+taken_stays start h a t low r done f = record {
+  from_start = f.from_start;
+  begun = let count = length-fills (h ++ a ∷ []) in let more = ap (length {A = ℕ}) (opens_more [] h a) in let sum = length-append (opens_of h) (opens_at h a) in let from = f.from_start in omega arith;
+  held = let first = sym (first_stays h a (t.fill - start) (let le : t.fill - start ≤ length (opens_of h) = omega arith in le)) in
+      let records = sym (fill_stays h a (t.fill - start) low r done) in
+      f.held ∙ (λ i. record { first = first i; records = records i });
+}
+
 -- an action more
-pub parts_more : (start : ℕ) (h : List Action) (a : Action) (head expected : ℕ) (taken : List Taken) → head - start ≤ length (opens_of h) → expected ≤ committed_len h → PartsKept start h head expected taken → PartsKept start (h ++ a ∷ []) head expected taken
-parts_more start h a head expected taken low done p = record {
+pub parts_more : (start : ℕ) (h : List Action) (a : Action) (head expected : ℕ) (taken : List Taken) → head - start ≤ length (opens_of h) → IsRising 0 (opens_of h) (length (reserved_records h)) → first_of_fill h start head ≤ committed_len h → PartsKept start h head expected taken
+    → PartsKept start (h ++ a ∷ []) head expected taken
+parts_more start h a head expected taken low r done p = record {
   expected_le = let le = p.expected_le in let e = first_stays h a (head - start) low in omega arith;
-  parts = subst (λ (l : List Record). IsPartition l (pieces_of taken) []) (sym (frozen h a expected done)) p.parts;
+  parts = subst (λ (l : List Record). IsPartition l (pieces_of taken) []) (sym (frozen h a expected (let le = p.expected_le in omega arith))) p.parts;
   total = p.total;
   firsts = p.firsts;
+  fills = record {
+    each = λ k t at. let f = p.fills.each k t at in let from = f.from_start in let high = p.below k t at in taken_stays start h a t (omega arith) r
+        (let up = first_rises_to (opens_of h) (length (reserved_records h)) (suc (t.fill - start)) (head - suc t.fill) (omega arith) r in
+        let e = ap (λ (i : ℕ). get_or (0 ∷ opens_of h) i 0) (let s : suc (t.fill - start) + (head - suc t.fill) ≡ head - start = omega arith in s) in omega arith) f;
+    rising = p.fills.rising;
+  };
+  below = p.below;
 }
 
 -- the head is lost
@@ -47,14 +75,29 @@ parts_lost start h head expected taken from low r p = record {
   parts = p.parts;
   total = p.total;
   firsts = p.firsts;
+  fills = p.fills;
+  below = λ k t at. let high = p.below k t at in omega arith;
+}
+
+-- what was taken, with the head behind it
+fills_taken : (start : ℕ) (h : List Action) (head : ℕ) (taken : List Taken) (t : Taken) → t.fill ≡ head → IsFillOf start h t → AreFillsOf start h taken → ((k : ℕ) (u : Taken) → slice_get taken k ≡ Some u → u.fill < head) → AreFillsOf start h (taken ++ t ∷ [])
+fills_taken start h head taken t here f fs below = record {
+  each = λ k u at. ⊎_elim (λ old. fs.each k u old) (λ (last, same). subst (IsFillOf start h) same f) (get_snoc taken t u k at);
+  rising = λ j k a b less at_j at_k. ⊎_elim
+      (λ old_k. ⊎_elim (λ old_j. fs.rising j k a b less old_j old_k) (λ (last, same). let within = slice_get_within taken k b old_k in absurd (omega arith)) (get_snoc taken t a j at_j))
+      (λ (last_k, same_k). ⊎_elim
+      (λ old_j. let low = below j a old_j in let e = ap (λ (x : Taken). x.fill) same_k in omega arith)
+      (λ (last_j, same_j). absurd (omega arith))
+      (get_snoc taken t a j at_j))
+      (get_snoc taken t b k at_k);
 }
 
 -- the head is taken, with its first number and its records
 pub parts_taken : (start : ℕ) (h : List Action) (head expected : ℕ) (taken : List Taken) → start ≤ head → head - start < length (opens_of h) → IsRising 0 (opens_of h) (length (reserved_records h)) → first_of_fill h start head ≤ length (reserved_records h)
-    → (t : Taken) → t.held ≡ record { first = first_of_fill h start head; records = get_or (fills_of h) (head - start) [] } → t.skipped ≡ t.held.first - expected
+    → (t : Taken) → t.fill ≡ head → t.held ≡ record { first = first_of_fill h start head; records = get_or (fills_of h) (head - start) [] } → t.skipped ≡ t.held.first - expected
     → PartsKept start h head expected taken
     → PartsKept start h (head + 1) (t.held.first + length t.held.records) (taken ++ t ∷ [])
-parts_taken start h head expected taken from low r short t held skipped p =
+parts_taken start h head expected taken from low r short t here held skipped p =
     let xs : List Reservation = reserved_records h in
     let rs : List Record = map finished xs in
     let first : ℕ = first_of_fill h start head in
@@ -85,4 +128,10 @@ parts_taken start h head expected taken from low r short t held skipped p =
           ∙ ap Some (let was = p.total in let le = p.expected_le in let e : 0 + covered_by (pieces_of taken) + t.skipped ≡ t.held.first = omega arith in e)
           ∙ ap (λ (x : Taken). Some x.held.first) same)
           (get_snoc taken t u j at);
+      fills = fills_taken start h head taken t here record {
+        from_start = omega arith;
+        begun = let count = length-fills h in omega arith;
+        held = held ∙ ap (λ (g : ℕ). let x : Held = record { first = first_of_fill h start g; records = get_or (fills_of h) (g - start) [] } in x) (sym here);
+      } p.fills p.below;
+      below = λ j u at. ⊎_elim (λ old. let high = p.below j u old in omega arith) (λ (last, same). let e = ap (λ (x : Taken). x.fill) same in omega arith) (get_snoc taken t u j at);
     }

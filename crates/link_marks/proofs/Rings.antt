@@ -4,7 +4,7 @@ use Rattle.std.specs.List.{slice_get}
 use Rattle.std.proofs.lemmas.List.{take-append-drop, map-append}
 use Rattle.trace_model.specs.Record.{Record}
 use Rattle.trace_model.specs.History.{Action, Reservation, reserved_records, settled_front, finished, committed_records}
-use Rattle.trace_model.specs.Packing.{opens_of}
+use Rattle.trace_model.specs.Packing.{opens_of, fills_of}
 use Rattle.trace_model.specs.Links.{Link}
 use Rattle.trace_model.specs.Frames.{Frame, moving_in}
 use Rattle.trace_model.specs.Ring.{Held, ReaderPhase, loading_link, loading_done, storing_link, swapping, Reader, Core, IsStart, AreApart, IsRing, IsBehindHead, told, moved, IsAtHead, marked, owed, Moves, IsMoved, IsSwapReady, IsTaken, first_of_fill, page_at}
@@ -16,6 +16,7 @@ use Rattle.link_marks.specs.KeptContents.{PagesKept}
 use Rattle.link_marks.specs.RingKept.{IsRingKept}
 use Rattle.link_marks.proofs.Phases.{none_some, normal_ne_update}
 use Rattle.link_marks.proofs.Inside.{owned_by}
+use Rattle.link_marks.proofs.Cuts.{length-cut_from}
 use Rattle.link_marks.proofs.Committed.{committed_front}
 use Rattle.link_marks.proofs.EachStep.{step_kept}
 use Rattle.link_marks.proofs.HistorySteps.{step_owed}
@@ -119,6 +120,8 @@ module _ (n start : ℕ) (c : Core) (r : IsRingKept n start c) where
     head_le = r.links.head_le;
     done_lt = r.links.done_lt;
     opened_le = r.links.opened_le;
+    from_start = r.contents.from_start;
+    begun = let count = r.contents.begun in let e = length-cut_from 0 (opens_of c.history) (reserved_records c.history) in let sum : c.opened ≡ start + length (fills_of c.history) = omega arith in sum;
     behind_head = behind_head;
     at_head = at_head;
     contents = r.contents.each;
@@ -179,5 +182,5 @@ ring_start n start c some fits s = let links = start_kept n start c s some fits 
   contents = subst (λ (h : List Action). PagesKept n start c.order c.held (opens_of h) (reserved_records h) c.head c.opened) (sym s.history) (nothing_done n start c (omega arith) links.apart s);
   closed = subst (λ (h : List Action). first_of_fill h start c.done ≤ length (reserved_records (settled_front h))) (sym s.history)
       (subst (λ (i : ℕ). get_or (0 ∷ []) i 0 ≤ 0) (let e : 0 ≡ c.done - start = omega arith in e) (let z : 0 ≤ 0 = omega arith in z));
-  parts = subst (λ (x : Reader). PartsKept start c.history c.head x.expected x.taken) (sym s.reader) record { expected_le = omega arith; parts = refl; total = refl; firsts = λ k t at. absurd (none_some at) };
+  parts = subst (λ (x : Reader). PartsKept start c.history c.head x.expected x.taken) (sym s.reader) record { expected_le = omega arith; parts = refl; total = refl; firsts = λ k t at. absurd (none_some at); fills = record { each = λ k t at. absurd (none_some at); rising = λ j k a b less at_j at_k. absurd (none_some at_j) }; below = λ k t at. absurd (none_some at) };
 }

@@ -4,7 +4,8 @@ use mathlib.Core.Logic.{dite}
 use native.Mathlib.Decide.{ℕ_discrete}
 use Rattle.trace_model.specs.Links.{normal_link, header_link}
 use Rattle.trace_model.specs.Ring.{Core, IsStart, link_into, page_at, Reader, AreApart}
-use Rattle.trace_model.specs.History.{Action, written_by}
+use Rattle.trace_model.specs.History.{Action, written_by, IsHistory}
+use Rattle.trace_model.proofs.Allowed.{IsHistory-none}
 use Rattle.link_marks.specs.KeptHistory.{shown, HistoryKept}
 use Rattle.link_marks.specs.Kept.{MoversDiffer, FramesKept, LinkKept, is_normal, is_header, ReaderKept, LinksKept}
 
@@ -44,6 +45,7 @@ module _ (n start : ℕ) (c : Core) (s : IsStart n start c) (some : 2 ≤ n) whe
 
 pub start_history : (n start : ℕ) (c : Core) → IsStart n start c → HistoryKept n start c
 start_history n start c s = record {
+  allowed = subst IsHistory (sym s.history) IsHistory-none;
   stack = ap (λ (h : List Action). (written_by h).stack) s.history ∙ sym (ap shown s.frames);
   lost = λ f low high. let head = s.head in absurd (omega arith);
 }

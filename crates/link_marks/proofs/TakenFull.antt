@@ -12,7 +12,8 @@ use Rattle.link_marks.specs.RingKept.{IsRingKept}
 use Rattle.link_marks.specs.RunLaws.{HoldRecords}
 use Rattle.link_marks.proofs.Phases.{none_some}
 use Rattle.link_marks.proofs.Inside.{header_tells, fill_at}
-use Rattle.link_marks.proofs.PackedHistories.{length-cut_from, is_packed}
+use Rattle.link_marks.proofs.Cuts.{length-cut_from}
+use Rattle.link_marks.proofs.PackedHistories.{is_packed}
 use Rattle.link_marks.proofs.PackedSteps.{PackedKept, packs_step}
 use Rattle.link_marks.proofs.PackedRuns.{packed_start}
 use Rattle.link_marks.proofs.FullFills.{packed_full}

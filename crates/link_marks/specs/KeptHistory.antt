@@ -2,7 +2,7 @@
 use Rattle.std.specs.Prelude.{◌≡◌, ℕ, ◌+◌, ◌<◌, ◌≤◌, ◌⊎◌, List, [], ◌∷◌, Some}
 use Rattle.std.specs.List.{slice_get}
 use Rattle.trace_model.specs.History as history
-use Rattle.trace_model.specs.History.{Action, written_by}
+use Rattle.trace_model.specs.History.{Action, written_by, IsHistory}
 use Rattle.trace_model.specs.Frames.{Kind, for_record, for_close, Phase, reserving, looking, claiming, looking_next, marking, clearing, opening, reserved, releasing, Frame}
 use Rattle.trace_model.specs.Ring.{Core, Taken}
 use Rattle.trace_model.specs.Steps.{number_in}
@@ -47,7 +47,9 @@ WhyPassed n taken opened frames f = TakenIn taken f ⊎ ((f + n < opened) ⊎ ((
 abbrev pub LostKept : ℕ → ℕ → List Taken → ℕ → ℕ → List Frame → Type 0
 LostKept n start taken head opened frames = (f : ℕ) → start ≤ f → f < head → WhyPassed n taken opened frames f
 
--- the history's stack is that of the frames; and what was passed was taken, or lost in a full ring
+-- the frames kept the discipline of the stack, which is the frames that stand; and what was passed was taken,
+-- or lost in a full ring
 pub record HistoryKept (n start : ℕ) (c : Core) : Type 0 where
+  pub allowed : IsHistory c.history
   pub stack : (written_by c.history).stack ≡ shown c.frames
   pub lost : LostKept n start c.reader.taken c.head c.opened c.frames

@@ -1,13 +1,14 @@
 -- The laws of the ring, as statements: each is the contract of a function of src/laws.rt.
-use Rattle.std.specs.Prelude.{◌≡◌, ℕ, ◌+◌, ◌^◌, ◌≤◌, ◌⊎◌, List, ◌∷◌, length, map, take, IsTrue}
-use Rattle.trace_model.specs.Ring.{Taken, Core, IsStart, IsRing, window_of}
-use Rattle.trace_model.specs.Window.{first_window, Happening, WindowStep}
+use Rattle.std.specs.Prelude.{◌≡◌, ℕ, ◌+◌, ◌^◌, ◌≤◌, ◌⊎◌, List, ◌∷◌, length, map, take, IsTrue, [], ◌++◌}
+use Rattle.trace_model.specs.Ring.{Taken, Core, IsStart, IsRing, window_of, AreFillsOf}
+use Rattle.trace_model.specs.Window.{first_window, Happening, WindowStep, opened_one, released_one, took_one, lost_one}
 use Rattle.trace_model.specs.Frames.{for_record, reserved, Frame}
 use Rattle.trace_model.specs.Steps.{Event, pushes, pushes_close, steps, ends, reads, Answer, swapped, Step, Exchange, Run}
 use Rattle.trace_model.specs.Record.{Record}
 use Rattle.trace_model.specs.Words.{slot_len}
-use Rattle.trace_model.specs.History.{Action, is_settled, reserved_records, settled_front, finished, committed_records}
+use Rattle.trace_model.specs.History.{Action, is_settled, reserved_records, settled_front, finished, committed_records, open_fill}
 use Rattle.trace_model.specs.Partition.{IsPartition}
+use Rattle.trace_model.specs.Sublist.{IsFront}
 use Rattle.link_marks.specs.KeptParts.{pieces_of, HaveFirsts}
 use Rattle.link_marks.specs.RingKept.{IsRingKept}
 
@@ -38,16 +39,41 @@ abbrev pub TakenPartsCommitted : Type 0
 TakenPartsCommitted = (n size start : ℕ) (c after : Core) (exchanges : List Exchange) → 2 ≤ n → start + 1 + n ≤ 2 ^ 48 → IsStart n start c → Run n size c exchanges after
     → ((rest : List Record) × IsPartition (committed_records after.history) (pieces_of after.reader.taken) rest) × HaveFirsts after.reader.taken
 
+-- and each of these is a fill of what the frames did, whole and under that fill's number, which rise
+abbrev pub TakenAreFills : Type 0
+TakenAreFills = (n size start : ℕ) (c after : Core) (exchanges : List Exchange) → 2 ≤ n → start + 1 + n ≤ 2 ^ 48 → IsStart n start c → Run n size c exchanges after → AreFillsOf start after.history after.reader.taken
+
 -- whatever the frames did, the committed records are the first ones that were reserved, as they are by now
 abbrev pub CommittedIsFront : Type 0
 CommittedIsFront = (history : List Action) → map finished (take (length (reserved_records (settled_front history))) (reserved_records history)) ≡ committed_records history
 
--- every step leaves the window as it was, or is one step of it: a fill is begun where a place is free; or the
--- oldest begun one is closed, where each push has its leave; or the head is taken, closed; or the head is
--- lost, closed and in a full ring
+-- A happening as the state shows it. Where a fill is begun, the history has one more open; where one is taken,
+-- it is the head, and the last page that the reader took; and else a happening changes neither.
+abbrev pub IsShown : Core → Core → Happening → Type 0
+IsShown c after opened_one = IsFront (c.history ++ open_fill ∷ []) after.history × (after.reader ≡ c.reader)
+IsShown c after released_one = (after.history ≡ c.history) × (after.reader ≡ c.reader)
+IsShown c after took_one = (after.history ≡ c.history) × (t : Taken) × (t.fill ≡ c.head) × (after.reader.taken ≡ c.reader.taken ++ t ∷ [])
+IsShown c after lost_one = (after.history ≡ c.history) × (after.reader ≡ c.reader)
+
+-- The happening takes the window of one state to that of another, where it may, and is shown there.
+pub record Happened (n : ℕ) (c : Core) (what : Happening) (after : Core) : Type 0 where
+  pub step : WindowStep n c.history (window_of c) what (window_of after)
+  pub shown : IsShown c after what
+
+-- every step leaves the window and what was taken as they were, or is one step of the window: a fill is begun
+-- where a place is free; or the oldest begun one is closed, where each push has its leave; or the head is taken,
+-- closed; or the head is lost, closed and in a full ring
 abbrev pub StepsMoveWindow : Type 0
 StepsMoveWindow = (n size start : ℕ) (c : Core) (event : Event) (answer : Answer) (after : Core) → IsRingKept n start c → Step n size c event answer after
-    → (window_of after ≡ window_of c) ⊎ ((what : Happening) × WindowStep n c.history (window_of c) what (window_of after))
+    → ((window_of after ≡ window_of c) × (after.reader.taken ≡ c.reader.taken)) ⊎ ((what : Happening) × Happened n c what after)
+
+-- and what happens is one: what is taken doesn't pass as lost, nor what is lost as taken
+abbrev pub OneHappening : Type 0
+OneHappening = (n : ℕ) (c after : Core) (what other : Happening) → Happened n c what after → Happened n c other after → what ≡ other
+
+-- where the window stays, nothing happens
+abbrev pub NothingHappens : Type 0
+NothingHappens = (n : ℕ) (c after : Core) (what : Happening) → window_of after ≡ window_of c → Happened n c what after → ⊥
 
 -- the payload that ends a frame which has reserved takes just the slot that it was given; nothing is asked of
 -- any other event

@@ -4,7 +4,7 @@ ghost use Rattle.link_marks.specs.AnswerLaws.{CrowdedIsRight, EmptyIsRight, Movi
 ghost use Rattle.link_marks.specs.LinkLaws.{HeadersAreOwed, HeadersAreSetOnce, LinksStandOnce, OneHeader, OwnersClear, StepsRaiseLinks, UpdatesAreClaimed};
 ghost use Rattle.link_marks.specs.Examples.{FirstRecord, HaltedHeadMove, HelpersAtTheHead, InnerReservesFirst, LateSwap, NestedWriter};
 ghost use Rattle.link_marks.specs.ExamplesWrong.{HelperClearsTheUpdate, InnerEndPublishes, LosesWhileAPlaceIsFree, SwapIgnoresTheFill, TakesTheTail, TwoHeads};
-ghost use Rattle.link_marks.specs.Laws.{ClosesNeedNoFrame, CommittedIsFront, EachEventIsAStep, KeptIsRing, LossesNeedAFullRing, NewRingIsOne, RunsAreDetermined, RunsMakeRings, StartHasWindow, StartIsKept, StepsAreDetermined, StepsKeepRing, StepsMoveWindow, TakenPartsCommitted};
+ghost use Rattle.link_marks.specs.Laws.{ClosesNeedNoFrame, CommittedIsFront, EachEventIsAStep, KeptIsRing, LossesNeedAFullRing, NewRingIsOne, RunsAreDetermined, RunsMakeRings, StartHasWindow, StartIsKept, StepsAreDetermined, StepsKeepRing, StepsMoveWindow, TakenPartsCommitted, NothingHappens, OneHappening, TakenAreFills};
 
 /// A new ring has all that its steps keep, and its window is the first one.
 pub fn start_is_kept()
@@ -19,10 +19,13 @@ pub fn steps_keep_ring()
     ensures runs { RunsMakeRings }
 {}
 
-/// Every step is a step of the window, or leaves it as it was: so no fill is both taken and lost, and
-/// none is lost but a closed one, in a full ring.
+/// Every step is one step of the window, the one that the history and the taken pages show, or leaves the
+/// window and what was taken as they were: so no fill is both taken and lost, and none is lost but a closed
+/// one, in a full ring.
 pub fn steps_move_window()
     ensures window { StepsMoveWindow }
+    ensures one { OneHappening }
+    ensures none { NothingHappens }
 {}
 
 /// Every run from a new ring is a run of its window, which tells each action of the frames and each fill
@@ -94,11 +97,12 @@ pub fn runs_are_packed()
     ensures taken { TakenHoldRecords }
 {}
 
-/// The committed records are a front of the reserved ones; and after every run the fills that the reader
-/// took, with the records lost between, part them.
+/// The committed records are a front of the reserved ones; and after every run what the reader took are
+/// whole fills, their numbers rising, which with the records lost between part the committed ones.
 pub fn taken_parts_committed()
     ensures front { CommittedIsFront }
     ensures parts { TakenPartsCommitted }
+    ensures fills { TakenAreFills }
 {}
 
 /// The worked examples are runs of steps from the new ring.

@@ -1,6 +1,6 @@
 -- The discipline of the stack, action by action.
 use Rattle.std.proofs.Common.{◌≡◌, List, [], ◌∷◌, ◌++◌, fold, refl, ap, subst}
-use Rattle.trace_model.specs.History.{Action, Written, acted, MayAct, IsHistory}
+use Rattle.trace_model.specs.History.{Action, Written, acted, written_by, MayAct, IsHistory}
 
 -- each action is one that the frames allow, which stand behind this and the actions in front of it
 abbrev pub AreAllowed : Written → List Action → Type 0
@@ -25,6 +25,17 @@ allowed_from w (a ∷ actions) h = (
 
 pub allowed-IsHistory : (history : List Action) → IsHistory history → AreAllowed (record { stack = []; records = [] }) history
 allowed-IsHistory history h = allowed_from (record { stack = []; records = [] }) history h
+
+AreAllowed-push : (w : Written) (actions : List Action) (a : Action) → AreAllowed w actions → MayAct (fold (λ v b. acted v.stack v.records b) w actions).stack a → AreAllowed w (actions ++ a ∷ [])
+AreAllowed-push w [] a h may = (may, tt)
+AreAllowed-push w (b ∷ actions) a h may = (h.0, AreAllowed-push (acted w.stack w.records b) actions a h.1 may)
+
+-- one more action that is allowed
+pub IsHistory-push : (history : List Action) (a : Action) → IsHistory history → MayAct (written_by history).stack a → IsHistory (history ++ a ∷ [])
+IsHistory-push history a h may = IsHistory-allowed (history ++ a ∷ []) (AreAllowed-push record { stack = []; records = [] } history a (allowed-IsHistory history h) may)
+
+pub IsHistory-none : IsHistory []
+IsHistory-none = IsHistory-allowed [] tt
 
 pub AreAllowed-front : (w : Written) (front behind : List Action) → AreAllowed w (front ++ behind) → AreAllowed w front
 AreAllowed-front w [] behind h = tt

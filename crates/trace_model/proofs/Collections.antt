@@ -4,8 +4,8 @@ use Rattle.std.specs.List.{Contains, slice_get}
 use Rattle.std.proofs.lemmas.List.Elements.{Contains-append_left, Contains-push_cases}
 use Rattle.std.proofs.lemmas.Option.{slice_get_within, get_or_from_slice_get, slice_get-get_or}
 use Rattle.trace_model.specs.Parcel.{Parcel}
-use Rattle.trace_model.specs.Collection.{Agree, IsBelow, IsSame}
-use Rattle.trace_model.proofs.Joined.{joined_least}
+use Rattle.trace_model.specs.Collection.{IsBelow, IsSame}
+use Rattle.trace_model.proofs.Joined.{joined_left, joined_right, joined_below}
 
 pub below_itself : (ps : List Parcel) → IsBelow ps ps
 below_itself ps = record { has = λ cpu number r h. h; misses = λ cpu number h. h }
@@ -54,11 +54,8 @@ repeated ps p there = below_both (ps ++ p ∷ []) ps
 
 -- ---- joined
 
-pub joined_below : (ps qs rs : List Parcel) → IsBelow ps rs → IsBelow qs rs → IsBelow (ps ++ qs) rs
-joined_below ps qs rs a b = (joined_least ps qs).least rs a b
-
 commuted : (ps qs : List Parcel) → IsBelow (ps ++ qs) (qs ++ ps)
-commuted ps qs = joined_below ps qs (qs ++ ps) (joined_least qs ps).right (joined_least qs ps).left
+commuted ps qs = joined_below ps qs (qs ++ ps) (joined_right qs ps) (joined_left qs ps)
 
 pub joined_commutes : (ps qs : List Parcel) → IsSame (ps ++ qs) (qs ++ ps)
 joined_commutes ps qs = below_both (ps ++ qs) (qs ++ ps) (commuted ps qs) (commuted qs ps)
@@ -67,21 +64,13 @@ pub joined_regrouped : (ps qs rs : List Parcel) → IsSame ((ps ++ qs) ++ rs) (p
 joined_regrouped ps qs rs = subst (IsSame ((ps ++ qs) ++ rs)) (append_assoc ps qs rs) (same_itself ((ps ++ qs) ++ rs))
 
 pub joined_twice : (ps : List Parcel) → IsSame (ps ++ ps) ps
-joined_twice ps = below_both (ps ++ ps) ps (joined_below ps ps ps (below_itself ps) (below_itself ps)) (joined_least ps ps).left
+joined_twice ps = below_both (ps ++ ps) ps (joined_below ps ps ps (below_itself ps) (below_itself ps)) (joined_left ps ps)
 
 -- the joins of what lies below lie below
 pub below_joined : (ps qs above others : List Parcel) → IsBelow ps above → IsBelow qs others → IsBelow (ps ++ qs) (above ++ others)
 below_joined ps qs above others a b = joined_below ps qs (above ++ others)
-    (below_below ps above (above ++ others) a (joined_least above others).left)
-    (below_below qs others (above ++ others) b (joined_least above others).right)
+    (below_below ps above (above ++ others) a (joined_left above others))
+    (below_below qs others (above ++ others) b (joined_right above others))
 
 pub same_joined : (ps qs like others : List Parcel) → IsSame ps like → IsSame qs others → IsSame (ps ++ qs) (like ++ others)
 same_joined ps qs like others a b = below_both (ps ++ qs) (like ++ others) (below_joined ps qs like others a.below b.below) (below_joined like others ps qs a.above b.above)
-
--- ---- what agrees
-
-pub below_agrees : (ps qs : List Parcel) → IsBelow ps qs → Agree qs → Agree ps
-below_agrees ps qs b agree = record {
-  one_record = λ cpu number r other h that. agree.one_record cpu number r other (b.has cpu number r h) (b.has cpu number other that);
-  not_lost = λ cpu number r h m. agree.not_lost cpu number r (b.has cpu number r h) (b.misses cpu number m);
-}

@@ -34,8 +34,9 @@ pub record IsSame (parcels others : List Parcel) : Type 0 where
   pub below : IsBelow parcels others
   pub above : IsBelow others parcels
 
--- The join of two collections: above both, and below all that is above both.
+-- The join of two collections: a collection above both, and below all that is above both.
 pub record IsLeastUpperBound (parcels others join : List Parcel) : Type 0 where
+  pub agree : Agree join
   pub left : IsBelow parcels join
   pub right : IsBelow others join
   pub least : (above : List Parcel) → IsBelow parcels above → IsBelow others above → IsBelow join above

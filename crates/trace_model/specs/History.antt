@@ -1,7 +1,7 @@
 -- What the writer's frames of one CPU did, and the records that this leaves.
 -- After Documentation/trace/ring-buffer-design.rst, "Nested writes": a frame that interrupts another
 -- ends before it, and nothing is committed until the outermost one ends.
-use Rattle.std.specs.Prelude.{◌≡◌, ◌≢◌, ℕ, zero, suc, max, ⊤, Bool, true, false, if◌then◌else◌, List, [], ◌∷◌, ◌++◌, length, take, map, fold, replicate, Option, Some, None, IsSomeAnd, unwrap_or}
+use Rattle.std.specs.Prelude.{◌≡◌, ℕ, zero, suc, max, ⊤, Bool, true, false, if◌then◌else◌, List, [], ◌∷◌, ◌++◌, length, take, map, fold, replicate, Option, Some, None, IsSomeAnd, unwrap_or}
 use Rattle.trace_model.specs.Record.{Record}
 use Rattle.trace_model.specs.Words.{slot_len, padded}
 
@@ -124,6 +124,12 @@ MayReserve [] = ⊥
 MayReserve (record_frame moment len number ∷ stack) = number ≡ None
 MayReserve (close_frame ∷ stack) = ⊥
 
+-- a fill is begun for a frame that has no record yet: a record frame that wants one, or a close frame
+abbrev pub MayOpen : List Frame → Type 0
+MayOpen [] = ⊥
+MayOpen (record_frame moment len number ∷ stack) = number ≡ None
+MayOpen (close_frame ∷ stack) = ⊤
+
 -- A frame that has reserved leaves with a payload that takes just the slot which it was pushed for, to the
 -- last byte or with zeros behind it; any other frame leaves with none.
 abbrev pub MayLeave : List Frame → Option (List ℕ) → Type 0
@@ -138,7 +144,7 @@ MayLeave (close_frame ∷ stack) payload = payload ≡ None
 abbrev pub MayAct : List Frame → Action → Type 0
 MayAct stack (push moment len) = ⊤
 MayAct stack push_close = ⊤
-MayAct stack open_fill = stack ≢ []
+MayAct stack open_fill = MayOpen stack
 MayAct stack reserve = MayReserve stack
 MayAct stack (leave payload) = MayLeave stack payload
 

@@ -44,10 +44,11 @@ fill_len (r ∷ records) = encoded_len r.len 0 true + len_behind r.moment record
 abbrev pub FitsBehind : ℕ → List Reservation → Reservation → Type 0
 FitsBehind size records r = fill_len (records ++ r ∷ []) ≤ size
 
--- what the frame on top would reserve: nothing for a close frame
+-- what the frame on top would reserve: nothing for a close frame, and for one that has its record
 abbrev pub wanted_by : List Frame → List Reservation → Option Reservation
 wanted_by [] records = None
-wanted_by (record_frame moment len number ∷ stack) records = Some (reserved_for moment len records)
+wanted_by (record_frame moment len None ∷ stack) records = Some (reserved_for moment len records)
+wanted_by (record_frame moment len (Some number) ∷ stack) records = None
 wanted_by (close_frame ∷ stack) records = None
 
 abbrev pub wanted : List Action → Option Reservation

@@ -132,6 +132,18 @@ abbrev pub HoldsFill : ℕ → ℕ → Core → ℕ → Type 0
 HoldsFill n start c f = slice_index_or c.held (page_at n c.order f) record { first = 0; records = [] }
     ≡ record { first = first_of_fill c.history start f; records = slice_index_or (fills_of c.history) (f - start) [] }
 
+-- A taken page is a fill of the history: its number is that fill's, it has all its records and no others, as
+-- they are in the history, from its first number on.
+pub record IsFillOf (start : ℕ) (history : List Action) (t : Taken) : Type 0 where
+  pub from_start : start ≤ t.fill
+  pub begun : t.fill < start + length (fills_of history)
+  pub held : t.held ≡ record { first = first_of_fill history start t.fill; records = slice_index_or (fills_of history) (t.fill - start) [] }
+
+-- What the reader took are such fills, and their numbers rise.
+pub record AreFillsOf (start : ℕ) (history : List Action) (taken : List Taken) : Type 0 where
+  pub each : (k : ℕ) (t : Taken) → slice_get taken k ≡ Some t → IsFillOf start history t
+  pub rising : (j k : ℕ) (earlier later : Taken) → j < k → slice_get taken j ≡ Some earlier → slice_get taken k ≡ Some later → earlier.fill < later.fill
+
 -- a fill that the reader took
 abbrev pub IsTaken : Core → ℕ → Type 0
 IsTaken c f = (k : ℕ) × (t : Taken) × (slice_get c.reader.taken k ≡ Some t) × (t.fill ≡ f)
@@ -143,14 +155,17 @@ IsSwapReady n c (loading_done page fill) = Unit {0}
 IsSwapReady n c (storing_link page fill) = Unit {0}
 IsSwapReady n c (swapping page fill) = c.spare_link ≡ header_link (page_at n c.order (suc fill)) (suc fill)
 
--- The ring, between any two steps. The pages go round; the window keeps its order; links behind the
--- head, and to it, are as above; pages hold their fills; what is closed is committed, and a fill that is
--- lost was lost in a full ring; and what a frame or the reader has seen is no more than was true.
+-- The ring, between any two steps. The pages go round; the window keeps its order, from the first fill on,
+-- and the fills begun are those of the history; links behind the head, and to it, are as above; pages hold
+-- their fills; what is closed is committed, and a fill that is lost was lost in a full ring; and what a frame
+-- or the reader has seen is no more than was true.
 pub record IsRing (n start : ℕ) (c : Core) : Type 0 where
   pub apart : AreApart n c.order c.spare
   pub head_le : c.head ≤ c.done
   pub done_lt : c.done < c.opened
   pub opened_le : c.opened ≤ c.head + n
+  pub from_start : start ≤ c.head
+  pub begun : c.opened ≡ start + length (fills_of c.history)
   pub behind_head : (f : ℕ) → c.head < f → f < c.head + n → IsBehindHead n c f
   pub at_head : IsAtHead n c
   pub contents : (f : ℕ) → c.head ≤ f → f < c.opened → HoldsFill n start c f

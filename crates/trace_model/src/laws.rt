@@ -219,9 +219,13 @@ pub fn script_reads_back()
     ensures { (script : Script) → IsWritable script → ParsesScript (script_text script) script }
 {}
 
-/// What two lists of parcels have and miss together is the least collection above both.
+/// Two lists of parcels have a least collection above both just where all of them agree; and then it
+/// is what they have and miss together.
 pub fn joined_is_least()
-    ensures least { (parcels others : List Parcel) → IsLeastUpperBound parcels others (parcels ++ others) }
+    ensures least { (parcels others : List Parcel) →
+        Agree (parcels ++ others) → IsLeastUpperBound parcels others (parcels ++ others) }
+    ensures only { (parcels others join : List Parcel) →
+        IsLeastUpperBound parcels others join → Agree (parcels ++ others) }
 {}
 
 /// Collections are ordered by what they have and miss, up to having and missing the same; that is an

@@ -6,4 +6,5 @@ pub returns : goal.returns
 returns c = record {
   front = λ h. (committed_front h).agrees;
   parts = λ n size start core after exchanges some fits s run. let r = ring_run n size start core after exchanges (ring_start n start core some fits s) run in (taken_parts n start after r, r.parts.firsts);
+  fills = λ n size start core after exchanges some fits s run. (ring_run n size start core after exchanges (ring_start n start core some fits s) run).parts.fills;
 }
