@@ -2,13 +2,13 @@
 use Rattle.std.proofs.Common.{◌≡◌, ◌≢◌, ℕ, ◌+◌, ◌^◌, ◌≤◌, List, [], ◌∷◌, ◌++◌, length, Option, Some, None, refl, sym, ap, ◌∙◌, subst, ⊎_elim}
 use Rattle.trace_model.specs.Words.{slot_len}
 use Rattle.trace_model.specs.History as history
-use Rattle.trace_model.specs.History.{Action, push, push_close, open_fill, reserve, leave, written_by, MayLeave, MayAct, IsHistory}
+use Rattle.trace_model.specs.History.{Action, push, push_close, open_fill, reserve, leave, written_by, MayLeave, MayAct, IsHistory, MayOpen}
 use Rattle.trace_model.specs.Frames.{Kind, for_record, for_close, Phase, reserving, looking, claiming, looking_next, marking, clearing, opening, reserved, releasing, Frame}
 use Rattle.trace_model.specs.Ring.{ReaderPhase, loading_link, loading_done, storing_link, swapping, Core, IsStart}
 use Rattle.trace_model.specs.Steps.{Event, Answer, number_in, begun, begun_on, BeginsAnew, reserves, finds_nothing, is_crowded, is_worn, notes, look_late, sees_free, sees_header, sees_update, claim_late, claims, claim_fails, next_late, sees_normal, sees_other, mark_late, marks, mark_fails, clears, open_late, opens, releases, releases_last, FrameStep, Step, push_step, push_refused, close_step, close_refused, frame_step, frame_lacks, end_step, end_lacks, end_early, read_step, loads_header, loads_update, loads_owed, loads_passed, finds_none, finds_closed, swaps, swap_fails, ReadStep, Exchange, Run}
 use Rattle.link_marks.specs.KeptHistory.{written_frame, shown, HistoryKept}
 use Rattle.link_marks.specs.RingKept.{IsRingKept}
-use Rattle.link_marks.proofs.Histories.{opened_stack, shown_standing}
+use Rattle.link_marks.proofs.Histories.{opened_stack, shown_standing, may_open}
 use Rattle.link_marks.proofs.HistorySteps.{top_shown}
 use Rattle.link_marks.proofs.PackedHistories.{snoc_place, not_nil}
 use Rattle.link_marks.proofs.Rings.{ring_start, ring_step}
@@ -24,12 +24,6 @@ acts_on h a k may front behind x e = ⊎_elim
 may_leave_none : (kind : Kind) (phase : Phase) (below : List history.Frame) → number_in phase ≡ None → MayLeave (written_frame kind phase ∷ below) None
 may_leave_none (for_record moment len) phase below none = subst (λ (number : Option ℕ). MayLeave (history.record_frame moment len number ∷ below) None) (sym none) refl
 may_leave_none for_close phase below none = refl
-
-some_stack : (f : history.Frame) (below stack : List history.Frame) → stack ≡ f ∷ below → stack ≢ []
-some_stack f below stack e none = no_nil (sym none ∙ e)
-  where
-    no_nil : [] ≡ f ∷ below → ⊥
-    no_nil e' = cc
 
 same_kept : (after d : Core) → after ≡ d → IsHistory d.history → IsHistory after.history
 same_kept after d is kept = subst (λ (x : Core). IsHistory x.history) (sym is) kept
@@ -55,7 +49,7 @@ module _ (start n : ℕ) (c : Core) (frame : Frame) (below : List Frame) (h : Hi
       stack = stack_top (opening noted page) same (λ e. cc)
 
       begins : IsHistory (c.history ++ open_fill ∷ [])
-      begins = acts_on c.history open_fill k (some_stack (written_frame frame.kind frame.phase) (shown below) (written_by c.history).stack stack)
+      begins = acts_on c.history open_fill k (subst MayOpen (sym stack) (may_open frame.kind frame.phase (shown below) (ap number_in same)))
 
       then : (kind : Kind) → IsHistory (begun_on kind (begun c page) frame below).history
       then (for_record moment len) = begins
