@@ -18,7 +18,7 @@ packs_run n size start c after [] r q run = subst (PackedKept size) run q
 packs_run n size start c after (x ∷ exchanges) r q (between, step, run) = packs_run n size start between after exchanges (ring_step n size start c x.event x.answer between r step)
     (packs_step n size start c x.event x.answer between r.links r.history r.contents q step) run
 
-pub packed_start : (n size start : ℕ) (c : Core) → IsStart n start c → PackedKept size c
+packed_start : (n size start : ℕ) (c : Core) → IsStart n start c → PackedKept size c
 packed_start n size start c s = subst (λ (frames : List Frame). PackedAt size c.history c.opened frames) (sym s.frames) (subst (λ (h : List Action). PackedAt size h c.opened []) (sym s.history) (nothing_packed size c.opened))
 
 pub runs_packed : (n size start : ℕ) (c after : Core) (exchanges : List Exchange) → 2 ≤ n → start + 1 + n ≤ 2 ^ 48 → IsStart n start c → Run n size c exchanges after → IsPacked after.history size

@@ -116,6 +116,8 @@ module _ (n start : ℕ) (c : Core) (r : IsRingKept n start c) where
 
   pub is_ring : IsRing n start c
   is_ring = record {
+    places = r.links.places;
+    bodies = r.contents.bodies;
     apart = r.links.apart;
     head_le = r.links.head_le;
     done_lt = r.links.done_lt;

@@ -155,11 +155,13 @@ IsSwapReady n c (loading_done page fill) = Unit {0}
 IsSwapReady n c (storing_link page fill) = Unit {0}
 IsSwapReady n c (swapping page fill) = c.spare_link ≡ header_link (page_at n c.order (suc fill)) (suc fill)
 
--- The ring, between any two steps. The pages go round; the window keeps its order, from the first fill on,
--- and the fills begun are those of the history; links behind the head, and to it, are as above; pages hold
--- their fills; what is closed is committed, and a fill that is lost was lost in a full ring; and what a frame
+-- The ring, between any two steps. Each place has a link, and each page a body; the pages go round; the window
+-- keeps its order, from the first fill on, and the fills begun are those of the history; links behind the head,
+-- and to it, are as above; pages hold their fills; what is closed is committed, and a fill that is lost was lost in a full ring; and what a frame
 -- or the reader has seen is no more than was true.
 pub record IsRing (n start : ℕ) (c : Core) : Type 0 where
+  pub places : length c.links ≡ n
+  pub bodies : length c.held ≡ n + 1
   pub apart : AreApart n c.order c.spare
   pub head_le : c.head ≤ c.done
   pub done_lt : c.done < c.opened
