@@ -1,5 +1,5 @@
 -- What each answer of a ring says of its state.
-use Rattle.std.proofs.Common.{◌≡◌, ℕ, suc, ◌+◌, ◌%◌, ◌^◌, ◌<◌, ◌≤◌, List, [], ◌∷◌, get_or, refl, sym, ap, ◌∙◌, subst, mod-lt, arith}
+use Rattle.std.proofs.Common.{◌≡◌, ℕ, suc, ◌+◌, ◌%◌, ◌^◌, ◌<◌, ◌≤◌, List, [], ◌∷◌, ◌++◌, get_or, refl, sym, ap, ◌∙◌, subst, mod-lt, arith}
 use Rattle.std.specs.Prelude.{◌==◌}
 use Rattle.std.proofs.lemmas.Bool.{cond_both}
 use mathlib.Core.Logic.{dite}
@@ -181,7 +181,7 @@ module _ (n start : ℕ) (c : Core) (r : IsRingKept n start c) where
   WaySaid after f = IsInTheWay n start c f × (after.reader.taken ≡ c.reader.taken)
 
   abbrev TookSaid : Core → Taken → Type 0
-  TookSaid after t = (t.fill ≡ c.head) × (c.head < c.done) × (after.head ≡ c.head + 1)
+  TookSaid after t = (t.fill ≡ c.head) × (c.head < c.done) × (after.head ≡ c.head + 1) × (after.reader.taken ≡ c.reader.taken ++ t ∷ [])
 
   read_true : (phase : ReaderPhase) (answer : Answer) (after : Core) → ReaderKept n c.links c.order c.spare_link c.head c.done c.reader.hint phase → ReadStep n c phase answer after → Says n c (NoneSaid after) (WaySaid after) (TookSaid after) answer
   read_true loading_link answer after facts (loads_header page fill at a is) = says n 0 c (NoneSaid after) (WaySaid after) (TookSaid after) answer reading a tt
@@ -196,7 +196,7 @@ module _ (n start : ℕ) (c : Core) (r : IsRingKept n start c) where
       let (g, low_g, high_g, same, link) = fill_at n c r.links fill in
       let told = header_tells n c.links c.order c.head c.frames g page fill link (same ∙ at) in
       let here : fill ≡ c.head = told.0 ∙ told.1 in let closed = facts.1 in
-      says n 0 c (NoneSaid after) (WaySaid after) (TookSaid after) answer (swapped _) a (here, omega arith, ap (λ (d : Core). d.head) is)
+      says n 0 c (NoneSaid after) (WaySaid after) (TookSaid after) answer (swapped _) a (here, omega arith, ap (λ (d : Core). d.head) is, ap (λ (d : Core). d.reader.taken) is)
   read_true (swapping page fill) answer after facts (swap_fails at a is) = says n 0 c (NoneSaid after) (WaySaid after) (TookSaid after) answer reading a tt
 
   pub all_true : (size : ℕ) (event : Event) (answer : Answer) (after : Core) → Step n size c event answer after → Says n c (NoneSaid after) (WaySaid after) (TookSaid after) answer
@@ -209,5 +209,5 @@ empty_right n size start c event done after r step = let (a, b, same) = all_true
 pub moving_right : (n size start : ℕ) (c : Core) (event : Event) (fill : ℕ) (after : Core) → IsRingKept n start c → Step n size c event (moving fill) after → IsInTheWay n start c fill × (after.reader.taken ≡ c.reader.taken)
 moving_right n size start c event fill after r step = all_true n start c r size event (moving fill) after step
 
-pub swapped_right : (n size start : ℕ) (c : Core) (event : Event) (t : Taken) (after : Core) → IsRingKept n start c → Step n size c event (swapped t) after → (t.fill ≡ c.head) × (c.head < c.done) × (after.head ≡ c.head + 1)
+pub swapped_right : (n size start : ℕ) (c : Core) (event : Event) (t : Taken) (after : Core) → IsRingKept n start c → Step n size c event (swapped t) after → (t.fill ≡ c.head) × (c.head < c.done) × (after.head ≡ c.head + 1) × (after.reader.taken ≡ c.reader.taken ++ t ∷ [])
 swapped_right n size start c event t after r step = all_true n start c r size event (swapped t) after step

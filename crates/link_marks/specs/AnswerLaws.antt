@@ -1,5 +1,5 @@
 -- The laws of a ring's answers, as statements: each is the contract of a function of src/laws.rt.
-use Rattle.std.specs.Prelude.{◌≡◌, ℕ, ◌+◌, ◌^◌, ◌<◌, ◌≤◌, ◌⊎◌, List, ◌∷◌}
+use Rattle.std.specs.Prelude.{◌≡◌, ℕ, ◌+◌, ◌^◌, ◌<◌, ◌≤◌, ◌⊎◌, List, [], ◌∷◌, ◌++◌}
 use Rattle.trace_model.specs.Frames.{reserving, Frame, crowded, worn}
 use Rattle.trace_model.specs.Links.{update_link}
 use Rattle.trace_model.specs.Ring.{link_into, page_at, Taken, Core, window_of, IsMoved, IsTaken}
@@ -55,7 +55,7 @@ abbrev pub MovingIsRight : Type 0
 MovingIsRight = (n size start : ℕ) (c : Core) (event : Event) (fill : ℕ) (after : Core) → IsRingKept n start c → Step n size c event (moving fill) after
     → IsInTheWay n start c fill × (after.reader.taken ≡ c.reader.taken)
 
--- what is taken is the head, and that is closed
+-- what is taken is the head, and that is closed; and it is what is then held as taken last
 abbrev pub SwappedIsRight : Type 0
 SwappedIsRight = (n size start : ℕ) (c : Core) (event : Event) (t : Taken) (after : Core) → IsRingKept n start c → Step n size c event (swapped t) after
-    → (t.fill ≡ c.head) × (c.head < c.done) × (after.head ≡ c.head + 1)
+    → (t.fill ≡ c.head) × (c.head < c.done) × (after.head ≡ c.head + 1) × (after.reader.taken ≡ c.reader.taken ++ t ∷ [])

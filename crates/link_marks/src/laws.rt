@@ -54,7 +54,7 @@ pub fn refusals_are_right()
 {}
 
 /// The reader finds nothing only where nothing closed is unread; it is sent away only by a move of the head
-/// whose UPDATE stands; and it takes just the head, closed.
+/// whose UPDATE stands; and it takes just the head, closed, and holds it as taken.
 pub fn reader_answers_are_right()
     ensures none { EmptyIsRight }
     ensures moves { MovingIsRight }
