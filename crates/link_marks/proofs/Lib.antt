@@ -34,7 +34,6 @@ pub mod ExamplesGiven
 pub mod ExamplesDetermined
 pub mod ExamplesStarts
 pub mod ExamplesMoves
-pub mod Disciplined
 pub mod FullFills
 pub mod TakenFull
 pub mod Refusals

@@ -166,12 +166,12 @@ first_is a b xs ys e = cc
 rest_is : (a b : Action) (xs ys : List Action) → ◌≡◌ {A = List Action} (a ∷ xs) (b ∷ ys) → xs ≡ ys
 rest_is a b xs ys e = cc
 
-pub not_nil : (front behind : List Action) (x : Action) → [] ≡ front ++ x ∷ behind → ⊥
+not_nil : (front behind : List Action) (x : Action) → [] ≡ front ++ x ∷ behind → ⊥
 not_nil [] behind x e = cc
 not_nil (y ∷ front) behind x e = cc
 
 -- a place in a list with one element more is the last one, or stands in the list
-pub snoc_place : (h front behind : List Action) (a x : Action) → h ++ a ∷ [] ≡ front ++ x ∷ behind → ((h ≡ front) × (a ≡ x)) ⊎ ((rest : List Action) × (h ≡ front ++ x ∷ rest))
+snoc_place : (h front behind : List Action) (a x : Action) → h ++ a ∷ [] ≡ front ++ x ∷ behind → ((h ≡ front) × (a ≡ x)) ⊎ ((rest : List Action) × (h ≡ front ++ x ∷ rest))
 snoc_place [] [] behind a x e = inl (refl, first_is a x [] behind e)
 snoc_place [] (y ∷ front) behind a x e = absurd (not_nil front behind x (rest_is a y [] (front ++ x ∷ behind) e))
 snoc_place (z ∷ h) [] behind a x e = inr (h, ap (λ (b : Action). b ∷ h) (first_is z x (h ++ a ∷ []) behind e))
