@@ -1,8 +1,8 @@
 -- What the program makes of words of any kind.
-use Rattle.std.proofs.Common.{◌≡◌, ◌≢◌, List, Option, Some, None, IfSome, Result, Ok, Err, true, false, codes, refl, sym, ap, ◌∙◌}
+use Rattle.std.proofs.Common.{◌≡◌, ◌≢◌, List, Option, Some, None, IfSome, true, false, codes, refl, sym, ap, ◌∙◌}
 use Rattle.std.specs.Box.{box_value}
 use Rattle.std.specs.Prelude.{option_map, ok_or}
-use Rattle.clap.specs.Words.{App, HasMatchesOf, Row, Text, found_of, is_simple, is_simple_and_free, one_of, one_text, rows_of, subcommand_name_of, subcommand_of, subcommand_rows, subcommand_rows_of}
+use Rattle.clap.specs.Words.{App, HasMatchesOf, Row, Text, is_simple, is_simple_and_free, one_of, one_text, rows_of, subcommand_name_of, subcommand_of, subcommand_rows, subcommand_rows_of}
 use Rattle.clap.specs.declared.parser.matches.ArgMatches.{ArgMatches}
 use Rattle.clap.specs.declared.parser.matches.ArgMatches.TheViews.{out-ArgMatches, out-SubCommand}
 use Rattle.clap.specs.declared.parser.matches.Found.{Found}
@@ -11,7 +11,6 @@ use Rattle.clap.proofs.WalkLemmas.{one_text-rows}
 use Rattle.trace_cli.specs.CommandLine.{AnswersWords, IsTaken, command_line, flag_text, log_text, name_of, names_command}
 use Rattle.trace_cli.specs.declared.words.Call.{Call}
 use Rattle.trace_cli.specs.declared.words.Call.TheVariants.{Replay}
-use Rattle.trace_cli.specs.declared.words.CallFault.{CallFault}
 use Rattle.trace_cli.specs.declared.words.CallFault.TheVariants.{Usage}
 
 -- the matches of the command line have the name of the command that the words name

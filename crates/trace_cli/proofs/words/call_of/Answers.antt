@@ -1,5 +1,3 @@
-use Rattle.std.proofs.Common.{subst, rules}
-use Rattle.trace_cli.specs.CommandLine.{AnswersWords}
 use Rattle.trace_cli.proofs.CommandLineExamples.{answer_to_replay, answer_to_replay_log, answer_to_dump, answer_to_dump_log}
 use Rattle.trace_cli.proofs.words.call_of.Goals as goal
 

@@ -1,6 +1,5 @@
-use Rattle.std.proofs.Common.{◌≡◌, Some, codes, sym, ◌∙◌, rules, arith}
-use Rattle.clap.specs.Words.{found_of, one_text, subcommand_rows_of}
-use Rattle.trace_cli.specs.CommandLine.{flag_text}
+use Rattle.std.proofs.Common.{sym, ◌∙◌, rules}
+use Rattle.clap.specs.Words.{found_of, subcommand_rows_of}
 use Rattle.trace_cli.proofs.CommandLineLemmas.{flag_found}
 use Rattle.trace_cli.proofs.words.matched.Goals as goal
 

@@ -1,8 +1,7 @@
-use Rattle.std.proofs.Common.{ℕ, ◌<◌, ◌≡◌, ◌∙◌, cond, map, length, get_or, ap, subst, sym, rules, set, true}
+use Rattle.std.proofs.Common.{ℕ, ◌<◌, ◌≡◌, ◌∙◌, map, length, ap, subst, sym, rules, set, true}
 use Rattle.std.proofs.Math.Seq.{map-set_same}
 use Rattle.std.specs.List.Sorted.{IsStrictlyIncreasing}
 use Rattle.std.proofs.lemmas.List.Sorted.{answers_always}
-use Rattle.trace_model.specs.Log.{new_page, known_page}
 use Rattle.trace_cli.specs.declared.plain_collector.Held.{Held}
 use Rattle.trace_cli.proofs.Deliveries.{fills, found_fill, found_alone, found_nowhere, no_delivery, one_delivery, brought_at, brought_nowhere}
 use Rattle.trace_cli.proofs.plain_collector.PlainCollector.deliver.Goals as goal
