@@ -4,26 +4,11 @@ use Rattle.std.specs.Prelude.{Contains}
 use mathlib.Core.Logic.{dite}
 use native.Mathlib.Decide.{ℕ_discrete}
 use Rattle.trace_model.specs.History.{Action}
-use Rattle.trace_model.specs.Window.{Window, first_window, opened_one, released_one, took_one, lost_one, window_after, Deed, acts, happens, actions_of, WindowRunFrom, IsWindow}
+use Rattle.trace_model.specs.Window.{Window, opened_one, released_one, took_one, lost_one, window_after, Deed, acts, happens, actions_of, WindowRunFrom}
 use Rattle.trace_model.specs.Ring.{Taken}
 use Rattle.link_marks.specs.WindowRuns.{fills_taken, fills_lost, numbers_of}
 
 -- ---- the counts
-
-pub run_window : (n : ℕ) (history : List Action) (w after : Window) (deeds : List Deed) → IsWindow n w → WindowRunFrom n history w deeds after → IsWindow n after
-run_window n history w after [] k run = subst (IsWindow n) run k
-run_window n history w after (acts a ∷ deeds) k run = run_window n (history ++ a ∷ []) w after deeds k run
-run_window n history w after (happens opened_one ∷ deeds) k run = let may = run.0 in run_window n history (window_after w opened_one) after deeds
-    record { head_le = k.head_le; done_lt = (let low = k.done_lt in omega arith); opened_le = omega arith } run.1
-run_window n history w after (happens released_one ∷ deeds) k run = let may = run.0.0 in run_window n history (window_after w released_one) after deeds
-    record { head_le = (let low = k.head_le in omega arith); done_lt = omega arith; opened_le = k.opened_le } run.1
-run_window n history w after (happens took_one ∷ deeds) k run = let may = run.0 in run_window n history (window_after w took_one) after deeds
-    record { head_le = omega arith; done_lt = k.done_lt; opened_le = (let high = k.opened_le in omega arith) } run.1
-run_window n history w after (happens lost_one ∷ deeds) k run = let may = run.0.0 in run_window n history (window_after w lost_one) after deeds
-    record { head_le = omega arith; done_lt = k.done_lt; opened_le = (let high = k.opened_le in omega arith) } run.1
-
-pub first_is_window : (n start : ℕ) → 1 ≤ n → IsWindow n (first_window start)
-first_is_window n start some = record { head_le = omega arith; done_lt = omega arith; opened_le = omega arith }
 
 -- the counts only rise
 pub record Rises (w after : Window) : Type 0 where
