@@ -15,6 +15,7 @@ pub mod ContentSteps
 pub mod Committed
 pub mod ClosedSteps
 pub mod Rings
+pub mod Rests
 pub mod Parts
 pub mod PartSteps
 pub mod PartRuns

@@ -23,7 +23,7 @@ module _ (n start : ℕ) (c : Core) (k : LinksKept n c) (t : ContentsKept n star
   counted = let a = t.begun in let b = k.done_lt in let d = k.head_le in omega arith
 
   -- what is taken or lost is committed
-  head_settled : first_of_fill c.history start c.head ≤ committed_len c.history
+  pub head_settled : first_of_fill c.history start c.head ≤ committed_len c.history
   head_settled = let a = t.begun in let b = k.done_lt in let d = k.head_le in let e = t.from_start in
       let rises = first_rises_to (opens_of c.history) (length (reserved_records c.history)) (c.head - start) (c.done - c.head) (omega arith) t.rising in
       let same = ap (λ (i : ℕ). get_or (0 ∷ opens_of c.history) i 0) (let s : (c.head - start) + (c.done - c.head) ≡ c.done - start = omega arith in s) in omega arith

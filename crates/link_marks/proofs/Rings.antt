@@ -135,9 +135,10 @@ module _ (n start : ℕ) (c : Core) (r : IsRingKept n start c) where
     ready = ready c.reader.phase r.links.reader;
   }
 
--- The fills that the reader took, and the records lost between, part the committed records.
-pub taken_parts : (n start : ℕ) (c : Core) → IsRingKept n start c → (rest : List Record) × IsPartition (committed_records c.history) (pieces_of c.reader.taken) rest
-taken_parts n start c r =
+-- The fills that the reader took, and the records lost between, part the committed records up to the number
+-- that the reader expects; behind that is the rest.
+pub taken_parts_at : (n start : ℕ) (c : Core) → IsRingKept n start c → IsPartition (committed_records c.history) (pieces_of c.reader.taken) (map finished (drop c.reader.expected (take (length (reserved_records (settled_front c.history))) (reserved_records c.history))))
+taken_parts_at n start c r =
     let e : ℕ = c.reader.expected in
     let base : ℕ = length (reserved_records (settled_front c.history)) in
     let xs : List Reservation = reserved_records c.history in
@@ -148,7 +149,10 @@ taken_parts n start c r =
     ∙ sym (map-append finished (take e (take base xs)) (drop e (take base xs)))
     ∙ ap (map finished) (take-append-drop e (take base xs))
     ∙ k.agrees in
-    (rest, subst (λ (l : List Record). IsPartition l (pieces_of c.reader.taken) rest) whole (partition_rest (take e (map finished xs)) (pieces_of c.reader.taken) rest r.parts.parts))
+    subst (λ (l : List Record). IsPartition l (pieces_of c.reader.taken) rest) whole (partition_rest (take e (map finished xs)) (pieces_of c.reader.taken) rest r.parts.parts)
+
+pub taken_parts : (n start : ℕ) (c : Core) → IsRingKept n start c → (rest : List Record) × IsPartition (committed_records c.history) (pieces_of c.reader.taken) rest
+taken_parts n start c r = (map finished (drop c.reader.expected (take (length (reserved_records (settled_front c.history))) (reserved_records c.history))), taken_parts_at n start c r)
 
 -- ---- steps and runs
 

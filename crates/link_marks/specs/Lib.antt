@@ -11,3 +11,4 @@ pub mod AnswerLaws
 pub mod LinkLaws
 pub mod Examples
 pub mod ExamplesWrong
+pub mod RestLaws

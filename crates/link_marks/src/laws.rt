@@ -1,6 +1,7 @@
 //! The laws of the ring: each is the contract of a function with an empty body.
 ghost use Rattle.link_marks.specs.RunLaws.{CountsRise, LostAreClosed, NoneIsTakenAndLost, PackedFillsAreFull, PassedAreTakenOrLost, RunsAreHistories, RunsArePacked, RunsMoveWindow, TakenAreClosed, TakenHoldRecords, WindowKeepsOrder};
 ghost use Rattle.link_marks.specs.AnswerLaws.{CrowdedIsRight, EmptyIsRight, MovingIsRight, RefusalsAreDue, SwappedIsRight, WornIsRight};
+ghost use Rattle.link_marks.specs.RestLaws.{RestIsUnread};
 ghost use Rattle.link_marks.specs.LinkLaws.{HeadersAreOwed, HeadersAreSetOnce, LinksStandOnce, OneHeader, OwnersClear, StepsRaiseLinks, UpdatesAreClaimed};
 ghost use Rattle.link_marks.specs.Examples.{FirstRecord, HaltedHeadMove, HelpersAtTheHead, InnerReservesFirst, LateSwap, NestedWriter};
 ghost use Rattle.link_marks.specs.ExamplesWrong.{HelperClearsTheUpdate, InnerEndPublishes, LosesWhileAPlaceIsFree, SwapIgnoresTheFill, TakesTheTail, TwoHeads};
@@ -103,6 +104,7 @@ pub fn taken_parts_committed()
     ensures front { CommittedIsFront }
     ensures parts { TakenPartsCommitted }
     ensures fills { TakenAreFills }
+    ensures rest { RestIsUnread }
 {}
 
 /// The worked examples are runs of steps from the new ring.
