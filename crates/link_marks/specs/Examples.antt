@@ -1,6 +1,6 @@
--- Worked examples of a ring: what is asked of a new one, event by event, and what it answers. They are the
--- scripts and logs of docs/FORMATS.md, line by line; docs/MODEL.md tells them as tables.
-use Rattle.std.specs.Prelude.{◌≡◌, ℕ, List, [], ◌∷◌, ◌++◌, length, replicate, Some}
+-- Worked examples of a ring: what is asked of a new one, event by event, and what it answers. docs/MODEL.md
+-- tells them as tables.
+use Rattle.std.specs.Prelude.{◌≡◌, ℕ, List, [], ◌∷◌, ◌++◌, length, map, replicate, Some}
 use Rattle.trace_model.specs.Record.{Record}
 use Rattle.trace_model.specs.History.{Reservation, committed_records}
 use Rattle.trace_model.specs.Ring.{Core, IsStart}
@@ -18,8 +18,7 @@ pushing_close = record { event = pushes_close; answer = pushed } ∷ []
 
 -- the frame on top makes as many steps as these answers
 abbrev pub stepping : List Answer → List Exchange
-stepping [] = []
-stepping (answer ∷ answers) = record { event = steps; answer = answer } ∷ stepping answers
+stepping answers = map (λ answer. record { event = steps; answer = answer }) answers
 
 -- the frame on top is ended with this payload
 abbrev pub ending : List ℕ → Answer → List Exchange
@@ -27,8 +26,7 @@ ending payload answer = record { event = ends payload; answer = answer } ∷ []
 
 -- the reader makes as many steps as these answers
 abbrev pub taking : List Answer → List Exchange
-taking [] = []
-taking (answer ∷ answers) = record { event = reads; answer = answer } ∷ taking answers
+taking answers = map (λ answer. record { event = reads; answer = answer }) answers
 
 -- ---- records
 
@@ -45,8 +43,7 @@ at moment bytes = record { moment = moment; bytes = bytes }
 
 -- records whose payloads fill their slots, as a page holds them
 abbrev pub held_as : List Record → List Reservation
-held_as [] = []
-held_as (r ∷ records) = record { moment = r.moment; len = length r.bytes; bytes = Some r.bytes } ∷ held_as records
+held_as records = map (λ r. record { moment = r.moment; len = length r.bytes; bytes = Some r.bytes }) records
 
 -- a take's answer: the fill, the number of its first record, how many were missed in front of it, and its
 -- records

@@ -3,7 +3,7 @@ use Rattle.std.specs.Prelude.{◌≡◌, ℕ, ◌+◌, ◌^◌, ◌<◌, ◌≤�
 use Rattle.trace_model.specs.History.{Action, IsHistory}
 use Rattle.trace_model.specs.Packing.{fills_of, IsPacked}
 use Rattle.trace_model.specs.Ring.{Taken, Core, IsStart}
-use Rattle.trace_model.specs.Window.{Window, Deed, WindowRun, IsWindow}
+use Rattle.trace_model.specs.Window.{Window, Deed, WindowRun}
 use Rattle.trace_model.specs.Steps.{Exchange, Run}
 use Rattle.link_marks.specs.RingKept.{IsRingKept}
 use Rattle.link_marks.specs.WindowRuns.{fills_taken, fills_lost, IsToldBy}
@@ -17,10 +17,6 @@ RunsMoveWindow = (n size start : ℕ) (c after : Core) (exchanges : List Exchang
 -- over a run the counts only rise: so what was once passed, closed or begun stays so
 abbrev pub CountsRise : Type 0
 CountsRise = (n size start : ℕ) (c after : Core) (exchanges : List Exchange) → IsRingKept n start c → Run n size c exchanges after → (c.head ≤ after.head) × (c.done ≤ after.done) × (c.opened ≤ after.opened)
-
--- over a run of the window its counts keep their order
-abbrev pub WindowKeepsOrder : Type 0
-WindowKeepsOrder = (n start : ℕ) (deeds : List Deed) (w : Window) → 1 ≤ n → WindowRun n start deeds w → IsWindow n w
 
 -- each fill from the start to the head was taken or lost
 abbrev pub PassedAreTakenOrLost : Type 0

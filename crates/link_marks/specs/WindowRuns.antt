@@ -1,6 +1,6 @@
 -- A run of a ring, told as deeds: which fills they take, and which they lose.
 -- docs/FORMATS.md, "The ring".
-use Rattle.std.specs.Prelude.{◌≡◌, ℕ, ◌+◌, List, [], ◌∷◌, length}
+use Rattle.std.specs.Prelude.{◌≡◌, ℕ, ◌+◌, List, [], ◌∷◌, length, map}
 use Rattle.trace_model.specs.Packing.{opens_of}
 use Rattle.trace_model.specs.Window.{opened_one, released_one, took_one, lost_one, Deed, acts, happens, actions_of, WindowRun}
 use Rattle.trace_model.specs.Ring.{Taken, Core, window_of}
@@ -24,8 +24,7 @@ fills_lost head (happens took_one ∷ deeds) = fills_lost (head + 1) deeds
 fills_lost head (happens lost_one ∷ deeds) = head ∷ fills_lost (head + 1) deeds
 
 abbrev pub numbers_of : List Taken → List ℕ
-numbers_of [] = []
-numbers_of (t ∷ taken) = t.fill ∷ numbers_of taken
+numbers_of taken = map (λ t. t.fill) taken
 
 -- These deeds of a ring from its start are what its frames did, in order, lead to its window, and take the
 -- fills that its reader took; and as many fills are begun as the frames opened, behind the first.

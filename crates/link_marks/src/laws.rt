@@ -1,5 +1,5 @@
 //! The laws of the ring: each is the contract of a function with an empty body.
-ghost use Rattle.link_marks.specs.RunLaws.{CountsRise, LostAreClosed, NoneIsTakenAndLost, PackedFillsAreFull, PassedAreTakenOrLost, RunsAreHistories, RunsArePacked, RunsMoveWindow, TakenAreClosed, TakenHoldRecords, WindowKeepsOrder};
+ghost use Rattle.link_marks.specs.RunLaws.{CountsRise, LostAreClosed, NoneIsTakenAndLost, PackedFillsAreFull, PassedAreTakenOrLost, RunsAreHistories, RunsArePacked, RunsMoveWindow, TakenAreClosed, TakenHoldRecords};
 ghost use Rattle.link_marks.specs.AnswerLaws.{CrowdedIsRight, EmptyIsRight, MovingIsRight, RefusalsAreDue, SwappedIsRight, WornIsRight};
 ghost use Rattle.link_marks.specs.RestLaws.{RestIsUnread};
 ghost use Rattle.link_marks.specs.LinkLaws.{HeadersAreOwed, HeadersAreSetOnce, LinksStandOnce, OneHeader, OwnersClear, StepsRaiseLinks, UpdatesAreClaimed};
@@ -36,10 +36,9 @@ pub fn runs_move_window()
     ensures rises { CountsRise }
 {}
 
-/// Over a run of the window the counts keep their order; each fill below the head was taken or lost, never
-/// both; and either way it had been closed, and one that was lost was so in a full ring.
-pub fn window_runs_keep_order()
-    ensures order { WindowKeepsOrder }
+/// Over a run of the window each fill below the head was taken or lost, never both; and either way it had
+/// been closed, and one that was lost was so in a full ring.
+pub fn passed_fills_are_taken_or_lost()
     ensures passed { PassedAreTakenOrLost }
     ensures apart { NoneIsTakenAndLost }
     ensures taken { TakenAreClosed }
@@ -77,8 +76,8 @@ pub fn one_header()
     ensures once { HeadersAreSetOnce }
 {}
 
-/// An UPDATE is set over the head's HEADER, in a full ring; only the frame that set it clears it, and before
-/// that the next HEADER was set.
+/// An UPDATE is set over the head's HEADER, in a full ring, by a frame that then owns it; only the frame that
+/// owns it clears it, and before that the next HEADER was set.
 pub fn owners_clear()
     ensures claims { UpdatesAreClaimed }
     ensures clears { OwnersClear }
@@ -127,7 +126,8 @@ pub fn wrong_steps_are_refused()
     ensures inner_end_publishes { InnerEndPublishes }
 {}
 
-/// Every event is a step, after every run: in no state that a run reaches is one without an answer.
+/// After every run every event is a step, but for one: the end of a frame that has reserved, with a payload
+/// that doesn't take its slot.
 pub fn each_event_is_a_step()
     ensures steps { EachEventIsAStep }
 {}
