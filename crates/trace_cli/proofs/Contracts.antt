@@ -3,9 +3,9 @@ use Rattle.std.proofs.Common.{◌≡◌, ℕ, Bool, true, false, cond, List, [],
 use Rattle.std.proofs.lemmas.List.Concat.{flat_map-append}
 use Rattle.std.proofs.lemmas.List.Elements.{Contains-append_left}
 use Rattle.trace_model.specs.Record.{Record}
-use Rattle.trace_model.specs.Script.{Script, deliver}
-use Rattle.trace_model.specs.Log.{LogLine, Logs, IsLoggedReplay}
-use Rattle.trace_model.specs.Replay.{Taking, Answered, pairs_of, taking_list, takings_of, commands_of, IsDelivered, IsUncountedReplay}
+use Rattle.text_model.specs.Script.{Script, deliver}
+use Rattle.text_model.specs.Log.{LogLine, Logs, IsLoggedReplay}
+use Rattle.text_model.specs.Replay.{Taking, Answered, pairs_of, taking_list, takings_of, commands_of, IsDelivered, IsUncountedReplay}
 use Rattle.trace_cli.specs.declared.plain_collector.Held.{Held}
 use Rattle.trace_cli.specs.declared.replay.Run.{Run}
 use Rattle.trace_cli.specs.Collected.{pairs_held, collected_of}

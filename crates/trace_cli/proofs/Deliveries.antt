@@ -1,7 +1,7 @@
 -- What a delivery does to the taken pages.
 use Rattle.std.proofs.Common.{◌≡◌, ℕ, zero, suc, ◌+◌, ◌<◌, cond, true, List, [], ◌∷◌, length, get_or, set, map, refl, sym, ap, ◌∙◌, arith, ⊎_elim}
 use Rattle.trace_cli.specs.declared.plain_collector.Held.{Held}
-use Rattle.trace_model.specs.Log.{new_page, known_page, not_taken}
+use Rattle.text_model.specs.Log.{new_page, known_page, not_taken}
 use Rattle.trace_cli.specs.Collected.{brought_of, with_delivery}
 use Rattle.std.specs.Cmp.{ranked, nat_cmp_is}
 use Rattle.std.specs.Ordering.{nat_cmp, is_lt, ordering_index}

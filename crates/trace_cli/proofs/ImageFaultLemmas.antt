@@ -3,7 +3,7 @@ use Rattle.std.proofs.Common.{◌≡◌, ◌≢◌, ◌↔◌, ℕ, List, [], �
 use Rattle.std.specs.Fmt.{decimal}
 use Rattle.trace_model.specs.Faults.{Cause, cut, bad_length, time_overflow}
 use Rattle.trace_model.specs.Image.{ImageCause, FirstImageFault, too_short, bad_size, bad_count, bad_word}
-use Rattle.trace_model.specs.Printing.{cause_text, image_fault_text, printed_image_fault}
+use Rattle.text_model.specs.Printing.{cause_text, image_fault_text, printed_image_fault}
 use Rattle.record_words.specs.declared.next.WordFault.{WordFault}
 use Rattle.record_words.specs.declared.next.WordFault.TheVariants.{Cut, BadLength, TimeOverflow}
 use Rattle.page_image.specs.declared.image.Image.{Image}

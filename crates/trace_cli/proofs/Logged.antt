@@ -2,9 +2,9 @@
 use Rattle.std.proofs.Common.{◌≡◌, ◌≢◌, ⊎_elim, ℕ, Bool, true, false, cond, List, [], ◌∷◌, ◌++◌, length, Option, refl, sym, ap, ◌∙◌, subst, arith, append_assoc, append-nil, Contains, All}
 use Rattle.std.proofs.lemmas.Bool.{cases_eq}
 use Rattle.std.proofs.lemmas.List.Elements.{All-cons, All-map}
-use Rattle.trace_model.specs.Script.{Command, write, close, take_page, deliver}
-use Rattle.trace_model.specs.Replay.{Taking, Answered, takings_of}
-use Rattle.trace_model.specs.Log.{Delivery, new_page, known_page, not_taken, LogEvent, LogLine, refusal_of, write_event, Brings, Meets, line_of_event, Logs}
+use Rattle.text_model.specs.Script.{Command, write, close, take_page, deliver}
+use Rattle.text_model.specs.Replay.{Taking, Answered, takings_of}
+use Rattle.text_model.specs.Log.{Delivery, new_page, known_page, not_taken, LogEvent, LogLine, refusal_of, write_event, Brings, Meets, line_of_event, Logs}
 use Rattle.trace_cli.specs.declared.plain_collector.Held.{Held}
 use Rattle.trace_cli.specs.declared.replay.Run.{Run}
 use Rattle.trace_cli.specs.Collected.{brought_of}

@@ -4,7 +4,7 @@ use Rattle.std.proofs.lemmas.List.{map-append}
 use Rattle.std.specs.List.{enumerate_from}
 use Rattle.std.specs.List.Sorted.{IsStrictlyIncreasing}
 use Rattle.trace_model.specs.Record.{Record}
-use Rattle.trace_model.specs.Replay.{Taking, pairs_of}
+use Rattle.text_model.specs.Replay.{Taking, pairs_of}
 use Rattle.trace_cli.specs.declared.plain_collector.Held.{Held}
 use Rattle.trace_cli.specs.Collected.{pairs_held, collected_of}
 

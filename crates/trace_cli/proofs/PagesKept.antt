@@ -8,9 +8,9 @@ use Rattle.std.proofs.lemmas.List.Elements.{All-push, All-drop}
 use Rattle.trace_model.specs.declared.limits.TheConstants.{MOMENT_LIMIT}
 use Rattle.trace_model.specs.Record.{Record}
 use Rattle.trace_model.specs.Words.{encoded_len, page_encoding}
-use Rattle.trace_model.specs.Pieces.{HasPieces}
-use Rattle.trace_model.specs.Replay.{is_short, is_writable}
-use Rattle.trace_model.proofs.PieceLemmas.{HasPieces-more}
+use Rattle.text_model.specs.Pieces.{HasPieces}
+use Rattle.text_model.specs.Replay.{is_short, is_writable}
+use Rattle.text_model.proofs.PieceLemmas.{HasPieces-more}
 use Rattle.trace_cli.specs.PlainPages.{PlainPages, tail_fill, records_left, record_for, fits_tail, with_place, with_tail_left, opened, with_record, written, closed}
 use Rattle.trace_cli.proofs.TailRoom.{empty_tail_room, opened_fits, none_from_test}
 

@@ -9,11 +9,11 @@ use Rattle.std.specs.List.Sorted.{IsStrictlyIncreasing}
 use Rattle.trace_model.specs.Record.{Record}
 use Rattle.trace_model.specs.Words.{page_encoding}
 use Rattle.trace_model.specs.History.{committed_records}
-use Rattle.trace_model.specs.Script.{Command, write, close, take_page, deliver}
-use Rattle.trace_model.specs.Pieces.{HasPieces}
-use Rattle.trace_model.specs.Replay.{is_writable, history_of_lines, Taking, Answered, taking_list, takings_of, records_taken, commands_of, IsTaken, IsDelivered, pages_taken, TakesPieces, LeavesOnePage}
-use Rattle.trace_model.proofs.PieceLemmas.{HasPieces-push}
-use Rattle.trace_model.proofs.Histories.{LinesLeave, LinesLeave-none, LinesLeave-committed, LinesLeave-idle, LinesLeave-close, LinesLeave-refused, LinesLeave-write}
+use Rattle.text_model.specs.Script.{Command, write, close, take_page, deliver}
+use Rattle.text_model.specs.Pieces.{HasPieces}
+use Rattle.text_model.specs.Replay.{is_writable, history_of_lines, Taking, Answered, taking_list, takings_of, records_taken, commands_of, IsTaken, IsDelivered, pages_taken, TakesPieces, LeavesOnePage}
+use Rattle.text_model.proofs.PieceLemmas.{HasPieces-push}
+use Rattle.text_model.proofs.Histories.{LinesLeave, LinesLeave-none, LinesLeave-committed, LinesLeave-idle, LinesLeave-close, LinesLeave-refused, LinesLeave-write}
 use Rattle.trace_cli.specs.declared.plain_collector.Held.{Held}
 use Rattle.trace_cli.specs.declared.replay.Run.{Run}
 use Rattle.trace_cli.specs.PlainPages.{PlainPages, new_pages, tail_fill, records_left, record_for, written, closed, first_taking, taking_from, without_taking}

@@ -1,8 +1,8 @@
 -- A script, replayed up to a line.
 use Rattle.std.proofs.Common.{◌≡◌, ℕ, ◌+◌, ◌<◌, ◌≤◌, List, [], ◌∷◌, ◌++◌, length, take, get_or, map, refl, sym, ap, ◌∙◌, subst, arith, All}
 use Rattle.std.proofs.lemmas.List.{map_push, take_more, take_all, get_or-map, length-map, length-take-le}
-use Rattle.trace_model.specs.Script.{Command}
-use Rattle.trace_model.specs.Replay.{Taking, Answered, takings_of, commands_of}
+use Rattle.text_model.specs.Script.{Command}
+use Rattle.text_model.specs.Replay.{Taking, Answered, takings_of, commands_of}
 use Rattle.trace_script.specs.declared.script.Script.{Script}
 use Rattle.trace_script.specs.declared.script.ScriptLine.{ScriptLine}
 use Rattle.trace_cli.specs.declared.plain_collector.Held.{Held}
@@ -10,7 +10,7 @@ use Rattle.trace_cli.specs.declared.replay.Run.{Run}
 use Rattle.trace_script.specs.ScriptTypes.{shown_command, shown_line, script_of}
 use Rattle.trace_cli.specs.PlainRun.{met_by, obeyed}
 use Rattle.trace_cli.specs.Collected.{collected_of}
-use Rattle.trace_model.specs.Log.{LogLine, line_of_event, Logs, IsLoggedReplay}
+use Rattle.text_model.specs.Log.{LogLine, line_of_event, Logs, IsLoggedReplay}
 use Rattle.trace_cli.proofs.Runs.{IsRun, taking_by, obeyed_step}
 use Rattle.trace_cli.proofs.Logged.{meets, Logs-push}
 use Rattle.trace_cli.proofs.Contracts.{logged_run_meets_contract}

@@ -1,8 +1,8 @@
 -- What the collector of plain pages has.
 use Rattle.std.specs.Prelude.{ℕ, true, if◌then◌else◌, ◌==◌, List, [], ◌∷◌, flat_map}
 use Rattle.trace_model.specs.Record.{Record}
-use Rattle.trace_model.specs.Log.{Delivery, new_page, known_page, not_taken}
-use Rattle.trace_model.specs.Replay.{pairs_of}
+use Rattle.text_model.specs.Log.{Delivery, new_page, known_page, not_taken}
+use Rattle.text_model.specs.Replay.{pairs_of}
 use Rattle.trace_cli.specs.declared.plain_collector.Held.{Held}
 
 -- a taken page, delivered where its fill is this one

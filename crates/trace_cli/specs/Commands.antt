@@ -1,10 +1,10 @@
 -- What the commands of the program answer to a text.
 use Rattle.std.specs.Prelude.{◌≡◌, ℕ, Bool, ◌⊎◌, List}
 use Rattle.trace_model.specs.Record.{Record}
-use Rattle.trace_model.specs.Script.{Script, ParsesScript, LineFault, FirstScriptFault}
-use Rattle.trace_model.specs.Log.{LogLine, IsLoggedReplay}
+use Rattle.text_model.specs.Script.{Script, ParsesScript, LineFault, FirstScriptFault}
+use Rattle.text_model.specs.Log.{LogLine, IsLoggedReplay}
 use Rattle.trace_model.specs.Image.{Missed, DecodesImage, ImageCause, FirstImageFault}
-use Rattle.trace_model.specs.Printing.{printed_replay, printed_fault, printed_image, printed_image_fault}
+use Rattle.text_model.specs.Printing.{printed_replay, printed_fault, printed_image, printed_image_fault}
 use Rattle.trace_cli.specs.declared.status.TheConstants.{DONE, REFUSED}
 
 -- the text spells a script, and these bytes are the printing of a replay of it: its log, if it is asked

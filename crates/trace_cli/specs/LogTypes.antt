@@ -1,6 +1,6 @@
 -- The log's Rust types, in the words of trace_model.
 use Rattle.std.specs.Prelude.{List, Option, Some, None, map}
-use Rattle.trace_model.specs.Log as model
+use Rattle.text_model.specs.Log as model
 use Rattle.trace_cli.specs.declared.log.Refusal.{Refusal}
 use Rattle.trace_cli.specs.declared.log.Refusal.TheVariants.{TooLong, LateMoment}
 use Rattle.trace_cli.specs.declared.log.Delivery.{Delivery}

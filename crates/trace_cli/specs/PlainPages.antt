@@ -4,7 +4,7 @@ use Rattle.std.specs.Prelude.{ℕ, ◌+◌, max, Bool, if◌then◌else◌, ◌=
 use Rattle.trace_model.specs.declared.limits.TheConstants.{START_FILL}
 use Rattle.trace_model.specs.Record.{Record}
 use Rattle.trace_model.specs.Words.{padded, page_encoding}
-use Rattle.trace_model.specs.Replay.{Taking}
+use Rattle.text_model.specs.Replay.{Taking}
 
 -- A list of most pages at most, each for size bytes of data: the records of the pages that were left
 -- and neither taken nor dropped, oldest first, those of the tail page, the fill of the oldest page,

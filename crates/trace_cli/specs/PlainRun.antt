@@ -1,8 +1,8 @@
 -- What a command does to the pages and the collector, and what it meets there.
 use Rattle.std.specs.Prelude.{false, if◌then◌else◌, List, [], ◌∷◌, ◌++◌, length, map, Option, Some, None}
-use Rattle.trace_model.specs.Script.{Command, write, close, take_page, deliver}
-use Rattle.trace_model.specs.Replay.{Taking, is_writable}
-use Rattle.trace_model.specs.Log.{LogEvent, delivered, refusal_of, write_event, take_event}
+use Rattle.text_model.specs.Script.{Command, write, close, take_page, deliver}
+use Rattle.text_model.specs.Replay.{Taking, is_writable}
+use Rattle.text_model.specs.Log.{LogEvent, delivered, refusal_of, write_event, take_event}
 use Rattle.trace_cli.specs.declared.plain_collector.Held.{Held}
 use Rattle.trace_cli.specs.declared.replay.Run.{Run}
 use Rattle.trace_cli.specs.Collected.{brought_of, with_delivery}

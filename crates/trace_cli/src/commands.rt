@@ -2,9 +2,9 @@
 ghost use Rattle.std.specs.Prelude.{◌≡◌, ℕ, ◌⊎◌, ◌∷◌, ◌++◌, [], List, false, true, IfOk};
 ghost use Rattle.std.specs.Io.KnownBytes.{Appends, Keeps};
 ghost use Rattle.trace_model.specs.Record.{Record};
-ghost use Rattle.trace_model.specs.ScriptLimits.{IsWithinLimits};
-ghost use Rattle.trace_model.specs.Log.{LogLine, IsLoggedReplay};
-ghost use Rattle.trace_model.specs.Printing.{printed_replay};
+ghost use Rattle.text_model.specs.ScriptLimits.{IsWithinLimits};
+ghost use Rattle.text_model.specs.Log.{LogLine, IsLoggedReplay};
+ghost use Rattle.text_model.specs.Printing.{printed_replay};
 ghost use Rattle.trace_cli.specs.Answer.{bytes_of, status_of};
 ghost use Rattle.trace_cli.specs.Commands.{ReplayGives};
 ghost use Rattle.trace_script.specs.ScriptFaults.{script_fault_text};

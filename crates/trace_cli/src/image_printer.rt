@@ -1,7 +1,7 @@
 //! The printing of a page image.
 ghost use Rattle.std.specs.Prelude.{◌≡◌, ◌≢◌, ◌∷◌, ◌++◌, [], OnOk, IfOk, codes, flat_map};
 ghost use Rattle.std.specs.Fmt.{decimal};
-ghost use Rattle.trace_model.specs.Printing.{missed_text, printed_image, printed_image_record};
+ghost use Rattle.text_model.specs.Printing.{missed_text, printed_image, printed_image_record};
 ghost use Rattle.page_image.specs.Contents.{IsPage, records_of_page};
 ghost use Rattle.page_image.specs.Copies.{copies_of, copy_of};
 ghost use Rattle.page_image.specs.Images.{missed_of};

@@ -1,7 +1,7 @@
 //! The printing of a replay's log.
 ghost use Rattle.std.specs.Prelude.{◌≡◌, ◌++◌, OnOk, flat_map};
 ghost use Rattle.std.specs.Fmt.{decimal};
-ghost use Rattle.trace_model.specs.Printing.{delivery_text, event_text, page_text, printed_log_line, refusal_text};
+ghost use Rattle.text_model.specs.Printing.{delivery_text, event_text, page_text, printed_log_line, refusal_text};
 ghost use Rattle.trace_cli.specs.LogTypes.{shown_delivery, shown_event, shown_log, shown_log_line, shown_refusal};
 
 use crate::log::{Delivery, LogEvent, LogLine, Refusal};

@@ -14,7 +14,7 @@ pub struct Held {
 
 impl Held {
     ghost use Rattle.std.specs.Prelude.{◌≡◌, true, if◌then◌else◌};
-    ghost use Rattle.trace_model.specs.Log.{new_page, known_page};
+    ghost use Rattle.text_model.specs.Log.{new_page, known_page};
     ghost use Rattle.trace_cli.specs.LogTypes.{shown_delivery};
 
     /// Delivers the page, and answers what that brings.

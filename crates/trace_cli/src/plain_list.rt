@@ -62,7 +62,7 @@ impl Model for PlainList {
 impl PlainList {
     ghost use Rattle.std.specs.Prelude.{◌≡◌, ◌==◌, ◌↔◌, ◌+◌, ◌%◌, ◌≤◌, ◌<◌, ◌^◌, true, false, length, IfOk, OnOk, OnErr};
     ghost use Rattle.trace_model.specs.declared.limits.TheConstants.{MIN_PAGES, MIN_SIZE, MAX_SIZE, MOMENT_LIMIT};
-    ghost use Rattle.trace_model.specs.Replay.{is_short, is_writable};
+    ghost use Rattle.text_model.specs.Replay.{is_short, is_writable};
     ghost use Rattle.trace_cli.specs.PlainPages.{new_pages, tail_fill, records_left, fits_tail, with_place, opened, with_record, written, closed, taking_from, without_oldest};
     ghost use Rattle.trace_model.specs.Words.{padded};
 

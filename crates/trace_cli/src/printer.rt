@@ -2,9 +2,9 @@
 ghost use Rattle.std.specs.Prelude.{◌≡◌, ◌<◌, ◌++◌, OnOk, flat_map};
 ghost use Rattle.std.specs.Char.{digit_char};
 ghost use Rattle.std.specs.Fmt.{decimal};
-ghost use Rattle.trace_model.specs.Text.{hex_text};
-ghost use Rattle.trace_model.specs.Printing.{printed_record, printed_collector};
-ghost use Rattle.trace_model.specs.Replay.{pairs_of};
+ghost use Rattle.text_model.specs.Text.{hex_text};
+ghost use Rattle.text_model.specs.Printing.{printed_record, printed_collector};
+ghost use Rattle.text_model.specs.Replay.{pairs_of};
 ghost use Rattle.trace_cli.specs.Collected.{collected_of};
 ghost use Rattle.page_image.specs.Copies.{copy_of};
 

@@ -1,7 +1,7 @@
 //! The replay of a script over a plain list of pages.
 ghost use Rattle.std.specs.Prelude.{◌≡◌, ◌+◌, ◌++◌, ◌%◌, ◌<◌, ◌≤◌, ◌^◌, OnOk, IfOk, All};
-ghost use Rattle.trace_model.specs.Script.{write, close, take_page, deliver};
-ghost use Rattle.trace_model.specs.Log.{IsLoggedReplay, line_of_event, take_event};
+ghost use Rattle.text_model.specs.Script.{write, close, take_page, deliver};
+ghost use Rattle.text_model.specs.Log.{IsLoggedReplay, line_of_event, take_event};
 ghost use Rattle.trace_model.specs.declared.limits.TheConstants.{MIN_PAGES, MIN_SIZE, MAX_SIZE};
 ghost use Rattle.trace_cli.specs.Collected.{collected_of};
 ghost use Rattle.trace_cli.specs.PlainPages.{tail_fill, records_left, taking_from};

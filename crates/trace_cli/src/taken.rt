@@ -13,7 +13,7 @@ pub struct Taken {
 
 impl Model for Taken {
     ghost use Rattle.std.specs.Prelude.{◌+◌, ◌^◌, ◌<◌, length};
-    ghost use Rattle.trace_model.specs.Replay.{Taking};
+    ghost use Rattle.text_model.specs.Replay.{Taking};
     ghost use Rattle.page_image.specs.Copies.{copies_of};
 
     ghost Value = { Taking };

@@ -6,15 +6,6 @@ pub mod Order
 pub mod Overwriting
 pub mod History
 pub mod Sublist
-pub mod Pieces
-pub mod Text
-pub mod Script
-pub mod ScriptLimits
-pub mod ScriptReading
-pub mod ScriptWriting
-pub mod Replay
-pub mod Log
-pub mod Printing
 pub mod Laws
 pub mod FirstFault
 pub mod Image

@@ -7,11 +7,9 @@
 pub mod laws;
 pub mod limits;
 pub mod numbers;
-pub mod script_limits;
 
 pub use limits::{
     LINK_FILLS, MAX_COLLECTORS, MAX_CPUS, MAX_FRAMES, MAX_IMAGE, MAX_INPUT, MAX_PAGES, MAX_SIZE,
     MIN_PAGES, MIN_SIZE, MOMENT_LIMIT, START_FILL,
 };
 pub use numbers::{CpuId, FillNo, Moment, NoMemory, RecordNo};
-pub use script_limits::{MAX_SCRIPT_COLLECTORS, MAX_SCRIPT_CPUS};

@@ -11,8 +11,8 @@ use Rattle.hex.specs.Hex.{hex_digit_value, is_hex_digit, digit_or_error, decode_
 use Rattle.hex.specs.declared.error.FromHexError.{FromHexError}
 use Rattle.hex.specs.declared.error.FromHexError.TheVariants.{InvalidHexCharacter, OddLength, InvalidStringLength, OutOfMemory}
 use Rattle.hex.proofs.HexLemmas.{decode_of-ok, decode_of-err, decode_of-even}
-use Rattle.trace_model.specs.Text.{is_hex, bytes_of_pairs}
-use Rattle.trace_model.specs.Script.{LineFault, bad_hex, payload_in}
+use Rattle.text_model.specs.Text.{is_hex, bytes_of_pairs}
+use Rattle.text_model.specs.Script.{LineFault, bad_hex, payload_in}
 use Rattle.trace_script.specs.declared.fault.LineFault as line
 use Rattle.trace_script.specs.ScriptFaults.{Fails, hex_fault}
 

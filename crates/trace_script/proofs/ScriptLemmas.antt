@@ -3,12 +3,12 @@ use Rattle.std.proofs.Common.{◌≡◌, ◌≢◌, ℕ, true, false, List, [], 
 use Rattle.std.specs.Prelude.{IsTrue}
 use Rattle.std.proofs.lemmas.Bool.{cases_Bool, cond-true, cond-false}
 use Rattle.std.proofs.lemmas.List.{append-nil, map-append}
-use Rattle.trace_model.specs.Text.{fields_of, is_well_spaced}
-use Rattle.trace_model.specs.Script as model
-use Rattle.trace_model.specs.Script.{Command, LineFault, Line, Setting, ParsesScript, bad_line, bad_number, bad_hex, out_of_range, ◌>>=◌, value_given, value_of, value_in, command_of, command_in}
-use Rattle.trace_model.specs.ScriptReading.{located, counted_behind, setting_from, settings_from, commands_from, script_in}
-use Rattle.trace_model.proofs.ScriptLemmas.{settings_ok}
-use Rattle.trace_model.proofs.ScriptReads.{script_reads, fault_reads}
+use Rattle.text_model.specs.Text.{fields_of, is_well_spaced}
+use Rattle.text_model.specs.Script as model
+use Rattle.text_model.specs.Script.{Command, LineFault, Line, Setting, ParsesScript, bad_line, bad_number, bad_hex, out_of_range, ◌>>=◌, value_given, value_of, value_in, command_of, command_in}
+use Rattle.text_model.specs.ScriptReading.{located, counted_behind, setting_from, settings_from, commands_from, script_in}
+use Rattle.text_model.proofs.ScriptLemmas.{settings_ok}
+use Rattle.text_model.proofs.ScriptReads.{script_reads, fault_reads}
 use Rattle.trace_script.specs.declared.script.ScriptLine.{ScriptLine}
 use Rattle.trace_script.specs.declared.fault.LineFault as line
 use Rattle.trace_script.specs.declared.fault.LineFault.TheVariants as faults

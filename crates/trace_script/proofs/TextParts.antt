@@ -5,9 +5,9 @@ use Rattle.std.specs.List.{position, position_or_len, slice_split, onto_first, e
 use Rattle.std.proofs.lemmas.Bool.{ltb-true, ltb-false, cases_Bool, cond-true, cond-false, ne_eqb}
 use Rattle.std.proofs.lemmas.List.{take_rest}
 use Rattle.std.proofs.lemmas.List.Splits.{slice_split_first, slice_split-cons_yes, slice_split-cons_no}
-use Rattle.trace_model.specs.Text.{lines_of, without_empty_end}
-use Rattle.trace_model.specs.Script.{Line, is_counted}
-use Rattle.trace_model.specs.ScriptReading.{counted_behind, end_behind}
+use Rattle.text_model.specs.Text.{lines_of, without_empty_end}
+use Rattle.text_model.specs.Script.{Line, is_counted}
+use Rattle.text_model.specs.ScriptReading.{counted_behind, end_behind}
 
 same_some : (m n : ℕ) → Some m ≡ Some n → m ≡ n
 same_some m n h = cc

@@ -10,9 +10,9 @@ use Rattle.std.proofs.lemmas.Int.Digits.{digits_value_more, digits_more}
 use Rattle.std.proofs.lemmas.List.{take_all}
 use Rattle.std.proofs.lemmas.Str.{digit_value_digit}
 use Rattle.std.proofs.lemmas.Str.Parse.{digit_at, digits_value-take-le}
-use Rattle.trace_model.specs.Text.{is_decimal}
-use Rattle.trace_model.specs.Script.{LineFault, bad_number, number_in}
-use Rattle.trace_model.proofs.TextLemmas.{numerals}
+use Rattle.text_model.specs.Text.{is_decimal}
+use Rattle.text_model.specs.Script.{LineFault, bad_number, number_in}
+use Rattle.text_model.proofs.TextLemmas.{numerals}
 
 -- ---- numbers
 no_number : (field : List ℕ) → is_decimal field ≡ false → number_in field ≡ Err bad_number

@@ -2,8 +2,8 @@
 use Rattle.std.specs.Prelude.{◌≡◌, ℕ, ⊤, List, ◌++◌, codes, Result, Ok, Err}
 use Rattle.hex.specs.declared.error.FromHexError.{FromHexError}
 use Rattle.hex.specs.declared.error.FromHexError.TheVariants.{OutOfMemory}
-use Rattle.trace_model.specs.Script as model
-use Rattle.trace_model.specs.Script.{Line, FirstScriptFault, GiveSettings, header_settings, counted_lines, bad_line, bad_number, bad_hex, out_of_range, fault_text}
+use Rattle.text_model.specs.Script as model
+use Rattle.text_model.specs.Script.{Line, FirstScriptFault, GiveSettings, header_settings, counted_lines, bad_line, bad_number, bad_hex, out_of_range, fault_text}
 use Rattle.trace_script.specs.declared.fault.LineFault.{LineFault}
 use Rattle.trace_script.specs.declared.fault.LineFault.TheVariants as line
 use Rattle.trace_script.specs.declared.fault.ScriptFault.{ScriptFault}

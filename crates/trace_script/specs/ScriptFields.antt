@@ -1,6 +1,6 @@
 -- What the script's reader says of the fields of a line.
 use Rattle.std.specs.Prelude.{◌≡◌, ◌≢◌, ℕ, ◌⊎◌, false, List, [], ◌∷◌, length, IsTrue}
-use Rattle.trace_model.specs.Text.{is_well_spaced}
+use Rattle.text_model.specs.Text.{is_well_spaced}
 use Rattle.trace_script.specs.declared.fields.Fields.{Fields}
 use Rattle.trace_script.specs.declared.fields.Fields.TheVariants.{Two, Four, Other}
 

@@ -1,7 +1,7 @@
 -- The script's Rust types, in the words of trace_model.
 use Rattle.std.specs.Prelude.{ℕ, List, [], ◌∷◌, map}
-use Rattle.trace_model.specs.Script as model
-use Rattle.trace_model.specs.Script.{pages_setting, size_setting, cpus_setting, collectors_setting, write, close, take_page, deliver}
+use Rattle.text_model.specs.Script as model
+use Rattle.text_model.specs.Script.{pages_setting, size_setting, cpus_setting, collectors_setting, write, close, take_page, deliver}
 use Rattle.trace_script.specs.declared.script.Script.{Script}
 use Rattle.trace_script.specs.declared.script.ScriptLine.{ScriptLine}
 use Rattle.trace_script.specs.declared.command.Command.{Command}

@@ -1,6 +1,6 @@
 //! The commands of a script.
 ghost use Rattle.std.specs.Prelude.{◌≡◌, ◌≢◌, [], ◌∷◌, bytes_eq};
-ghost use Rattle.trace_model.specs.Script.{write_in, close_in, take_in, deliver_in, command_of, command_in};
+ghost use Rattle.text_model.specs.Script.{write_in, close_in, take_in, deliver_in, command_of, command_in};
 ghost use Rattle.trace_script.specs.ScriptFaults.{Gives};
 ghost use Rattle.trace_script.specs.ScriptTypes.{shown_command};
 
@@ -46,7 +46,7 @@ fn is_letter(field: &[u8], letter: u8) -> bool
 }
 
 /// `cX w T HEX`
-#[tactic(auto, unfolding(trace_model::specs::Script::write_in))]
+#[tactic(auto, unfolding(text_model::specs::Script::write_in))]
 fn write_in(
     alloc: Global,
     cpus: u32,
@@ -67,7 +67,7 @@ fn write_in(
 }
 
 /// `cX c`
-#[tactic(auto, unfolding(trace_model::specs::Script::close_in))]
+#[tactic(auto, unfolding(text_model::specs::Script::close_in))]
 fn close_in(cpus: u32, cpu: &[u8]) -> Result<Command, LineFault>
     ensures gives { Gives shown_command result (close_in cpus cpu.now) }
     ensures never_out_of_memory { result ≢ Err LineFault.NoMemory }
@@ -77,7 +77,7 @@ fn close_in(cpus: u32, cpu: &[u8]) -> Result<Command, LineFault>
 }
 
 /// `cX t`
-#[tactic(auto, unfolding(trace_model::specs::Script::take_in))]
+#[tactic(auto, unfolding(text_model::specs::Script::take_in))]
 fn take_in(cpus: u32, cpu: &[u8]) -> Result<Command, LineFault>
     ensures gives { Gives shown_command result (take_in cpus cpu.now) }
     ensures never_out_of_memory { result ≢ Err LineFault.NoMemory }
@@ -87,7 +87,7 @@ fn take_in(cpus: u32, cpu: &[u8]) -> Result<Command, LineFault>
 }
 
 /// `d K cX F`
-#[tactic(auto, unfolding(trace_model::specs::Script::deliver_in))]
+#[tactic(auto, unfolding(text_model::specs::Script::deliver_in))]
 fn deliver_in(
     cpus: u32,
     collectors: usize,
@@ -110,7 +110,7 @@ fn deliver_in(
 }
 
 /// The command of two fields.
-#[tactic(auto, unfolding(trace_model::specs::Script::command_of))]
+#[tactic(auto, unfolding(text_model::specs::Script::command_of))]
 fn of_two(cpus: u32, collectors: usize, first: &[u8], second: &[u8]) -> Result<Command, LineFault>
     ensures gives { Gives shown_command result
         (command_of cpus collectors (first.now ∷ second.now ∷ [])) }
@@ -126,7 +126,7 @@ fn of_two(cpus: u32, collectors: usize, first: &[u8], second: &[u8]) -> Result<C
 }
 
 /// The command of four fields.
-#[tactic(auto, unfolding(trace_model::specs::Script::command_of))]
+#[tactic(auto, unfolding(text_model::specs::Script::command_of))]
 fn of_four(
     alloc: Global,
     cpus: u32,

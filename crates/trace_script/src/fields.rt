@@ -1,6 +1,6 @@
 //! A line as its fields.
 ghost use Rattle.std.specs.Prelude.{◌≡◌, [], ◌∷◌};
-ghost use Rattle.trace_model.specs.Text.{fields_of};
+ghost use Rattle.text_model.specs.Text.{fields_of};
 ghost use Rattle.trace_script.specs.ScriptFields.{AreFields};
 
 use crate::lines::cut_at;

@@ -1,7 +1,7 @@
 //! The header of a script.
 ghost use Rattle.std.specs.Prelude.{◌≡◌, ◌≢◌, ◌<◌, ◌≤◌, ◌==◌, ◌%◌, ◌&&◌, nat_le, IfOk};
-ghost use Rattle.trace_model.specs.Script.{value_given, value_in, header_settings};
-ghost use Rattle.trace_model.specs.ScriptReading.{counted_behind, end_behind, setting_from, settings_from};
+ghost use Rattle.text_model.specs.Script.{value_given, value_in, header_settings};
+ghost use Rattle.text_model.specs.ScriptReading.{counted_behind, end_behind, setting_from, settings_from};
 ghost use Rattle.trace_script.specs.ScriptFaults.{Gives, GivesAt};
 ghost use Rattle.trace_script.specs.ScriptTypes.{setting_of, values_of};
 
@@ -9,9 +9,8 @@ use crate::fault::{LineFault, ScriptFault, at_line};
 use crate::fields::{Fields, fields_of};
 use crate::lines::Lines;
 use crate::values::number_of;
-use trace_model::{
-    MAX_PAGES, MAX_SCRIPT_COLLECTORS, MAX_SCRIPT_CPUS, MAX_SIZE, MIN_PAGES, MIN_SIZE,
-};
+use text_model::{MAX_SCRIPT_COLLECTORS, MAX_SCRIPT_CPUS};
+use trace_model::{MAX_PAGES, MAX_SIZE, MIN_PAGES, MIN_SIZE};
 
 /// What the header of a script says.
 #[derive(Clone, Copy, Debug, PartialEq, Eq)]
@@ -100,7 +99,7 @@ impl Limits {
 }
 
 /// The value that a word and a number give to a setting.
-#[tactic(auto, unfolding(trace_model::specs::Script::value_given))]
+#[tactic(auto, unfolding(text_model::specs::Script::value_given))]
 fn value_given(setting: Setting, word: &[u8], number: &[u8]) -> Result<u64, LineFault>
     ensures gives { Gives (λ value. value) result
         (value_given (setting_of setting) word.now number.now) }
@@ -148,7 +147,7 @@ fn read_setting(lines: &mut Lines, setting: Setting) -> Result<u64, ScriptFault>
 }
 
 /// The header, from the next lines that say something.
-#[tactic(auto, unfolding(trace_model::specs::ScriptReading::settings_from))]
+#[tactic(auto, unfolding(text_model::specs::ScriptReading::settings_from))]
 pub fn read_header(lines: &mut Lines) -> Result<Header, ScriptFault>
     ensures gives { GivesAt
         (λ header. (values_of header, counted_behind lines.new.passed lines.new.rest.now)) result

@@ -1,9 +1,9 @@
 //! A text, line by line.
 ghost use Rattle.std.specs.Prelude.{◌≡◌, ◌+◌, ◌-◌, ◌^◌, ◌<◌, ◌≤◌, ◌==◌, ⊤, [], ◌∷◌, length, position, MatchOption};
 ghost use Rattle.std.specs.List.{slice_split};
-ghost use Rattle.trace_model.specs.Text.{lines_of};
-ghost use Rattle.trace_model.specs.Script.{is_counted};
-ghost use Rattle.trace_model.specs.ScriptReading.{counted_behind, end_behind};
+ghost use Rattle.text_model.specs.Text.{lines_of};
+ghost use Rattle.text_model.specs.Script.{is_counted};
+ghost use Rattle.text_model.specs.ScriptReading.{counted_behind, end_behind};
 
 /// The place of the first separator, if there is one.
 fn place_of(bytes: &[u8], separator: u8) -> Option<usize>

@@ -1,7 +1,7 @@
 //! The reader of a script's text: line by line, in one pass.
 ghost use Rattle.std.specs.Prelude.{◌≡◌, IfOk, IfErr, map};
-ghost use Rattle.trace_model.specs.Script.{ParsesScript, command_in};
-ghost use Rattle.trace_model.specs.ScriptReading.{located, counted_behind, commands_from, script_in};
+ghost use Rattle.text_model.specs.Script.{ParsesScript, command_in};
+ghost use Rattle.text_model.specs.ScriptReading.{located, counted_behind, commands_from, script_in};
 ghost use Rattle.trace_script.specs.ScriptFaults.{GivesAt, HasHeader, IsFirstFault};
 ghost use Rattle.trace_script.specs.ScriptTypes.{shown_command, shown_line, script_of};
 
@@ -48,7 +48,7 @@ fn read_commands(
 }
 
 /// The script that a text spells, as the plain reader of the definitions reads it.
-#[tactic(auto, unfolding(trace_model::specs::ScriptReading::script_from))]
+#[tactic(auto, unfolding(text_model::specs::ScriptReading::script_from))]
 fn script_in(alloc: Global, text: &[u8]) -> Result<Script, ScriptFault>
     ensures gives { GivesAt script_of result (script_in text.now) }
     ensures memory { result ≡ Err ScriptFault.NoMemory → HasHeader text.now }

@@ -3,7 +3,7 @@ ghost use Rattle.std.specs.Prelude.{◌≡◌, ◌≢◌, ◌+◌, ◌-◌, ◌*
 ghost use Rattle.std.specs.Int.{IsInRange};
 ghost use Rattle.std.specs.Char.{is_ascii_digit};
 ghost use Rattle.std.specs.List.{list_all};
-ghost use Rattle.trace_model.specs.Script.{number_in, number_below, names_cpu, cpu_in, payload_in};
+ghost use Rattle.text_model.specs.Script.{number_in, number_below, names_cpu, cpu_in, payload_in};
 ghost use Rattle.trace_script.specs.ScriptFaults.{Gives, hex_fault};
 
 use crate::fault::LineFault;
@@ -45,7 +45,7 @@ pub fn number_of(field: &[u8]) -> Result<u64, LineFault>
 }
 
 /// The number that a field spells, which is to be below the limit.
-#[tactic(auto, unfolding(trace_model::specs::Script::number_below))]
+#[tactic(auto, unfolding(text_model::specs::Script::number_below))]
 pub fn number_below(limit: u64, field: &[u8]) -> Result<u64, LineFault>
     ensures gives { Gives (λ n. n) result (number_below limit field.now) }
     ensures never_out_of_memory { result ≢ Err LineFault.NoMemory }
@@ -80,7 +80,7 @@ fn cpu_digits(field: &[u8]) -> Option<&[u8]>
 }
 
 /// The CPU that a field names, of so many CPUs.
-#[tactic(auto, unfolding(trace_model::specs::Script::cpu_in))]
+#[tactic(auto, unfolding(text_model::specs::Script::cpu_in))]
 pub fn cpu_of(cpus: u32, field: &[u8]) -> Result<CpuId, LineFault>
     ensures gives { Gives (λ cpu. cpu.0) result (cpu_in cpus field.now) }
     ensures never_out_of_memory { result ≢ Err LineFault.NoMemory }

@@ -1,4 +1,4 @@
-use Rattle.trace_model.proofs.ParsedLimits.{ParsesScript-within}
+use Rattle.text_model.proofs.ParsedLimits.{ParsesScript-within}
 use Rattle.trace_script.specs.ScriptTypes.{script_of}
 use Rattle.trace_cli.proofs.commands.replay_answer.Goals as goal
 

@@ -1,5 +1,5 @@
 use Rattle.std.proofs.Common.{◌≡◌, ◌++◌, take, flat_map}
-use Rattle.trace_model.specs.Printing.{printed_image_record}
+use Rattle.text_model.specs.Printing.{printed_image_record}
 use Rattle.page_image.specs.Copies.{copies_of}
 use Rattle.trace_cli.proofs.image_printer.put_copies.Given as goal
 

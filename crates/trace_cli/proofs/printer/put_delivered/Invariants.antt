@@ -1,5 +1,5 @@
 use Rattle.std.proofs.Common.{◌≡◌, ◌++◌, take, flat_map}
-use Rattle.trace_model.specs.Printing.{printed_record}
+use Rattle.text_model.specs.Printing.{printed_record}
 use Rattle.trace_cli.specs.Collected.{collected_of}
 use Rattle.trace_cli.proofs.printer.put_delivered.Given as goal
 

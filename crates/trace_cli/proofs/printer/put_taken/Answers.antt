@@ -1,4 +1,4 @@
-use Rattle.trace_model.specs.Printing.{printed_record}
+use Rattle.text_model.specs.Printing.{printed_record}
 use Rattle.trace_cli.proofs.Lines.{line_more}
 use Rattle.trace_cli.proofs.printer.put_taken.Goals as goal
 

@@ -1,6 +1,6 @@
 use Rattle.std.proofs.Common.{◌≡◌, ◌++◌, take, flat_map}
 use Rattle.std.specs.List.{enumerate_from}
-use Rattle.trace_model.specs.Printing.{printed_record}
+use Rattle.text_model.specs.Printing.{printed_record}
 use Rattle.trace_cli.proofs.printer.put_taken.Given as goal
 
 abbrev pub invariant-loop-i : goal.invariant-loop-i

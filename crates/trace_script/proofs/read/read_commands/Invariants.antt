@@ -1,6 +1,6 @@
 use Rattle.std.proofs.Common.{◌≡◌, ◌++◌, map, length, Ok}
-use Rattle.trace_model.specs.Script.{◌>>=◌}
-use Rattle.trace_model.specs.ScriptReading.{counted_behind, commands_from}
+use Rattle.text_model.specs.Script.{◌>>=◌}
+use Rattle.text_model.specs.ScriptReading.{counted_behind, commands_from}
 use Rattle.trace_script.specs.ScriptTypes.{shown_line}
 use Rattle.trace_script.proofs.read.read_commands.Given as goal
 

@@ -1,5 +1,5 @@
 use Rattle.std.proofs.Common.{List, ℕ, Ok, Result, sym, ◌∙◌, ap}
-use Rattle.trace_model.specs.Script.{LineFault}
+use Rattle.text_model.specs.Script.{LineFault}
 use Rattle.trace_script.proofs.HexText.{payload_read, payload_fails, empty_payload, dash_payload, dash_test}
 use Rattle.trace_script.proofs.values.payload_of.Goals as goal
 

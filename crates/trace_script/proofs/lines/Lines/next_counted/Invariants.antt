@@ -1,5 +1,5 @@
 use Rattle.std.proofs.Common.{◌≡◌, ◌≤◌, length}
-use Rattle.trace_model.specs.ScriptReading.{counted_behind, end_behind}
+use Rattle.text_model.specs.ScriptReading.{counted_behind, end_behind}
 use Rattle.trace_script.proofs.lines.Lines.next_counted.Given as goal
 
 abbrev pub invariant-loop-line : goal.invariant-loop-line

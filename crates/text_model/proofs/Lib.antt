@@ -1,0 +1,10 @@
+pub mod Histories
+pub mod LineHistories
+pub mod Sublists
+pub mod PieceLemmas
+pub mod TextLemmas
+pub mod ScriptLemmas
+pub mod ScriptReads
+pub mod ParsedLimits
+pub mod ScriptTable
+pub mod ScriptWrites

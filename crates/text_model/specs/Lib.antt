@@ -1,0 +1,9 @@
+pub mod Pieces
+pub mod Text
+pub mod Script
+pub mod ScriptLimits
+pub mod ScriptReading
+pub mod ScriptWriting
+pub mod Replay
+pub mod Log
+pub mod Printing

@@ -1,0 +1,98 @@
+-- What is printed: the log, collectors, page images, the fault of a script or of an image, want of memory.
+-- docs/FORMATS.md, "Printed text" and "Log".
+use Rattle.std.specs.Prelude.{ℕ, Bool, if◌then◌else◌, List, [], ◌∷◌, ◌++◌, flat_map, codes}
+use Rattle.std.specs.Fmt.{decimal}
+use Rattle.trace_model.specs.Record.{Record}
+use Rattle.text_model.specs.Text.{hex_text}
+use Rattle.text_model.specs.Script.{LineFault, fault_text}
+use Rattle.text_model.specs.Log.{Refusal, too_long, late_moment, Delivery, new_page, known_page, not_taken, LogEvent, refused, taken, empty, delivered, LogLine}
+use Rattle.trace_model.specs.Faults.{Cause, cut, bad_length, time_overflow}
+use Rattle.trace_model.specs.Image.{Missed, none, unknown, counted, ImageCause, too_short, bad_size, bad_count, bad_word}
+
+-- a record's line: its CPU, its number, its moment and its payload
+abbrev pub printed_record : ℕ → ℕ × Record → List ℕ
+printed_record cpu pair =
+    decimal cpu ++ 32 ∷ decimal pair.0 ++ 32 ∷ decimal pair.1.moment ++ 32 ∷ hex_text pair.1.bytes ++ 10 ∷ []
+
+-- a collector: its head line, then a line for each of its records, all of this CPU
+abbrev pub printed_collector : ℕ → ℕ → List (ℕ × Record) → List ℕ
+printed_collector collector cpu collected =
+    codes "collector " ++ decimal collector ++ 10 ∷ flat_map (printed_record cpu) collected
+
+-- the world that a replay leaves: for now one collector and one CPU
+abbrev pub printed_world : List (ℕ × Record) → List ℕ
+printed_world collected = printed_collector 0 0 collected
+
+-- the name of why a write is refused
+abbrev pub refusal_text : Refusal → List ℕ
+refusal_text too_long = codes "TooLong"
+refusal_text late_moment = codes "LateMoment"
+
+-- the word for what a delivery brings
+abbrev pub delivery_text : Delivery → List ℕ
+delivery_text new_page = codes "new"
+delivery_text known_page = codes "known"
+delivery_text not_taken = codes "not-taken"
+
+-- a page that was taken: its fill, the number of its first record, how many records it holds, and how
+-- many were missed in front of them
+abbrev pub page_text : ℕ → ℕ → ℕ → ℕ → List ℕ
+page_text fill first count missed =
+    codes " taken fill " ++ decimal fill ++ codes " first " ++ decimal first ++ codes " count " ++ decimal count ++ codes " missed " ++ decimal missed
+
+-- what a command met, as it is logged
+abbrev pub event_text : LogEvent → List ℕ
+event_text (refused cpu refusal) = codes "c" ++ decimal cpu ++ codes " refused " ++ refusal_text refusal
+event_text (taken cpu fill first count missed) = codes "c" ++ decimal cpu ++ page_text fill first count missed
+event_text (empty cpu) = codes "c" ++ decimal cpu ++ codes " empty"
+event_text (delivered collector cpu fill delivery) =
+    codes "d " ++ decimal collector ++ codes " c" ++ decimal cpu ++ 32 ∷ decimal fill ++ 32 ∷ delivery_text delivery
+
+-- a line of the log: the number of the script's line, and what its command met
+abbrev pub printed_log_line : LogLine → List ℕ
+printed_log_line line = decimal line.number ++ 32 ∷ event_text line.event ++ 10 ∷ []
+
+-- what a replay prints: its log, if it is asked for, and then the world
+abbrev pub printed_replay : Bool → List LogLine → List (ℕ × Record) → List ℕ
+printed_replay asked log collected =
+    (if asked then flat_map printed_log_line log else []) ++ printed_world collected
+
+-- the line that tells which line of a script is at fault, and how
+abbrev pub printed_fault : ℕ → LineFault → List ℕ
+printed_fault number fault = fault_text number fault ++ 10 ∷ []
+
+-- the line that is printed where memory is refused
+abbrev pub memory_line : List ℕ
+memory_line = codes "memory" ++ 10 ∷ []
+
+-- what an image tells of missed events
+abbrev pub missed_text : Missed → List ℕ
+missed_text none = codes "none"
+missed_text unknown = codes "unknown"
+missed_text (counted events) = decimal events
+
+-- the line of a record in an image: its moment and its payload
+abbrev pub printed_image_record : Record → List ℕ
+printed_image_record r = decimal r.moment ++ 32 ∷ hex_text r.bytes ++ 10 ∷ []
+
+-- an image: its time, the size of its data in bytes, its missed events, then a line for each record
+abbrev pub printed_image : ℕ → ℕ → Missed → List Record → List ℕ
+printed_image time size missed records =
+    codes "page " ++ decimal time ++ codes " size " ++ decimal size ++ codes " missed " ++ missed_text missed ++ 10 ∷ flat_map printed_image_record records
+
+-- the name of what is wrong with a word
+abbrev pub cause_text : Cause → List ℕ
+cause_text cut = codes "Cut"
+cause_text bad_length = codes "BadLength"
+cause_text time_overflow = codes "TimeOverflow"
+
+-- what is wrong with an image; a word is told by its offset in bytes behind the header
+abbrev pub image_fault_text : ImageCause → List ℕ
+image_fault_text too_short = codes "TooShort"
+image_fault_text bad_size = codes "BadSize"
+image_fault_text bad_count = codes "BadCount"
+image_fault_text (bad_word cause at) = cause_text cause ++ codes " at " ++ decimal at
+
+-- the line that tells what is wrong with an image
+abbrev pub printed_image_fault : ImageCause → List ℕ
+printed_image_fault cause = codes "image: " ++ image_fault_text cause ++ 10 ∷ []

@@ -1,0 +1,250 @@
+-- The script text: what script a text spells as a whole, or which of its lines is the first at fault.
+-- After docs/FORMATS.md, "Script".
+use Rattle.std.specs.Prelude.{◌≡◌, ℕ, ◌+◌, ◌%◌, ◌⊎◌, ⊤, Bool, false, not, ◌&&◌, if◌then◌else◌, ◌==◌, nat_lt, nat_le, List, [], ◌∷◌, ◌++◌, length, drop, filter, codes, bytes_eq, decimal, Result, Ok, Err}
+use Rattle.std.specs.List.{enumerate_from}
+use Rattle.std.specs.Str.{all_ascii_digits}
+use Rattle.std.specs.Str.Parse.{digits_value}
+use Rattle.text_model.specs.Text.{lines_of, fields_of, is_well_spaced, is_decimal, is_hex, hex_bytes}
+use Rattle.trace_model.specs.declared.limits.TheConstants.{MIN_PAGES, MAX_PAGES, MIN_SIZE, MAX_SIZE}
+use Rattle.text_model.specs.declared.script_limits.TheConstants.{MAX_SCRIPT_CPUS, MAX_SCRIPT_COLLECTORS}
+
+-- What a line of a script asks for. write: a record of this moment and payload. close: leave the
+-- tail page. take_page: the reader takes a page. deliver: the collector gets this fill of the CPU.
+pub data Command : Type 0 where
+  write : (cpu moment : ℕ) (payload : List ℕ) → Command
+  close : (cpu : ℕ) → Command
+  take_page : (cpu : ℕ) → Command
+  deliver : (collector cpu fill : ℕ) → Command
+
+-- a script: the values of its header, and its commands, each with the number of its line
+pub record Script : Type 0 where
+  pub pages : ℕ
+  pub size : ℕ
+  pub cpus : ℕ
+  pub collectors : ℕ
+  pub commands : List (ℕ × Command)
+
+-- What is wrong with a line. bad_line: its spaces, its place in the header, its word, how many fields
+-- it has, or a field that is to name a CPU and doesn't. bad_number, bad_hex: a field that is no
+-- number, or no bytes. out_of_range: a number outside its limits.
+pub data LineFault : Type 0 where
+  bad_line : LineFault
+  bad_number : LineFault
+  bad_hex : LineFault
+  out_of_range : LineFault
+
+-- the one after the other: the first fault is what counts
+infixl 10 ◌>>=◌
+abbrev pub ◌>>=◌ : {A B E : Type 0} → Result A E → (A → Result B E) → Result B E
+(Ok x) >>= f = f x
+(Err e) >>= f = Err e
+
+-- the number that a field spells
+unfoldable pub number_in : List ℕ → Result ℕ LineFault
+number_in field = if is_decimal field then Ok (digits_value 10 field) else Err bad_number
+
+-- the bytes that a field spells
+unfoldable pub payload_in : List ℕ → Result (List ℕ) LineFault
+payload_in field = if is_hex field then Ok (hex_bytes field) else Err bad_hex
+
+-- the number that a field spells, which is to be below a limit
+unfoldable pub number_below : ℕ → List ℕ → Result ℕ LineFault
+number_below limit field = number_in field >>= λ n. if nat_lt n limit then Ok n else Err out_of_range
+
+-- `c` and one digit or more, and nothing else
+abbrev pub names_cpu : List ℕ → Bool
+names_cpu [] = false
+names_cpu (letter ∷ digits) = (letter == 99) && nat_lt 0 (length digits) && all_ascii_digits digits
+
+-- the CPU that a field names, of so many CPUs
+unfoldable pub cpu_in : ℕ → List ℕ → Result ℕ LineFault
+cpu_in cpus field = if names_cpu field then number_below cpus (drop 1 field) else Err bad_line
+
+-- the fields of `cX w T HEX`, without the word
+unfoldable pub write_in : ℕ → List ℕ → List ℕ → List ℕ → Result Command LineFault
+write_in cpus cpu_field moment_field payload_field = do
+  cpu ← cpu_in cpus cpu_field
+  moment ← number_in moment_field
+  payload ← payload_in payload_field
+  Ok (write cpu moment payload)
+
+-- the field of `cX c`
+unfoldable pub close_in : ℕ → List ℕ → Result Command LineFault
+close_in cpus cpu_field = do
+  cpu ← cpu_in cpus cpu_field
+  Ok (close cpu)
+
+-- the field of `cX t`
+unfoldable pub take_in : ℕ → List ℕ → Result Command LineFault
+take_in cpus cpu_field = do
+  cpu ← cpu_in cpus cpu_field
+  Ok (take_page cpu)
+
+-- the fields of `d K cX F`, without the word
+unfoldable pub deliver_in : ℕ → ℕ → List ℕ → List ℕ → List ℕ → Result Command LineFault
+deliver_in cpus collectors collector_field cpu_field fill_field = do
+  collector ← number_below collectors collector_field
+  cpu ← cpu_in cpus cpu_field
+  fill ← number_in fill_field
+  Ok (deliver collector cpu fill)
+
+-- The command that fields spell, for so many CPUs and collectors: `cX w T HEX`, `cX c`, `cX t` or
+-- `d K cX F`. Once the word and the number of fields fit, values are looked at from left to right.
+unfoldable pub command_of : ℕ → ℕ → List (List ℕ) → Result Command LineFault
+command_of cpus collectors (first ∷ second ∷ []) =
+    if bytes_eq second (codes "c") then close_in cpus first
+    else (if bytes_eq second (codes "t") then take_in cpus first
+    else Err bad_line)
+command_of cpus collectors (first ∷ second ∷ third ∷ fourth ∷ []) =
+    if bytes_eq first (codes "d") then deliver_in cpus collectors second third fourth
+    else (if bytes_eq second (codes "w") then write_in cpus first third fourth
+    else Err bad_line)
+command_of cpus collectors _ = Err bad_line
+
+-- The same by the commands: what fields spell each.
+abbrev pub SpellsCommand : ℕ → ℕ → Command → List (List ℕ) → Type 0
+SpellsCommand cpus collectors (write cpu moment payload) fields = (x : List ℕ) × (t : List ℕ) × (hex : List ℕ) × (fields ≡ x ∷ codes "w" ∷ t ∷ hex ∷ []) × (cpu_in cpus x ≡ Ok cpu) × (number_in t ≡ Ok moment) × (payload_in hex ≡ Ok payload)
+SpellsCommand cpus collectors (close cpu) fields = (x : List ℕ) × (fields ≡ x ∷ codes "c" ∷ []) × (cpu_in cpus x ≡ Ok cpu)
+SpellsCommand cpus collectors (take_page cpu) fields = (x : List ℕ) × (fields ≡ x ∷ codes "t" ∷ []) × (cpu_in cpus x ≡ Ok cpu)
+SpellsCommand cpus collectors (deliver collector cpu fill) fields = (k : List ℕ) × (x : List ℕ) × (f : List ℕ) × (fields ≡ codes "d" ∷ k ∷ x ∷ f ∷ []) × (number_below collectors k ≡ Ok collector) × (cpu_in cpus x ≡ Ok cpu) × (number_in f ≡ Ok fill)
+
+-- the command that a line spells: its spaces are looked at first
+unfoldable pub command_in : ℕ → ℕ → List ℕ → Result Command LineFault
+command_in cpus collectors line =
+    if is_well_spaced (fields_of line) then command_of cpus collectors (fields_of line) else Err bad_line
+
+-- a line of the header: its word, and the values that it may have, multiples of a step
+pub record Setting : Type 0 where
+  pub word : List ℕ
+  pub least : ℕ
+  pub most : ℕ
+  pub step : ℕ
+
+-- the pages of a ring
+abbrev pub pages_setting : Setting
+pages_setting = record { word = codes "pages"; least = MIN_PAGES; most = MAX_PAGES; step = 1 }
+
+-- the data size of a page, in bytes
+abbrev pub size_setting : Setting
+size_setting = record { word = codes "size"; least = MIN_SIZE; most = MAX_SIZE; step = 4 }
+
+-- how many CPUs there are
+abbrev pub cpus_setting : Setting
+cpus_setting = record { word = codes "cpus"; least = 1; most = MAX_SCRIPT_CPUS; step = 1 }
+
+-- how many collectors there are
+abbrev pub collectors_setting : Setting
+collectors_setting = record { word = codes "collectors"; least = 1; most = MAX_SCRIPT_COLLECTORS; step = 1 }
+
+-- the lines of a header, in their order
+abbrev pub header_settings : List Setting
+header_settings = pages_setting ∷ size_setting ∷ cpus_setting ∷ collectors_setting ∷ []
+
+-- a value that this setting may have
+abbrev pub allowed_for : Setting → ℕ → Result ℕ LineFault
+allowed_for s n = if nat_le s.least n && nat_le n s.most && (n % s.step == 0) then Ok n else Err out_of_range
+
+-- the value that a word and a number give to this setting
+unfoldable pub value_given : Setting → List ℕ → List ℕ → Result ℕ LineFault
+value_given s word number = if bytes_eq word s.word then (number_in number >>= allowed_for s) else Err bad_line
+
+-- the value that fields give to this setting: two of them
+unfoldable pub value_of : Setting → List (List ℕ) → Result ℕ LineFault
+value_of s (word ∷ number ∷ []) = value_given s word number
+value_of s _ = Err bad_line
+
+-- the value that a line gives to this setting: its spaces are looked at first
+unfoldable pub value_in : Setting → List ℕ → Result ℕ LineFault
+value_in s line = if is_well_spaced (fields_of line) then value_of s (fields_of line) else Err bad_line
+
+-- a line that says something: it is neither empty nor begins with `#`
+abbrev pub is_counted : List ℕ → Bool
+is_counted [] = false
+is_counted (b ∷ line) = not (b == 35)
+
+-- a line with its number
+abbrev pub Line : Type 0
+Line = ℕ × List ℕ
+
+-- the lines of a text that say something, numbered by their place among all its lines from 1
+abbrev pub counted_lines : List ℕ → List Line
+counted_lines text = filter (λ line. is_counted line.1) (enumerate_from 1 (lines_of text))
+
+-- these lines give these settings these values, one by one
+abbrev pub GiveSettings : List Line → List Setting → List ℕ → Type 0
+GiveSettings [] [] [] = ⊤
+GiveSettings (line ∷ lines) (s ∷ settings) (value ∷ values) =
+    (value_in s line.1 ≡ Ok value) × GiveSettings lines settings values
+GiveSettings _ _ _ = ⊥
+
+-- these lines spell these commands, one by one, and the numbers of the lines are the commands'
+abbrev pub SpellCommands : ℕ → ℕ → List Line → List (ℕ × Command) → Type 0
+SpellCommands cpus collectors [] [] = ⊤
+SpellCommands cpus collectors (line ∷ lines) (command ∷ commands) =
+    (command_in cpus collectors line.1 ≡ Ok command.1) × (line.0 ≡ command.0) × SpellCommands cpus collectors lines commands
+SpellCommands cpus collectors _ _ = ⊥
+
+-- Lines that say something spell a script: a header, and then a command a line.
+pub record SpellScript (lines : List Line) (script : Script) : Type 0 where
+  pub header : List Line
+  pub behind : List Line
+  pub cut : lines ≡ header ++ behind
+  pub settings : GiveSettings header header_settings
+      (script.pages ∷ script.size ∷ script.cpus ∷ script.collectors ∷ [])
+  pub commands : SpellCommands script.cpus script.collectors behind script.commands
+
+-- The text spells this script.
+abbrev pub ParsesScript : List ℕ → Script → Type 0
+ParsesScript text script = SpellScript (counted_lines text) script
+
+-- Of these settings, the lines in front of this one give the first, and this one not the next.
+pub record IsFaultySetting (settings : List Setting) (lines : List Line) (number : ℕ) (fault : LineFault) : Type 0 where
+  pub front : List Line
+  pub line : List ℕ
+  pub behind : List Line
+  pub cut : lines ≡ front ++ (number, line) ∷ behind
+  pub given : List Setting
+  pub setting : Setting
+  pub others : List Setting
+  pub place : settings ≡ given ++ setting ∷ others
+  pub values : List ℕ
+  pub fits : GiveSettings front given values
+  pub fails : value_in setting line ≡ Err fault
+
+-- Of these settings, the lines give the first, and not all.
+pub record IsMissingSetting (settings : List Setting) (lines : List Line) : Type 0 where
+  pub given : List Setting
+  pub setting : Setting
+  pub others : List Setting
+  pub place : settings ≡ given ++ setting ∷ others
+  pub values : List ℕ
+  pub fits : GiveSettings lines given values
+
+-- The lines in front of this one spell a script, and this one no command of it.
+pub record IsFaultyCommand (lines : List Line) (number : ℕ) (fault : LineFault) : Type 0 where
+  pub front : List Line
+  pub line : List ℕ
+  pub behind : List Line
+  pub cut : lines ≡ front ++ (number, line) ∷ behind
+  pub script : Script
+  pub fits : SpellScript front script
+  pub fails : command_in script.cpus script.collectors line ≡ Err fault
+
+-- The line of this number is the first of the text that is at fault, and this is what is wrong with
+-- it. Where lines of the header are missing, it is the line behind the last one.
+abbrev pub FirstScriptFault : List ℕ → ℕ → LineFault → Type 0
+FirstScriptFault text number fault =
+    IsFaultySetting header_settings (counted_lines text) number fault
+    ⊎ (IsMissingSetting header_settings (counted_lines text) × (number ≡ length (lines_of text) + 1) × (fault ≡ bad_line))
+    ⊎ IsFaultyCommand (counted_lines text) number fault
+
+-- the name of a fault
+abbrev pub fault_name : LineFault → List ℕ
+fault_name bad_line = codes "BadLine"
+fault_name bad_number = codes "BadNumber"
+fault_name bad_hex = codes "BadHex"
+fault_name out_of_range = codes "OutOfRange"
+
+-- how a fault of a line is told, the end of the line aside
+abbrev pub fault_text : ℕ → LineFault → List ℕ
+fault_text number fault = codes "line " ++ decimal number ++ codes ": " ++ fault_name fault

@@ -1,0 +1,5 @@
+//! Laws over the definitions, as contracts of functions with empty bodies, by subject.
+
+pub mod replays;
+pub mod scripts;
+pub mod texts;

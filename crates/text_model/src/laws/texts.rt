@@ -1,0 +1,15 @@
+//! Laws over numbers and bytes as text.
+ghost use Rattle.std.specs.Prelude.{◌≡◌, ℕ, ◌^◌, ◌<◌, List, Ok, EachIndex, slice_index, decimal};
+ghost use Rattle.text_model.specs.Text.{hex_text};
+ghost use Rattle.text_model.specs.Script.{number_in, payload_in};
+
+/// A number's decimal text reads back as the number.
+pub fn number_reads_back()
+    ensures { (n : ℕ) → n < 2 ^ 64 → number_in (decimal n) ≡ Ok n }
+{}
+
+/// The hexadecimal text of bytes reads back as the bytes.
+pub fn payload_reads_back()
+    ensures { (bytes : List ℕ) → EachIndex bytes (λ k. slice_index bytes k < 256) →
+        payload_in (hex_text bytes) ≡ Ok bytes }
+{}

@@ -1,5 +1,0 @@
-use Rattle.trace_model.proofs.RecordsFill.{committed-IsRecord}
-use Rattle.trace_model.proofs.laws.committed_records_are_records.Goals as goal
-
-pub returns : goal.returns
-returns c = committed-IsRecord

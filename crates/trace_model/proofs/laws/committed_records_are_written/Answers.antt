@@ -1,5 +1,0 @@
-use Rattle.trace_model.proofs.CommittedWritten.{committed-IsWritten}
-use Rattle.trace_model.proofs.laws.committed_records_are_written.Goals as goal
-
-pub returns : goal.returns
-returns c = committed-IsWritten

@@ -1,5 +1,0 @@
-use Rattle.trace_model.proofs.RecordsFill.{Decodes-IsRecord}
-use Rattle.trace_model.proofs.laws.decoded_records_are_records.Goals as goal
-
-pub returns : goal.returns
-returns c = Decodes-IsRecord

@@ -1,5 +1,0 @@
-use Rattle.trace_model.proofs.laws.encoding_len.Goals as goal
-use Rattle.trace_model.proofs.Lengths.{length-encoding}
-
-pub returns : goal.returns
-returns c = record { reckoned = length-encoding }

@@ -1,0 +1,5 @@
+use Rattle.trace_model.proofs.CommittedWritten.{committed-IsWritten}
+use Rattle.trace_model.proofs.laws.histories.committed_records_are_written.Goals as goal
+
+pub returns : goal.returns
+returns c = committed-IsWritten

@@ -1,5 +1,0 @@
-use Rattle.trace_model.proofs.TextLemmas.{number_in-decimal}
-use Rattle.trace_model.proofs.laws.number_reads_back.Goals as goal
-
-pub returns : goal.returns
-returns c n small = number_in-decimal n small

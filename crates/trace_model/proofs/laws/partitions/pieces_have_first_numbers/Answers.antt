@@ -1,0 +1,13 @@
+use Rattle.trace_model.proofs.FirstNumbers.{numbered_from, first_is_count, count_is_first, own_records}
+use Rattle.trace_model.proofs.laws.partitions.pieces_have_first_numbers.Goals as goal
+
+pub returns : goal.returns
+returns c = record {
+  some = λ records pieces rest place piece parts at. let (first, is) = numbered_from records pieces rest place piece parts at in
+      (first, first_is_count records pieces rest place piece first at is);
+  counted = λ records pieces rest place first piece parts at. (
+    count_is_first records pieces rest place piece first parts at,
+    first_is_count records pieces rest place piece first at,
+  );
+  own_records = λ records pieces rest place first i piece r. own_records records pieces rest place piece first i r;
+}

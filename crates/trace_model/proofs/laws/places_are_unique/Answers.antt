@@ -1,5 +1,0 @@
-use Rattle.trace_model.proofs.laws.places_are_unique.Goals as goal
-use Rattle.trace_model.proofs.Places.{places_unique}
-
-pub returns : goal.returns
-returns c = record { unique = places_unique }

@@ -1,0 +1,38 @@
+//! Laws over page images.
+ghost use Rattle.std.specs.Prelude.{◌≡◌, ℕ, ◌+◌, ◌^◌, ◌<◌, ◌≤◌, ◌⊎◌, List, length};
+ghost use Rattle.trace_model.specs.FirstFault.{AreBytes};
+ghost use Rattle.trace_model.specs.Image.{Missed, DecodesImage, ImageCause, FirstImageFault, image_of, missed_told};
+ghost use Rattle.trace_model.specs.declared.limits.TheConstants.{MAX_IMAGE};
+ghost use Rattle.trace_model.specs.Record.{Record};
+ghost use Rattle.trace_model.specs.Words.{Decodes};
+
+/// A page image has a reading or a first fault: one of the two and never both. The reading is one, and the
+/// fault is one.
+pub fn image_reading_or_fault()
+    ensures one { (bytes : List ℕ) → AreBytes bytes
+        → ((time size : ℕ) × (missed : Missed) × (records : List Record)
+        × DecodesImage bytes time size missed records)
+        ⊎ ((fault : ImageCause) × FirstImageFault bytes fault) }
+    ensures reading_is_no_fault { (bytes : List ℕ) (time size : ℕ) (missed : Missed)
+        (records : List Record) (fault : ImageCause) → DecodesImage bytes time size missed records
+        → ¬ FirstImageFault bytes fault }
+    ensures one_reading { (bytes : List ℕ) (time other_time size other_size : ℕ)
+        (missed other : Missed) (records others : List Record)
+        → DecodesImage bytes time size missed records
+        → DecodesImage bytes other_time other_size other others
+        → (time ≡ other_time) × (size ≡ other_size) × (missed ≡ other) × (records ≡ others) }
+    ensures one_fault { (bytes : List ℕ) (fault other : ImageCause)
+        → FirstImageFault bytes fault → FirstImageFault bytes other → fault ≡ other }
+{}
+
+/// The image that is written has as many bytes as its page and the header, and reads as what it was
+/// written for.
+pub fn image_reads_back()
+    ensures length_is { (time : ℕ) (contents : List ℕ) (missed size : ℕ) → length contents ≤ size
+        → length (image_of time contents missed size) ≡ 16 + size }
+    ensures read_back { (time : ℕ) (contents : List ℕ) (missed size : ℕ) (records : List Record)
+        → time < 2 ^ 64 → missed < 2 ^ 64 → length contents ≤ size → 16 + size ≤ MAX_IMAGE
+        → Decodes contents time records
+        → DecodesImage (image_of time contents missed size) time (length contents)
+        (missed_told contents missed size) records }
+{}

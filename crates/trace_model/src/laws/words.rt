@@ -1,0 +1,71 @@
+//! Laws over record words and the data of a page.
+ghost use Rattle.std.specs.Prelude.{◌≡◌, ℕ, ◌≤◌, ◌⊎◌, List, length, All};
+ghost use Rattle.trace_model.specs.Faults.{Cause, IsWordFault, HasWord, HasEnding, HasFault};
+ghost use Rattle.trace_model.specs.FirstFault.{AreBytes, FirstFault};
+ghost use Rattle.trace_model.specs.Laws.{EncodingHasItsLength, EncodingsReadBack, OverwritingChangesOneRecord, OverwritingKeepsPlaces, OverwritingKeepsTheEnd, PlacesAreUnique, PlainReaderAgrees, ReadingIsUnique};
+ghost use Rattle.trace_model.specs.Record.{Record, IsRecord};
+ghost use Rattle.trace_model.specs.Words.{Decodes};
+
+/// A payload that fills its slot takes just the bytes that the writer reckons with.
+pub fn encoding_len()
+    ensures reckoned { EncodingHasItsLength }
+{}
+
+/// The records that the data of a page was made of are what it reads as.
+pub fn encodings_read_back()
+    ensures read_back { EncodingsReadBack }
+{}
+
+/// Data reads as one list of records at most, however it is cut into words.
+pub fn reading_is_unique()
+    ensures unique { ReadingIsUnique }
+{}
+
+/// Where data reads as records, the reader that goes word by word finds those records.
+pub fn plain_reader_agrees()
+    ensures agrees { PlainReaderAgrees }
+{}
+
+/// Each record that data reads as fills whole words.
+pub fn decoded_records_are_records()
+    ensures { (bytes : List ℕ) (time : ℕ) (records : List Record) →
+        Decodes bytes time records → All IsRecord records }
+{}
+
+/// Bytes written over a record's payload change that record's bytes and nothing else of what is read.
+/// The places of all records stay, and a record may still follow.
+pub fn overwriting_changes_one_record()
+    ensures replaced { OverwritingChangesOneRecord }
+    ensures places { OverwritingKeepsPlaces }
+    ensures still_open { OverwritingKeepsTheEnd }
+{}
+
+/// A record has one place in the data, and where a payload starts decides which record's it is.
+pub fn places_are_unique()
+    ensures unique { PlacesAreUnique }
+{}
+
+/// What stands at the front of data that isn't empty: a whole word, an ending padding or a fault,
+/// one of the three and only one, and only one fault.
+pub fn front_of_data()
+    ensures one { (bytes : List ℕ) → 1 ≤ length bytes
+        → HasWord bytes ⊎ (HasEnding bytes ⊎ HasFault bytes) }
+    ensures word_is_no_ending { (bytes : List ℕ) → HasWord bytes → ¬ HasEnding bytes }
+    ensures word_is_no_fault { (bytes : List ℕ) → HasWord bytes → ¬ HasFault bytes }
+    ensures ending_is_no_fault { (bytes : List ℕ) → HasEnding bytes → ¬ HasFault bytes }
+    ensures one_fault { (bytes : List ℕ) (cause other : Cause) → IsWordFault bytes cause
+        → IsWordFault bytes other → cause ≡ other }
+{}
+
+/// Data with a time has a reading or a first fault: one of the two and never both. The fault is one, in
+/// cause and in offset.
+pub fn reading_or_first_fault()
+    ensures one { (bytes : List ℕ) (time : ℕ) → AreBytes bytes
+        → ((records : List Record) × Decodes bytes time records)
+        ⊎ ((cause : Cause) × (at : ℕ) × FirstFault bytes time cause at) }
+    ensures reading_is_no_fault { (bytes : List ℕ) (time : ℕ) (records : List Record)
+        (cause : Cause) (at : ℕ) → Decodes bytes time records → ¬ FirstFault bytes time cause at }
+    ensures one_fault { (bytes : List ℕ) (time : ℕ) (cause other : Cause) (at there : ℕ)
+        → FirstFault bytes time cause at → FirstFault bytes time other there
+        → (cause ≡ other) × (at ≡ there) }
+{}
