@@ -10,7 +10,7 @@ use Rattle.page_image.specs.declared.image.Image.{Image}
 use Rattle.page_image.specs.declared.image.ImageFault.{ImageFault}
 use Rattle.page_image.specs.declared.image.ImageFault.TheVariants.{TooShort, BadSize, BadCount, Word, NoMemory}
 use Rattle.page_image.specs.Images.{word_fault}
-use Rattle.trace_cli.specs.declared.status.TheConstants.{REFUSED}
+use Rattle.command_io.specs.declared.status.TheConstants.{REFUSED}
 use Rattle.trace_cli.specs.Commands.{PrintsImageFault}
 use Rattle.trace_cli.specs.ImageFaults.{told_image_fault, word_fault_text}
 

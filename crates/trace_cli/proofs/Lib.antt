@@ -1,15 +1,2 @@
-pub mod CommandLineLemmas
-pub mod CommandLineExamples
-pub mod Rising
-pub mod Deliveries
 pub mod Lines
-pub mod TailRoom
-pub mod Members
-pub mod Numbered
-pub mod Appending
-pub mod PagesKept
-pub mod Runs
-pub mod Logged
-pub mod Contracts
-pub mod SoFar
 pub mod ImageFaultLemmas

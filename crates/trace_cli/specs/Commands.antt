@@ -5,7 +5,7 @@ use Rattle.text_model.specs.Script.{Script, ParsesScript, LineFault, FirstScript
 use Rattle.text_model.specs.Log.{LogLine, IsLoggedReplay}
 use Rattle.trace_model.specs.Image.{Missed, DecodesImage, ImageCause, FirstImageFault}
 use Rattle.text_model.specs.Printing.{printed_replay, printed_fault, printed_image, printed_image_fault}
-use Rattle.trace_cli.specs.declared.status.TheConstants.{DONE, REFUSED}
+use Rattle.command_io.specs.declared.status.TheConstants.{DONE, REFUSED}
 
 -- the text spells a script, and these bytes are the printing of a replay of it: its log, if it is asked
 -- for, and what it leaves

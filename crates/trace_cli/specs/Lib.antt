@@ -1,12 +1,2 @@
-pub mod Failing
-pub mod Ends
-pub mod Answer
-pub mod Told
 pub mod Commands
-pub mod CommandLine
 pub mod ImageFaults
-pub mod Collected
-pub mod PlainPages
-pub mod PlainInside
-pub mod PlainRun
-pub mod LogTypes

@@ -1,15 +1,15 @@
 //! The command `dump`: a page image in, its printing out.
 ghost use Rattle.std.specs.Prelude.{◌≡◌, ◌⊎◌, true, false, IfOk};
 ghost use Rattle.std.specs.Io.KnownBytes.{Appends, Keeps};
-ghost use Rattle.trace_cli.specs.Answer.{bytes_of, status_of};
+ghost use Rattle.command_io.specs.Answer.{bytes_of, status_of};
 ghost use Rattle.trace_cli.specs.Commands.{DumpGives};
-ghost use Rattle.trace_cli.specs.Told.{TakesAtMost, TakesMoreThan, TellsAnswer, TellsPart};
+ghost use Rattle.command_io.specs.Told.{TakesAtMost, TakesMoreThan, TellsAnswer, TellsPart};
 
-use crate::answer::Answer;
-use crate::command::{Answers, MEMORY_LINE, answer_to};
-use crate::ends::{Sink, Source};
+use command_io::answer::Answer;
+use command_io::command::{Answers, MEMORY_LINE, answer_to};
+use command_io::ends::{Sink, Source};
 use crate::image_printer::{print_image, print_image_fault};
-use crate::status::{DONE, END_FAILED, NO_MEMORY, REFUSED};
+use command_io::status::{DONE, END_FAILED, NO_MEMORY, REFUSED};
 use page_image::read_image;
 use std::alloc::Global;
 use trace_model::{MAX_INPUT, NoMemory};

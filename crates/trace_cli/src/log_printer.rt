@@ -2,9 +2,9 @@
 ghost use Rattle.std.specs.Prelude.{◌≡◌, ◌++◌, OnOk, flat_map};
 ghost use Rattle.std.specs.Fmt.{decimal};
 ghost use Rattle.text_model.specs.Printing.{delivery_text, event_text, page_text, printed_log_line, refusal_text};
-ghost use Rattle.trace_cli.specs.LogTypes.{shown_delivery, shown_event, shown_log, shown_log_line, shown_refusal};
+ghost use Rattle.trace_run.specs.LogTypes.{shown_delivery, shown_event, shown_log, shown_log_line, shown_refusal};
 
-use crate::log::{Delivery, LogEvent, LogLine, Refusal};
+use trace_run::log::{Delivery, LogEvent, LogLine, Refusal};
 use crate::printer::put_number;
 use trace_model::{FillNo, NoMemory, RecordNo};
 

@@ -2,31 +2,18 @@
 //! prints page images.
 #![tactic(auto)]
 
-pub mod answer;
-pub mod command;
 pub mod commands;
 pub mod dump;
-pub mod ends;
 pub mod image_printer;
-pub mod input;
-pub mod log;
 pub mod log_printer;
-pub mod output;
-pub mod page_write;
-pub mod plain_collector;
-pub mod plain_list;
 pub mod printer;
-pub mod replay;
-pub mod status;
-pub mod taken;
-pub mod words;
 
-use crate::command::tell_no_memory;
+use command_io::command::tell_no_memory;
 use crate::commands::replay_to;
 use crate::dump::dump_to;
-use crate::ends::Std;
-use crate::status::USAGE;
-use crate::words::{Call, CallFault, call_of};
+use command_io::ends::Std;
+use command_io::status::USAGE;
+use command_line::parse::{Call, CallFault, call_of};
 use std::alloc::{AllocError, Global};
 use std::io::ErrorKind;
 use std::process::ExitCode;

@@ -5,11 +5,11 @@ ghost use Rattle.std.specs.Fmt.{decimal};
 ghost use Rattle.text_model.specs.Text.{hex_text};
 ghost use Rattle.text_model.specs.Printing.{printed_record, printed_collector};
 ghost use Rattle.text_model.specs.Replay.{pairs_of};
-ghost use Rattle.trace_cli.specs.Collected.{collected_of};
+ghost use Rattle.trace_run.specs.Collected.{collected_of};
 ghost use Rattle.page_image.specs.Copies.{copy_of};
 
-use crate::plain_collector::{Held, PlainCollector};
-use crate::taken::Taken;
+use trace_run::plain_collector::{Held, PlainCollector};
+use trace_run::taken::Taken;
 use itoa::Buffer;
 use trace_model::{CpuId, Moment, NoMemory, RecordNo};
 

@@ -1,13 +1,14 @@
 //! Commands over ends in memory that fail, that never end, or that move one byte a call; and command
 //! lines.
 mod images;
+mod replays;
 mod worked;
 
-use crate::answer::Answer;
-use crate::command::{Answers, answer_to};
+use command_io::answer::Answer;
+use command_io::command::{Answers, answer_to};
 use crate::commands::replay_to;
-use crate::ends::{Sink, Source, Std};
-use crate::words::{Call, CallFault, call_of};
+use command_io::ends::{Sink, Source, Std};
+use command_line::parse::{Call, CallFault, call_of};
 use std::alloc::Global;
 use std::io;
 use std::io::{ErrorKind, Read, Write};

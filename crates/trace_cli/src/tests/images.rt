@@ -1,6 +1,6 @@
 //! Page images: for each, what `dump` prints and the exit status.
 use crate::dump::dump_to;
-use crate::ends::Std;
+use command_io::ends::Std;
 use hex::decode;
 use std::process::Abort;
 use std::test::Fail;

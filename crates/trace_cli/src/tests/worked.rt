@@ -1,6 +1,6 @@
 //! The worked scripts: for each, its log, what is printed and the exit status.
 use crate::commands::replay_to;
-use crate::ends::Std;
+use command_io::ends::Std;
 use std::process::Abort;
 
 // A script, the lines of its log, what must be printed behind them, and the exit status.

@@ -1,8 +1,8 @@
 use Rattle.std.proofs.Common.{◌≡◌, ℕ, List, ◌++◌, ◌∙◌, ap, codes, sym, append_assoc}
 use Rattle.std.specs.Fmt.{decimal}
 use Rattle.text_model.specs.Printing.{event_text, page_text}
-use Rattle.trace_cli.specs.declared.log.LogEvent.{LogEvent}
-use Rattle.trace_cli.specs.LogTypes.{shown_event}
+use Rattle.trace_run.specs.declared.log.LogEvent.{LogEvent}
+use Rattle.trace_run.specs.LogTypes.{shown_event}
 use Rattle.trace_cli.proofs.log_printer.put_event.Goals as goal
 
 pub returns-in_ok-put_page-in-Taken : goal.returns-in_ok-put_page-in-Taken

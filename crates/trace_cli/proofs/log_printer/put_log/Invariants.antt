@@ -1,6 +1,6 @@
 use Rattle.std.proofs.Common.{◌≡◌, ◌++◌, take, flat_map}
 use Rattle.text_model.specs.Printing.{printed_log_line}
-use Rattle.trace_cli.specs.LogTypes.{shown_log}
+use Rattle.trace_run.specs.LogTypes.{shown_log}
 use Rattle.trace_cli.proofs.log_printer.put_log.Given as goal
 
 abbrev pub invariant-loop-line : goal.invariant-loop-line

@@ -1,6 +1,6 @@
 use Rattle.std.proofs.Common.{◌≡◌, ◌++◌, take, flat_map}
 use Rattle.text_model.specs.Printing.{printed_record}
-use Rattle.trace_cli.specs.Collected.{collected_of}
+use Rattle.trace_run.specs.Collected.{collected_of}
 use Rattle.trace_cli.proofs.printer.put_delivered.Given as goal
 
 abbrev pub invariant-loop-page : goal.invariant-loop-page

@@ -1,0 +1,4 @@
+pub mod Failing
+pub mod Ends
+pub mod Answer
+pub mod Told

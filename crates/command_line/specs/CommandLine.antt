@@ -1,0 +1,54 @@
+-- The program's command line as `clap` parses it.
+use Rattle.std.specs.Prelude.{◌≡◌, ◌≢◌, List, [], Option, Some, Result, Ok, Err, true, false, codes, option_and_then, option_map}
+use Rattle.clap.specs.Words.{App, Row, Rule, Text, fault_of, new_app, new_rule, one_of, subcommand_of, with_rule, with_subcommand}
+use Rattle.clap.specs.declared.builder.action.ArgAction.TheVariants.{SetTrue}
+use Rattle.clap.specs.declared.error.ErrorKind.{ErrorKind}
+use Rattle.clap.specs.declared.error.ErrorKind.TheVariants.{OutOfMemory}
+use Rattle.command_line.specs.declared.parse.Call.{Call}
+use Rattle.command_line.specs.declared.parse.Call.TheVariants.{Replay, Dump}
+use Rattle.command_line.specs.declared.parse.CallFault.{CallFault}
+use Rattle.command_line.specs.declared.parse.CallFault.TheVariants.{Usage, NoMemory}
+
+-- the flag `--log`
+abbrev pub log_rule : Rule
+log_rule = record (new_rule (codes "log")) { long = Some (codes "log"); action = Some SetTrue }
+
+-- the program's two commands: `replay`, which takes `--log`, and `dump`
+abbrev pub command_line : App
+command_line = with_subcommand (with_subcommand (new_app (codes "tracering")) (with_rule (new_app (codes "replay")) log_rule).top) (new_app (codes "dump")).top
+
+-- the parse takes the words
+abbrev pub IsTaken : List Text → Type 0
+IsTaken words = fault_of command_line words ≡ []
+
+-- the command that the words name
+unfoldable pub names_command : List Text → Option Text
+names_command words = option_map (λ p. p.0) (subcommand_of command_line words)
+
+-- the text of `--log` among the matches of a command
+abbrev pub flag_text : Option (Text × List Row) → Option Text
+flag_text matched = option_and_then (λ p. one_of (codes "log") p.1) matched
+
+-- whether `--log` stands among the words behind the command, as text: `true` or `false`
+unfoldable pub log_text : List Text → Option Text
+log_text words = flag_text (subcommand_of command_line words)
+
+-- the name of the command that is asked for
+abbrev pub name_of : Call → Text
+name_of (Replay log) = codes "replay"
+name_of Dump = codes "dump"
+
+-- What the program makes of its words: the command and the flag that the parse finds, where it takes the
+-- words; else, or where it finds no command, the usage line. Memory is refused at any of them.
+pub record AnswersWords (words : List Text) (result : Result Call CallFault) : Type 0 where
+  pub taken : (call : Call) → result ≡ Ok call → IsTaken words
+  pub named : (call : Call) → result ≡ Ok call → names_command words ≡ Some (name_of call)
+  pub log : log_text words ≡ Some (codes "true") → result ≢ Ok (Replay false)
+  pub no_log : log_text words ≡ Some (codes "false") → result ≢ Ok (Replay true)
+  pub no_replay : result ≡ Err Usage → IsTaken words → names_command words ≢ Some (codes "replay")
+  pub no_dump : result ≡ Err Usage → IsTaken words → names_command words ≢ Some (codes "dump")
+
+-- the parse fails for want of memory or at the words
+abbrev pub fault_of_kind : ErrorKind → CallFault
+fault_of_kind OutOfMemory = NoMemory
+fault_of_kind _ = Usage

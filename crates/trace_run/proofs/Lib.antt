@@ -1,0 +1,11 @@
+pub mod Rising
+pub mod Deliveries
+pub mod TailRoom
+pub mod Members
+pub mod Numbered
+pub mod Appending
+pub mod PagesKept
+pub mod Runs
+pub mod Logged
+pub mod Contracts
+pub mod SoFar
