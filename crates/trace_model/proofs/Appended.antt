@@ -8,9 +8,9 @@ use Rattle.std.proofs.lemmas.List.Sums.{sum_by_push}
 use Rattle.std.proofs.lemmas.Bool.{cond_both, cond-true, cond-false, leb-true, ltb-true}
 use Rattle.trace_model.specs.Record.{Record}
 use Rattle.trace_model.specs.Words.{Word, short_data, long_data, padding, time_extend, time_stamp, bytes_of_word, IsWord, joined, delta_of, stamp_of, is_stamp, last_stamp, since_stamp, moment_after, records_at, records_behind, records_of, MovesTime, FitsTime, IsJoined, Decodes, data_word, written_words, encoding}
-use Rattle.trace_model.specs.Reading.{IsData, payload_of, records_in, EndsInRecord}
+use Rattle.trace_model.specs.Reading.{IsData, payload_of, EndsInRecord}
 use Rattle.trace_model.specs.Order.{moment_of_last, EndsAt}
-use Rattle.trace_model.proofs.Unique.{IsJoined-words_unique, records_in-Decodes}
+use Rattle.trace_model.proofs.Unique.{IsJoined-words_unique}
 
 -- ---- the moment after one more word
 
@@ -130,11 +130,6 @@ FitsTime-push time words w fits here front v behind e moves = ⊎_elim
     (λ last. let same = same_from_push words (front ++ v ∷ last.0) w last.1 (e ∙ ap (λ (ws : List Word). front ++ v ∷ ws) last.2 ∙ sym (append_assoc front (v ∷ last.0) (last.1 ∷ []))) in
     fits front v last.0 same.0 moves)
     (last_of behind)
-
--- the bound also holds of the words in front
-pub FitsTime-front : (time : ℕ) (words more : List Word) → FitsTime time (words ++ more) → FitsTime time words
-FitsTime-front time words more fits front w behind e moves =
-    fits front w (behind ++ more) (ap (λ (ws : List Word). ws ++ more) e ∙ append_assoc front (w ∷ behind) more) moves
 
 pub each-append : (words more : List Word) → AllByRecursion IsWord words → AllByRecursion IsWord more → AllByRecursion IsWord (words ++ more)
 each-append [] more each all = all
@@ -354,24 +349,4 @@ EndsInRecord-appended bytes delta payload ends small whole some fits = record {
 pub EndsAt-push : (records : List Record) (r : Record) → EndsAt (records ++ r ∷ []) r.moment
 EndsAt-push records r = moment_of_last-push records r
 
--- a list that ends at a moment has a last record of that moment
-pub EndsAt-last : (records : List Record) (moment : ℕ) → EndsAt records moment → (front : List Record) × (r : Record) × (records ≡ front ++ r ∷ []) × (r.moment ≡ moment)
-EndsAt-last records moment at = ⊎_elim
-    (λ none. absurd (let no_records : moment_of_last records ≡ None = ap moment_of_last none in cc))
-    (λ last. let there : moment_of_last records ≡ Some last.1.moment = ap moment_of_last last.2 ∙ moment_of_last-push last.0 last.1 in
-    (last.0, last.1, last.2, (let same : last.1.moment ≡ moment = cc in same)))
-    (last_of records)
-
 -- ---- the same of the records that the plain reader finds
-
-pub records_in-first : (time delta : ℕ) (payload : List ℕ) → time < 2 ^ 64 → length payload % 4 ≡ 0 → 4 ≤ length payload → length payload + 4 < 2 ^ 32
-    → records_in time (encoding delta true payload) ≡ record { moment = time; bytes = payload } ∷ []
-records_in-first time delta payload fits_time whole some fits =
-    records_in-Decodes (encoding delta true payload) time (one_record time payload) (Decodes-first time delta payload fits_time whole some fits)
-
-pub records_in-appended : (bytes : List ℕ) (time : ℕ) (records : List Record) (prev delta : ℕ) (payload : List ℕ) → EndsInRecord bytes → Decodes bytes time records → EndsAt records prev
-    → delta < 2 ^ 59 → prev + delta < 2 ^ 64 → length payload % 4 ≡ 0 → 4 ≤ length payload → length payload + 4 < 2 ^ 32
-    → records_in time (bytes ++ encoding delta false payload) ≡ records_in time bytes ++ record { moment = prev + delta; bytes = payload } ∷ []
-records_in-appended bytes time records prev delta payload ends reads at small room whole some fits =
-    records_in-Decodes (bytes ++ encoding delta false payload) time (records ++ one_record (prev + delta) payload) (Decodes-appended bytes time records prev delta payload ends reads at small room whole some fits)
-    ∙ ap (λ (rs : List Record). rs ++ one_record (prev + delta) payload) (sym (records_in-Decodes bytes time records reads))

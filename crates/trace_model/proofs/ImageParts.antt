@@ -63,10 +63,6 @@ commit_word-commit_from n =
     (λ i. n % 2 ^ 30 + flag (n / 2 ^ 30 % 2) (2 ^ 30) (omega arith) i + flag (n / 2 ^ 31 % 2) (2 ^ 31) (omega arith) i + 2 ^ 32 * (n / 2 ^ 32))
     ∙ omega arith
 
--- what the two flags add
-flags : Bool → Bool → ℕ
-flags stored missed = cond stored (2 ^ 30) 0 + cond missed (2 ^ 31) 0
-
 record ReadsFlags (size ignored : ℕ) (stored missed : Bool) (word : ℕ) : Type 0 where
   size_is : word % 2 ^ 30 ≡ size
   stored_is : eqb (word / 2 ^ 30 % 2) 1 ≡ stored

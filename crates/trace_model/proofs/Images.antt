@@ -120,10 +120,6 @@ image_read_or_faulty bytes small = ⊎_elim
 
 -- ---- the image that is written
 
--- the bytes that are stored behind the data
-stored_bytes : Bool → ℕ → List ℕ
-stored_bytes stored missed = cond stored (le64 missed) []
-
 length-filled : (contents stored : List ℕ) (size : ℕ) → length contents + length stored ≤ size → length (filled contents stored size) ≡ size
 length-filled contents stored size room =
     omega (arith, length-append contents (stored ++ replicate (size - length contents - length stored) 0), length-append stored (replicate (size - length contents - length stored) 0), length-replicate {A = ℕ} (size - length contents - length stored) 0)

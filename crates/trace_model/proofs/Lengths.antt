@@ -17,9 +17,6 @@ slot_len_ge len = omega arith
 pub slot_len_ge_four : (len : ℕ) → 4 ≤ slot_len len
 slot_len_ge_four len = omega arith
 
-pub slot_len_lt : (len : ℕ) → 0 < len → slot_len len < len + 4
-slot_len_lt len some = omega arith
-
 -- a length that fills whole words, and is not 0, is its own slot length
 pub slot_len_whole : (len : ℕ) → len % 4 ≡ 0 → 0 < len → slot_len len ≡ len
 slot_len_whole len whole some = omega arith
@@ -99,24 +96,3 @@ length-encoding len delta true payload fills =
     length-encoding_first delta payload ∙ ap (λ (n : ℕ). cond (leb n 112) 4 8 + n) fills ∙ (let e : cond (leb (slot_len len) 112) 4 8 + slot_len len ≡ 0 + cond (leb (slot_len len) 112) 4 8 + slot_len len = omega arith in e)
 length-encoding len delta false payload fills =
     length-encoding_behind delta payload ∙ ap (λ (n : ℕ). cond (ltb delta (2 ^ 27)) 0 8 + cond (leb n 112) 4 8 + n) fills
-
--- it fills whole words
-pub encoded_len-mod : (len delta : ℕ) (first : Bool) → encoded_len len delta first % 4 ≡ 0
-encoded_len-mod len delta first =
-    let whole = slot_len-mod len in
-    by_parts (cond first 0 (cond (ltb delta (2 ^ 27)) 0 8)) (cond (leb (slot_len len) 112) 4 8) (slot_len len) (extend first (ltb delta (2 ^ 27))) (front (leb (slot_len len) 112)) whole
-  where
-    by_parts : (a b c : ℕ) → a % 4 ≡ 0 → b % 4 ≡ 0 → c % 4 ≡ 0 → (a + b + c) % 4 ≡ 0
-    by_parts a b c e f g = omega arith
-
-    extend : (one small : Bool) → cond one 0 (cond small 0 8) % 4 ≡ 0
-    extend true small = refl
-    extend false true = refl
-    extend false false = refl
-
-    front : (short : Bool) → cond short 4 8 % 4 ≡ 0
-    front true = refl
-    front false = refl
-
-pub length-encoding-mod : (len delta : ℕ) (first : Bool) (payload : List ℕ) → length payload ≡ slot_len len → length (encoding delta first payload) % 4 ≡ 0
-length-encoding-mod len delta first payload fills = ap (λ (n : ℕ). n % 4) (length-encoding len delta first payload fills) ∙ encoded_len-mod len delta first

@@ -7,7 +7,6 @@ use Rattle.std.proofs.lemmas.Bool.{cond_both}
 use Rattle.trace_model.specs.Record.{Record}
 use Rattle.trace_model.specs.Words.{Word, short_data, long_data, padding, time_extend, time_stamp, bytes_of_word, IsWord, joined, moment_after, records_at, records_behind, records_of, FitsTime, IsJoined, Decodes, data_word, written_words, encoding}
 use Rattle.trace_model.specs.Reading.{IsData, payload_of, records_in, words_in, EndsInRecord, IsPlaceIn}
-use Rattle.trace_model.specs.Order.{moment_of_last}
 use Rattle.trace_model.specs.Overwriting.{bytes_at, overwritten, IsReplacedAt, IsPlaceOf}
 use Rattle.trace_model.proofs.Lengths.{bytes_of_word_ge}
 use Rattle.trace_model.proofs.Unique.{words_in-IsJoined, IsJoined-words_unique, IsJoined-rest_unique, records_in-Decodes}
@@ -66,13 +65,6 @@ Decodes-overwritten bytes time records number start len new place fills reads =
 -- each place is that of a record
 pub IsPlaceOf-from : (bytes : List ℕ) (start len : ℕ) → (p : IsPlaceIn bytes start len) → IsPlaceOf bytes (length (records_of 0 p.front)) start len
 IsPlaceOf-from bytes start len p = record { place = p; number_is = refl }
-
--- the record of a place has the bytes that stand there
-pub IsPlaceOf-record : (bytes : List ℕ) (time : ℕ) (records : List Record) (number start len : ℕ) → IsPlaceOf bytes number start len → Decodes bytes time records
-    → (front : List Record) × (moment : ℕ) × (behind : List Record) × (length front ≡ number) × (records ≡ front ++ record { moment = moment; bytes = bytes_at start len bytes } ∷ behind)
-IsPlaceOf-record bytes time records number start len place reads =
-    let h = Decodes-overwritten bytes time records number start len (payload_of place.place.word) place (sym place.place.len_is) reads in
-    (h.2.front, h.2.moment, h.2.behind, h.2.at, h.2.was)
 
 -- ---- data that ends in a record
 
@@ -237,24 +229,6 @@ places-apart bytes number start len other_number other_start other_len place oth
           let one = place.number_is in let two = other.number_is in later (let a = h.0 in omega arith) h.1)
     ]
 
--- where a payload starts decides its record and its length
-pub IsPlaceOf-by_start : (bytes : List ℕ) (number start len other_number other_len : ℕ) → IsPlaceOf bytes number start len → IsPlaceOf bytes other_number start other_len → (number ≡ other_number) × (len ≡ other_len)
-IsPlaceOf-by_start bytes number start len other_number other_len place other =
-    elim (places-apart bytes number start len other_number start other_len place other) [
-      | same_place n s l ↦ (n, l)
-      | earlier n s ↦ absurd (omega arith)
-      | later n s ↦ absurd (omega arith)
-    ]
-
--- a record has one place
-pub IsPlaceOf-by_number : (bytes : List ℕ) (number start len other_start other_len : ℕ) → IsPlaceOf bytes number start len → IsPlaceOf bytes number other_start other_len → (start ≡ other_start) × (len ≡ other_len)
-IsPlaceOf-by_number bytes number start len other_start other_len place other =
-    elim (places-apart bytes number start len number other_start other_len place other) [
-      | same_place n s l ↦ (s, l)
-      | earlier n s ↦ absurd (omega arith)
-      | later n s ↦ absurd (omega arith)
-    ]
-
 -- both ways at once
 pub places_unique : (bytes : List ℕ) (number start len other_number other_start other_len : ℕ) → IsPlaceOf bytes number start len → IsPlaceOf bytes other_number other_start other_len
     → (number ≡ other_number) ⊎ (start ≡ other_start) → (number ≡ other_number) × (start ≡ other_start) × (len ≡ other_len)
@@ -263,15 +237,6 @@ places_unique bytes number start len other_number other_start other_len place ot
       | same_place n s l ↦ (n, s, l)
       | earlier n s ↦ absurd (⊎_elim {C = ⊥} (λ e. omega arith) (λ e. omega arith) alike)
       | later n s ↦ absurd (⊎_elim {C = ⊥} (λ e. omega arith) (λ e. omega arith) alike)
-    ]
-
--- a payload's place determines its word, and what stands in front and behind
-pub IsPlaceIn-unique : (bytes : List ℕ) (start len other_len : ℕ) → (p : IsPlaceIn bytes start len) → (q : IsPlaceIn bytes start other_len) → (p.front ≡ q.front) × (p.word ≡ q.word) × (p.behind ≡ q.behind)
-IsPlaceIn-unique bytes start len other_len p q =
-    elim (place-order bytes start len p start other_len q) [
-      | at_one fronts words behinds ↦ (fronts, words, behinds)
-      | in_front more cut rest ↦ absurd (let h = ordered_before p.front p.word more q.front q.word start len start p.holds q.holds cut (place-stop bytes start len p) (place-start bytes start other_len q) in let a = h.1 in omega arith)
-      | behind_it more cut rest ↦ absurd (let h = ordered_before q.front q.word more p.front p.word start other_len start q.holds p.holds cut (place-stop bytes start other_len q) (place-start bytes start len p) in let a = h.1 in omega arith)
     ]
 
 -- the words that the reader finds are those around the place
@@ -301,24 +266,6 @@ pub IsReplacedAt-length : (number : ℕ) (records others : List Record) (old new
 IsReplacedAt-length number records others old new h =
     ap length h.is ∙ length-append h.front (record { moment = h.moment; bytes = new } ∷ h.behind) ∙ sym (length-append h.front (record { moment = h.moment; bytes = old } ∷ h.behind)) ∙ ap length (sym h.was)
 
-moment_of_last-around : (front : List Record) (moment : ℕ) (old new : List ℕ) (behind : List Record) → moment_of_last (front ++ record { moment = moment; bytes = new } ∷ behind) ≡ moment_of_last (front ++ record { moment = moment; bytes = old } ∷ behind)
-moment_of_last-around [] moment old new [] = refl
-moment_of_last-around [] moment old new (r ∷ behind) = refl
-moment_of_last-around (x ∷ []) moment old new behind = moment_of_last-around [] moment old new behind
-moment_of_last-around (x ∷ y ∷ front) moment old new behind = moment_of_last-around (y ∷ front) moment old new behind
-
--- the last record keeps its moment
-pub IsReplacedAt-moment_of_last : (number : ℕ) (records others : List Record) (old new : List ℕ) → IsReplacedAt number records others old new → moment_of_last others ≡ moment_of_last records
-IsReplacedAt-moment_of_last number records others old new h =
-    ap moment_of_last h.is ∙ moment_of_last-around h.front h.moment old new h.behind ∙ ap moment_of_last (sym h.was)
-
--- what the plain reader finds then
-pub records_in-overwritten : (bytes : List ℕ) (time : ℕ) (records : List Record) (number start len : ℕ) (new : List ℕ) → IsPlaceOf bytes number start len → length new ≡ len → Decodes bytes time records
-    → IsReplacedAt number records (records_in time (overwritten bytes start new)) (bytes_at start len bytes) new
-records_in-overwritten bytes time records number start len new place fills reads =
-    let h = Decodes-overwritten bytes time records number start len new place fills reads in
-    subst (λ (rs : List Record). IsReplacedAt number records rs (bytes_at start len bytes) new) (sym (records_in-Decodes (overwritten bytes start new) time h.0 h.1)) h.2
-
 -- the data still reads, as many records
 pub overwritten-reads : (bytes : List ℕ) (time : ℕ) (records : List Record) (start len : ℕ) (new : List ℕ) → IsPlaceIn bytes start len → length new ≡ len → Decodes bytes time records
     → Decodes (overwritten bytes start new) time (records_in time (overwritten bytes start new)) × (length (records_in time (overwritten bytes start new)) ≡ length records)
@@ -334,15 +281,6 @@ pub records_in-overwritten_end : (bytes : List ℕ) (time : ℕ) (front : List R
     → records_in time (overwritten bytes start new) ≡ front ++ record { moment = r.moment; bytes = new } ∷ []
 records_in-overwritten_end bytes time front r start len new p ends fills reads =
     records_in-Decodes (overwritten bytes start new) time (front ++ one_record r.moment new) (Decodes-overwritten_end bytes time front r start len new p ends fills reads)
-
--- the place is still one
-pub IsPlaceOf-overwritten_same : (bytes : List ℕ) (number start len : ℕ) (new : List ℕ) → IsPlaceOf bytes number start len → length new ≡ len → IsPlaceOf (overwritten bytes start new) number start len
-IsPlaceOf-overwritten_same bytes number start len new place fills =
-    let p = place.place in
-    IsPlaceOf-made (overwritten bytes start new) p.front (with_payload p.word new) p.behind p.rest number start len
-    (overwritten-IsJoined bytes start len p new fills) (IsData-with_payload p.word new p.holds) place.number_is
-    (place-start bytes start len p ∙ ap (λ (n : ℕ). length (joined p.front) + n) (sym (length-head p.word new p.holds)))
-    (sym (ap length (payload_of-with_payload p.word new p.holds) ∙ fills))
 
 length-joined_changed : (front : List Word) (w v : Word) (more : List Word) → length (bytes_of_word v) ≡ length (bytes_of_word w) → length (joined (front ++ v ∷ more)) ≡ length (joined (front ++ w ∷ more))
 length-joined_changed front w v more same = length-joined_split front v more ∙ ap (λ (n : ℕ). length (joined front) + (n + length (joined more))) same ∙ sym (length-joined_split front w more)

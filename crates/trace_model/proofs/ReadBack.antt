@@ -6,7 +6,7 @@ use Rattle.trace_model.specs.Words.{Decodes, slot_len, encoding, encoding_of, en
 use Rattle.trace_model.specs.Reading.{EndsInRecord}
 use Rattle.trace_model.specs.Order.{moment_of_last, EndsAt, first_moment_or, NeverFallsFrom, NeverFalls, IsWritable}
 use Rattle.trace_model.proofs.Lengths.{slot_len-mod, slot_len_ge_four, padded_whole}
-use Rattle.trace_model.proofs.Appended.{one_record, Decodes-first, Decodes-appended, EndsInRecord-nil, EndsInRecord-first, EndsInRecord-appended, EndsAt-push, FitsTime-nil}
+use Rattle.trace_model.proofs.Appended.{one_record, Decodes-first, Decodes-appended, EndsInRecord-first, EndsInRecord-appended, EndsAt-push, FitsTime-nil}
 
 -- bytes that fill a slot are whole words, and some
 slot_whole : (n : ℕ) → slot_len n ≡ n → n % 4 ≡ 0
@@ -60,12 +60,6 @@ Decodes-encodings_behind (r ∷ records) bytes time before prev ends reads at ri
     (Decodes-encoding_of bytes time before prev r ends reads at rises.0 each.0)
     (EndsAt-push before r) rises.1 each.1))
 
-pub EndsInRecord-encodings_behind : (records : List Record) (bytes : List ℕ) (prev : ℕ) → EndsInRecord bytes → AllByRecursion IsWritable records → EndsInRecord (bytes ++ encodings_behind prev records)
-EndsInRecord-encodings_behind [] bytes prev ends each = subst EndsInRecord (sym (append-nil bytes)) ends
-EndsInRecord-encodings_behind (r ∷ records) bytes prev ends each =
-    subst EndsInRecord (append_assoc bytes (encoding_of prev r false) (encodings_behind r.moment records))
-    (EndsInRecord-encodings_behind records (bytes ++ encoding_of prev r false) r.moment (EndsInRecord-encoding_of bytes prev r ends each.0) each.1)
-
 -- an empty page reads as no records
 pub Decodes-nil : (time : ℕ) → Decodes [] time []
 Decodes-nil time = record { words = []; rest = []; cut = record { whole = refl; each = tt; ending = inl refl }; in_time = FitsTime-nil time; read = refl }
@@ -75,10 +69,6 @@ pub Decodes-page_encoding : (records : List Record) (time : ℕ) → NeverFalls 
 Decodes-page_encoding [] time rises each = Decodes-nil time
 Decodes-page_encoding (r ∷ records) time rises each =
     Decodes-encodings_behind records (encoding_of 0 r true) r.moment (r ∷ []) r.moment (EndsInRecord-encoding_of_first 0 r each.0) (Decodes-encoding_of_first 0 r each.0) refl rises.1 each.1
-
-pub EndsInRecord-page_encoding : (records : List Record) → AllByRecursion IsWritable records → EndsInRecord (page_encoding records)
-EndsInRecord-page_encoding [] each = EndsInRecord-nil
-EndsInRecord-page_encoding (r ∷ records) each = EndsInRecord-encodings_behind records (encoding_of 0 r true) r.moment (EndsInRecord-encoding_of_first 0 r each.0) each.1
 
 -- ---- a page's data grows at its end
 

@@ -19,9 +19,6 @@ record IsWhole (r : Reservation) : Type 0 where
   len : r.len % 4 ≡ 0
   bytes : FillsWords r.bytes
 
-AllWhole : List Reservation → Type 0
-AllWhole records = All IsWhole records
-
 finished_first : (r : Reservation) (payload : List ℕ) → IsWhole r → IsWhole (record { moment = r.moment; len = r.len; bytes = Some (padded payload) })
 unfolding FillsWords
 finished_first r payload h = record {

@@ -4,8 +4,8 @@ use Rattle.std.specs.Option.{option_map_or}
 use Rattle.std.specs.List.{AllByRecursion}
 use Rattle.std.proofs.lemmas.List.{nil_from_length, drop_at}
 use Rattle.std.proofs.lemmas.Bool.{cond_both, ltb-false}
-use Rattle.trace_model.specs.Words.{Word, short_data, long_data, padding, time_extend, time_stamp, bytes_of_word, IsWord, IsEnding, joined, records_at, records_behind, FitsTime, Decodes}
-use Rattle.trace_model.specs.Reading.{from_le32, part_of, part_with_length, word_behind, word_at_front, words_within, words_in, records_in}
+use Rattle.trace_model.specs.Words.{Word, short_data, long_data, padding, time_extend, time_stamp, bytes_of_word, IsWord, joined}
+use Rattle.trace_model.specs.Reading.{from_le32, part_of, part_with_length, word_behind, word_at_front, words_within, words_in}
 use Rattle.trace_model.specs.FirstFault.{AreBytes}
 use Rattle.trace_model.proofs.OneWord.{AreBytes-drop, word_at_front-nil, word_at_front-found}
 
@@ -69,10 +69,6 @@ words_within-enough zero m bytes few many = let none = nil_from_length bytes (le
 words_within-enough (suc n) zero bytes few many = let none = nil_from_length bytes (let e : length bytes ≡ 0 = omega arith in e) in ap (words_within (suc n)) none ∙ words_within-nil (suc n) ∙ ap (words_within 0) (sym none)
 words_within-enough (suc n) (suc m) bytes few many = next_same n m bytes (λ w rest less. words_within-enough n m rest (omega arith) (omega arith)) (word_at_front bytes) refl
 
-pub words_in-nil : words_in [] ≡ []
-unfolding words_in
-words_in-nil = refl
-
 -- where a word stands at the front, it is the first of the words, and then come those behind it
 pub words_in-found : (bytes : List ℕ) (w : Word) (rest : List ℕ) → word_at_front bytes ≡ Some (w, rest) → words_in bytes ≡ w ∷ words_in rest
 unfolding words_in next
@@ -92,14 +88,6 @@ words_in-none bytes none = first (length bytes)
     first : (n : ℕ) → words_within n bytes ≡ []
     first zero = refl
     first (suc n) = ap (next n) none
-
--- the same of the records behind words that were read
-pub records_behind-found : (time : ℕ) (front : List Word) (bytes : List ℕ) (w : Word) (rest : List ℕ) → word_at_front bytes ≡ Some (w, rest)
-    → records_behind time front (words_in bytes) ≡ records_at time front w ++ records_behind time (front ++ w ∷ []) (words_in rest)
-records_behind-found time front bytes w rest found = ap (records_behind time front) (words_in-found bytes w rest found)
-
-pub records_behind-none : (time : ℕ) (front : List Word) (bytes : List ℕ) → word_at_front bytes ≡ None → records_behind time front (words_in bytes) ≡ []
-records_behind-none time front bytes none = ap (records_behind time front) (words_in-none bytes none)
 
 -- ---- any bytes are words and what is left
 
@@ -141,13 +129,3 @@ read_to (suc n) bytes few small (Some f) e =
 -- what the reader finds in any bytes stands there, one word behind the other, up to where no word stands
 pub words_in-IsReadTo : (bytes : List ℕ) → AreBytes bytes → (left : List ℕ) × IsReadTo bytes (words_in bytes) left
 words_in-IsReadTo bytes small = read_to (length bytes) bytes (omega arith) small (word_at_front bytes) refl
-
--- where an ending is left, and the times fit, the data reads as the records found
-pub Decodes-IsReadTo : (bytes : List ℕ) (time : ℕ) (left : List ℕ) → IsReadTo bytes (words_in bytes) left → IsEnding left → FitsTime time (words_in bytes) → Decodes bytes time (records_in time bytes)
-Decodes-IsReadTo bytes time left reads ending fits = record {
-  words = words_in bytes;
-  rest = left;
-  cut = record { whole = reads.whole; each = reads.each; ending = ending };
-  in_time = fits;
-  read = refl;
-}

@@ -3,13 +3,12 @@ use Rattle.std.proofs.Common.{◌≡◌, ◌⊎◌, inl, inr, ℕ, ◌+◌, ◌<
 use Rattle.std.specs.List.{AllByRecursion}
 use Rattle.std.proofs.lemmas.List.Concat.{flat_map-append}
 use Rattle.trace_model.specs.Record.{Record}
-use Rattle.trace_model.specs.Words.{Word, bytes_of_word, IsWord, joined, records_of, records_behind, IsJoined, Decodes}
-use Rattle.trace_model.specs.Reading.{IsData, payload_of, word_at_front, words_in, records_in, IsPlaceIn}
+use Rattle.trace_model.specs.Words.{Word, bytes_of_word, IsWord, joined, records_of, IsJoined, Decodes}
+use Rattle.trace_model.specs.Reading.{IsData, payload_of, word_at_front, words_in, IsPlaceIn}
 use Rattle.trace_model.specs.Overwriting.{IsPlaceOf}
 use Rattle.trace_model.proofs.OneWord.{word_at_front-word}
 use Rattle.trace_model.proofs.Unique.{words_in-IsJoined}
 use Rattle.trace_model.proofs.Stepped.{words_in-found}
-use Rattle.trace_model.proofs.Appended.{records_of-append}
 use Rattle.trace_model.proofs.Overwritten.{head_of_ge}
 use Rattle.trace_model.proofs.Places.{at_one, in_front, behind_it, splits_twice, length-joined_split, place-start, place-stop}
 
@@ -19,10 +18,6 @@ words_in-behind [] rest each = refl
 words_in-behind (w ∷ front) rest each =
     words_in-found (joined (w ∷ front) ++ rest) w (joined front ++ rest) (ap word_at_front (append_assoc (bytes_of_word w) (joined front) rest) ∙ word_at_front-word w (joined front ++ rest) each.0)
     ∙ ap (λ (ws : List Word). w ∷ ws) (words_in-behind front rest each.1)
-
--- the records of data are those of the words read, and then those of the words left
-pub records_in-behind : (time : ℕ) (front : List Word) (rest : List ℕ) → AllByRecursion IsWord front → records_in time (joined front ++ rest) ≡ records_of time front ++ records_behind time front (words_in rest)
-records_in-behind time front rest each = ap (records_of time) (words_in-behind front rest each) ∙ records_of-append time front (words_in rest)
 
 -- in data that reads, a data word behind words that were read is a record with its place
 pub IsPlaceOf-read : (bytes : List ℕ) (time : ℕ) (records : List Record) (front : List Word) (rest : List ℕ) (w : Word) (behind : List ℕ) (start len : ℕ) → Decodes bytes time records
