@@ -5,15 +5,15 @@ use Rattle.std.proofs.lemmas.List.Concat.{flat_map-append}
 use Rattle.trace_model.specs.Record.{Record}
 use Rattle.trace_model.specs.Words.{Word, padding, time_extend, time_stamp, bytes_of_word, joined, delta_of, is_stamp, moment_after, records_of, records_at, MovesTime, IsEnding, Decodes, short_data, long_data}
 use Rattle.trace_model.specs.Reading.{IsData, payload_of, records_in}
-use Rattle.trace_model.specs.Faults.{Cause, cut, bad_length, time_overflow}
+use Rattle.trace_model.specs.Faults.{cut, bad_length, time_overflow}
 use Rattle.trace_model.specs.FirstFault.{FirstFault}
 use Rattle.trace_model.proofs.Lengths.{bytes_of_word_ge}
 use Rattle.trace_model.proofs.Unique.{records_in-Decodes}
 use Rattle.trace_model.proofs.Appended.{FitsTime-nil, FitsTime-push, each-append, moment_after-push, moment_after-stamp, IsData-not_stamp, records_at-data, records_of-push, records_of-push_data}
-use Rattle.trace_model.proofs.FirstFaults.{FirstFault-from_word, Decodes-FirstFault}
+use Rattle.trace_model.proofs.FirstFaults.{Decodes-FirstFault}
 use Rattle.record_words.specs.declared.next.WordFault.{WordFault}
 use Rattle.record_words.specs.declared.next.WordFault.TheVariants.{Cut, BadLength, TimeOverflow}
-use Rattle.record_words.specs.Next.{StandsAt, DataAt, PaddingAt, EndingAt, FaultyAt, IsFaultAt}
+use Rattle.record_words.specs.Next.{StandsAt, DataAt, PaddingAt, EndingAt}
 use Rattle.record_words.specs.declared.put.Place.{Place}
 use Rattle.page_image.specs.declared.walk.Reached.{Reached}
 use Rattle.page_image.specs.declared.walk.Passed.{Passed}
@@ -61,7 +61,7 @@ read-data bytes time words reached w next moment is here holds fits moment_is =
     (moment_is ∙ ap (λ (m : ℕ). m + delta_of w) is.moment_is ∙ sym (moment_after-push time words w (IsData-not_stamp w holds)))
     (omega (arith, length-append (records_of time words) (record { moment = moment_after time words + delta_of w; bytes = payload_of w } ∷ [])))
 
--- ---- a word that was passed
+-- ---- a word that was stepped over
 
 pub passed-data : (bytes : List ℕ) (time : ℕ) (words : List Word) (reached : Reached) (delta : ℕ) (place : Place) (next moment : ℕ) → HasRead bytes time words reached → DataAt bytes reached.at delta place next → moment < 2 ^ 64
     → moment ≡ reached.moment + delta → HasPassed bytes time words (record { payload = Some place; behind = record { at = next; moment = moment; count = reached.count + 1 } })
@@ -128,16 +128,6 @@ counted-whole bytes time words reached is reads =
 some_behind : (bytes : List ℕ) (at : ℕ) → at < length bytes → drop at bytes ≢ []
 some_behind bytes at inside e = (let none = ap length e in omega (arith, length-drop at bytes))
 
-fault_here : (bytes : List ℕ) (time : ℕ) (words : List Word) (reached : Reached) (named : ℕ) (cause : Cause) → HasRead bytes time words reached → reached.at < length bytes → FaultyAt bytes reached.at named cause → FirstFault bytes time cause named
-fault_here bytes time words reached named cause is inside faulty =
-    subst (λ (n : ℕ). FirstFault bytes time cause n) (sym (faulty.offset ∙ is.at_is))
-    (FirstFault-from_word bytes time words (drop reached.at bytes) cause is.whole is.each is.in_time (some_behind bytes reached.at inside) faulty.fault)
-
-pub faulty-first : (bytes : List ℕ) (time : ℕ) (words : List Word) (reached : Reached) (f : WordFault) → HasRead bytes time words reached → reached.at < length bytes → IsFaultAt bytes reached.at f → IsFirstFault bytes time f
-faulty-first bytes time words reached (Cut named) is inside faulty = fault_here bytes time words reached named cut is inside faulty
-faulty-first bytes time words reached (BadLength named) is inside faulty = fault_here bytes time words reached named bad_length is inside faulty
-faulty-first bytes time words reached (TimeOverflow named) is inside faulty = absurd faulty
-
 -- a word that moves the time too far
 pub overflow-first : (bytes : List ℕ) (time : ℕ) (words : List Word) (reached : Reached) (w : Word) (next : ℕ) (f : WordFault) → HasRead bytes time words reached → reached.at < length bytes → StandsAt bytes reached.at next w
     → MovesTime w → is_stamp w ≡ false → f ≡ TimeOverflow reached.at → 2 ^ 64 ≤ reached.moment + delta_of w → IsFirstFault bytes time f
@@ -168,7 +158,7 @@ few_more bytes at next count w here few = let stop = here.next_is in let size = 
 
 -- ---- copies of the records
 
--- the copies of the records so far, with those of the word that was passed
+-- the copies of the records so far, with those of the word that was stepped over
 pub copied-push : (bytes : List ℕ) (time : ℕ) (words : List Word) (passed : Passed) (before after : List Record) → (is : HasPassed bytes time words passed) → before ≡ records_of time words → after ≡ before ++ records_at_place bytes passed.behind.moment passed.payload
     → after ≡ records_of time (words ++ is.word ∷ [])
 copied-push bytes time words passed before after is same more =
