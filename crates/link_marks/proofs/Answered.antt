@@ -7,11 +7,11 @@ use native.Mathlib.Decide.{dec_le}
 use Rattle.trace_model.specs.Frames.{Kind, for_record, for_close, Phase, reserving, looking, claiming, looking_next, marking, clearing, opening, reserved, releasing, Frame, Refusal, too_deep, too_long, late_moment, crowded, worn, no_frame, not_reserved}
 use Rattle.trace_model.specs.Links.{Link, normal_link, update_link}
 use Rattle.trace_model.specs.Ring.{link_into, page_at, ReaderPhase, loading_link, loading_done, storing_link, swapping, Taken, Core}
-use Rattle.trace_model.specs.Steps.{Event, Answer, pushed, going, reserved_as, pending, full, gone, refused, reading, empty, moving, swapped, leave_answer, begun_answer, begun, BeginsAnew, reserves, finds_nothing, is_crowded, is_worn, notes, look_late, sees_free, sees_header, sees_update, claim_late, claims, claim_fails, next_late, sees_normal, sees_other, mark_late, marks, mark_fails, clears, open_late, opens, releases, releases_last, FrameStep, PushRefused, four_stand, has_no_room, comes_late, ended_answer, Step, push_step, push_refused, close_step, close_refused, frame_step, frame_lacks, end_step, end_lacks, end_early, read_step, loads_header, loads_update, loads_owed, loads_passed, finds_none, finds_closed, swaps, swap_fails, ReadStep}
-use Rattle.link_marks.specs.Kept.{Stands, LinkKept, is_normal, is_header, is_update, ReaderKept}
+use Rattle.trace_model.specs.Steps.{Event, Answer, pushed, going, reserved_as, pending, full, gone, refused, reading, empty, moving, swapped, leave_answer, begin_answer, with_new_tail, BeginsAnew, reserves, finds_nothing, is_crowded, is_worn, notes, look_late, sees_free, sees_header, sees_update, claim_late, claims, claim_fails, next_late, sees_normal, sees_other, mark_late, marks, mark_fails, clears, open_late, opens, releases, releases_last, FrameStep, PushRefused, all_stand, has_no_room, comes_late, end_answer, Step, push_step, push_refused, close_step, close_refused, frame_step, frame_lacks, end_step, end_lacks, end_early, read_step, loads_header, loads_update, loads_owed, loads_passed, finds_none, finds_closed, swaps, swap_fails, ReadStep}
+use Rattle.link_marks.specs.KeptLinks.{Stands, LinkKept, is_normal, is_header, is_update, ReaderKept}
 use Rattle.link_marks.specs.RingKept.{IsRingKept}
 use Rattle.link_marks.specs.AnswerLaws.{ArePassed, IsInTheWay}
-use Rattle.link_marks.proofs.Turns.{at_place, one_place}
+use Rattle.link_marks.proofs.Turns.{at_position, one_position}
 use Rattle.link_marks.proofs.Phases.{normal_ne_header, normal_ne_update}
 use Rattle.link_marks.proofs.Inside.{normal_tells, header_tells, update_tells, owned_by, fill_at}
 use Rattle.link_marks.proofs.Rings.{stands_moved, is_ring}
@@ -52,12 +52,12 @@ module _ (n size : ℕ) (c : Core) (none : ℕ → Type 0) (way : ℕ → Type 0
   leaves_true d [] = cond_both ((d.done + 1) == d.opened) gone going IsTrueOf (λ _. tt) (λ _. tt)
   leaves_true d (next ∷ below) = tt
 
-  begun_true : (kind : Kind) (d : Core) (below : List Frame) → IsTrueOf (begun_answer kind d below)
+  begun_true : (kind : Kind) (d : Core) (below : List Frame) → IsTrueOf (begin_answer kind d below)
   begun_true (for_record moment len) d below = tt
   begun_true for_close d below = leaves_true d below
 
   anew : (frame : Frame) (below : List Frame) (noted : ℕ) (answer : Answer) (after : Core) → BeginsAnew c frame below noted answer after → IsTrueOf answer
-  anew frame below noted answer after step = says answer (begun_answer frame.kind c below) step.answer_is (begun_true frame.kind c below)
+  anew frame below noted answer after step = says answer (begin_answer frame.kind c below) step.answer_is (begun_true frame.kind c below)
 
   frame_true : (frame : Frame) (below : List Frame) (phase : Phase) (answer : Answer) (after : Core) → FrameStep n size c frame below phase answer after → IsTrueOf answer
   frame_true frame below reserving answer after (reserves moment len r kind r_is fits a is) = says answer _ a tt
@@ -80,17 +80,17 @@ module _ (n size : ℕ) (c : Core) (none : ℕ → Type 0) (way : ℕ → Type 0
   frame_true frame below (marking role noted page next) answer after (mark_fails lost goes_on sum other a is) = says answer going a tt
   frame_true frame below (clearing noted page) answer after (clears lost sum at a is) = says answer going a tt
   frame_true frame below (opening noted page) answer after (open_late step) = anew frame below noted answer after step
-  frame_true frame below (opening noted page) answer after (opens now a is) = says answer (begun_answer frame.kind (begun c page) below) a (begun_true frame.kind (begun c page) below)
+  frame_true frame below (opening noted page) answer after (opens now a is) = says answer (begin_answer frame.kind (with_new_tail c page) below) a (begun_true frame.kind (with_new_tail c page) below)
   frame_true frame below (reserved number) answer after step = says answer (reserved_as number) step.0 tt
   frame_true frame below releasing answer after (releases alone more a is) = says answer going a tt
   frame_true frame below releasing answer after (releases_last alone last a is) = says answer gone a tt
 
   push_true : (moment len : ℕ) (why : Refusal) → PushRefused size c moment len why → Refused n c why
-  push_true moment len why (four_stand many) = tt
+  push_true moment len why (all_stand many) = tt
   push_true moment len why (has_no_room few long) = tt
   push_true moment len why (comes_late few fits late) = tt
 
-  ended_true : (below : List Frame) → IsTrueOf (ended_answer below)
+  ended_true : (below : List Frame) → IsTrueOf (end_answer below)
   ended_true [] = tt
   ended_true (next ∷ below) = tt
 
@@ -101,7 +101,7 @@ module _ (n size : ℕ) (c : Core) (none : ℕ → Type 0) (way : ℕ → Type 0
   step_true event answer after reads (close_refused e many a is) = says answer (refused too_deep) a tt
   step_true event answer after reads (frame_step frame below e top step) = frame_true frame below frame.phase answer after step
   step_true event answer after reads (frame_lacks e nothing a is) = says answer (refused no_frame) a tt
-  step_true event answer after reads (end_step payload frame below number moment len e top phase kind slot a is) = says answer (ended_answer below) a (ended_true below)
+  step_true event answer after reads (end_step payload frame below number moment len e top phase kind slot a is) = says answer (end_answer below) a (ended_true below)
   step_true event answer after reads (end_lacks payload e nothing a is) = says answer (refused no_frame) a tt
   step_true event answer after reads (end_early payload frame below e top nothing a is) = says answer (refused not_reserved) a tt
   step_true event answer after reads (read_step e step) = reads step
@@ -155,13 +155,13 @@ module _ (n start : ℕ) (c : Core) (r : IsRingKept n start c) where
   finds_update : (page lost : ℕ) → link_into n c.links c.reader.hint ≡ update_link page lost → IsInTheWay n start c (suc lost)
   finds_update page lost at =
       let some_pages = r.links.some_pages in let le = r.links.hint_le in let unread = r.links.head_le in
-      let (g, low, high, place) = at_place c.head n (c.reader.hint % n) (mod-lt c.reader.hint (omega arith)) in
-      let same : link_into n c.links g ≡ link_into n c.links c.reader.hint = ap (λ (i : ℕ). get_or c.links i (normal_link 0 0)) place in
+      let (g, low, high, position) = at_position c.head n (c.reader.hint % n) (mod-lt c.reader.hint (omega arith)) in
+      let same : link_into n c.links g ≡ link_into n c.links c.reader.hint = ap (λ (i : ℕ). get_or c.links i (normal_link 0 0)) position in
       let told = update_tells n c.links c.order c.head c.frames g page lost (r.links.each g low high) (same ∙ at) in
       let sum = told.0 in
       let (u, u_sum, below, open_yet, there) = owned_by n c r.links g told.2 in
       let known : c.reader.hint ≤ lost = dite (dec_le c.reader.hint lost) (λ yes. yes)
-      (λ no. let e = one_place c.reader.hint n g c.reader.hint (omega arith) (omega arith) (omega arith) (omega arith) place in absurd (omega arith)) in
+      (λ no. let e = one_position c.reader.hint n g c.reader.hint (omega arith) (omega arith) (omega arith) (omega arith) position in absurd (omega arith)) in
       in_the_way lost (suc lost) (subst (Stands c.frames) (sym sum) told.2) (omega arith) (omega arith)
 
   -- a HEADER that is owed

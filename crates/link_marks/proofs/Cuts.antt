@@ -5,10 +5,10 @@ use Rattle.std.proofs.lemmas.List.{drop-take, drop-append-le, take-append-le, ta
 use Rattle.std.proofs.lemmas.Bool.{cond_both, cond-true, cond-false, le-ltb, lt-ltb}
 use mathlib.Core.Logic.{dite}
 use native.Mathlib.Decide.{dec_le}
-use Rattle.trace_model.specs.History.{Action, push, push_close, open_fill, reserve, leave, Reservation, finished_at, reserved_records}
+use Rattle.trace_model.specs.History.{Action, push, push_close, open_fill, reserve, leave, Reservation, records_with_payload, reserved_records}
 use Rattle.trace_model.specs.Packing.{opens_behind, opens_of, cut_from}
 use Rattle.trace_model.specs.Ring.{Held}
-use Rattle.trace_model.specs.Steps.{finished_in}
+use Rattle.trace_model.specs.Steps.{held_with_payload}
 use Rattle.link_marks.specs.KeptContents.{IsRising}
 
 -- ---- the cuts
@@ -108,7 +108,7 @@ opened_last from (cut ∷ cuts) xs = opened_last cut cuts xs
 
 -- ---- an end: the record with its bytes, in its fill
 
-pub length-finished_at : (number : Option ℕ) (payload : Option (List ℕ)) (xs : List Reservation) → length (finished_at number payload xs) ≡ length xs
+pub length-finished_at : (number : Option ℕ) (payload : Option (List ℕ)) (xs : List Reservation) → length (records_with_payload number payload xs) ≡ length xs
 length-finished_at None payload xs = refl
 length-finished_at (Some k) None xs = refl
 length-finished_at (Some k) (Some p) [] = refl
@@ -117,26 +117,26 @@ length-finished_at (Some (suc k)) (Some p) (x ∷ xs) = ap suc (length-finished_
 
 -- the part of the records from a place on, or none of it, that an end changes
 abbrev finished_from : ℕ → ℕ → List ℕ → List Reservation → List Reservation
-finished_from from k p xs = if nat_lt k from then xs else finished_at (Some (k - from)) (Some p) xs
+finished_from from k p xs = if nat_lt k from then xs else records_with_payload (Some (k - from)) (Some p) xs
 
 finished_low : (from k : ℕ) (p : List ℕ) (xs : List Reservation) → k < from → finished_from from k p xs ≡ xs
 finished_low from k p xs low = cond-true _ _ _ (lt-ltb k from low)
 
-finished_high : (from k : ℕ) (p : List ℕ) (xs : List Reservation) → from ≤ k → finished_from from k p xs ≡ finished_at (Some (k - from)) (Some p) xs
+finished_high : (from k : ℕ) (p : List ℕ) (xs : List Reservation) → from ≤ k → finished_from from k p xs ≡ records_with_payload (Some (k - from)) (Some p) xs
 finished_high from k p xs high = cond-false _ _ _ (le-ltb k from high)
 
 finished_shift : (from k : ℕ) (p : List ℕ) (xs : List Reservation) → finished_from (suc from) (suc k) p xs ≡ finished_from from k p xs
 finished_shift from k p xs = dite (dec_le from k)
-    (λ high. finished_high (suc from) (suc k) p xs (omega arith) ∙ ap (λ (j : ℕ). finished_at (Some j) (Some p) xs) (let e : suc k - suc from ≡ k - from = omega arith in e) ∙ sym (finished_high from k p xs high))
+    (λ high. finished_high (suc from) (suc k) p xs (omega arith) ∙ ap (λ (j : ℕ). records_with_payload (Some j) (Some p) xs) (let e : suc k - suc from ≡ k - from = omega arith in e) ∙ sym (finished_high from k p xs high))
     (λ low. finished_low (suc from) (suc k) p xs (omega arith) ∙ sym (finished_low from k p xs (omega arith)))
 
-drop-finished_at : (from k : ℕ) (p : List ℕ) (xs : List Reservation) → drop from (finished_at (Some k) (Some p) xs) ≡ finished_from from k p (drop from xs)
-drop-finished_at zero k p xs = ap (λ (j : ℕ). finished_at (Some j) (Some p) xs) (let e : k ≡ k - 0 = omega arith in e) ∙ sym (finished_high 0 k p xs (omega arith))
-drop-finished_at (suc from) k p [] = cond_both (nat_lt k (suc from)) [] (finished_at (Some (k - suc from)) (Some p) []) (λ (ys : List Reservation). ◌≡◌ {A = List Reservation} [] ys) (λ _. refl) (λ _. refl)
+drop-finished_at : (from k : ℕ) (p : List ℕ) (xs : List Reservation) → drop from (records_with_payload (Some k) (Some p) xs) ≡ finished_from from k p (drop from xs)
+drop-finished_at zero k p xs = ap (λ (j : ℕ). records_with_payload (Some j) (Some p) xs) (let e : k ≡ k - 0 = omega arith in e) ∙ sym (finished_high 0 k p xs (omega arith))
+drop-finished_at (suc from) k p [] = cond_both (nat_lt k (suc from)) [] (records_with_payload (Some (k - suc from)) (Some p) []) (λ (ys : List Reservation). ◌≡◌ {A = List Reservation} [] ys) (λ _. refl) (λ _. refl)
 drop-finished_at (suc from) zero p (x ∷ xs) = sym (finished_low (suc from) 0 p (drop from xs) (omega arith))
 drop-finished_at (suc from) (suc k) p (x ∷ xs) = drop-finished_at from k p xs ∙ sym (finished_shift from k p (drop from xs))
 
-take-finished_at : (m k : ℕ) (p : List ℕ) (xs : List Reservation) → take m (finished_at (Some k) (Some p) xs) ≡ finished_at (Some k) (Some p) (take m xs)
+take-finished_at : (m k : ℕ) (p : List ℕ) (xs : List Reservation) → take m (records_with_payload (Some k) (Some p) xs) ≡ records_with_payload (Some k) (Some p) (take m xs)
 take-finished_at zero k p xs = refl
 take-finished_at (suc m) k p [] = refl
 take-finished_at (suc m) zero p (x ∷ xs) = refl
@@ -148,7 +148,7 @@ take-finished_from m from k p xs = dite (dec_le from k)
     (λ low. ap (take m) (finished_low from k p xs (omega arith)) ∙ sym (finished_low from k p (take m xs) (omega arith)))
 
 finished_cut : (from : ℕ) (cuts : List ℕ) (xs : List Reservation) (k : ℕ) (p : List ℕ) (i : ℕ) → i ≤ length cuts
-    → get_or (cut_from from cuts (finished_at (Some k) (Some p) xs)) i [] ≡ finished_from (get_or (from ∷ cuts) i 0) k p (get_or (cut_from from cuts xs) i [])
+    → get_or (cut_from from cuts (records_with_payload (Some k) (Some p) xs)) i [] ≡ finished_from (get_or (from ∷ cuts) i 0) k p (get_or (cut_from from cuts xs) i [])
 finished_cut from [] xs k p zero low = drop-finished_at from k p xs
 finished_cut from [] xs k p (suc i) low = absurd (omega arith)
 finished_cut from (cut ∷ cuts) xs k p zero low = ap (take (cut - from)) (drop-finished_at from k p xs) ∙ take-finished_from (cut - from) from k p (drop from xs)
@@ -156,7 +156,7 @@ finished_cut from (cut ∷ cuts) xs k p (suc i) low = finished_cut cut cuts xs k
 
 -- a fill of the finished records is the fill, finished
 pub finished_fill : (number : Option ℕ) (payload : Option (List ℕ)) (cuts : List ℕ) (xs : List Reservation) (i : ℕ) → i ≤ length cuts
-    → finished_in number payload record { first = get_or (0 ∷ cuts) i 0; records = get_or (cut_from 0 cuts xs) i [] } ≡ record { first = get_or (0 ∷ cuts) i 0; records = get_or (cut_from 0 cuts (finished_at number payload xs)) i [] }
+    → held_with_payload number payload record { first = get_or (0 ∷ cuts) i 0; records = get_or (cut_from 0 cuts xs) i [] } ≡ record { first = get_or (0 ∷ cuts) i 0; records = get_or (cut_from 0 cuts (records_with_payload number payload xs)) i [] }
 finished_fill None payload cuts xs i low = refl
 finished_fill (Some k) None cuts xs i low = cond_both (nat_lt k (get_or (0 ∷ cuts) i 0)) (get_or (cut_from 0 cuts xs) i []) (get_or (cut_from 0 cuts xs) i []) (λ (l : List Reservation). ◌≡◌ {A = Held} record { first = get_or (0 ∷ cuts) i 0; records = l } record { first = get_or (0 ∷ cuts) i 0; records = get_or (cut_from 0 cuts xs) i [] }) (λ _. refl) (λ _. refl)
 finished_fill (Some k) (Some p) cuts xs i low = ap (λ (l : List Reservation). let h : Held = record { first = get_or (0 ∷ cuts) i 0; records = l } in h) (sym (finished_cut 0 cuts xs k p i low))

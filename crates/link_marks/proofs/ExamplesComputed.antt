@@ -1,12 +1,12 @@
 -- One step of a ring as a function: what it answers and leaves, or nothing where no step is made.
 use Rattle.std.proofs.Common.{ℕ, suc, ◌+◌, ◌-◌, ◌^◌, Bool, true, false, if◌then◌else◌, ◌==◌, nat_lt, nat_le, List, [], ◌∷◌, ◌++◌, length, Option, Some, None}
 use Rattle.trace_model.specs.Words.{encoded_len, slot_len}
-use Rattle.trace_model.specs.History.{Reservation, push, push_close, reserve, reserved_for, reserved_records}
+use Rattle.trace_model.specs.History.{Reservation, push, push_close, reserve, reservation_for, reserved_records}
 use Rattle.trace_model.specs.Packing.{fill_len}
 use Rattle.trace_model.specs.Links.{Mark, normal, header, update, Link, normal_link, header_link, update_link}
 use Rattle.trace_model.specs.Frames.{Kind, for_record, for_close, Role, owner, helper, Phase, reserving, looking, claiming, looking_next, marking, clearing, opening, reserved, releasing, Frame, too_deep, too_long, late_moment, crowded, worn, no_frame, not_reserved}
 use Rattle.trace_model.specs.Ring.{ReaderPhase, loading_link, loading_done, storing_link, swapping, Core, link_into, page_at}
-use Rattle.trace_model.specs.Steps.{Event, pushes, pushes_close, steps, ends, reads, Answer, pushed, going, reserved_as, gone, refused, reading, empty, moving, swapped, with_action, in_phase, with_link, with_held, held_by, tail_page, leave_answer, after_leave, begun_on, begun_answer, after_next, begun, reader_at, taken_from, after_swap, ended_answer}
+use Rattle.trace_model.specs.Steps.{Event, pushes, pushes_close, steps, ends, reads, Answer, pushed, going, reserved_as, gone, refused, reading, empty, moving, swapped, with_action, in_phase, with_link, with_held, contents_of, tail_page, leave_answer, after_leave, after_begin, begin_answer, after_next, with_new_tail, reader_at, taken_fill, after_swap, end_answer}
 
 pub record Outcome : Type 0 where
   pub answer : Answer
@@ -34,7 +34,7 @@ same_link a b = if same_mark a.mark b.mark then (if a.page == b.page then a.fill
 -- ---- the steps of a frame
 
 abbrev pub anew : Core → Frame → List Frame → Option Outcome
-anew c frame below = gives (begun_answer frame.kind c below) (begun_on frame.kind c frame below)
+anew c frame below = gives (begin_answer frame.kind c below) (after_begin frame.kind c frame below)
 
 abbrev pub goes_on : Core → Frame → List Frame → Phase → Option Outcome
 goes_on c frame below phase = gives going (in_phase c frame below phase)
@@ -45,11 +45,11 @@ needs_page n c frame below =
     else (if nat_lt (c.opened + n) (2 ^ 48) then goes_on c frame below (looking c.opened) else gives (refused worn) (after_leave c frame below None))
 
 abbrev pub record_len : ℕ → Core → ℕ → ℕ → ℕ
-record_len n c moment len = fill_len ((held_by c (tail_page n c)).records ++ reserved_for moment len (reserved_records c.history) ∷ [])
+record_len n c moment len = fill_len ((contents_of c (tail_page n c)).records ++ reservation_for moment len (reserved_records c.history) ∷ [])
 
 abbrev pub reserves_in : ℕ → Core → Frame → List Frame → ℕ → ℕ → Option Outcome
 reserves_in n c frame below moment len = gives (reserved_as (length (reserved_records c.history)))
-    (in_phase (with_action (with_held c (tail_page n c) record { first = (held_by c (tail_page n c)).first; records = (held_by c (tail_page n c)).records ++ reserved_for moment len (reserved_records c.history) ∷ [] }) reserve) frame below (reserved (length (reserved_records c.history))))
+    (in_phase (with_action (with_held c (tail_page n c) record { first = (contents_of c (tail_page n c)).first; records = (contents_of c (tail_page n c)).records ++ reservation_for moment len (reserved_records c.history) ∷ [] }) reserve) frame below (reserved (length (reserved_records c.history))))
 
 abbrev pub close_of : ℕ → Core → Frame → List Frame → List Reservation → Option Outcome
 close_of n c frame below [] = gives (leave_answer c below) (after_leave c frame below None)
@@ -57,7 +57,7 @@ close_of n c frame below (r ∷ records) = needs_page n c frame below
 
 abbrev pub reserve_of : ℕ → ℕ → Core → Frame → List Frame → Kind → Option Outcome
 reserve_of n size c frame below (for_record moment len) = if nat_le (record_len n c moment len) size then reserves_in n c frame below moment len else needs_page n c frame below
-reserve_of n size c frame below for_close = close_of n c frame below (held_by c (tail_page n c)).records
+reserve_of n size c frame below for_close = close_of n c frame below (contents_of c (tail_page n c)).records
 
 abbrev pub look_at : ℕ → Core → Frame → List Frame → ℕ → Link → Mark → Option Outcome
 look_at n c frame below noted l normal = if l.fill == noted then goes_on c frame below (opening noted l.page) else None
@@ -99,7 +99,7 @@ clear_of n c frame below noted page =
 
 abbrev pub open_of : Core → Frame → List Frame → (noted page : ℕ) → Option Outcome
 open_of c frame below noted page =
-    if noted == c.opened then gives (begun_answer frame.kind (begun c page) below) (begun_on frame.kind (begun c page) frame below) else anew c frame below
+    if noted == c.opened then gives (begin_answer frame.kind (with_new_tail c page) below) (after_begin frame.kind (with_new_tail c page) frame below) else anew c frame below
 
 abbrev pub release_of : Core → List Frame → Option Outcome
 release_of c [] =
@@ -132,7 +132,7 @@ read_of n c loading_link = load_at n c (link_into n c.links c.reader.hint) (link
 read_of n c (loading_done page fill) = if nat_le c.done fill then gives (empty c.done) (reader_at c loading_link c.reader.hint) else gives reading (reader_at c (storing_link page fill) c.reader.hint)
 read_of n c (storing_link page fill) = gives reading (record (reader_at c (swapping page fill) c.reader.hint) { spare_link = header_link (page_at n c.order (suc fill)) (suc fill) })
 read_of n c (swapping page fill) =
-    if same_link (link_into n c.links fill) (header_link page fill) then gives (swapped (taken_from c page fill)) (after_swap n c page fill) else gives reading (reader_at c loading_link (suc fill))
+    if same_link (link_into n c.links fill) (header_link page fill) then gives (swapped (taken_fill c page fill)) (after_swap n c page fill) else gives reading (reader_at c loading_link (suc fill))
 
 -- ---- the whole
 
@@ -155,7 +155,7 @@ steps_of n size c (frame ∷ below) = frame_of n size c frame below frame.phase
 
 -- the end of a frame that has reserved, where the payload has its length
 abbrev pub full_end : Core → Frame → List Frame → List ℕ → Kind → Option Outcome
-full_end c frame below payload (for_record moment len) = if slot_len (length payload) == slot_len len then gives (ended_answer below) (after_leave c frame below (Some payload)) else None
+full_end c frame below payload (for_record moment len) = if slot_len (length payload) == slot_len len then gives (end_answer below) (after_leave c frame below (Some payload)) else None
 full_end c frame below payload for_close = None
 
 abbrev pub end_in : Core → Frame → List Frame → List ℕ → Phase → Option Outcome

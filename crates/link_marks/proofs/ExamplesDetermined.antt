@@ -7,8 +7,8 @@ use Rattle.trace_model.specs.Packing.{FitsBehind}
 use Rattle.trace_model.specs.Links.{Link, normal_link, header_link, update_link}
 use Rattle.trace_model.specs.Frames.{Kind, for_record, for_close, Role, owner, helper, Phase, reserving, looking, claiming, looking_next, marking, clearing, opening, reserved, releasing, Frame, Refusal, not_reserved}
 use Rattle.trace_model.specs.Ring.{ReaderPhase, loading_link, loading_done, storing_link, swapping, Core, link_into}
-use Rattle.trace_model.specs.Steps.{Event, Answer, going, refused, with_action, with_held, with_link, in_phase, reader_at, held_by, tail_page, number_in, NeedsPage, BeginsAnew, ReserveStep, reserves, finds_nothing, is_crowded, is_worn, notes, LookStep, look_late, sees_free, sees_header, sees_update, ClaimStep, claim_late, claims, claim_fails, NextStep, next_late, sees_normal, sees_other, MarkStep, mark_late, marks, mark_fails, ClearStep, clears, OpenStep, open_late, opens, ReleaseStep, releases, releases_last, FrameStep, LoadStep, loads_header, loads_update, loads_owed, loads_passed, LoadDoneStep, finds_none, finds_closed, SwapStep, swaps, swap_fails, ReadStep, after_next, IsTooLong, PushRefused, four_stand, has_no_room, comes_late, Run, Step, push_step, push_refused, close_step, close_refused, frame_step, frame_lacks, end_step, end_lacks, end_early, read_step}
-use Rattle.link_marks.specs.Laws.{StepsAreDetermined, events_of, RunsAreDetermined}
+use Rattle.trace_model.specs.Steps.{Event, Answer, going, refused, with_action, with_held, with_link, in_phase, reader_at, contents_of, tail_page, number_in, NeedsPage, BeginsAnew, ReserveStep, reserves, finds_nothing, is_crowded, is_worn, notes, LookStep, look_late, sees_free, sees_header, sees_update, ClaimStep, claim_late, claims, claim_fails, NextStep, next_late, sees_normal, sees_other, MarkStep, mark_late, marks, mark_fails, ClearStep, clears, OpenStep, open_late, opens, ReleaseStep, releases, releases_last, FrameStep, LoadStep, loads_header, loads_update, loads_owed, loads_passed, LoadDoneStep, finds_none, finds_closed, SwapStep, swaps, swap_fails, ReadStep, after_next, IsTooLong, PushRefused, all_stand, has_no_room, comes_late, Run, Step, push_step, push_refused, close_step, close_refused, frame_step, frame_lacks, end_step, end_lacks, end_early, read_step}
+use Rattle.link_marks.specs.RingLaws.{StepsAreDetermined, events_of, RunsAreDetermined}
 use Rattle.link_marks.proofs.Phases.{none_some}
 use Rattle.link_marks.proofs.ExamplesComputed.{Outcome, gives, same_link, anew, goes_on, needs_page, record_len, close_of, reserve_of, look_at, look_of, claim_of, next_at, next_of, mark_at, mark_of, clear_of, open_of, release_of, frame_of, load_at, read_of, too_long_for, push_of, steps_of, full_end, end_in, end_of, step_of}
 use Rattle.link_marks.proofs.ExamplesSound.{same_link_true, same_link_refl, too_long_true}
@@ -47,13 +47,13 @@ module _ (n size : ℕ) (c : Core) (frame : Frame) (below : List Frame) (answer 
 
   needs_is : (kind : Kind) → NeedsPage n size c kind → reserve_of n size c frame below kind ≡ needs_page n c frame below
   needs_is (for_record moment len) needs = if_no (nat_le (record_len n c moment len) size) _ _ (not_true (nat_le (record_len n c moment len) size) (λ e. needs (leb-true (record_len n c moment len) size e)))
-  needs_is for_close needs = close_is (held_by c (tail_page n c)).records needs
+  needs_is for_close needs = close_is (contents_of c (tail_page n c)).records needs
 
   reserve_is : ReserveStep n size c frame below answer after → Is (reserve_of n size c frame below frame.kind) answer after
   reserve_is (reserves moment len r kind r_is fits a is) =
       ap (reserve_of n size c frame below) kind
-      ∙ if_yes (nat_le (record_len n c moment len) size) _ _ (le-leb (record_len n c moment len) size (subst (FitsBehind size (held_by c (tail_page n c)).records) r_is fits))
-      ∙ here _ answer _ after a (is ∙ ap (λ (res : Reservation). in_phase (with_action (with_held c (tail_page n c) record { first = (held_by c (tail_page n c)).first; records = (held_by c (tail_page n c)).records ++ res ∷ [] }) reserve) frame below (reserved (length (reserved_records c.history)))) r_is)
+      ∙ if_yes (nat_le (record_len n c moment len) size) _ _ (le-leb (record_len n c moment len) size (subst (FitsBehind size (contents_of c (tail_page n c)).records) r_is fits))
+      ∙ here _ answer _ after a (is ∙ ap (λ (res : Reservation). in_phase (with_action (with_held c (tail_page n c) record { first = (contents_of c (tail_page n c)).first; records = (contents_of c (tail_page n c)).records ++ res ∷ [] }) reserve) frame below (reserved (length (reserved_records c.history)))) r_is)
   reserve_is (finds_nothing kind none a is) = ap (reserve_of n size c frame below) kind ∙ ap (close_of n c frame below) none ∙ here _ answer _ after a is
   reserve_is (is_crowded needs full a is) = needs_is frame.kind needs ∙ if_yes (c.opened == (c.done + n)) _ _ (eq-eqb c.opened (c.done + n) full) ∙ here _ answer _ after a is
   reserve_is (is_worn needs room last a is) =
@@ -204,7 +204,7 @@ too_long_no : (size len : ℕ) → (IsTooLong size len → ⊥) → too_long_for
 too_long_no size len short = not_true (too_long_for size len) (λ e. short (too_long_true size len e))
 
 refused_is : (size : ℕ) (c : Core) (moment len : ℕ) (why : Refusal) → PushRefused size c moment len why → push_of size c moment len ≡ gives (refused why) c
-refused_is size c moment len why (four_stand many) = if_no (nat_lt (length c.frames) 4) _ _ (le-ltb (length c.frames) 4 many)
+refused_is size c moment len why (all_stand many) = if_no (nat_lt (length c.frames) 4) _ _ (le-ltb (length c.frames) 4 many)
 refused_is size c moment len why (has_no_room few long) = if_yes (nat_lt (length c.frames) 4) _ _ (lt-ltb (length c.frames) 4 few) ∙ if_yes (too_long_for size len) _ _ (too_long_yes size len long)
 refused_is size c moment len why (comes_late few short late) =
     if_yes (nat_lt (length c.frames) 4) _ _ (lt-ltb (length c.frames) 4 few) ∙ if_no (too_long_for size len) _ _ (too_long_no size len short) ∙ if_no (nat_lt moment (2 ^ 59)) _ _ (le-ltb moment (2 ^ 59) late)

@@ -8,13 +8,13 @@ use Rattle.trace_model.specs.History.{Reservation}
 use Rattle.trace_model.specs.Links.{Mark, normal, header, update, Link, normal_link, header_link, update_link}
 use Rattle.trace_model.specs.Frames.{Kind, for_record, for_close, Role, owner, helper, Phase, reserving, looking, claiming, looking_next, marking, clearing, opening, reserved, releasing, Frame}
 use Rattle.trace_model.specs.Ring.{ReaderPhase, loading_link, loading_done, storing_link, swapping, Core, link_into}
-use Rattle.trace_model.specs.Steps.{Event, pushes, pushes_close, steps, ends, reads, Answer, held_by, tail_page, Step}
-use Rattle.link_marks.specs.Kept.{PhaseKept, LinksKept}
-use Rattle.link_marks.specs.Laws.{MayAsk, EachEventIsAStep}
-use Rattle.link_marks.proofs.Turns.{at_place, link_turn}
+use Rattle.trace_model.specs.Steps.{Event, pushes, pushes_close, steps, ends, reads, Answer, contents_of, tail_page, Step}
+use Rattle.link_marks.specs.KeptLinks.{PhaseKept, LinksKept}
+use Rattle.link_marks.specs.RingLaws.{MayAsk, EachEventIsAStep}
+use Rattle.link_marks.proofs.Turns.{at_position, link_turn}
 use Rattle.link_marks.proofs.Inside.{normal_tells, header_tells, update_tells, owned_by}
 use Rattle.link_marks.proofs.Stacks.{top_kept}
-use Rattle.link_marks.proofs.Rings.{ring_start, ring_run}
+use Rattle.link_marks.proofs.Rings.{ring_start, reached_kept}
 use Rattle.link_marks.proofs.ExamplesComputed.{Outcome, same_link, needs_page, record_len, close_of, reserve_of, look_at, look_of, claim_of, next_at, next_of, mark_at, mark_of, clear_of, open_of, release_of, frame_of, load_at, read_of, too_long_for, push_of, close_push_of, steps_of, full_end, end_in, end_of, step_of}
 use Rattle.link_marks.proofs.ExamplesSound.{Sound, step_sound, link_is, same_link_false}
 use Rattle.link_marks.proofs.ExamplesReady.{IsForRecord, PhaseReady, StackReady, Ready, start_ready, run_ready}
@@ -39,7 +39,7 @@ module _ (n size : ℕ) (c : Core) (frame : Frame) (below : List Frame) (k : Lin
 
   reserve_given : (kind : Kind) → Given (reserve_of n size c frame below kind)
   reserve_given (for_record moment len) = given_if (nat_le (record_len n c moment len) size) _ _ (λ e. tt) (λ e. needs_page_given)
-  reserve_given for_close = close_given (held_by c (tail_page n c)).records
+  reserve_given for_close = close_given (contents_of c (tail_page n c)).records
 
   -- the place of the next fill is free; or the ring is full, and its place the head's
   full : (noted : ℕ) → noted ≡ c.opened → (noted < c.head + n → ⊥) → noted ≡ c.head + n
@@ -143,10 +143,10 @@ module _ (n : ℕ) (c : Core) (k : LinksKept n c) where
       behind : link_into n c.links c.reader.hint ≡ normal_link (link_into n c.links c.reader.hint).page (link_into n c.links c.reader.hint).fill
           → (c.reader.hint ≤ (link_into n c.links c.reader.hint).fill) × ((link_into n c.links c.reader.hint).fill < n → (link_into n c.links c.reader.hint).fill ≡ c.reader.hint)
       behind at = let some_pages = k.some_pages in let hint = k.hint_le in let l = link_into n c.links c.reader.hint in
-          let (g, low, high, place) = at_place c.head n (c.reader.hint % n) (mod-lt c.reader.hint (omega arith)) in
-          let there = ap (λ (i : ℕ). get_or c.links i (normal_link 0 0)) place ∙ at in
+          let (g, low, high, position) = at_position c.head n (c.reader.hint % n) (mod-lt c.reader.hint (omega arith)) in
+          let there = ap (λ (i : ℕ). get_or c.links i (normal_link 0 0)) position ∙ at in
           let fill = (normal_tells n c.links c.order c.head c.frames g l.page l.fill (k.each g low high) there).0 in
-          (omega arith, λ first. fill ∙ sym (mod-eq_of_lt (let x : g < n = omega arith in x)) ∙ place ∙ mod-eq_of_lt (let x : c.reader.hint < n = omega arith in x))
+          (omega arith, λ first. fill ∙ sym (mod-eq_of_lt (let x : g < n = omega arith in x)) ∙ position ∙ mod-eq_of_lt (let x : c.reader.hint < n = omega arith in x))
 
   read_given : (phase : ReaderPhase) → Given (read_of n c phase)
   read_given loading_link = load_given (link_into n c.links c.reader.hint).mark refl
@@ -203,7 +203,7 @@ is_step n size c event None given sound = absurd given
 is_step n size c event (Some o) given sound = (o.answer, o.after, sound)
 
 pub each_event_is_a_step : EachEventIsAStep
-each_event_is_a_step n size start c before exchanges event some fits is run may =
-    let kept = ring_start n start c some fits is in
-    let ready = run_ready n size c before exchanges kept.links (start_ready n start c is) run in
-    is_step n size before event (step_of n size before event) (step_given n size before event (ring_run n size start c before exchanges kept run).links ready may) (step_sound n size before event)
+each_event_is_a_step n size start c event r may =
+    let first = ring_start n start r.from r.may_start r.is_new in
+    let ready = run_ready n size r.from c r.exchanges first.links (start_ready n start r.from r.is_new) r.run in
+    is_step n size c event (step_of n size c event) (step_given n size c event (reached_kept n size start c r).links ready may) (step_sound n size c event)

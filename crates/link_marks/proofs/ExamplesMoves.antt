@@ -1,17 +1,26 @@
 -- By which steps the head and the count of closed fills move.
-use Rattle.std.proofs.Common.{◌≡◌, ℕ, List, ◌∷◌, refl, ap, ◌∙◌, inl, inr, ⊎_elim, arith}
+use Rattle.std.proofs.Common.{◌≡◌, ℕ, ◌+◌, ◌⊎◌, IsTrue, List, ◌∷◌, refl, ap, ◌∙◌, inl, inr, ⊎_elim, arith}
+use Rattle.trace_model.specs.History.{is_settled}
 use Rattle.trace_model.specs.Frames.{Kind, for_record, for_close, Role, Phase, reserving, looking, claiming, looking_next, marking, clearing, opening, reserved, releasing, Frame}
 use Rattle.trace_model.specs.Ring.{ReaderPhase, loading_link, loading_done, storing_link, swapping, Core, window_of}
 use Rattle.trace_model.specs.Window.{Window, Happening, opened_one, released_one, took_one, lost_one, WindowStep}
-use Rattle.trace_model.specs.Steps.{Event, Answer, begun, begun_on, taken_from, BeginsAnew, ReserveStep, reserves, finds_nothing, is_crowded, is_worn, notes, LookStep, look_late, sees_free, sees_header, sees_update, ClaimStep, claim_late, claims, claim_fails, NextStep, next_late, sees_normal, sees_other, MarkStep, mark_late, marks, mark_fails, ClearStep, clears, OpenStep, open_late, opens, ReleaseStep, releases, releases_last, FrameStep, loads_header, loads_update, loads_owed, loads_passed, finds_none, finds_closed, swaps, swap_fails, ReadStep, Step, push_step, push_refused, close_step, close_refused, frame_step, frame_lacks, end_step, end_lacks, end_early, read_step}
-use Rattle.link_marks.specs.Kept.{LinksKept}
-use Rattle.link_marks.specs.Laws.{HeadMoves, DoneMoves, LossesNeedAFullRing, ClosesNeedNoFrame}
+use Rattle.trace_model.specs.Steps.{Event, Answer, with_new_tail, after_begin, taken_fill, BeginsAnew, ReserveStep, reserves, finds_nothing, is_crowded, is_worn, notes, LookStep, look_late, sees_free, sees_header, sees_update, ClaimStep, claim_late, claims, claim_fails, NextStep, next_late, sees_normal, sees_other, MarkStep, mark_late, marks, mark_fails, ClearStep, clears, OpenStep, open_late, opens, ReleaseStep, releases, releases_last, FrameStep, loads_header, loads_update, loads_owed, loads_passed, finds_none, finds_closed, swaps, swap_fails, ReadStep, Step, push_step, push_refused, close_step, close_refused, frame_step, frame_lacks, end_step, end_lacks, end_early, read_step}
+use Rattle.link_marks.specs.KeptLinks.{LinksKept}
+use Rattle.link_marks.specs.WindowLaws.{HeadIsTaken, HeadIsLost, LossesNeedAFullRing, ClosesNeedNoFrame}
 use Rattle.link_marks.proofs.Inside.{header_tells, header_inside, fill_at}
 use Rattle.link_marks.proofs.HistorySteps.{step_owed}
 
-begun_on_head : (kind : Kind) (c : Core) (frame : Frame) (below : List Frame) → (begun_on kind c frame below).head ≡ c.head
+begun_on_head : (kind : Kind) (c : Core) (frame : Frame) (below : List Frame) → (after_begin kind c frame below).head ≡ c.head
 begun_on_head (for_record moment len) c frame below = refl
 begun_on_head for_close c frame below = refl
+
+-- the head stays, is taken, or is lost
+abbrev HeadMoves : ℕ → Core → Answer → Core → Type 0
+HeadMoves n c answer after = (after.head ≡ c.head) ⊎ (HeadIsTaken c answer after ⊎ HeadIsLost n c after)
+
+-- no fill is closed, or the oldest one is
+abbrev DoneMoves : Core → Core → Type 0
+DoneMoves c after = (after.done ≡ c.done) ⊎ (IsTrue (is_settled c.history) × (after.done ≡ c.done + 1))
 
 module _ (n size : ℕ) (c : Core) (frame : Frame) (below : List Frame) (answer : Answer) (after : Core) (k : LinksKept n c) (top : c.frames ≡ frame ∷ below) where
   stays_anew : (noted : ℕ) → BeginsAnew c frame below noted answer after → HeadMoves n c answer after
@@ -56,7 +65,7 @@ module _ (n size : ℕ) (c : Core) (frame : Frame) (below : List Frame) (answer 
 
   open_moves : (noted page : ℕ) → OpenStep n c frame below noted page answer after → HeadMoves n c answer after
   open_moves noted page (open_late step) = stays_anew noted step
-  open_moves noted page (opens now a is) = inl (ap (λ (s : Core). s.head) is ∙ begun_on_head frame.kind (begun c page) frame below)
+  open_moves noted page (opens now a is) = inl (ap (λ (s : Core). s.head) is ∙ begun_on_head frame.kind (with_new_tail c page) frame below)
 
   release_moves : ReleaseStep c frame below answer after → HeadMoves n c answer after
   release_moves (releases alone more a is) = stays _ refl is
@@ -89,7 +98,7 @@ module _ (n : ℕ) (c : Core) (answer : Answer) (after : Core) (k : LinksKept n 
   read_moves (swapping page fill) (swaps at a is) =
       let (g, low, high, same, link) = fill_at n c k fill in
       let told = header_tells n c.links c.order c.head c.frames g page fill link (same ∙ at) in
-      inr (inl (taken_from c page fill, a, told.0 ∙ told.1, ap (λ (s : Core). s.head) is))
+      inr (inl (taken_fill c page fill, a, told.0 ∙ told.1, ap (λ (s : Core). s.head) is))
 
 moves : (n size : ℕ) (c : Core) (event : Event) (answer : Answer) (after : Core) → LinksKept n c → Step n size c event answer after → HeadMoves n c answer after
 moves n size c event answer after k (push_step moment len e few short early a is) = rests n c answer after k _ refl is

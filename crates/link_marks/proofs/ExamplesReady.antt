@@ -8,9 +8,9 @@ use native.Mathlib.Decide.{ℕ_discrete}
 use Rattle.trace_model.specs.History.{Action, leave}
 use Rattle.trace_model.specs.Links.{Link, normal_link, header_link, update_link}
 use Rattle.trace_model.specs.Frames.{Kind, for_record, for_close, Role, owner, helper, Phase, reserving, looking, claiming, looking_next, marking, clearing, opening, reserved, releasing, Frame}
-use Rattle.trace_model.specs.Ring.{Held, ReaderPhase, loading_link, loading_done, storing_link, swapping, Reader, Core, IsStart, link_into, relinked, page_at}
-use Rattle.trace_model.specs.Steps.{Event, Answer, in_phase, after_leave, begun_on, finished_in, record_of, begun, after_next, BeginsAnew, ReserveStep, reserves, finds_nothing, is_crowded, is_worn, notes, LookStep, look_late, sees_free, sees_header, sees_update, ClaimStep, claim_late, claims, claim_fails, NextStep, next_late, sees_normal, sees_other, MarkStep, mark_late, marks, mark_fails, ClearStep, clears, OpenStep, open_late, opens, ReleaseStep, releases, releases_last, FrameStep, LoadStep, loads_header, loads_update, loads_owed, loads_passed, LoadDoneStep, finds_none, finds_closed, StoreStep, SwapStep, swaps, swap_fails, ReadStep, Step, push_step, push_refused, close_step, close_refused, frame_step, frame_lacks, end_step, end_lacks, end_early, read_step, Exchange, Run}
-use Rattle.link_marks.specs.Kept.{PhaseKept, LinkKept, is_normal, is_header, is_update, ReaderKept, LinksKept}
+use Rattle.trace_model.specs.Ring.{Held, ReaderPhase, loading_link, loading_done, storing_link, swapping, Reader, Core, IsStart, link_into, links_with, page_at}
+use Rattle.trace_model.specs.Steps.{Event, Answer, in_phase, after_leave, after_begin, held_with_payload, own_number, with_new_tail, after_next, BeginsAnew, ReserveStep, reserves, finds_nothing, is_crowded, is_worn, notes, LookStep, look_late, sees_free, sees_header, sees_update, ClaimStep, claim_late, claims, claim_fails, NextStep, next_late, sees_normal, sees_other, MarkStep, mark_late, marks, mark_fails, ClearStep, clears, OpenStep, open_late, opens, ReleaseStep, releases, releases_last, FrameStep, LoadStep, loads_header, loads_update, loads_owed, loads_passed, LoadDoneStep, finds_none, finds_closed, StoreStep, SwapStep, swaps, swap_fails, ReadStep, Step, push_step, push_refused, close_step, close_refused, frame_step, frame_lacks, end_step, end_lacks, end_early, read_step, Exchange, Run}
+use Rattle.link_marks.specs.KeptLinks.{PhaseKept, LinkKept, is_normal, is_header, is_update, ReaderKept, LinksKept}
 use Rattle.link_marks.proofs.Turns.{link_here}
 use Rattle.link_marks.proofs.Phases.{normal_ne_header, normal_ne_update, before_set}
 use Rattle.link_marks.proofs.Inside.{header_tells, owned_by, normal_inside, header_inside, next_inside, fill_at}
@@ -52,12 +52,12 @@ Ready n c = IsReady n c.links c.head c.opened c.frames
 
 -- ---- a link is set
 
-marked_still : (n : ℕ) (links : List Link) (head head' g lost : ℕ) (new : Link) → 1 ≤ n → length links ≡ n → head ≤ head' → ((seen u : ℕ) → u < head → new ≢ normal_link seen (suc u)) → IsMarked n links head lost → IsMarked n (relinked n links g new) head' lost
+marked_still : (n : ℕ) (links : List Link) (head head' g lost : ℕ) (new : Link) → 1 ≤ n → length links ≡ n → head ≤ head' → ((seen u : ℕ) → u < head → new ≢ normal_link seen (suc u)) → IsMarked n links head lost → IsMarked n (links_with n links g new) head' lost
 marked_still n links head head' g lost new some wide le fresh (below, set) =
     (omega arith, λ seen at. set seen (before_set n links g (suc lost) new (normal_link seen (suc lost)) some wide (fresh seen lost below) at))
 
 module _ (n : ℕ) (links : List Link) (head head' g : ℕ) (new : Link) (some : 1 ≤ n) (wide : length links ≡ n) (le : head ≤ head') (fresh : (seen u : ℕ) → u < head → new ≢ normal_link seen (suc u)) where
-  phase_ready : (kind : Kind) (below : List Frame) (phase : Phase) → PhaseReady n links head kind below phase → PhaseReady n (relinked n links g new) head' kind below phase
+  phase_ready : (kind : Kind) (below : List Frame) (phase : Phase) → PhaseReady n links head kind below phase → PhaseReady n (links_with n links g new) head' kind below phase
   phase_ready kind below reserving r = tt
   phase_ready kind below (looking o) r = tt
   phase_ready kind below (claiming o page) r = tt
@@ -68,7 +68,7 @@ module _ (n : ℕ) (links : List Link) (head head' g : ℕ) (new : Link) (some :
   phase_ready kind below (reserved number) r = r
   phase_ready kind below releasing r = r
 
-  stack_ready : (frames : List Frame) → StackReady n links head frames → StackReady n (relinked n links g new) head' frames
+  stack_ready : (frames : List Frame) → StackReady n links head frames → StackReady n (links_with n links g new) head' frames
   stack_ready [] r = tt
   stack_ready (frame ∷ below) r = (phase_ready frame.kind below frame.phase r.0, stack_ready below r.1)
 
@@ -92,13 +92,13 @@ module _ (n size : ℕ) (c : Core) (frame : Frame) (below : List Frame) (k : Lin
 
 leave_ready : (n : ℕ) (c : Core) (frame : Frame) (below : List Frame) (payload : Option (List ℕ)) (room : (seen : ℕ) → link_into n c.links c.head ≡ normal_link seen c.head → c.opened < c.head + n) → StackReady n c.links c.head below → Ready n (after_leave c frame below payload)
 leave_ready n c frame [] payload room stack =
-    let held : List Held = map (finished_in (record_of frame.kind frame.phase) payload) c.held in let history : List Action = c.history ++ leave payload ∷ [] in
+    let held : List Held = map (held_with_payload (own_number frame.kind frame.phase) payload) c.held in let history : List Action = c.history ++ leave payload ∷ [] in
     cond_both ((c.done + 1) == c.opened) [] (record { kind = frame.kind; phase = releasing } ∷ []) (λ (fs : List Frame). Ready n (record c { frames = fs; held = held; history = history }))
     (λ last. record { room = room; stack = tt })
     (λ more. record { room = room; stack = (refl, tt) })
 leave_ready n c frame (next ∷ below) payload room stack = record { room = room; stack = stack }
 
-pub begun_on_ready : (n : ℕ) (c : Core) (kind : Kind) (frame : Frame) (below : List Frame) (room : (seen : ℕ) → link_into n c.links c.head ≡ normal_link seen c.head → c.opened < c.head + n) → StackReady n c.links c.head below → Ready n (begun_on kind c frame below)
+pub begun_on_ready : (n : ℕ) (c : Core) (kind : Kind) (frame : Frame) (below : List Frame) (room : (seen : ℕ) → link_into n c.links c.head ≡ normal_link seen c.head → c.opened < c.head + n) → StackReady n c.links c.head below → Ready n (after_begin kind c frame below)
 begun_on_ready n c (for_record moment len) frame below room stack = record { room = room; stack = (tt, stack) }
 begun_on_ready n c for_close frame below room stack = leave_ready n c frame below None room stack
 
@@ -147,7 +147,7 @@ module _ (n size : ℕ) (c : Core) (frame : Frame) (below : List Frame) (k : Lin
         room = λ seen it. omega arith;
         stack = (
           (let turn : n ≤ noted = omega arith in turn),
-          stack_ready n c.links c.head (c.head + 1) noted (update_link page lost) (omega arith) k.places (omega arith) (λ seen u low e. normal_ne_update seen (suc u) page lost (sym e)) below (below_ready n size c frame below k r top),
+          stack_ready n c.links c.head (c.head + 1) noted (update_link page lost) (omega arith) k.positions (omega arith) (λ seen u low e. normal_ne_update seen (suc u) page lost (sym e)) below (below_ready n size c frame below k r top),
         );
       }
   claim_ready noted page answer after (claim_fails now other a is) = on after (looking noted) tt is
@@ -169,12 +169,12 @@ module _ (n size : ℕ) (c : Core) (frame : Frame) (below : List Frame) (k : Lin
       let some_pages = k.some_pages in
       let passed = (kept_in n size c frame below k r top (marking role noted page next) same).passed noted page refl in let inside = passed.1 in
       let new : Link = header_link next (suc lost) in
-      let links : List Link = relinked n c.links (suc lost) new in
+      let links : List Link = links_with n c.links (suc lost) new in
       subst (Ready n) (sym is) record {
-        room = λ seen it. r.room seen (before_set n c.links (suc lost) c.head new (normal_link seen c.head) (omega arith) k.places (λ e. normal_ne_header seen c.head next (suc lost) (sym e)) it);
+        room = λ seen it. r.room seen (before_set n c.links (suc lost) c.head new (normal_link seen c.head) (omega arith) k.positions (λ e. normal_ne_header seen c.head next (suc lost) (sym e)) it);
         stack = (
-          passes links role noted page lost sum (omega arith, λ seen it. normal_ne_header seen (suc lost) next (suc lost) (sym it ∙ link_here n c.links (suc lost) new (omega arith) k.places)),
-          stack_ready n c.links c.head c.head (suc lost) new (omega arith) k.places (omega arith) (λ seen u low e. normal_ne_header seen (suc u) next (suc lost) (sym e)) below (below_ready n size c frame below k r top),
+          passes links role noted page lost sum (omega arith, λ seen it. normal_ne_header seen (suc lost) next (suc lost) (sym it ∙ link_here n c.links (suc lost) new (omega arith) k.positions)),
+          stack_ready n c.links c.head c.head (suc lost) new (omega arith) k.positions (omega arith) (λ seen u low e. normal_ne_header seen (suc u) next (suc lost) (sym e)) below (below_ready n size c frame below k r top),
         );
       }
   mark_ready role noted page next answer after same (mark_fails lost goes_on sum other a is) =
@@ -189,17 +189,17 @@ module _ (n size : ℕ) (c : Core) (frame : Frame) (below : List Frame) (k : Lin
       let new : Link = normal_link page noted in
       let fresh = λ (seen u : ℕ) (low : u < c.head) (e : new ≡ normal_link seen (suc u)). let fills : noted ≡ suc u = ap (λ (l : Link). l.fill) e in let none : ⊥ = omega arith in none in
       subst (Ready n) (sym is) record {
-        room = λ seen it. r.room seen (before_set n c.links noted c.head new (normal_link seen c.head) (omega arith) k.places (λ e. let fills : noted ≡ c.head = ap (λ (l : Link). l.fill) e in omega arith) it);
+        room = λ seen it. r.room seen (before_set n c.links noted c.head new (normal_link seen c.head) (omega arith) k.positions (λ e. let fills : noted ≡ c.head = ap (λ (l : Link). l.fill) e in omega arith) it);
         stack = (
-          (λ u u_sum. marked_still n c.links c.head c.head noted u new (omega arith) k.places (omega arith) fresh (kept.clears noted u refl u_sum)),
-          stack_ready n c.links c.head c.head noted new (omega arith) k.places (omega arith) fresh below (below_ready n size c frame below k r top),
+          (λ u u_sum. marked_still n c.links c.head c.head noted u new (omega arith) k.positions (omega arith) fresh (kept.clears noted u refl u_sum)),
+          stack_ready n c.links c.head c.head noted new (omega arith) k.positions (omega arith) fresh below (below_ready n size c frame below k r top),
         );
       }
 
   open_ready : (noted page : ℕ) (answer : Answer) (after : Core) → frame.phase ≡ opening noted page → OpenStep n c frame below noted page answer after → Ready n after
   open_ready noted page answer after same (open_late step) = anew noted answer after step
   open_ready noted page answer after same (opens now a is) =
-      subst (Ready n) (sym is) (begun_on_ready n (begun c page) frame.kind frame below (λ seen at. more seen at (k.each c.head (omega arith) (let some_pages = k.some_pages in omega arith))) (below_ready n size c frame below k r top))
+      subst (Ready n) (sym is) (begun_on_ready n (with_new_tail c page) frame.kind frame below (λ seen at. more seen at (k.each c.head (omega arith) (let some_pages = k.some_pages in omega arith))) (below_ready n size c frame below k r top))
     where
       more : (seen : ℕ) → link_into n c.links c.head ≡ normal_link seen c.head → LinkKept n c.links c.order c.head c.frames c.head → c.opened + 1 < c.head + n
       more seen at (is_normal e waits) = let (lost, next, st) = waits refl in
@@ -259,13 +259,13 @@ module _ (n : ℕ) (c : Core) (k : LinksKept n c) (r : Ready n c) where
       let told = header_tells n c.links c.order c.head c.frames g page fill link (same ∙ l) in
       let here : fill ≡ c.head = told.0 ∙ told.1 in
       let first : Link = normal_link c.spare (fill + n) in
-      let once : List Link = relinked n c.links fill first in
-      let once_wide : length once ≡ n = length-set c.links _ first ∙ k.places in
+      let once : List Link = links_with n c.links fill first in
+      let once_wide : length once ≡ n = length-set c.links _ first ∙ k.positions in
       let next : ℕ = page_at n c.order (suc fill) in
       subst (Ready n) (sym is) record {
-        room = λ seen it. absurd (normal_ne_header seen (c.head + 1) next (suc fill) (sym it ∙ ap (link_into n (relinked n once (suc fill) c.spare_link)) (let e : c.head + 1 ≡ suc fill = omega arith in e) ∙ link_here n once (suc fill) c.spare_link (omega arith) once_wide ∙ ready));
+        room = λ seen it. absurd (normal_ne_header seen (c.head + 1) next (suc fill) (sym it ∙ ap (link_into n (links_with n once (suc fill) c.spare_link)) (let e : c.head + 1 ≡ suc fill = omega arith in e) ∙ link_here n once (suc fill) c.spare_link (omega arith) once_wide ∙ ready));
         stack = stack_ready n once c.head (c.head + 1) (suc fill) c.spare_link (omega arith) once_wide (omega arith) (λ seen u low_u e. normal_ne_header seen (suc u) next (suc fill) (sym e ∙ ready)) c.frames
-            (stack_ready n c.links c.head c.head fill first (omega arith) k.places (omega arith) (λ seen u low_u e. let fills : fill + n ≡ suc u = ap (λ (x : Link). x.fill) e in omega arith) c.frames r.stack);
+            (stack_ready n c.links c.head c.head fill first (omega arith) k.positions (omega arith) (λ seen u low_u e. let fills : fill + n ≡ suc u = ap (λ (x : Link). x.fill) e in omega arith) c.frames r.stack);
       }
 
   read_ready : (phase : ReaderPhase) (answer : Answer) (after : Core) → ReaderKept n c.links c.order c.spare_link c.head c.done c.reader.hint phase → ReadStep n c phase answer after → Ready n after

@@ -6,7 +6,7 @@ use Rattle.trace_model.specs.Links.{Link, normal_link, update_link, mark_code}
 use Rattle.trace_model.specs.Ring.{Taken, Core, link_into, page_at, IsStart, IsRing, IsBehindHead, told, moved, IsAtHead, marked, owed}
 use Rattle.trace_model.specs.Steps.{Exchange}
 use Rattle.trace_model.specs.Frames.{for_record, owner, looking_next}
-use Rattle.link_marks.specs.ExamplesWrong.{to_free_places, with_head_lost, to_open_tail, with_tail_taken, to_helped_move, with_update_cleared, to_passed_mark, with_second_head, to_late_swap, with_late_swap, to_inner_end, with_page_closed, IsWrongStep, LosesWhileAPlaceIsFree, TakesTheTail, HelperClearsTheUpdate, TwoHeads, SwapIgnoresTheFill, InnerEndPublishes}
+use Rattle.link_marks.specs.WrongSteps.{to_free_positions, with_head_lost, to_open_tail, with_tail_taken, to_helped_move, with_update_cleared, to_passed_mark, with_second_head, to_late_swap, with_late_swap, to_inner_end, with_page_closed, IsWrongStep, LosesWhileAPositionIsFree, TakesTheTail, HelperClearsTheUpdate, TwoHeads, SwapIgnoresTheFill, InnerEndPublishes}
 use Rattle.link_marks.proofs.Phases.{none_some}
 use Rattle.link_marks.proofs.Rings.{ring_start, ring_step, ring_run, is_ring}
 use Rattle.link_marks.proofs.ExamplesComputed.{run_of}
@@ -21,7 +21,7 @@ refused : (n size : ℕ) (start : Core) (exchanges : List Exchange) (wrong : Cor
 refused n size start exchanges wrong some fits is gives breaks =
     let before = last_from n size start exchanges in
     let run = run_sound n size start before exchanges gives in
-    let kept = ring_run n size 0 start before exchanges (ring_start n 0 start some fits is) run in
+    let kept = ring_run n size 0 start before exchanges (ring_start n 0 start record { some_pages = some; numbers_left = fits } is) run in
     (start, before, is, run, breaks, λ event answer step. breaks (is_ring n 0 (wrong before) (ring_step n size 0 before event answer (wrong before) kept step)))
 
 same_code : (a b : Link) → a ≡ b → mark_code a.mark ≡ mark_code b.mark
@@ -30,10 +30,10 @@ same_code a b e = ap (λ (l : Link). mark_code l.mark) e
 none_taken : (k : ℕ) (t : Taken) → ◌≡◌ {A = Option Taken} (slice_get [] k) (Some t) → ⊥
 none_taken k t at = none_some at
 
-pub loses_while_a_place_is_free : LosesWhileAPlaceIsFree
-loses_while_a_place_is_free = refused 4 32 four_pages to_free_places with_head_lost (omega arith) (omega arith) four_start (refl, refl) breaks
+pub loses_while_a_position_is_free : LosesWhileAPositionIsFree
+loses_while_a_position_is_free = refused 4 32 four_pages to_free_positions with_head_lost (omega arith) (omega arith) four_start (refl, refl) breaks
   where
-    breaks : IsRing 4 0 (with_head_lost (last_from 4 32 four_pages to_free_places)) → ⊥
+    breaks : IsRing 4 0 (with_head_lost (last_from 4 32 four_pages to_free_positions)) → ⊥
     breaks r = ⊎_elim (λ taken. let (k, t, at, is) = taken in none_taken k t at) (λ full. let z : 4 ≤ 2 = full in omega arith) (r.lost 0 (omega arith) (let one : 0 < 1 = omega arith in one))
 
 pub takes_the_tail : TakesTheTail

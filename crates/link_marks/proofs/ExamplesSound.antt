@@ -2,11 +2,11 @@
 use Rattle.std.proofs.Common.{◌≡◌, ◌≢◌, ℕ, suc, ◌+◌, ◌-◌, ◌^◌, inl, inr, ⊎_elim, Bool, true, false, if◌then◌else◌, ◌==◌, nat_lt, nat_le, List, [], ◌∷◌, length, map, Option, Some, None, refl, sym, ap, ◌∙◌, subst, arith}
 use Rattle.std.proofs.lemmas.Bool.{ltb-true, ltb-false, leb-true, leb-false, eqb-true, eqb-false, eq-eqb, both_ways}
 use Rattle.trace_model.specs.Words.{encoded_len, slot_len}
-use Rattle.trace_model.specs.History.{Reservation, reserved_for, reserved_records}
+use Rattle.trace_model.specs.History.{Reservation, reservation_for, reserved_records}
 use Rattle.trace_model.specs.Links.{Mark, normal, header, update, Link, normal_link, header_link, update_link}
 use Rattle.trace_model.specs.Frames.{Kind, for_record, for_close, Role, owner, helper, Phase, reserving, looking, claiming, looking_next, marking, clearing, opening, reserved, releasing, Frame, too_deep, too_long, late_moment}
 use Rattle.trace_model.specs.Ring.{ReaderPhase, loading_link, loading_done, storing_link, swapping, Core, link_into}
-use Rattle.trace_model.specs.Steps.{Event, pushes, pushes_close, steps, ends, reads, Answer, held_by, tail_page, number_in, GoesOn, NeedsPage, BeginsAnew, ReserveStep, reserves, finds_nothing, is_crowded, is_worn, notes, LookStep, look_late, sees_free, sees_header, sees_update, ClaimStep, claim_late, claims, claim_fails, NextStep, next_late, sees_normal, sees_other, MarkStep, mark_late, marks, mark_fails, ClearStep, clears, OpenStep, open_late, opens, ReleaseStep, releases, releases_last, FrameStep, LoadStep, loads_header, loads_update, loads_owed, loads_passed, LoadDoneStep, finds_none, finds_closed, SwapStep, swaps, swap_fails, ReadStep, IsTooLong, four_stand, has_no_room, comes_late, Step, push_step, push_refused, close_step, close_refused, frame_step, frame_lacks, end_step, end_lacks, end_early, read_step, Exchange, Run}
+use Rattle.trace_model.specs.Steps.{Event, pushes, pushes_close, steps, ends, reads, Answer, contents_of, tail_page, number_in, GoesOn, NeedsPage, BeginsAnew, ReserveStep, reserves, finds_nothing, is_crowded, is_worn, notes, LookStep, look_late, sees_free, sees_header, sees_update, ClaimStep, claim_late, claims, claim_fails, NextStep, next_late, sees_normal, sees_other, MarkStep, mark_late, marks, mark_fails, ClearStep, clears, OpenStep, open_late, opens, ReleaseStep, releases, releases_last, FrameStep, LoadStep, loads_header, loads_update, loads_owed, loads_passed, LoadDoneStep, finds_none, finds_closed, SwapStep, swaps, swap_fails, ReadStep, IsTooLong, all_stand, has_no_room, comes_late, Step, push_step, push_refused, close_step, close_refused, frame_step, frame_lacks, end_step, end_lacks, end_early, read_step, Exchange, Run}
 use Rattle.link_marks.proofs.ExamplesComputed.{Outcome, same_mark, same_link, anew, needs_page, record_len, close_of, reserve_of, look_at, look_of, claim_of, next_at, next_of, mark_at, mark_of, clear_of, open_of, release_of, frame_of, load_at, read_of, too_long_for, push_of, close_push_of, steps_of, full_end, end_in, end_of, step_of, Ran, behind, run_of}
 
 -- what an outcome says, where there is one
@@ -79,15 +79,15 @@ module _ (n size : ℕ) (c : Core) (frame : Frame) (below : List Frame) where
       (λ s. notes needs (eqb-false c.opened (c.done + n) e) (ltb-true (c.opened + n) (2 ^ 48) s) refl refl)
       (λ s. is_worn needs (eqb-false c.opened (c.done + n) e) (ltb-false (c.opened + n) (2 ^ 48) s) refl refl))
 
-  close_sound : frame.kind ≡ for_close → (records : List Reservation) → (held_by c (tail_page n c)).records ≡ records → Sound (ReserveStep n size c frame below) (close_of n c frame below records)
+  close_sound : frame.kind ≡ for_close → (records : List Reservation) → (contents_of c (tail_page n c)).records ≡ records → Sound (ReserveStep n size c frame below) (close_of n c frame below records)
   close_sound e [] is = finds_nothing e is refl refl
   close_sound e (r ∷ records) is = needs_page_sound (subst (NeedsPage n size c) (sym e) (λ none. cons_not_nil r records (sym is ∙ none)))
 
   reserve_sound : (kind : Kind) → frame.kind ≡ kind → Sound (ReserveStep n size c frame below) (reserve_of n size c frame below kind)
   reserve_sound (for_record moment len) e = by_if (ReserveStep n size c frame below) (nat_le (record_len n c moment len) size) _ _
-      (λ fits. reserves moment len (reserved_for moment len (reserved_records c.history)) e refl (leb-true (record_len n c moment len) size fits) refl refl)
+      (λ fits. reserves moment len (reservation_for moment len (reserved_records c.history)) e refl (leb-true (record_len n c moment len) size fits) refl refl)
       (λ lacks. needs_page_sound (subst (NeedsPage n size c) (sym e) (λ fits. let more = leb-false (record_len n c moment len) size lacks in omega arith)))
-  reserve_sound for_close e = close_sound e (held_by c (tail_page n c)).records refl
+  reserve_sound for_close e = close_sound e (contents_of c (tail_page n c)).records refl
 
   anew_is : (noted : ℕ) → noted ≢ c.opened → Sound (BeginsAnew c frame below noted) (anew c frame below)
   anew_is noted other = record { passed = other; answer_is = refl; after_is = refl }
@@ -216,7 +216,7 @@ push_sound n size c moment len = let P = Step n size c (pushes moment len) in by
     (λ short. by_if P (nat_lt moment (2 ^ 59)) _ _
     (λ early. push_step moment len refl few (too_long_false size len short) (ltb-true moment (2 ^ 59) early) refl refl)
     (λ late. push_refused moment len late_moment refl (comes_late few (too_long_false size len short) (ltb-false moment (2 ^ 59) late)) refl refl)))
-    (λ many. push_refused moment len too_deep refl (four_stand (ltb-false (length c.frames) 4 many)) refl refl)
+    (λ many. push_refused moment len too_deep refl (all_stand (ltb-false (length c.frames) 4 many)) refl refl)
 
 close_push_sound : (n size : ℕ) (c : Core) → Sound (Step n size c pushes_close) (close_push_of c)
 close_push_sound n size c = by_if (Step n size c pushes_close) (nat_lt (length c.frames) 4) _ _

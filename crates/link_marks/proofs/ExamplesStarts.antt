@@ -6,8 +6,8 @@ use mathlib.Core.Logic.{dite}
 use native.Mathlib.Decide.{ℕ_discrete}
 use Rattle.trace_model.specs.Links.{Link, normal_link, header_link}
 use Rattle.trace_model.specs.Ring.{Held, loading_link, Core, IsStart, link_into}
-use Rattle.link_marks.specs.Laws.{NewRingIsOne}
-use Rattle.link_marks.proofs.Turns.{at_place, one_place}
+use Rattle.link_marks.specs.RingLaws.{NewRingIsOne}
+use Rattle.link_marks.proofs.Turns.{at_position, one_position}
 
 -- ---- lists by their entries
 
@@ -32,16 +32,16 @@ nothing : Held
 nothing = record { first = 0; records = [] }
 
 -- the first round's fill at a place
-fill_by : (n start place : ℕ) → (place < n) ⊎ (n ≤ place) → ℕ
-fill_by n start place (inl low) = (at_place start n place low).0
-fill_by n start place (inr past) = 0
+fill_by : (n start position : ℕ) → (position < n) ⊎ (n ≤ position) → ℕ
+fill_by n start position (inl low) = (at_position start n position low).0
+fill_by n start position (inr past) = 0
 
 fill_at : ℕ → ℕ → ℕ → ℕ
-fill_at n start place = fill_by n start place (cases_lt place n)
+fill_at n start position = fill_by n start position (cases_lt position n)
 
 fill_by_is : (n start f : ℕ) → 1 ≤ n → start ≤ f → f < start + n → (side : (f % n < n) ⊎ (n ≤ f % n)) → fill_by n start (f % n) side ≡ f
 unfolding fill_by
-fill_by_is n start f some low high (inl below) = let (g, g_low, g_high, place) = at_place start n (f % n) below in one_place start n g f g_low g_high low high place
+fill_by_is n start f some low high (inl below) = let (g, g_low, g_high, position) = at_position start n (f % n) below in one_position start n g f g_low g_high low high position
 fill_by_is n start f some low high (inr past) = let below = mod-lt f some in absurd (omega arith)
 
 fill_at_is : (n start f : ℕ) → 1 ≤ n → start ≤ f → f < start + n → fill_at n start (f % n) ≡ f
@@ -49,23 +49,23 @@ unfolding fill_at
 fill_at_is n start f some low high = fill_by_is n start f some low high (cases_lt (f % n) n)
 
 link_of : ℕ → ℕ → ℕ → Link
-link_of start place fill = if fill == start then header_link place fill else normal_link place fill
+link_of start position fill = if fill == start then header_link position fill else normal_link position fill
 
-link_first : (start place : ℕ) → link_of start place start ≡ header_link place start
+link_first : (start position : ℕ) → link_of start position start ≡ header_link position start
 unfolding link_of
-link_first start place = ap (λ b. if b then header_link place start else normal_link place start) (eq-eqb start start refl)
+link_first start position = ap (λ b. if b then header_link position start else normal_link position start) (eq-eqb start start refl)
 
-link_else : (start place fill : ℕ) → fill ≢ start → link_of start place fill ≡ normal_link place fill
+link_else : (start position fill : ℕ) → fill ≢ start → link_of start position fill ≡ normal_link position fill
 unfolding link_of
-link_else start place fill ne = ap (λ b. if b then header_link place fill else normal_link place fill) (ne_eqb fill start ne)
+link_else start position fill ne = ap (λ b. if b then header_link position fill else normal_link position fill) (ne_eqb fill start ne)
 
 link_at : ℕ → ℕ → ℕ → Link
-link_at n start place = link_of start place (fill_at n start place)
+link_at n start position = link_of start position (fill_at n start position)
 
 abbrev new_ring : ℕ → ℕ → Core
 new_ring n start = record {
   links = made (link_at n start) 0 n;
-  order = made (λ place. place) 0 n;
+  order = made (λ position. position) 0 n;
   spare = n;
   spare_link = normal_link 0 0;
   head = start;
@@ -84,11 +84,11 @@ module _ (n start : ℕ) (some : 1 ≤ n) where
 
   new_ring_starts : IsStart n start (new_ring n start)
   new_ring_starts = record {
-    places = made_length (link_at n start) 0 n;
+    positions = made_length (link_at n start) 0 n;
     first_link = link_is start (omega arith) (omega arith) ∙ link_first start (start % n);
     links = λ f low high. link_is f (omega arith) high ∙ link_else start (f % n) f (λ e. omega arith);
-    pages = made_length (λ place. place) 0 n;
-    order = λ place low. made_at (λ p. p) 0 n place 0 low ∙ (let e : 0 + place ≡ place = omega arith in e);
+    pages = made_length (λ position. position) 0 n;
+    order = λ position low. made_at (λ p. p) 0 n position 0 low ∙ (let e : 0 + position ≡ position = omega arith in e);
     spare = refl;
     spare_link = refl;
     head = refl;
@@ -105,11 +105,11 @@ module _ (n start : ℕ) (some : 1 ≤ n) where
 
   module _ (c d : Core) (s : IsStart n start c) (t : IsStart n start d) where
     links_same : c.links ≡ d.links
-    links_same = ext_get_or (normal_link 0 0) c.links d.links (s.places ∙ sym t.places) (λ i low. let wide = s.places in same i (omega arith))
+    links_same = ext_get_or (normal_link 0 0) c.links d.links (s.positions ∙ sym t.positions) (λ i low. let wide = s.positions in same i (omega arith))
       where
         same : (i : ℕ) → i < n → get_or c.links i (normal_link 0 0) ≡ get_or d.links i (normal_link 0 0)
-        same i low = let (f, f_low, f_high, place) = at_place start n i low in
-            subst (λ (j : ℕ). get_or c.links j (normal_link 0 0) ≡ get_or d.links j (normal_link 0 0)) place
+        same i low = let (f, f_low, f_high, position) = at_position start n i low in
+            subst (λ (j : ℕ). get_or c.links j (normal_link 0 0) ≡ get_or d.links j (normal_link 0 0)) position
             (dite (ℕ_discrete f start)
             (λ e. ap (link_into n c.links) e ∙ s.first_link ∙ sym t.first_link ∙ ap (link_into n d.links) (sym e))
             (λ ne. s.links f (omega arith) f_high ∙ sym (t.links f (omega arith) f_high)))

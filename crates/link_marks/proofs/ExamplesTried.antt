@@ -45,7 +45,7 @@ four_pages = record {
 
 pub two_start : IsStart 2 0 two_pages
 two_start = record {
-  places = refl;
+  positions = refl;
   first_link = refl;
   links = links_at;
   pages = refl;
@@ -67,7 +67,7 @@ two_start = record {
     links_at (suc zero) low high = refl
     links_at (suc (suc f)) low high = absurd (omega arith)
 
-    order_at : (place : ℕ) → place < 2 → get_or two_pages.order place 0 ≡ place
+    order_at : (position : ℕ) → position < 2 → get_or two_pages.order position 0 ≡ position
     order_at zero low = refl
     order_at (suc zero) low = refl
     order_at (suc (suc p)) low = absurd (omega arith)
@@ -80,7 +80,7 @@ two_start = record {
 
 pub four_start : IsStart 4 0 four_pages
 four_start = record {
-  places = refl;
+  positions = refl;
   first_link = refl;
   links = links_at;
   pages = refl;
@@ -104,7 +104,7 @@ four_start = record {
     links_at (suc (suc (suc zero))) low high = refl
     links_at (suc (suc (suc (suc f)))) low high = absurd (omega arith)
 
-    order_at : (place : ℕ) → place < 4 → get_or four_pages.order place 0 ≡ place
+    order_at : (position : ℕ) → position < 4 → get_or four_pages.order position 0 ≡ position
     order_at zero low = refl
     order_at (suc zero) low = refl
     order_at (suc (suc zero)) low = refl

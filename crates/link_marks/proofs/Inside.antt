@@ -5,8 +5,8 @@ use native.Mathlib.Decide.{ℕ_discrete}
 use Rattle.trace_model.specs.Links.{Link, normal_link, header_link, update_link}
 use Rattle.trace_model.specs.Frames.{Frame}
 use Rattle.trace_model.specs.Ring.{link_into, page_at, Core}
-use Rattle.link_marks.specs.Kept.{Stands, LinkKept, is_normal, is_header, is_update, LinksKept}
-use Rattle.link_marks.proofs.Turns.{at_place, link_turn}
+use Rattle.link_marks.specs.KeptLinks.{Stands, LinkKept, is_normal, is_header, is_update, LinksKept}
+use Rattle.link_marks.proofs.Turns.{at_position, link_turn}
 use Rattle.link_marks.proofs.Phases.{normal_ne_header, normal_ne_update, header_ne_update, Owned, stands_owned}
 
 module _ (n : ℕ) (links : List Link) (order : List ℕ) (head : ℕ) (frames : List Frame) where
@@ -63,7 +63,7 @@ module _ (n : ℕ) (c : Core) (k : LinksKept n c) where
 
   -- each place has a fill from the head on
   pub fill_at : (f : ℕ) → (g : ℕ) × (c.head ≤ g) × (g < c.head + n) × (link_into n c.links g ≡ link_into n c.links f) × LinkKept n c.links c.order c.head c.frames g
-  fill_at f = let some_pages = k.some_pages in let (g, low, high, at) = at_place c.head n (f % n) (mod-lt f (omega arith)) in
+  fill_at f = let some_pages = k.some_pages in let (g, low, high, at) = at_position c.head n (f % n) (mod-lt f (omega arith)) in
       (g, low, high, ap (λ (i : ℕ). get_or c.links i (normal_link 0 0)) at, k.each g low high)
 
   -- behind a closed head the link is NORMAL

@@ -16,9 +16,9 @@ pub mod Committed
 pub mod ClosedSteps
 pub mod Rings
 pub mod Rests
-pub mod Parts
-pub mod PartSteps
-pub mod PartRuns
+pub mod PartitionLemmas
+pub mod PartitionChanges
+pub mod PartitionSteps
 pub mod WindowRuns
 pub mod ToldSteps
 pub mod Answered

@@ -5,10 +5,10 @@ use Rattle.std.proofs.Math.ListN.{get_or-append}
 use Rattle.std.proofs.Math.Seq.{get_or-append_seam}
 use mathlib.Core.Logic.{dite}
 use native.Mathlib.Decide.{ℕ_discrete}
-use Rattle.trace_model.specs.History.{Reservation, finished_at}
+use Rattle.trace_model.specs.History.{Reservation, records_with_payload}
 use Rattle.trace_model.specs.Packing.{cut_from}
 use Rattle.trace_model.specs.Ring.{Held, page_at, AreApart}
-use Rattle.trace_model.specs.Steps.{finished_in}
+use Rattle.trace_model.specs.Steps.{held_with_payload}
 use Rattle.link_marks.specs.KeptContents.{IsRising, PagesKept}
 use Rattle.link_marks.proofs.Turns.{apart, page_else}
 use Rattle.link_marks.proofs.Cuts.{IsRising-more, IsRising-snoc, reserved_before, reserved_last, opened_before, opened_last, length-finished_at, finished_fill}
@@ -75,14 +75,14 @@ module _ (n start : ℕ) (order : List ℕ) (spare : ℕ) (held : List Held) (cu
       }
 
   -- a record is ended
-  pub pages_finished : (number : Option ℕ) (payload : Option (List ℕ)) → PagesKept n start order (map (finished_in number payload) held) cuts (finished_at number payload xs) head opened
+  pub pages_finished : (number : Option ℕ) (payload : Option (List ℕ)) → PagesKept n start order (map (held_with_payload number payload) held) cuts (records_with_payload number payload xs) head opened
   pages_finished number payload = let count = k.begun in let wide = k.bodies in let from_start = k.from_start in record {
     begun = k.begun;
     from_start = k.from_start;
-    bodies = length-map held (finished_in number payload) ∙ k.bodies;
+    bodies = length-map held (held_with_payload number payload) ∙ k.bodies;
     rising = subst (IsRising 0 cuts) (sym (length-finished_at number payload xs)) k.rising;
-    each = λ f low high. get_or-map (finished_in number payload) held (page_at n order f) nothing nothing (let below = page_below n order spare f some a in omega arith)
-        ∙ ap (finished_in number payload) (k.each f low high)
+    each = λ f low high. get_or-map (held_with_payload number payload) held (page_at n order f) nothing nothing (let below = page_below n order spare f some a in omega arith)
+        ∙ ap (held_with_payload number payload) (k.each f low high)
         ∙ finished_fill number payload cuts xs (f - start) (omega arith);
   }
 

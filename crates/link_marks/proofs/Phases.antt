@@ -5,9 +5,9 @@ use Rattle.std.proofs.lemmas.List.{get_or-set_other}
 use mathlib.Core.Logic.{dite}
 use native.Mathlib.Decide.{ℕ_discrete}
 use Rattle.trace_model.specs.Links.{normal, header, update, Link, normal_link, header_link, update_link}
-use Rattle.trace_model.specs.Frames.{Role, owner, helper, Phase, reserving, looking, claiming, looking_next, marking, clearing, opening, reserved, releasing, Frame, noted_in, moving_in}
-use Rattle.trace_model.specs.Ring.{link_into, relinked, page_at, ReaderPhase, loading_link, loading_done, storing_link, swapping}
-use Rattle.link_marks.specs.Kept.{Spot, spot, Stands, HasSeen, ReaderKept, PhaseKept, FramesKept, passed_in, marking_in, clearing_in}
+use Rattle.trace_model.specs.Frames.{Role, owner, helper, Phase, reserving, looking, claiming, looking_next, marking, clearing, opening, reserved, releasing, Frame, noted_fill, owned_update}
+use Rattle.trace_model.specs.Ring.{link_into, links_with, page_at, ReaderPhase, loading_link, loading_done, storing_link, swapping}
+use Rattle.link_marks.specs.KeptLinks.{Spot, spot, Stands, HasSeen, ReaderKept, PhaseKept, FramesKept, passed_spot, marking_spot, clearing_fill}
 use Rattle.link_marks.proofs.Turns.{link_here}
 
 -- ---- constructors differ
@@ -33,13 +33,13 @@ header_ne_update p f q g e = let m : header ≡ update = ap (λ (l : Link). l.ma
 -- ---- one link is set
 
 -- what is found now, and wasn't set, was there before
-pub before_set : (n : ℕ) (links : List Link) (g f : ℕ) (new l : Link) → 1 ≤ n → length links ≡ n → new ≢ l → link_into n (relinked n links g new) f ≡ l → link_into n links f ≡ l
+pub before_set : (n : ℕ) (links : List Link) (g f : ℕ) (new l : Link) → 1 ≤ n → length links ≡ n → new ≢ l → link_into n (links_with n links g new) f ≡ l → link_into n links f ≡ l
 before_set n links g f new l some wide differ at = dite (ℕ_discrete (f % n) (g % n))
-    (λ e. absurd (differ (sym (link_here n links g new some wide) ∙ ap (λ (k : ℕ). get_or (relinked n links g new) k (normal_link 0 0)) (sym e) ∙ at)))
+    (λ e. absurd (differ (sym (link_here n links g new some wide) ∙ ap (λ (k : ℕ). get_or (links_with n links g new) k (normal_link 0 0)) (sym e) ∙ at)))
     (λ ne. sym (get_or-set_other links (g % n) (f % n) new (normal_link 0 0) ne) ∙ at)
 
 -- what was there, and isn't what was set over, is there now
-pub after_set : (n : ℕ) (links : List Link) (g f : ℕ) (old new l : Link) → link_into n links g ≡ old → old ≢ l → link_into n links f ≡ l → link_into n (relinked n links g new) f ≡ l
+pub after_set : (n : ℕ) (links : List Link) (g f : ℕ) (old new l : Link) → link_into n links g ≡ old → old ≢ l → link_into n links f ≡ l → link_into n (links_with n links g new) f ≡ l
 after_set n links g f old new l was differ at = dite (ℕ_discrete (f % n) (g % n))
     (λ e. absurd (differ (sym was ∙ ap (λ (k : ℕ). get_or links k (normal_link 0 0)) (sym e) ∙ at)))
     (λ ne. get_or-set_other links (g % n) (f % n) new (normal_link 0 0) ne ∙ at)
@@ -57,7 +57,7 @@ Owned n links order head done o = (lost : ℕ) × (lost + n ≡ o) × (lost < he
 
 module _ (n : ℕ) (links : List Link) (order : List ℕ) (head done opened : ℕ) where
   -- a phase in which nothing is known
-  pub knows_nothing : (phase : Phase) → noted_in phase ≡ None → passed_in phase ≡ None → moving_in phase ≡ None → marking_in phase ≡ None → clearing_in phase ≡ None → (phase ≡ releasing → done + 1 < opened)
+  pub knows_nothing : (phase : Phase) → noted_fill phase ≡ None → passed_spot phase ≡ None → owned_update phase ≡ None → marking_spot phase ≡ None → clearing_fill phase ≡ None → (phase ≡ releasing → done + 1 < opened)
       → PhaseKept n links order head done opened phase
   knows_nothing phase a b c d e f = record {
     noted = λ o is. absurd (none_some (sym a ∙ is));
@@ -106,7 +106,7 @@ module _ (n : ℕ) (links : List Link) (order : List ℕ) (head done opened : �
     releases = λ e. absurd (cc);
   }
 
-  pub knows_looking_next : (role : Role) (o page : ℕ) → Noted n done opened o → Passed n order head done o page → (moving_in (looking_next role o page) ≡ Some o → Owned n links order head done o) → PhaseKept n links order head done opened (looking_next role o page)
+  pub knows_looking_next : (role : Role) (o page : ℕ) → Noted n done opened o → Passed n order head done o page → (owned_update (looking_next role o page) ≡ Some o → Owned n links order head done o) → PhaseKept n links order head done opened (looking_next role o page)
   knows_looking_next owner o page facts passed owned = record {
     noted = λ o' is. noted_is o o' facts is;
     passed = λ o' page' is. passed_is o page o' page' passed is;
@@ -131,7 +131,7 @@ module _ (n : ℕ) (links : List Link) (order : List ℕ) (head done opened : �
   waits_is o next lost o' next' lost' sum facts e sum' = let (a, b) = pair_is o next o' next' e in
       let same : lost ≡ lost' = omega arith in subst (λ (k : ℕ). Waits lost' k) b (subst (λ (k : ℕ). Waits k next) same facts)
 
-  pub knows_marking : (role : Role) (o page next lost : ℕ) → Noted n done opened o → Passed n order head done o page → (moving_in (marking role o page next) ≡ Some o → Owned n links order head done o) → lost + n ≡ o → Waits lost next
+  pub knows_marking : (role : Role) (o page next lost : ℕ) → Noted n done opened o → Passed n order head done o page → (owned_update (marking role o page next) ≡ Some o → Owned n links order head done o) → lost + n ≡ o → Waits lost next
       → PhaseKept n links order head done opened (marking role o page next)
   knows_marking owner o page next lost facts passed owned sum waits = record {
     noted = λ o' is. noted_is o o' facts is;
@@ -178,10 +178,10 @@ module _ (n : ℕ) (links : List Link) (order : List ℕ) (head done opened : �
 -- where one link is set that is no UPDATE of the frame's, to one that isn't the next link that it saw
 pub relink_phase : (n : ℕ) (links : List Link) (order : List ℕ) (head head' done opened g : ℕ) (old new : Link) (phase : Phase) → 1 ≤ n → length links ≡ n → head ≤ head'
     → link_into n links g ≡ old
-    → ((o page lost : ℕ) → moving_in phase ≡ Some o → lost + n ≡ o → old ≢ update_link page lost)
+    → ((o page lost : ℕ) → owned_update phase ≡ Some o → lost + n ≡ o → old ≢ update_link page lost)
     → ((seen lost : ℕ) → lost < head → new ≢ normal_link seen (suc lost))
     → PhaseKept n links order head done opened phase
-    → PhaseKept n (relinked n links g new) order head' done opened phase
+    → PhaseKept n (links_with n links g new) order head' done opened phase
 relink_phase n links order head head' done opened g old new phase some wide le was differ fresh k = record {
   noted = k.noted;
   passed = λ o page is. let (a, b, c) = k.passed o page is in (a, omega arith, c);
@@ -204,7 +204,7 @@ map_frames n links links' order order' head head' done done' opened opened' (fra
 -- the same, where none of the frames has set the UPDATE at the place of fill f
 pub map_others : (n : ℕ) (links links' : List Link) (order order' : List ℕ) (head head' done done' opened opened' f : ℕ) (frames : List Frame)
     → (Stands frames f → ⊥)
-    → ((phase : Phase) → (moving_in phase ≡ Some f → ⊥) → PhaseKept n links order head done opened phase → PhaseKept n links' order' head' done' opened' phase)
+    → ((phase : Phase) → (owned_update phase ≡ Some f → ⊥) → PhaseKept n links order head done opened phase → PhaseKept n links' order' head' done' opened' phase)
     → FramesKept n links order head done opened frames
     → FramesKept n links' order' head' done' opened' frames
 map_others n links links' order order' head head' done done' opened opened' f [] none step k = tt

@@ -3,7 +3,7 @@ use Rattle.std.proofs.Common.{◌≡◌, ℕ, ◌+◌, ◌^◌, ◌≤◌, List,
 use Rattle.trace_model.specs.Packing.{FitsBehind}
 use Rattle.trace_model.specs.Frames.{Phase, reserving, Frame, crowded, worn}
 use Rattle.trace_model.specs.Ring.{Core}
-use Rattle.trace_model.specs.Steps.{Event, pushes, pushes_close, steps, ends, reads, Answer, refused, NeedsPage, held_by, tail_page, ReserveStep, reserves, finds_nothing, is_crowded, is_worn, notes, FrameStep, Step, push_step, push_refused, close_step, close_refused, frame_step, frame_lacks, end_step, end_lacks, end_early, read_step}
+use Rattle.trace_model.specs.Steps.{Event, pushes, pushes_close, steps, ends, reads, Answer, refused, NeedsPage, contents_of, tail_page, ReserveStep, reserves, finds_nothing, is_crowded, is_worn, notes, FrameStep, Step, push_step, push_refused, close_step, close_refused, frame_step, frame_lacks, end_step, end_lacks, end_early, read_step}
 use Rattle.link_marks.specs.AnswerLaws.{IsInNeed}
 
 abbrev pub Due : ℕ → Core → Answer → Type 0
@@ -11,7 +11,7 @@ Due n c answer = (c.opened ≡ c.done + n → answer ≡ refused crowded) × ((c
 
 due_reserve : (n size : ℕ) (c : Core) (frame : Frame) (below : List Frame) (answer : Answer) (after : Core) → NeedsPage n size c frame.kind → ReserveStep n size c frame below answer after → Due n c answer
 due_reserve n size c frame below answer after need (reserves moment len r kind r_is fits a is) =
-    absurd (subst (NeedsPage n size c) kind need (subst (FitsBehind size (held_by c (tail_page n c)).records) r_is fits))
+    absurd (subst (NeedsPage n size c) kind need (subst (FitsBehind size (contents_of c (tail_page n c)).records) r_is fits))
 due_reserve n size c frame below answer after need (finds_nothing kind none a is) = absurd (subst (NeedsPage n size c) kind need none)
 due_reserve n size c frame below answer after need (is_crowded needs full a is) = (λ _. a, λ room _. absurd (room full))
 due_reserve n size c frame below answer after need (is_worn needs room last a is) = (λ full. absurd (room full), λ _ _. a)

@@ -2,18 +2,18 @@
 use Rattle.std.proofs.Common.{◌≡◌, ℕ, zero, suc, ◌+◌, ◌-◌, ◌≤◌, List, [], ◌∷◌, ◌++◌, length, get_or, take, drop, map, flat_map, refl, sym, ap, ◌∙◌, subst, arith, append-nil, length-take-le, true}
 use Rattle.std.proofs.lemmas.List.{take-append-drop, map-append, drop-drop, length-map, length-drop, take_all}
 use Rattle.trace_model.specs.Record.{Record}
-use Rattle.trace_model.specs.History.{Reservation, written_by, reserved_records, is_settled, settled_front, finished, committed_records}
+use Rattle.trace_model.specs.History.{Reservation, writer_after, reserved_records, is_settled, settled_prefix, as_record, committed_records}
 use Rattle.trace_model.specs.Packing.{cut_from, opens_of}
 use Rattle.trace_model.specs.Partition.{IsPartition}
 use Rattle.trace_model.specs.Ring.{Core, first_of_fill}
 use Rattle.link_marks.specs.KeptContents.{IsRising}
-use Rattle.link_marks.specs.KeptHistory.{shown}
-use Rattle.link_marks.specs.KeptParts.{pieces_of}
+use Rattle.link_marks.specs.KeptHistory.{history_stack}
+use Rattle.link_marks.specs.KeptPartition.{pieces_of}
 use Rattle.link_marks.specs.RingKept.{IsRingKept}
-use Rattle.link_marks.specs.RestLaws.{records_behind, IsRest, RestIsUnread}
-use Rattle.link_marks.proofs.Committed.{committed_front, committed_len-settled}
-use Rattle.link_marks.proofs.PartRuns.{head_settled}
-use Rattle.link_marks.proofs.Rings.{ring_run, ring_start, taken_parts_at}
+use Rattle.link_marks.specs.HistoryLaws.{records_behind, IsRest, RestIsUnread}
+use Rattle.link_marks.proofs.Committed.{committed_prefix, committed_len-settled}
+use Rattle.link_marks.proofs.PartitionSteps.{head_settled}
+use Rattle.link_marks.proofs.Rings.{reached_kept, taken_partition_at}
 
 -- ---- fills, joined
 
@@ -34,7 +34,7 @@ joined_behind from (cut ∷ cuts) xs (suc i) low r = joined_behind cut cuts xs i
 
 rests : (n start : ℕ) (c : Core) → IsRingKept n start c → c.frames ≡ [] → is_settled c.history ≡ true
 rests n start c r none =
-    let empty : (written_by c.history).stack ≡ [] = r.history.stack ∙ ap shown none in
+    let empty : (writer_after c.history).stack ≡ [] = r.history.stack ∙ ap history_stack none in
     rw empty refl
 
 module _ (n start : ℕ) (c : Core) (r : IsRingKept n start c) where
@@ -42,38 +42,38 @@ module _ (n start : ℕ) (c : Core) (r : IsRingKept n start c) where
   xs = reserved_records c.history
 
   abbrev base : ℕ
-  base = length (reserved_records (settled_front c.history))
+  base = length (reserved_records (settled_prefix c.history))
 
   abbrev gone : ℕ
   gone = first_of_fill c.history start c.head
 
   gone_le : gone ≤ base
-  gone_le = head_settled n start c r.links r.contents r.closed r.parts
+  gone_le = head_settled n start c r.links r.contents r.closed r.partition
 
   abbrev lost : List Record
-  lost = map finished (take (gone - c.reader.expected) (drop c.reader.expected (take base xs)))
+  lost = map as_record (take (gone - c.reader.expected) (drop c.reader.expected (take base xs)))
 
   abbrev rest : List Record
-  rest = map finished (drop gone (take base xs))
+  rest = map as_record (drop gone (take base xs))
 
-  joined : lost ++ rest ≡ map finished (drop c.reader.expected (take base xs))
+  joined : lost ++ rest ≡ map as_record (drop c.reader.expected (take base xs))
   joined =
       let e = c.reader.expected in
-      let le = r.parts.expected_le in
+      let le = r.partition.expected_le in
       let ys : List Reservation = drop e (take base xs) in
       let same : drop gone (take base xs) ≡ drop (gone - e) ys = ap (λ (m : ℕ). drop m (take base xs)) (let s : gone ≡ e + (gone - e) = omega arith in s) ∙ sym (drop-drop (gone - e) e (take base xs)) in
-      sym (map-append finished (take (gone - e) ys) (drop gone (take base xs)))
-      ∙ ap (λ (l : List Reservation). map finished (take (gone - e) ys ++ l)) same
-      ∙ ap (map finished) (take-append-drop (gone - e) ys)
+      sym (map-append as_record (take (gone - e) ys) (drop gone (take base xs)))
+      ∙ ap (λ (l : List Reservation). map as_record (take (gone - e) ys ++ l)) same
+      ∙ ap (map as_record) (take-append-drop (gone - e) ys)
 
   counted : length (committed_records c.history) ≡ gone + length rest
   counted =
-      let k = committed_front c.history in
+      let k = committed_prefix c.history in
       let within = k.within in
       let whole = ap (length {A = Record}) k.agrees in
-      let all = length-map (take base xs) finished in
+      let all = length-map (take base xs) as_record in
       let front = length-take-le base xs within in
-      let left = length-map (drop gone (take base xs)) finished in
+      let left = length-map (drop gone (take base xs)) as_record in
       let behind = length-drop gone (take base xs) in
       let le = gone_le in
       omega (arith, whole, all, front, left, behind, le)
@@ -81,23 +81,22 @@ module _ (n start : ℕ) (c : Core) (r : IsRingKept n start c) where
   all_committed : c.frames ≡ [] → take base xs ≡ xs
   all_committed none = take_all base xs (committed_len-settled c.history (rests n start c r none))
 
-  unread : c.frames ≡ [] → rest ≡ map finished (records_behind c.history (c.head - start))
+  unread : c.frames ≡ [] → rest ≡ map as_record (records_behind c.history (c.head - start))
   unread none =
       let begun = r.contents.begun in let le = r.links.head_le in let lt = r.links.done_lt in
-      ap (λ (l : List Reservation). map finished (drop gone l)) (all_committed none)
-      ∙ ap (map finished) (sym (joined_behind 0 (opens_of c.history) xs (c.head - start) (omega arith) r.contents.rising))
+      ap (λ (l : List Reservation). map as_record (drop gone l)) (all_committed none)
+      ∙ ap (map as_record) (sym (joined_behind 0 (opens_of c.history) xs (c.head - start) (omega arith) r.contents.rising))
 
   rest_of : (lost' rest' : List Record) × IsRest start c lost' rest'
   rest_of = (
     lost,
     rest,
     record {
-      parts = subst (IsPartition (committed_records c.history) (pieces_of c.reader.taken)) (sym joined) (taken_parts_at n start c r);
+      partition = subst (IsPartition (committed_records c.history) (pieces_of c.reader.taken)) (sym joined) (taken_partition_at n start c r);
       behind = counted;
       at_rest = unread;
     },
   )
 
 pub rest_is_unread : RestIsUnread
-rest_is_unread n size start c after exchanges some fits s run =
-    rest_of n start after (ring_run n size start c after exchanges (ring_start n start c some fits s) run)
+rest_is_unread n size start c r = rest_of n start c (reached_kept n size start c r)

@@ -1,30 +1,31 @@
 -- What every step keeps is a ring; a new ring has it; and so it holds after every run.
-use Rattle.std.proofs.Common.{◌≡◌, ℕ, zero, suc, ◌+◌, ◌-◌, ◌^◌, ◌<◌, ◌≤◌, ◌⊎◌, List, [], ◌∷◌, ◌++◌, length, get_or, take, drop, map, Some, refl, sym, ap, ◌∙◌, subst, inl, inr, arith}
+use Rattle.std.proofs.Common.{◌≡◌, ℕ, zero, suc, ◌+◌, ◌-◌, ◌<◌, ◌≤◌, ◌⊎◌, List, [], ◌∷◌, ◌++◌, length, get_or, take, drop, map, Some, refl, sym, ap, ◌∙◌, subst, inl, inr, arith}
 use Rattle.std.specs.List.{slice_get}
 use Rattle.std.proofs.lemmas.List.{take-append-drop, map-append}
 use Rattle.trace_model.specs.Record.{Record}
-use Rattle.trace_model.specs.History.{Action, Reservation, reserved_records, settled_front, finished, committed_records}
+use Rattle.trace_model.specs.History.{Action, Reservation, reserved_records, settled_prefix, as_record, committed_records}
 use Rattle.trace_model.specs.Packing.{opens_of, fills_of}
 use Rattle.trace_model.specs.Links.{Link}
-use Rattle.trace_model.specs.Frames.{Frame, moving_in}
+use Rattle.trace_model.specs.Frames.{Frame, owned_update}
 use Rattle.trace_model.specs.Ring.{Held, ReaderPhase, loading_link, loading_done, storing_link, swapping, Reader, Core, IsStart, AreApart, IsRing, IsBehindHead, told, moved, IsAtHead, marked, owed, Moves, IsMoved, IsSwapReady, IsTaken, first_of_fill, page_at}
 use Rattle.trace_model.specs.Steps.{Event, Answer, Step, Exchange, Run}
-use Rattle.trace_model.specs.Sublist.{IsFront}
-use Rattle.link_marks.specs.Kept.{Stands, MoversDiffer, PhaseKept, FramesKept, LinkKept, is_normal, is_header, is_update, ReaderKept}
+use Rattle.trace_model.specs.Sublist.{IsPrefix}
+use Rattle.link_marks.specs.KeptLinks.{Stands, MoversDiffer, PhaseKept, FramesKept, LinkKept, is_normal, is_header, is_update, ReaderKept}
 use Rattle.link_marks.specs.KeptHistory.{Passing, WhyPassed}
 use Rattle.link_marks.specs.KeptContents.{PagesKept}
 use Rattle.link_marks.specs.RingKept.{IsRingKept}
+use Rattle.link_marks.specs.Reached.{MayStart, IsReached}
 use Rattle.link_marks.proofs.Phases.{none_some, normal_ne_update}
 use Rattle.link_marks.proofs.Inside.{owned_by}
 use Rattle.link_marks.proofs.Cuts.{length-cut_from}
-use Rattle.link_marks.proofs.Committed.{committed_front}
+use Rattle.link_marks.proofs.Committed.{committed_prefix}
 use Rattle.link_marks.proofs.EachStep.{step_kept}
 use Rattle.link_marks.proofs.HistorySteps.{step_owed}
 use Rattle.link_marks.proofs.ContentSteps.{contents_step}
 use Rattle.link_marks.proofs.ClosedSteps.{closed_step}
-use Rattle.link_marks.proofs.PartRuns.{parts_step, settled}
-use Rattle.link_marks.proofs.Parts.{partition_rest, take_map}
-use Rattle.link_marks.specs.KeptParts.{PartsKept, pieces_of}
+use Rattle.link_marks.proofs.PartitionSteps.{partition_step, settled}
+use Rattle.link_marks.proofs.PartitionLemmas.{partition_rest, take_map}
+use Rattle.link_marks.specs.KeptPartition.{PartitionAt, pieces_of}
 use Rattle.trace_model.specs.Partition.{IsPartition}
 use Rattle.link_marks.proofs.Pages.{page_below}
 use Rattle.link_marks.proofs.Start.{start_kept, start_history}
@@ -36,7 +37,7 @@ some_frame a b e = cc
 
 pub moves_stands : (frames : List Frame) (k f : ℕ) → Moves frames k f → Stands frames f
 moves_stands [] k f (frame, at, is) = absurd (none_some at)
-moves_stands (x ∷ frames) zero f (frame, at, is) = inl (ap (λ (y : Frame). moving_in y.phase) (some_frame x frame at) ∙ is)
+moves_stands (x ∷ frames) zero f (frame, at, is) = inl (ap (λ (y : Frame). owned_update y.phase) (some_frame x frame at) ∙ is)
 moves_stands (x ∷ frames) (suc k) f (frame, at, is) = inr (moves_stands frames k f (frame, at, is))
 
 pub stands_moved : (frames : List Frame) (f : ℕ) → MoversDiffer frames → Stands frames f → IsMoved frames f
@@ -52,7 +53,7 @@ stands_moved (x ∷ frames) f differ (inr st) = further (stands_moved frames f d
     further m = record { by = suc m.by; moves = m.moves; alone = λ k at. only m k at }
       where
         only : IsMoved frames f → (k : ℕ) → Moves (x ∷ frames) k f → k ≡ suc m.by
-        only m' zero (frame, at, is) = absurd (differ.0 f (ap (λ (y : Frame). moving_in y.phase) (some_frame x frame at) ∙ is) st)
+        only m' zero (frame, at, is) = absurd (differ.0 f (ap (λ (y : Frame). owned_update y.phase) (some_frame x frame at) ∙ is) st)
         only m' (suc k) at = ap suc (m.alone k at)
 
 frame_at : (n : ℕ) (links : List Link) (order : List ℕ) (head done opened : ℕ) (frames : List Frame) (k : ℕ) (frame : Frame) → FramesKept n links order head done opened frames → slice_get frames k ≡ Some frame → PhaseKept n links order head done opened frame.phase
@@ -85,16 +86,16 @@ module _ (n start : ℕ) (c : Core) (r : IsRingKept n start c) where
       by_link (is_header e here) = marked e
       by_link (is_update lost sum e st) = let (u, u_sum, below, open_yet, at) = owned_by n c r.links c.head st in let unread = r.links.head_le in absurd (omega arith)
 
-  front_committed : IsFront (map finished (take (first_of_fill c.history start c.done) (reserved_records c.history))) (committed_records c.history)
+  front_committed : IsPrefix (map as_record (take (first_of_fill c.history start c.done) (reserved_records c.history))) (committed_records c.history)
   front_committed =
       let first : ℕ = first_of_fill c.history start c.done in
-      let base : ℕ = length (reserved_records (settled_front c.history)) in
+      let base : ℕ = length (reserved_records (settled_prefix c.history)) in
       let xs : List Reservation = reserved_records c.history in
-      let k = committed_front c.history in (
-        map finished (drop first (take base xs)),
-        sym (ap (λ (l : List Reservation). map finished l ++ map finished (drop first (take base xs))) (shorter first base xs r.closed)
-            ∙ sym (map-append finished (take first (take base xs)) (drop first (take base xs)))
-            ∙ ap (map finished) (take-append-drop first (take base xs))
+      let k = committed_prefix c.history in (
+        map as_record (drop first (take base xs)),
+        sym (ap (λ (l : List Reservation). map as_record l ++ map as_record (drop first (take base xs))) (shorter first base xs r.closed)
+            ∙ sym (map-append as_record (take first (take base xs)) (drop first (take base xs)))
+            ∙ ap (map as_record) (take-append-drop first (take base xs))
             ∙ k.agrees),
       )
 
@@ -116,7 +117,7 @@ module _ (n start : ℕ) (c : Core) (r : IsRingKept n start c) where
 
   pub is_ring : IsRing n start c
   is_ring = record {
-    places = r.links.places;
+    positions = r.links.positions;
     bodies = r.contents.bodies;
     apart = r.links.apart;
     head_le = r.links.head_le;
@@ -137,22 +138,22 @@ module _ (n start : ℕ) (c : Core) (r : IsRingKept n start c) where
 
 -- The fills that the reader took, and the records lost between, part the committed records up to the number
 -- that the reader expects; behind that is the rest.
-pub taken_parts_at : (n start : ℕ) (c : Core) → IsRingKept n start c → IsPartition (committed_records c.history) (pieces_of c.reader.taken) (map finished (drop c.reader.expected (take (length (reserved_records (settled_front c.history))) (reserved_records c.history))))
-taken_parts_at n start c r =
+pub taken_partition_at : (n start : ℕ) (c : Core) → IsRingKept n start c → IsPartition (committed_records c.history) (pieces_of c.reader.taken) (map as_record (drop c.reader.expected (take (length (reserved_records (settled_prefix c.history))) (reserved_records c.history))))
+taken_partition_at n start c r =
     let e : ℕ = c.reader.expected in
-    let base : ℕ = length (reserved_records (settled_front c.history)) in
+    let base : ℕ = length (reserved_records (settled_prefix c.history)) in
     let xs : List Reservation = reserved_records c.history in
-    let rest : List Record = map finished (drop e (take base xs)) in
-    let k = committed_front c.history in
-    let whole : take e (map finished xs) ++ rest ≡ committed_records c.history =
-    ap (λ (l : List Record). l ++ rest) (take_map finished e xs ∙ ap (map finished) (shorter e base xs (settled n start c r.links r.contents r.closed r.parts)))
-    ∙ sym (map-append finished (take e (take base xs)) (drop e (take base xs)))
-    ∙ ap (map finished) (take-append-drop e (take base xs))
+    let rest : List Record = map as_record (drop e (take base xs)) in
+    let k = committed_prefix c.history in
+    let whole : take e (map as_record xs) ++ rest ≡ committed_records c.history =
+    ap (λ (l : List Record). l ++ rest) (take_map as_record e xs ∙ ap (map as_record) (shorter e base xs (settled n start c r.links r.contents r.closed r.partition)))
+    ∙ sym (map-append as_record (take e (take base xs)) (drop e (take base xs)))
+    ∙ ap (map as_record) (take-append-drop e (take base xs))
     ∙ k.agrees in
-    subst (λ (l : List Record). IsPartition l (pieces_of c.reader.taken) rest) whole (partition_rest (take e (map finished xs)) (pieces_of c.reader.taken) rest r.parts.parts)
+    subst (λ (l : List Record). IsPartition l (pieces_of c.reader.taken) rest) whole (partition_rest (take e (map as_record xs)) (pieces_of c.reader.taken) rest r.partition.partition)
 
-pub taken_parts : (n start : ℕ) (c : Core) → IsRingKept n start c → (rest : List Record) × IsPartition (committed_records c.history) (pieces_of c.reader.taken) rest
-taken_parts n start c r = (map finished (drop c.reader.expected (take (length (reserved_records (settled_front c.history))) (reserved_records c.history))), taken_parts_at n start c r)
+pub taken_partition : (n start : ℕ) (c : Core) → IsRingKept n start c → (rest : List Record) × IsPartition (committed_records c.history) (pieces_of c.reader.taken) rest
+taken_partition n start c r = (map as_record (drop c.reader.expected (take (length (reserved_records (settled_prefix c.history))) (reserved_records c.history))), taken_partition_at n start c r)
 
 -- ---- steps and runs
 
@@ -162,7 +163,7 @@ ring_step n size start c event answer after r step = record {
   history = (step_owed n size start c event answer after r.links r.history step).kept;
   contents = contents_step n size start c event answer after r.links r.history r.contents step;
   closed = closed_step n size start c event answer after r.links r.history r.contents r.closed step;
-  parts = parts_step n size start c event answer after r.links r.history r.contents r.closed r.parts step;
+  partition = partition_step n size start c event answer after r.links r.history r.contents r.closed r.partition step;
 }
 
 pub ring_run : (n size start : ℕ) (c after : Core) (exchanges : List Exchange) → IsRingKept n start c → Run n size c exchanges after → IsRingKept n start after
@@ -181,12 +182,16 @@ nothing_done n start c some a s = let head = s.head in let opened = s.opened in 
       ∙ ap (λ (i : ℕ). let h : Held = record { first = get_or (0 ∷ []) i 0; records = get_or ([] ∷ []) i [] } in h) (let e : 0 ≡ f - start = omega arith in e);
 }
 
-pub ring_start : (n start : ℕ) (c : Core) → 2 ≤ n → start + 1 + n ≤ 2 ^ 48 → IsStart n start c → IsRingKept n start c
-ring_start n start c some fits s = let links = start_kept n start c s some fits in let done = s.done in record {
+pub ring_start : (n start : ℕ) (c : Core) → MayStart n start → IsStart n start c → IsRingKept n start c
+ring_start n start c may s = let some = may.some_pages in let fits = may.numbers_left in let links = start_kept n start c s some fits in let done = s.done in record {
   links = links;
   history = start_history n start c s;
   contents = subst (λ (h : List Action). PagesKept n start c.order c.held (opens_of h) (reserved_records h) c.head c.opened) (sym s.history) (nothing_done n start c (omega arith) links.apart s);
-  closed = subst (λ (h : List Action). first_of_fill h start c.done ≤ length (reserved_records (settled_front h))) (sym s.history)
+  closed = subst (λ (h : List Action). first_of_fill h start c.done ≤ length (reserved_records (settled_prefix h))) (sym s.history)
       (subst (λ (i : ℕ). get_or (0 ∷ []) i 0 ≤ 0) (let e : 0 ≡ c.done - start = omega arith in e) (let z : 0 ≤ 0 = omega arith in z));
-  parts = subst (λ (x : Reader). PartsKept start c.history c.head x.expected x.taken) (sym s.reader) record { expected_le = omega arith; parts = refl; total = refl; firsts = λ k t at. absurd (none_some at); fills = record { each = λ k t at. absurd (none_some at); rising = λ j k a b less at_j at_k. absurd (none_some at_j) }; below = λ k t at. absurd (none_some at) };
+  partition = subst (λ (x : Reader). PartitionAt start c.history c.head x.expected x.taken) (sym s.reader) record { expected_le = omega arith; partition = refl; total = refl; firsts = λ k t at. absurd (none_some at); fills = record { each = λ k t at. absurd (none_some at); rising = λ j k a b less at_j at_k. absurd (none_some at_j) }; below = λ k t at. absurd (none_some at) };
 }
+
+-- what every step keeps holds of every state that steps reach
+pub reached_kept : (n size start : ℕ) (c : Core) → IsReached n size start c → IsRingKept n start c
+reached_kept n size start c r = ring_run n size start r.from c r.exchanges (ring_start n start r.from r.may_start r.is_new) r.run

@@ -4,10 +4,10 @@ use mathlib.Core.Logic.{dite}
 use native.Mathlib.Decide.{ℕ_discrete}
 use Rattle.trace_model.specs.Links.{normal_link, header_link}
 use Rattle.trace_model.specs.Ring.{Core, IsStart, link_into, page_at, Reader, AreApart}
-use Rattle.trace_model.specs.History.{Action, written_by, IsHistory}
+use Rattle.trace_model.specs.History.{Action, writer_after, IsHistory}
 use Rattle.trace_model.proofs.Allowed.{IsHistory-none}
-use Rattle.link_marks.specs.KeptHistory.{shown, HistoryKept}
-use Rattle.link_marks.specs.Kept.{MoversDiffer, FramesKept, LinkKept, is_normal, is_header, ReaderKept, LinksKept}
+use Rattle.link_marks.specs.KeptHistory.{history_stack, HistoryKept}
+use Rattle.link_marks.specs.KeptLinks.{MoversDiffer, FramesKept, LinkKept, is_normal, is_header, ReaderKept, LinksKept}
 
 module _ (n start : ℕ) (c : Core) (s : IsStart n start c) (some : 2 ≤ n) where
   start_page : (f : ℕ) → page_at n c.order f ≡ f % n
@@ -30,7 +30,7 @@ module _ (n start : ℕ) (c : Core) (s : IsStart n start c) (some : 2 ≤ n) whe
   pub start_kept : start + 1 + n ≤ 2 ^ 48 → LinksKept n c
   start_kept fits = let head = s.head in let done = s.done in let opened = s.opened in record {
     some_pages = some;
-    places = s.places;
+    positions = s.positions;
     apart = start_apart;
     head_le = omega arith;
     done_lt = omega arith;
@@ -46,6 +46,6 @@ module _ (n start : ℕ) (c : Core) (s : IsStart n start c) (some : 2 ≤ n) whe
 pub start_history : (n start : ℕ) (c : Core) → IsStart n start c → HistoryKept n start c
 start_history n start c s = record {
   allowed = subst IsHistory (sym s.history) IsHistory-none;
-  stack = ap (λ (h : List Action). (written_by h).stack) s.history ∙ sym (ap shown s.frames);
+  stack = ap (λ (h : List Action). (writer_after h).stack) s.history ∙ sym (ap history_stack s.frames);
   lost = λ f low high. let head = s.head in absurd (omega arith);
 }

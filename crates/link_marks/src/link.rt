@@ -25,7 +25,7 @@ pub struct Link {
 impl Link {
     ghost use Rattle.std.specs.Prelude.{◌≡◌, ◌%◌, ◌^◌, ◌<◌, ◌↔◌, IsNone, IfSome};
     ghost use Rattle.trace_model.specs.Links.{word_of, FitsWord};
-    ghost use Rattle.link_marks.specs.Packed.{link_of};
+    ghost use Rattle.link_marks.specs.ModelLinks.{link_of};
 
     /// The word of this link: the mark in bits 0 and 1, the page in bits 2 to 15, the fill in bits 16
     /// to 63.
