@@ -10,7 +10,7 @@ use Rattle.link_marks.specs.KeptHistory.{history_stack_on, history_stack, Histor
 use Rattle.link_marks.specs.KeptContents.{ContentsKept, ClosedAt, ClosedKept}
 use Rattle.link_marks.proofs.Histories.{settled_at_rest}
 use Rattle.link_marks.proofs.HistorySteps.{top_shown}
-use Rattle.link_marks.proofs.Cuts.{opens_of-open_fill}
+use Rattle.link_marks.proofs.FillCuts.{opens_of-open_fill}
 use Rattle.link_marks.proofs.Committed.{committed_len-settled, first_more, first_below}
 
 module _ (n start : ℕ) (c : Core) (k : LinksKept n c) (t : ContentsKept n start c) (z : ClosedKept start c) where

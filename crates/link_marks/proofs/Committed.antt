@@ -1,4 +1,4 @@
--- The committed records are a front of the reserved ones, whatever the frames did.
+-- The committed records are a prefix of the reserved ones, whatever the frames did.
 use Rattle.std.proofs.Common.{◌≡◌, ℕ, zero, suc, ◌<◌, ◌≤◌, ◌⊎◌, Bool, true, false, cond, List, [], ◌∷◌, ◌++◌, length, get_or, take, map, Option, Some, None, refl, sym, ap, ◌∙◌, subst, inl, inr, ⊎_elim, arith, length-append, append_assoc, append-nil}
 use Rattle.std.proofs.lemmas.Bool.{cond-true, cond-false}
 use Rattle.std.proofs.lemmas.List.{take-append-le, take_all}
@@ -6,9 +6,9 @@ use Rattle.std.proofs.Math.ListN.{get_or-append}
 use Rattle.trace_model.specs.History.{Action, push, push_close, open_fill, reserve, leave, Reservation, Frame, record_frame, close_frame, WriterState, after_action, writer_after, reserved_records, is_settled, settled_prefix_within, settled_prefix, as_record, records_with_payload}
 use Rattle.trace_model.specs.Packing.{opens_of}
 use Rattle.link_marks.specs.KeptContents.{IsRising}
-use Rattle.link_marks.proofs.Phases.{some_is, none_some}
+use Rattle.link_marks.proofs.FramePhases.{some_is, none_some}
 use Rattle.link_marks.proofs.Histories.{written_snoc}
-use Rattle.link_marks.proofs.Cuts.{length-finished_at, IsRising-least, opens_at, opens_more}
+use Rattle.link_marks.proofs.FillCuts.{length-finished_at, IsRising-least, opens_at, opens_more}
 use Rattle.link_marks.proofs.ContentSteps.{records_snoc}
 
 either_way : (b : Bool) → (b ≡ true) ⊎ (b ≡ false)

@@ -9,12 +9,12 @@ use Rattle.trace_model.specs.Steps.{Event, Answer, in_phase, after_leave, held_w
 use Rattle.link_marks.specs.KeptLinks.{PhaseKept, LinksKept}
 use Rattle.link_marks.specs.KeptHistory.{history_frame, history_stack, HistoryKept}
 use Rattle.link_marks.specs.KeptContents.{PagesKept, ContentsKept}
-use Rattle.link_marks.proofs.Inside.{header_tells, fill_at}
-use Rattle.link_marks.proofs.Stacks.{top_kept}
+use Rattle.link_marks.proofs.LinkFills.{header_tells, fill_at}
+use Rattle.link_marks.proofs.FrameChanges.{top_kept}
 use Rattle.link_marks.proofs.Histories.{written_snoc, opened_stack, shown_standing}
 use Rattle.link_marks.proofs.HistorySteps.{top_shown}
-use Rattle.link_marks.proofs.Cuts.{opens_of-push, opens_of-push_close, opens_of-reserve, opens_of-leave, opens_of-open_fill}
-use Rattle.link_marks.proofs.Pages.{pages_later, pages_reserved, pages_begun, pages_finished, pages_swapped}
+use Rattle.link_marks.proofs.FillCuts.{opens_of-push, opens_of-push_close, opens_of-reserve, opens_of-leave, opens_of-open_fill}
+use Rattle.link_marks.proofs.PageChanges.{pages_later, pages_reserved, pages_begun, pages_finished, pages_swapped}
 
 -- the same cuts and records, by equations
 same_pages : (n start : ℕ) (order : List ℕ) (held : List Held) (cuts cuts' : List ℕ) (xs xs' : List Reservation) (head opened : ℕ) → cuts' ≡ cuts → xs' ≡ xs → PagesKept n start order held cuts xs head opened → PagesKept n start order held cuts' xs' head opened

@@ -6,7 +6,7 @@ use native.Mathlib.Decide.{ℕ_discrete}
 use Rattle.trace_model.specs.History.{Action, push, push_close, open_fill, reserve, leave, Reservation, Frame, record_frame, close_frame, after_action, writer_after, reserved_records}
 use Rattle.trace_model.specs.Packing.{opens_of, cut_from, fills_of, tail_of, IsPacked}
 use Rattle.link_marks.specs.KeptContents.{IsRising}
-use Rattle.link_marks.proofs.Cuts.{length-cut_from, IsRising-more, IsRising-snoc, reserved_before, opened_before, opens_of-push, opens_of-push_close, opens_of-reserve, opens_of-leave, opens_of-open_fill}
+use Rattle.link_marks.proofs.FillCuts.{length-cut_from, IsRising-more, IsRising-snoc, reserved_before, opened_before, opens_of-push, opens_of-push_close, opens_of-reserve, opens_of-leave, opens_of-open_fill}
 use Rattle.link_marks.proofs.ContentSteps.{records_snoc}
 use Rattle.link_marks.proofs.PackedHistories.{plain, plain-finished, cut-plain, plain_nil, tail_is}
 

@@ -10,7 +10,7 @@ use Rattle.trace_model.specs.Ring.{Taken, Core}
 use Rattle.trace_model.specs.Steps.{frames_after_leave, number_in}
 use Rattle.link_marks.specs.KeptLinks.{spot, passed_spot}
 use Rattle.link_marks.specs.KeptHistory.{history_frame, history_stack_on, history_stack, Passing, TakenIn, WhyPassed}
-use Rattle.link_marks.proofs.Phases.{none_some}
+use Rattle.link_marks.proofs.FramePhases.{none_some}
 
 -- ---- one more action
 

@@ -15,9 +15,9 @@ use Rattle.trace_model.specs.Sublist.{IsPrefix}
 use Rattle.link_marks.specs.WindowLaws.{IsShown, Happened}
 use Rattle.link_marks.specs.KeptLinks.{spot, passed_spot, PhaseKept, ReaderKept, LinksKept}
 use Rattle.link_marks.specs.KeptHistory.{history_frame, history_stack_on, history_stack, Passing, TakenIn, HistoryKept}
-use Rattle.link_marks.proofs.Phases.{none_some, pair_is}
-use Rattle.link_marks.proofs.Inside.{header_inside, header_tells, fill_at}
-use Rattle.link_marks.proofs.Stacks.{top_kept}
+use Rattle.link_marks.proofs.FramePhases.{none_some, pair_is}
+use Rattle.link_marks.proofs.LinkFills.{header_inside, header_tells, fill_at}
+use Rattle.link_marks.proofs.FrameChanges.{top_kept}
 use Rattle.link_marks.proofs.Histories.{written_snoc, opened_stack, left_stack, reserved_stack, settled_at_rest, shown_standing, may_open, may_leave, shown_alike, shown_left, taken_more, taken_last, why_stays, passing_on, passing_left}
 
 -- ---- what is known of history and lost fills

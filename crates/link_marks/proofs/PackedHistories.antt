@@ -11,8 +11,8 @@ use Rattle.trace_model.specs.Packing.{opens_of, cut_from, fills_of, tail_of, len
 use Rattle.trace_model.specs.Frames.{Kind, for_record, for_close}
 use Rattle.trace_model.proofs.Lengths.{slot_len_ge_four, slot_len-slot_len}
 use Rattle.link_marks.specs.KeptContents.{IsRising}
-use Rattle.link_marks.proofs.Phases.{none_some}
-use Rattle.link_marks.proofs.Cuts.{length-cut_from, reserved_before, reserved_last, opened_before, opened_last}
+use Rattle.link_marks.proofs.FramePhases.{none_some}
+use Rattle.link_marks.proofs.FillCuts.{length-cut_from, reserved_before, reserved_last, opened_before, opened_last}
 
 -- ---- a record without its bytes
 
@@ -170,16 +170,16 @@ not_nil : (front behind : List Action) (x : Action) → [] ≡ front ++ x ∷ be
 not_nil [] behind x e = cc
 not_nil (y ∷ front) behind x e = cc
 
--- a place in a list with one element more is the last one, or stands in the list
-snoc_place : (h front behind : List Action) (a x : Action) → h ++ a ∷ [] ≡ front ++ x ∷ behind → ((h ≡ front) × (a ≡ x)) ⊎ ((rest : List Action) × (h ≡ front ++ x ∷ rest))
-snoc_place [] [] behind a x e = inl (refl, first_is a x [] behind e)
-snoc_place [] (y ∷ front) behind a x e = absurd (not_nil front behind x (rest_is a y [] (front ++ x ∷ behind) e))
-snoc_place (z ∷ h) [] behind a x e = inr (h, ap (λ (b : Action). b ∷ h) (first_is z x (h ++ a ∷ []) behind e))
-snoc_place (z ∷ h) (y ∷ front) behind a x e = let here = first_is z y (h ++ a ∷ []) (front ++ x ∷ behind) e in
-    ⊎_elim (λ (f, same). inl ((λ i. here i ∷ f i), same)) (λ (rest, is). inr (rest, λ i. here i ∷ is i)) (snoc_place h front behind a x (rest_is z y (h ++ a ∷ []) (front ++ x ∷ behind) e))
+-- a index in a list with one element more is the last one, or stands in the list
+snoc_index : (h front behind : List Action) (a x : Action) → h ++ a ∷ [] ≡ front ++ x ∷ behind → ((h ≡ front) × (a ≡ x)) ⊎ ((rest : List Action) × (h ≡ front ++ x ∷ rest))
+snoc_index [] [] behind a x e = inl (refl, first_is a x [] behind e)
+snoc_index [] (y ∷ front) behind a x e = absurd (not_nil front behind x (rest_is a y [] (front ++ x ∷ behind) e))
+snoc_index (z ∷ h) [] behind a x e = inr (h, ap (λ (b : Action). b ∷ h) (first_is z x (h ++ a ∷ []) behind e))
+snoc_index (z ∷ h) (y ∷ front) behind a x e = let here = first_is z y (h ++ a ∷ []) (front ++ x ∷ behind) e in
+    ⊎_elim (λ (f, same). inl ((λ i. here i ∷ f i), same)) (λ (rest, is). inr (rest, λ i. here i ∷ is i)) (snoc_index h front behind a x (rest_is z y (h ++ a ∷ []) (front ++ x ∷ behind) e))
 
 pub fit_more : (size : ℕ) (h : List Action) (a : Action) → AreFit size h → IsFit size h a → AreFit size (h ++ a ∷ [])
-fit_more size h a fit new front behind x e = ⊎_elim (λ (f, same). subst (λ (g : List Action). IsFit size g x) f (subst (IsFit size h) same new)) (λ (rest, is). fit front rest x is) (snoc_place h front behind a x e)
+fit_more size h a fit new front behind x e = ⊎_elim (λ (f, same). subst (λ (g : List Action). IsFit size g x) f (subst (IsFit size h) same new)) (λ (rest, is). fit front rest x is) (snoc_index h front behind a x e)
 
 pub fit_none : (size : ℕ) → AreFit size []
 fit_none size front behind a e = absurd (not_nil front behind a e)

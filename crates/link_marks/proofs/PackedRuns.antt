@@ -9,7 +9,7 @@ use Rattle.link_marks.specs.RingKept.{IsRingKept}
 use Rattle.link_marks.proofs.PackedHistories.{room_none, fit_none, is_packed}
 use Rattle.link_marks.proofs.PackedSteps.{PackedAt, PackedKept, packs_step}
 use Rattle.link_marks.specs.Reached.{IsReached}
-use Rattle.link_marks.proofs.Rings.{ring_start, ring_step}
+use Rattle.link_marks.proofs.RingsKept.{ring_start, ring_step}
 
 nothing_packed : (size opened : ℕ) → PackedAt size [] opened []
 nothing_packed size opened = record { room = room_none size; fit = fit_none size; needs = tt }

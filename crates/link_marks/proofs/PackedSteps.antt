@@ -15,10 +15,10 @@ use Rattle.trace_model.specs.Steps.{Event, Answer, IsTooLong, NeedsPage, content
 use Rattle.link_marks.specs.KeptLinks.{FramesKept, LinksKept}
 use Rattle.link_marks.specs.KeptHistory.{history_frame, history_stack, HistoryKept}
 use Rattle.link_marks.specs.KeptContents.{ContentsKept}
-use Rattle.link_marks.proofs.Phases.{none_some}
+use Rattle.link_marks.proofs.FramePhases.{none_some}
 use Rattle.link_marks.proofs.Histories.{opened_stack, shown_standing}
 use Rattle.link_marks.proofs.HistorySteps.{top_shown}
-use Rattle.link_marks.proofs.Cuts.{opens_of-push, opens_of-push_close, opens_of-reserve, opens_of-leave, opens_of-open_fill}
+use Rattle.link_marks.proofs.FillCuts.{opens_of-push, opens_of-push_close, opens_of-reserve, opens_of-leave, opens_of-open_fill}
 use Rattle.link_marks.proofs.ContentSteps.{records_snoc, records_left, records_reserved, left_is}
 use Rattle.link_marks.proofs.PackedHistories.{plain, plain-finished, tail_at, tail_is, wanted_record, HaveRoom, room_alike, room_reserved, room_opened, IsFit, AreFit, fit_more, FitsPage, NeedsFill, needs_alike, needs_reserved, fit_open_record, fit_open_close, some_reservation}
 

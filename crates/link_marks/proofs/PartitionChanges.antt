@@ -1,4 +1,4 @@
--- Each step keeps the taken fills and the lost ones the parts of the records.
+-- Each step keeps the taken fills and the lost ones a partition of the records.
 use Rattle.std.proofs.Common.{◌≡◌, ℕ, suc, ◌+◌, ◌-◌, ◌<◌, ◌≤◌, ⊎_elim, List, [], ◌∷◌, ◌++◌, length, get_or, take, map, Some, sym, ap, ◌∙◌, subst, arith, length-append, length-take-le, append_assoc}
 use Rattle.std.proofs.lemmas.List.{map-append, length-map}
 use Rattle.std.proofs.Math.ListN.{get_or-append}
@@ -11,7 +11,7 @@ use Rattle.trace_model.specs.Partition.{Piece, IsPartition, first_of}
 use Rattle.trace_model.specs.Ring.{Held, Taken, first_of_fill, IsFillOf, AreFillsOf}
 use Rattle.link_marks.specs.KeptContents.{IsRising}
 use Rattle.link_marks.specs.KeptPartition.{covered_total, piece_of, pieces_of, PartitionAt}
-use Rattle.link_marks.proofs.Cuts.{length-cut_from, cut-stays, opens_at, opens_more}
+use Rattle.link_marks.proofs.FillCuts.{length-cut_from, cut-stays, opens_at, opens_more}
 use Rattle.link_marks.proofs.Committed.{Behind, committed_prefix, take_acted, committed_len, first_below}
 use Rattle.link_marks.proofs.ContentSteps.{records_snoc}
 use Rattle.link_marks.proofs.PartitionLemmas.{first_old, first_new, covered_total-snoc, get_snoc, partition_snoc, fill_behind, first_rises, first_rises_to, take_split, take_map}

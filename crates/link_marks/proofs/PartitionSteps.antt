@@ -1,4 +1,4 @@
--- Each step keeps the taken fills and the lost ones the parts of the records.
+-- Each step keeps the taken fills and the lost ones a partition of the records.
 use Rattle.std.proofs.Common.{◌≡◌, ℕ, ◌+◌, ◌-◌, ◌≤◌, List, [], ◌∷◌, ◌++◌, length, get_or, Some, None, refl, sym, ap, ◌∙◌, subst, arith, length-append}
 use Rattle.trace_model.specs.History.{Action, push, push_close, open_fill, reserve, leave, Reservation, reserved_records}
 use Rattle.trace_model.specs.Packing.{opens_of}
@@ -9,9 +9,9 @@ use Rattle.link_marks.specs.KeptLinks.{PhaseKept, ReaderKept, LinksKept}
 use Rattle.link_marks.specs.KeptHistory.{HistoryKept}
 use Rattle.link_marks.specs.KeptContents.{ContentsKept, ClosedKept}
 use Rattle.link_marks.specs.KeptPartition.{PartitionAt, PartitionKept}
-use Rattle.link_marks.proofs.Stacks.{top_kept}
-use Rattle.link_marks.proofs.Inside.{header_inside, header_tells, fill_at}
-use Rattle.link_marks.proofs.Cuts.{IsRising-snoc, opens_of-open_fill}
+use Rattle.link_marks.proofs.FrameChanges.{top_kept}
+use Rattle.link_marks.proofs.LinkFills.{header_inside, header_tells, fill_at}
+use Rattle.link_marks.proofs.FillCuts.{IsRising-snoc, opens_of-open_fill}
 use Rattle.link_marks.proofs.ContentSteps.{records_snoc}
 use Rattle.link_marks.specs.KeptContents.{IsRising}
 use Rattle.link_marks.proofs.Committed.{committed_len, first_more, first_below}

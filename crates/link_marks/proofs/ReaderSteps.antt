@@ -8,9 +8,9 @@ use Rattle.trace_model.specs.Frames.{Frame, Phase}
 use Rattle.trace_model.specs.Ring.{ReaderPhase, loading_link, loading_done, storing_link, swapping, Reader, Core, link_into, links_with, page_at, AreApart}
 use Rattle.trace_model.specs.Steps.{Answer, reader_at, LoadStep, loads_header, loads_update, loads_owed, loads_passed, LoadDoneStep, finds_none, finds_closed, StoreStep, SwapStep, swaps, swap_fails, ReadStep, after_swap}
 use Rattle.link_marks.specs.KeptLinks.{PhaseKept, LinkKept, is_normal, is_header, is_update, HasSeen, ReaderKept, LinksKept}
-use Rattle.link_marks.proofs.Turns.{link_here, link_else, link_turn, page_turn, page_here, page_else}
-use Rattle.link_marks.proofs.Phases.{normal_ne_update, normal_ne_header, header_ne_update, relink_phase, map_frames}
-use Rattle.link_marks.proofs.Inside.{normal_tells, header_tells, update_tells, owned_by, fill_at, behind_closed}
+use Rattle.link_marks.proofs.Positions.{link_here, link_else, link_turn, page_turn, page_here, page_else}
+use Rattle.link_marks.proofs.FramePhases.{normal_ne_update, normal_ne_header, header_ne_update, relink_phase, map_frames}
+use Rattle.link_marks.proofs.LinkFills.{normal_tells, header_tells, update_tells, owned_by, fill_at, behind_closed}
 
 -- the reader goes on; the spare's link may be set
 pub reader_kept : (n : ℕ) (c : Core) (spare_link : Link) (reader : Reader) → LinksKept n c → reader.hint ≤ c.head → ReaderKept n c.links c.order spare_link c.head c.done reader.hint reader.phase → LinksKept n (record c { spare_link = spare_link; reader = reader })
@@ -55,7 +55,7 @@ store_kept n c after page fill answer k facts step = let l : Link = header_link 
 
 -- ---- the swap
 
--- the pages still differ where the spare took the place of one
+-- the pages still differ where the spare took the position of one
 swapped_apart : (n : ℕ) (order : List ℕ) (spare position page : ℕ) → AreApart n order spare → position < n → page ≡ get_or order position 0 → AreApart n (set order position spare) page
 swapped_apart n order spare position page a low is =
     let wide = a.pages in
@@ -78,7 +78,7 @@ swapped_apart n order spare position page a low is =
           (λ ne. ne (a.differ i position below low (sym (there i ne) ∙ same ∙ is)));
     }
 
--- where the page at the place of the head changes, behind which the frames' fills lie
+-- where the page at the position of the head changes, behind which the frames' fills lie
 reorder_phase : (n : ℕ) (links : List Link) (order : List ℕ) (head done opened spare : ℕ) (phase : Phase) → 2 ≤ n → head < done → PhaseKept n links order head done opened phase
     → PhaseKept n links (set order (head % n) spare) head done opened phase
 reorder_phase n links order head done opened spare phase some closed k = record {

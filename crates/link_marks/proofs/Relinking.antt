@@ -10,11 +10,11 @@ use Rattle.trace_model.specs.Steps.{Event, steps, reads, Answer, with_new_tail, 
 use Rattle.link_marks.specs.KeptLinks.{PhaseKept, LinkKept, is_normal, is_header, is_update, ReaderKept, LinksKept}
 use Rattle.link_marks.specs.RingKept.{IsRingKept}
 use Rattle.link_marks.specs.LinkLaws.{age_of, IsHeaderSet, IsClaimed, IsCleared}
-use Rattle.link_marks.proofs.Turns.{at_position, link_here}
-use Rattle.link_marks.proofs.Phases.{normal_ne_header, normal_ne_update, header_ne_update, IsSet}
-use Rattle.link_marks.proofs.Inside.{header_inside, header_tells, next_inside, owned_by, fill_at, behind_closed}
-use Rattle.link_marks.proofs.Stacks.{top_kept}
-use Rattle.link_marks.proofs.Rings.{ring_step, ring_run}
+use Rattle.link_marks.proofs.Positions.{at_position, link_here}
+use Rattle.link_marks.proofs.FramePhases.{normal_ne_header, normal_ne_update, header_ne_update, IsSet}
+use Rattle.link_marks.proofs.LinkFills.{header_inside, header_tells, next_inside, owned_by, fill_at, behind_closed}
+use Rattle.link_marks.proofs.FrameChanges.{top_kept}
+use Rattle.link_marks.proofs.RingsKept.{ring_step, ring_run}
 
 -- ---- what a step sets
 
@@ -122,7 +122,7 @@ relinks_step n size c event answer after k (end_lacks payload e none a is) = sta
 relinks_step n size c event answer after k (end_early payload frame below e top none a is) = stays n c event after c is refl
 relinks_step n size c event answer after k (read_step e step) = relinks_read n c event c.reader.phase answer after k e k.reader step
 
--- ---- one place
+-- ---- one position
 
 same_position : (n : ℕ) (links : List Link) (f g : ℕ) → f % n ≡ g % n → link_into n links f ≡ link_into n links g
 same_position n links f g e = ap (λ (i : ℕ). get_or links i (normal_link 0 0)) e
@@ -133,7 +133,7 @@ set_here n links f g l some wide e = same_position n (links_with n links g l) f 
 set_else : (n : ℕ) (links : List Link) (f g : ℕ) (l : Link) → f % n ≢ g % n → link_into n (links_with n links g l) f ≡ link_into n links f
 set_else n links f g l ne = get_or-set_other links (g % n) (f % n) l (normal_link 0 0) ne
 
--- what a step makes of the link into one place
+-- what a step makes of the link into one position
 pub data Turn (n : ℕ) (c : Core) (event : Event) (after : Core) (f : ℕ) : Type 0 where
   stands_still : link_into n after.links f ≡ link_into n c.links f → Turn n c event after f
   to_update : (page lost : ℕ) → event ≡ steps → IsLost n c after (lost + n) lost → link_into n c.links f ≡ header_link page lost → link_into n after.links f ≡ update_link page lost → Turn n c event after f

@@ -10,12 +10,12 @@ use Rattle.link_marks.specs.KeptHistory.{history_stack_on, history_stack, Histor
 use Rattle.link_marks.specs.RingKept.{IsRingKept}
 use Rattle.link_marks.specs.Reached.{IsReached}
 use Rattle.link_marks.specs.ToldRuns.{fills_taken, numbers_of, IsToldBy}
-use Rattle.link_marks.proofs.Inside.{header_inside, header_tells, fill_at}
-use Rattle.link_marks.proofs.Stacks.{top_kept}
+use Rattle.link_marks.proofs.LinkFills.{header_inside, header_tells, fill_at}
+use Rattle.link_marks.proofs.FrameChanges.{top_kept}
 use Rattle.link_marks.proofs.Histories.{settled_at_rest}
 use Rattle.link_marks.proofs.HistorySteps.{top_shown}
 use Rattle.link_marks.proofs.WindowRuns.{run_rises, run-append, taken-append, actions-append, numbers-push}
-use Rattle.link_marks.proofs.Rings.{ring_start, ring_step, reached_kept}
+use Rattle.link_marks.proofs.RingsKept.{ring_start, ring_step, reached_kept}
 
 -- the deeds lead from one state to another
 pub record Leads (n : ℕ) (c after : Core) : Type 0 where

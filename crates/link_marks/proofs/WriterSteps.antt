@@ -7,10 +7,10 @@ use Rattle.trace_model.specs.Frames.{owner, Phase, looking_next, opening, Frame,
 use Rattle.trace_model.specs.Ring.{Core, link_into, links_with, page_at}
 use Rattle.trace_model.specs.Steps.{with_link, with_new_tail}
 use Rattle.link_marks.specs.KeptLinks.{Stands, MoversDiffer, PhaseKept, FramesKept, LinkKept, is_normal, is_header, is_update, LinksKept}
-use Rattle.link_marks.proofs.Turns.{link_here, link_else, page_turn}
-use Rattle.link_marks.proofs.Phases.{none_some, some_is, normal_ne_header, normal_ne_update, header_ne_update, Noted, Passed, Owned, knows_looking_next, relink_phase, map_frames, map_others, map_reader, after_set}
-use Rattle.link_marks.proofs.Inside.{header_inside, next_inside, owned_by}
-use Rattle.link_marks.proofs.Stacks.{link_stays, below_kept, below_differ, top_alone, stands_top}
+use Rattle.link_marks.proofs.Positions.{link_here, link_else, page_turn}
+use Rattle.link_marks.proofs.FramePhases.{none_some, some_is, normal_ne_header, normal_ne_update, header_ne_update, Noted, Passed, Owned, knows_looking_next, relink_phase, map_frames, map_others, map_reader, after_set}
+use Rattle.link_marks.proofs.LinkFills.{header_inside, next_inside, owned_by}
+use Rattle.link_marks.proofs.FrameChanges.{link_stays, below_kept, below_differ, top_alone, stands_top}
 
 -- ---- the claim: the head is lost
 

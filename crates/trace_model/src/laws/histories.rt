@@ -5,7 +5,7 @@ ghost use Rattle.trace_model.specs.Record.{IsRecord};
 ghost use Rattle.trace_model.specs.Sublist.{IsPrefix};
 
 /// The committed records are the first of the reserved ones, so that a record has one number from its
-/// reservation on: its place among the committed is its place among the reserved.
+/// reservation on: its index among the committed is its index among the reserved.
 pub fn committed_is_a_prefix()
     ensures { (history : List Action)
         → IsPrefix (reserved_records (settled_prefix history)) (reserved_records history) }

@@ -1,4 +1,4 @@
-use Rattle.link_marks.proofs.Rings.{reached_kept}
+use Rattle.link_marks.proofs.RingsKept.{reached_kept}
 use Rattle.link_marks.proofs.laws.histories.runs_are_histories.Goals as goal
 
 pub returns : goal.returns

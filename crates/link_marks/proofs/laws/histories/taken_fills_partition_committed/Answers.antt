@@ -1,6 +1,6 @@
 use Rattle.link_marks.proofs.Committed.{committed_prefix}
-use Rattle.link_marks.proofs.Rings.{reached_kept, taken_partition}
-use Rattle.link_marks.proofs.Rests.{rest_is_unread}
+use Rattle.link_marks.proofs.RingsKept.{reached_kept, taken_partition}
+use Rattle.link_marks.proofs.UnreadRest.{rest_is_unread}
 use Rattle.link_marks.proofs.laws.histories.taken_fills_partition_committed.Goals as goal
 
 pub returns : goal.returns

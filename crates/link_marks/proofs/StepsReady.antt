@@ -11,11 +11,11 @@ use Rattle.trace_model.specs.Frames.{Kind, for_record, for_close, Role, owner, h
 use Rattle.trace_model.specs.Ring.{Held, ReaderPhase, loading_link, loading_done, storing_link, swapping, Reader, Core, IsStart, link_into, links_with, page_at}
 use Rattle.trace_model.specs.Steps.{Event, Answer, in_phase, after_leave, after_begin, held_with_payload, own_number, with_new_tail, after_next, BeginsAnew, ReserveStep, reserves, finds_nothing, is_crowded, is_worn, notes, LookStep, look_late, sees_free, sees_header, sees_update, ClaimStep, claim_late, claims, claim_fails, NextStep, next_late, sees_normal, sees_other, MarkStep, mark_late, marks, mark_fails, ClearStep, clears, OpenStep, open_late, opens, ReleaseStep, releases, releases_last, FrameStep, LoadStep, loads_header, loads_update, loads_owed, loads_passed, LoadDoneStep, finds_none, finds_closed, StoreStep, SwapStep, swaps, swap_fails, ReadStep, Step, push_step, push_refused, close_step, close_refused, frame_step, frame_lacks, end_step, end_lacks, end_early, read_step, Exchange, Run}
 use Rattle.link_marks.specs.KeptLinks.{PhaseKept, LinkKept, is_normal, is_header, is_update, ReaderKept, LinksKept}
-use Rattle.link_marks.proofs.Turns.{link_here}
-use Rattle.link_marks.proofs.Phases.{normal_ne_header, normal_ne_update, before_set}
-use Rattle.link_marks.proofs.Inside.{header_tells, owned_by, normal_inside, header_inside, next_inside, fill_at}
-use Rattle.link_marks.proofs.Stacks.{top_kept}
-use Rattle.link_marks.proofs.EachStep.{step_kept}
+use Rattle.link_marks.proofs.Positions.{link_here}
+use Rattle.link_marks.proofs.FramePhases.{normal_ne_header, normal_ne_update, before_set}
+use Rattle.link_marks.proofs.LinkFills.{header_tells, owned_by, normal_inside, header_inside, next_inside, fill_at}
+use Rattle.link_marks.proofs.FrameChanges.{top_kept}
+use Rattle.link_marks.proofs.LinkSteps.{step_kept}
 
 -- ---- what is kept
 
@@ -42,7 +42,7 @@ abbrev pub StackReady : ℕ → List Link → ℕ → List Frame → Type 0
 StackReady n links head [] = Unit {0}
 StackReady n links head (frame ∷ below) = PhaseReady n links head frame.kind below frame.phase × StackReady n links head below
 
--- while the head's HEADER is owed, a place is free
+-- while the head's HEADER is owed, a position is free
 pub record IsReady (n : ℕ) (links : List Link) (head opened : ℕ) (frames : List Frame) : Type 0 where
   pub room : (seen : ℕ) → link_into n links head ≡ normal_link seen head → opened < head + n
   pub stack : StackReady n links head frames
@@ -102,7 +102,7 @@ pub begun_on_ready : (n : ℕ) (c : Core) (kind : Kind) (frame : Frame) (below :
 begun_on_ready n c (for_record moment len) frame below room stack = record { room = room; stack = (tt, stack) }
 begun_on_ready n c for_close frame below room stack = leave_ready n c frame below None room stack
 
--- A free place that a frame sees: it isn't one whose UPDATE stands.
+-- A free position that a frame sees: it isn't one whose UPDATE stands.
 pub free_marked : (n : ℕ) (c : Core) (noted page lost : ℕ) → LinksKept n c → noted ≡ c.opened → link_into n c.links noted ≡ normal_link page noted → lost + n ≡ noted → IsMarked n c.links c.head lost
 free_marked n c noted page lost k now at sum =
     let unread = k.head_le in let behind = k.done_lt in let within = k.opened_le in

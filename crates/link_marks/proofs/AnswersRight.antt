@@ -11,10 +11,10 @@ use Rattle.trace_model.specs.Steps.{Event, Answer, pushed, going, reserved_as, p
 use Rattle.link_marks.specs.KeptLinks.{Stands, LinkKept, is_normal, is_header, is_update, ReaderKept}
 use Rattle.link_marks.specs.RingKept.{IsRingKept}
 use Rattle.link_marks.specs.AnswerLaws.{ArePassed, IsInTheWay}
-use Rattle.link_marks.proofs.Turns.{at_position, one_position}
-use Rattle.link_marks.proofs.Phases.{normal_ne_header, normal_ne_update}
-use Rattle.link_marks.proofs.Inside.{normal_tells, header_tells, update_tells, owned_by, fill_at}
-use Rattle.link_marks.proofs.Rings.{stands_moved, is_ring}
+use Rattle.link_marks.proofs.Positions.{at_position, one_position}
+use Rattle.link_marks.proofs.FramePhases.{normal_ne_header, normal_ne_update}
+use Rattle.link_marks.proofs.LinkFills.{normal_tells, header_tells, update_tells, owned_by, fill_at}
+use Rattle.link_marks.proofs.RingsKept.{stands_moved, is_ring}
 
 -- ---- of a frame
 

@@ -15,11 +15,11 @@ use Rattle.link_marks.specs.KeptHistory.{Passing, WhyPassed}
 use Rattle.link_marks.specs.KeptContents.{PagesKept}
 use Rattle.link_marks.specs.RingKept.{IsRingKept}
 use Rattle.link_marks.specs.Reached.{MayStart, IsReached}
-use Rattle.link_marks.proofs.Phases.{none_some, normal_ne_update}
-use Rattle.link_marks.proofs.Inside.{owned_by}
-use Rattle.link_marks.proofs.Cuts.{length-cut_from}
+use Rattle.link_marks.proofs.FramePhases.{none_some, normal_ne_update}
+use Rattle.link_marks.proofs.LinkFills.{owned_by}
+use Rattle.link_marks.proofs.FillCuts.{length-cut_from}
 use Rattle.link_marks.proofs.Committed.{committed_prefix}
-use Rattle.link_marks.proofs.EachStep.{step_kept}
+use Rattle.link_marks.proofs.LinkSteps.{step_kept}
 use Rattle.link_marks.proofs.HistorySteps.{step_owed}
 use Rattle.link_marks.proofs.ContentSteps.{contents_step}
 use Rattle.link_marks.proofs.ClosedSteps.{closed_step}
@@ -27,10 +27,10 @@ use Rattle.link_marks.proofs.PartitionSteps.{partition_step, settled}
 use Rattle.link_marks.proofs.PartitionLemmas.{partition_rest, take_map}
 use Rattle.link_marks.specs.KeptPartition.{PartitionAt, pieces_of}
 use Rattle.trace_model.specs.Partition.{IsPartition}
-use Rattle.link_marks.proofs.Pages.{page_below}
-use Rattle.link_marks.proofs.Start.{start_kept, start_history}
+use Rattle.link_marks.proofs.PageChanges.{page_below}
+use Rattle.link_marks.proofs.NewRing.{start_kept, start_history}
 
--- ---- frames by their place on the stack
+-- ---- frames by their index on the stack
 
 some_frame : (a b : Frame) → Some a ≡ Some b → a ≡ b
 some_frame a b e = cc

@@ -6,10 +6,10 @@ use Rattle.trace_model.specs.Frames.{Kind, for_record, for_close, Role, owner, h
 use Rattle.trace_model.specs.Ring.{Core, links_with}
 use Rattle.trace_model.specs.Steps.{Event, Answer, with_link, in_phase, after_leave, with_new_tail, after_next, BeginsAnew, ReserveStep, reserves, finds_nothing, is_crowded, is_worn, notes, LookStep, look_late, sees_free, sees_header, sees_update, ClaimStep, claim_late, claims, claim_fails, NextStep, next_late, sees_normal, sees_other, MarkStep, mark_late, marks, mark_fails, ClearStep, clears, OpenStep, open_late, opens, ReleaseStep, releases, releases_last, FrameStep, Step, push_step, push_refused, close_step, close_refused, frame_step, frame_lacks, end_step, end_lacks, end_early, read_step}
 use Rattle.link_marks.specs.KeptLinks.{Stands, PhaseKept, FramesKept, LinksKept}
-use Rattle.link_marks.proofs.Turns.{link_here}
-use Rattle.link_marks.proofs.Phases.{none_some, normal_ne_header, Noted, Passed, IsSet, knows_reserving, knows_reserved, knows_looking, knows_claiming, knows_looking_next, knows_marking, knows_clearing, knows_opening, knows_releasing}
-use Rattle.link_marks.proofs.Inside.{normal_inside, update_inside}
-use Rattle.link_marks.proofs.Stacks.{restacked, rephased, leaves_kept, begun_on_kept, top_kept}
+use Rattle.link_marks.proofs.Positions.{link_here}
+use Rattle.link_marks.proofs.FramePhases.{none_some, normal_ne_header, Noted, Passed, IsSet, knows_reserving, knows_reserved, knows_looking, knows_claiming, knows_looking_next, knows_marking, knows_clearing, knows_opening, knows_releasing}
+use Rattle.link_marks.proofs.LinkFills.{normal_inside, update_inside}
+use Rattle.link_marks.proofs.FrameChanges.{restacked, rephased, leaves_kept, begun_on_kept, top_kept}
 use Rattle.link_marks.proofs.WriterSteps.{claims_kept, marks_kept, clears_kept, begun_kept, released_kept}
 use Rattle.link_marks.proofs.ReaderSteps.{read_kept}
 

@@ -8,7 +8,7 @@ use Rattle.trace_model.specs.Links.{normal, header, update, Link, normal_link, h
 use Rattle.trace_model.specs.Frames.{Role, owner, helper, Phase, reserving, looking, claiming, looking_next, marking, clearing, opening, reserved, releasing, Frame, noted_fill, owned_update}
 use Rattle.trace_model.specs.Ring.{link_into, links_with, page_at, ReaderPhase, loading_link, loading_done, storing_link, swapping}
 use Rattle.link_marks.specs.KeptLinks.{Spot, spot, Stands, HasSeen, ReaderKept, PhaseKept, FramesKept, passed_spot, marking_spot, clearing_fill}
-use Rattle.link_marks.proofs.Turns.{link_here}
+use Rattle.link_marks.proofs.Positions.{link_here}
 
 -- ---- constructors differ
 
@@ -201,7 +201,7 @@ pub map_frames : (n : ℕ) (links links' : List Link) (order order' : List ℕ) 
 map_frames n links links' order order' head head' done done' opened opened' [] step k = tt
 map_frames n links links' order order' head head' done done' opened opened' (frame ∷ below) step k = (step frame.phase k.0, map_frames n links links' order order' head head' done done' opened opened' below step k.1)
 
--- the same, where none of the frames has set the UPDATE at the place of fill f
+-- the same, where none of the frames has set the UPDATE at the position of fill f
 pub map_others : (n : ℕ) (links links' : List Link) (order order' : List ℕ) (head head' done done' opened opened' f : ℕ) (frames : List Frame)
     → (Stands frames f → ⊥)
     → ((phase : Phase) → (owned_update phase ≡ Some f → ⊥) → PhaseKept n links order head done opened phase → PhaseKept n links' order' head' done' opened' phase)

@@ -115,7 +115,7 @@ length-finished_at (Some k) (Some p) [] = refl
 length-finished_at (Some zero) (Some p) (x ∷ xs) = refl
 length-finished_at (Some (suc k)) (Some p) (x ∷ xs) = ap suc (length-finished_at (Some k) (Some p) xs)
 
--- the part of the records from a place on, or none of it, that an end changes
+-- the part of the records from a index on, or none of it, that an end changes
 abbrev finished_from : ℕ → ℕ → List ℕ → List Reservation → List Reservation
 finished_from from k p xs = if nat_lt k from then xs else records_with_payload (Some (k - from)) (Some p) xs
 

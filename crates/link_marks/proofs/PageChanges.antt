@@ -10,13 +10,13 @@ use Rattle.trace_model.specs.Packing.{cut_from}
 use Rattle.trace_model.specs.Ring.{Held, page_at, AreApart}
 use Rattle.trace_model.specs.Steps.{held_with_payload}
 use Rattle.link_marks.specs.KeptContents.{IsRising, PagesKept}
-use Rattle.link_marks.proofs.Turns.{apart, page_else}
-use Rattle.link_marks.proofs.Cuts.{IsRising-more, IsRising-snoc, reserved_before, reserved_last, opened_before, opened_last, length-finished_at, finished_fill}
+use Rattle.link_marks.proofs.Positions.{apart, page_else}
+use Rattle.link_marks.proofs.FillCuts.{IsRising-more, IsRising-snoc, reserved_before, reserved_last, opened_before, opened_last, length-finished_at, finished_fill}
 
 abbrev pub nothing : Held
 nothing = record { first = 0; records = [] }
 
--- pages at the places of two fills of the row differ
+-- pages at the positions of two fills of the row differ
 pub pages_differ : (n : ℕ) (order : List ℕ) (spare head f g : ℕ) → 1 ≤ n → AreApart n order spare → head ≤ f → f < head + n → head ≤ g → g < head + n → f ≢ g → page_at n order f ≢ page_at n order g
 pages_differ n order spare head f g some a lf hf lg hg ne same = apart head n f g lf hf lg hg ne (a.differ (f % n) (g % n) (mod-lt f some) (mod-lt g some) same)
 
@@ -86,7 +86,7 @@ module _ (n start : ℕ) (order : List ℕ) (spare : ℕ) (held : List Held) (cu
         ∙ finished_fill number payload cuts xs (f - start) (omega arith);
   }
 
-  -- the head is taken: its page is the spare, and the spare stands at its place, both empty
+  -- the head is taken: its page is the spare, and the spare stands at its position, both empty
   pub pages_swapped : (page : ℕ) → 2 ≤ n → page ≡ page_at n order head → opened ≤ head + n → PagesKept n start (set order (head % n) spare) (set (set held spare nothing) page nothing) cuts xs (head + 1) opened
   pages_swapped page two is within = let from_start = k.from_start in record {
     begun = k.begun;

@@ -9,9 +9,9 @@ use Rattle.trace_model.specs.Frames.{Kind, for_record, for_close, Role, owner, h
 use Rattle.trace_model.specs.Ring.{ReaderPhase, loading_link, loading_done, storing_link, swapping, Core, link_into}
 use Rattle.trace_model.specs.Steps.{Event, Answer, going, refused, with_action, with_held, with_link, in_phase, reader_at, contents_of, tail_page, number_in, NeedsPage, BeginsAnew, ReserveStep, reserves, finds_nothing, is_crowded, is_worn, notes, LookStep, look_late, sees_free, sees_header, sees_update, ClaimStep, claim_late, claims, claim_fails, NextStep, next_late, sees_normal, sees_other, MarkStep, mark_late, marks, mark_fails, ClearStep, clears, OpenStep, open_late, opens, ReleaseStep, releases, releases_last, FrameStep, LoadStep, loads_header, loads_update, loads_owed, loads_passed, LoadDoneStep, finds_none, finds_closed, SwapStep, swaps, swap_fails, ReadStep, after_next, IsTooLong, PushRefused, all_stand, has_no_room, comes_late, Run, Step, push_step, push_refused, close_step, close_refused, frame_step, frame_lacks, end_step, end_lacks, end_early, read_step}
 use Rattle.link_marks.specs.RingLaws.{StepsAreDetermined, events_of, RunsAreDetermined}
-use Rattle.link_marks.proofs.Phases.{none_some}
-use Rattle.link_marks.proofs.ExamplesComputed.{Outcome, gives, same_link, anew, goes_on, needs_page, record_len, close_of, reserve_of, look_at, look_of, claim_of, next_at, next_of, mark_at, mark_of, clear_of, open_of, release_of, frame_of, load_at, read_of, too_long_for, push_of, steps_of, full_end, end_in, end_of, step_of}
-use Rattle.link_marks.proofs.ExamplesSound.{same_link_true, same_link_refl, too_long_true}
+use Rattle.link_marks.proofs.FramePhases.{none_some}
+use Rattle.link_marks.proofs.StepFunction.{Outcome, gives, same_link, anew, goes_on, needs_page, record_len, close_of, reserve_of, look_at, look_of, claim_of, next_at, next_of, mark_at, mark_of, clear_of, open_of, release_of, frame_of, load_at, read_of, too_long_for, push_of, steps_of, full_end, end_in, end_of, step_of}
+use Rattle.link_marks.proofs.StepFunctionSound.{same_link_true, same_link_refl, too_long_true}
 
 -- what is computed is this answer and this state
 abbrev pub Is : Option Outcome → Answer → Core → Type 0

@@ -1,4 +1,4 @@
--- There is one new ring of n places for each number of its first fill.
+-- There is one new ring of n positions for each number of its first fill.
 use Rattle.std.proofs.Common.{◌≡◌, ◌≢◌, ℕ, zero, suc, ◌+◌, ◌%◌, ◌<◌, ◌≤◌, ◌⊎◌, inl, inr, if◌then◌else◌, ◌==◌, List, [], ◌∷◌, length, get_or, refl, sym, ap, ◌∙◌, subst, mod-lt, arith}
 use Rattle.std.proofs.lemmas.Bool.{cases_lt, eq-eqb, ne_eqb}
 use Rattle.std.proofs.lemmas.List.{ext_get_or}
@@ -7,7 +7,7 @@ use native.Mathlib.Decide.{ℕ_discrete}
 use Rattle.trace_model.specs.Links.{Link, normal_link, header_link}
 use Rattle.trace_model.specs.Ring.{Held, loading_link, Core, IsStart, link_into}
 use Rattle.link_marks.specs.RingLaws.{NewRingIsOne}
-use Rattle.link_marks.proofs.Turns.{at_position, one_position}
+use Rattle.link_marks.proofs.Positions.{at_position, one_position}
 
 -- ---- lists by their entries
 
@@ -31,7 +31,7 @@ made_at f from (suc count) (suc i) d low = made_at f (suc from) count i d (omega
 nothing : Held
 nothing = record { first = 0; records = [] }
 
--- the first round's fill at a place
+-- the first round's fill at a position
 fill_by : (n start position : ℕ) → (position < n) ⊎ (n ≤ position) → ℕ
 fill_by n start position (inl low) = (at_position start n position low).0
 fill_by n start position (inr past) = 0

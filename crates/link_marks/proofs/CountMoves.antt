@@ -7,7 +7,7 @@ use Rattle.trace_model.specs.Window.{Window, Happening, opened_one, released_one
 use Rattle.trace_model.specs.Steps.{Event, Answer, with_new_tail, after_begin, taken_fill, BeginsAnew, ReserveStep, reserves, finds_nothing, is_crowded, is_worn, notes, LookStep, look_late, sees_free, sees_header, sees_update, ClaimStep, claim_late, claims, claim_fails, NextStep, next_late, sees_normal, sees_other, MarkStep, mark_late, marks, mark_fails, ClearStep, clears, OpenStep, open_late, opens, ReleaseStep, releases, releases_last, FrameStep, loads_header, loads_update, loads_owed, loads_passed, finds_none, finds_closed, swaps, swap_fails, ReadStep, Step, push_step, push_refused, close_step, close_refused, frame_step, frame_lacks, end_step, end_lacks, end_early, read_step}
 use Rattle.link_marks.specs.KeptLinks.{LinksKept}
 use Rattle.link_marks.specs.WindowLaws.{HeadIsTaken, HeadIsLost, LossesNeedAFullRing, ClosesNeedNoFrame}
-use Rattle.link_marks.proofs.Inside.{header_tells, header_inside, fill_at}
+use Rattle.link_marks.proofs.LinkFills.{header_tells, header_inside, fill_at}
 use Rattle.link_marks.proofs.HistorySteps.{step_owed}
 
 begun_on_head : (kind : Kind) (c : Core) (frame : Frame) (below : List Frame) → (after_begin kind c frame below).head ≡ c.head

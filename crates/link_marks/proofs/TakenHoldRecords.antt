@@ -5,10 +5,10 @@ use Rattle.trace_model.specs.Packing.{opens_of}
 use Rattle.trace_model.specs.Ring.{Held, Core}
 use Rattle.link_marks.specs.Reached.{IsReached}
 use Rattle.link_marks.specs.HistoryLaws.{HoldRecords}
-use Rattle.link_marks.proofs.Cuts.{length-cut_from}
+use Rattle.link_marks.proofs.FillCuts.{length-cut_from}
 use Rattle.link_marks.proofs.PackedRuns.{runs_packed}
 use Rattle.link_marks.proofs.FullFills.{packed_full}
-use Rattle.link_marks.proofs.Rings.{reached_kept}
+use Rattle.link_marks.proofs.RingsKept.{reached_kept}
 
 -- what is taken is a fill below the head, which isn't the last one
 pub taken_hold : (n size start : ℕ) (c : Core) → IsReached n size start c → HoldRecords c.reader.taken

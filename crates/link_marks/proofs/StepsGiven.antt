@@ -11,13 +11,13 @@ use Rattle.trace_model.specs.Ring.{ReaderPhase, loading_link, loading_done, stor
 use Rattle.trace_model.specs.Steps.{Event, pushes, pushes_close, steps, ends, reads, Answer, contents_of, tail_page, Step}
 use Rattle.link_marks.specs.KeptLinks.{PhaseKept, LinksKept}
 use Rattle.link_marks.specs.RingLaws.{MayAsk, EachEventIsAStep}
-use Rattle.link_marks.proofs.Turns.{at_position, link_turn}
-use Rattle.link_marks.proofs.Inside.{normal_tells, header_tells, update_tells, owned_by}
-use Rattle.link_marks.proofs.Stacks.{top_kept}
-use Rattle.link_marks.proofs.Rings.{ring_start, reached_kept}
-use Rattle.link_marks.proofs.ExamplesComputed.{Outcome, same_link, needs_page, record_len, close_of, reserve_of, look_at, look_of, claim_of, next_at, next_of, mark_at, mark_of, clear_of, open_of, release_of, frame_of, load_at, read_of, too_long_for, push_of, close_push_of, steps_of, full_end, end_in, end_of, step_of}
-use Rattle.link_marks.proofs.ExamplesSound.{Sound, step_sound, link_is, same_link_false}
-use Rattle.link_marks.proofs.ExamplesReady.{IsForRecord, PhaseReady, StackReady, Ready, start_ready, run_ready}
+use Rattle.link_marks.proofs.Positions.{at_position, link_turn}
+use Rattle.link_marks.proofs.LinkFills.{normal_tells, header_tells, update_tells, owned_by}
+use Rattle.link_marks.proofs.FrameChanges.{top_kept}
+use Rattle.link_marks.proofs.RingsKept.{ring_start, reached_kept}
+use Rattle.link_marks.proofs.StepFunction.{Outcome, same_link, needs_page, record_len, close_of, reserve_of, look_at, look_of, claim_of, next_at, next_of, mark_at, mark_of, clear_of, open_of, release_of, frame_of, load_at, read_of, too_long_for, push_of, close_push_of, steps_of, full_end, end_in, end_of, step_of}
+use Rattle.link_marks.proofs.StepFunctionSound.{Sound, step_sound, link_is, same_link_false}
+use Rattle.link_marks.proofs.StepsReady.{IsForRecord, PhaseReady, StackReady, Ready, start_ready, run_ready}
 
 abbrev pub Given : Option Outcome → Type 0
 Given None = ⊥
@@ -41,7 +41,7 @@ module _ (n size : ℕ) (c : Core) (frame : Frame) (below : List Frame) (k : Lin
   reserve_given (for_record moment len) = given_if (nat_le (record_len n c moment len) size) _ _ (λ e. tt) (λ e. needs_page_given)
   reserve_given for_close = close_given (contents_of c (tail_page n c)).records
 
-  -- the place of the next fill is free; or the ring is full, and its place the head's
+  -- the position of the next fill is free; or the ring is full, and its position the head's
   full : (noted : ℕ) → noted ≡ c.opened → (noted < c.head + n → ⊥) → noted ≡ c.head + n
   full noted now out = let within = k.opened_le in dite (ℕ_discrete noted (c.head + n)) (λ e. e) (λ ne. absurd (out (omega arith)))
 

@@ -7,11 +7,11 @@ use Rattle.trace_model.specs.Ring.{Taken, Core, link_into, page_at, IsStart, IsR
 use Rattle.trace_model.specs.Steps.{Exchange}
 use Rattle.trace_model.specs.Frames.{for_record, owner, looking_next}
 use Rattle.link_marks.specs.WrongSteps.{to_free_positions, with_head_lost, to_open_tail, with_tail_taken, to_helped_move, with_update_cleared, to_passed_mark, with_second_head, to_late_swap, with_late_swap, to_inner_end, with_page_closed, IsWrongStep, LosesWhileAPositionIsFree, TakesTheTail, HelperClearsTheUpdate, TwoHeads, SwapIgnoresTheFill, InnerEndPublishes}
-use Rattle.link_marks.proofs.Phases.{none_some}
-use Rattle.link_marks.proofs.Rings.{ring_start, ring_step, ring_run, is_ring}
-use Rattle.link_marks.proofs.ExamplesComputed.{run_of}
-use Rattle.link_marks.proofs.ExamplesSound.{event_in, answer_in, Gives, run_sound}
-use Rattle.link_marks.proofs.ExamplesTried.{two_pages, four_pages, two_start, four_start, last_from}
+use Rattle.link_marks.proofs.FramePhases.{none_some}
+use Rattle.link_marks.proofs.RingsKept.{ring_start, ring_step, ring_run, is_ring}
+use Rattle.link_marks.proofs.StepFunction.{run_of}
+use Rattle.link_marks.proofs.StepFunctionSound.{event_in, answer_in, Gives, run_sound}
+use Rattle.link_marks.proofs.ExamplesRun.{two_pages, four_pages, two_start, four_start, last_from}
 
 -- where the state is no ring, no step makes it
 refused : (n size : ℕ) (start : Core) (exchanges : List Exchange) (wrong : Core → Core) → 2 ≤ n → 0 + 1 + n ≤ 2 ^ 48 → IsStart n 0 start

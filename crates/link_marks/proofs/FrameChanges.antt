@@ -8,7 +8,7 @@ use Rattle.trace_model.specs.Frames.{Kind, for_record, for_close, Phase, reservi
 use Rattle.trace_model.specs.Ring.{Held, Core}
 use Rattle.trace_model.specs.Steps.{after_leave, after_begin, held_with_payload, own_number}
 use Rattle.link_marks.specs.KeptLinks.{Stands, MoversDiffer, PhaseKept, FramesKept, LinkKept, is_normal, is_header, is_update, LinksKept}
-use Rattle.link_marks.proofs.Phases.{none_some, knows_reserving, knows_releasing}
+use Rattle.link_marks.proofs.FramePhases.{none_some, knows_reserving, knows_releasing}
 
 pub link_stays : (n : ℕ) (links : List Link) (order : List ℕ) (head : ℕ) (frames frames' : List Frame) (f : ℕ) → ((g : ℕ) → Stands frames g → Stands frames' g) → LinkKept n links order head frames f → LinkKept n links order head frames' f
 link_stays n links order head frames frames' f stays (is_normal e owed) = is_normal e (λ at. let (lost, is, st) = owed at in (lost, is, stays (lost + n) st))

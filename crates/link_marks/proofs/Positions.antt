@@ -1,4 +1,4 @@
--- Fills and places: of n fills in a row just one lies at each of n places.
+-- Fills and positions: of n fills in a row just one lies at each of n positions.
 use Rattle.std.proofs.Common.{◌≡◌, ◌≢◌, ℕ, zero, suc, ◌+◌, ◌%◌, ◌<◌, ◌≤◌, List, length, get_or, set, refl, sym, ap, ◌∙◌, mod-lt, mod-eq_of_lt, arith}
 use Rattle.std.proofs.Math.Nat.{add-mod_right}
 use Rattle.std.proofs.lemmas.List.{get_or-set_same, get_or-set_other}
@@ -7,7 +7,7 @@ use native.Mathlib.Decide.{ℕ_discrete}
 use Rattle.trace_model.specs.Links.{Link, normal_link}
 use Rattle.trace_model.specs.Ring.{link_into, links_with, page_at}
 
--- each place has one of n fills in a row
+-- each position has one of n fills in a row
 pub at_position : (h n p : ℕ) → p < n → (f : ℕ) × (h ≤ f) × (f < h + n) × (f % n ≡ p)
 at_position zero n p below = (p, omega arith, omega arith, mod-eq_of_lt below)
 at_position (suc h) n p below = let (f, low, high, at) = at_position h n p below in
@@ -29,7 +29,7 @@ one_position (suc h) n f g lf hf lg hg e =
     (λ is. dite (ℕ_discrete g (h + n)) (λ it. is ∙ sym it) (λ ne. let a : f' ≡ h = f_last is in let b : g' ≡ g = g_else ne in absurd (omega arith)))
     (λ ne. dite (ℕ_discrete g (h + n)) (λ it. let a : f' ≡ f = f_else ne in let b : g' ≡ h = g_last it in absurd (omega arith)) (λ it. sym (f_else ne) ∙ same ∙ g_else it))
 
--- two fills of the row lie at different places
+-- two fills of the row lie at different positions
 pub apart : (h n f g : ℕ) → h ≤ f → f < h + n → h ≤ g → g < h + n → f ≢ g → f % n ≢ g % n
 apart h n f g lf hf lg hg ne e = ne (one_position h n f g lf hf lg hg e)
 
