@@ -9,7 +9,7 @@ use Rattle.link_marks.specs.KeptLinks.{LinksKept}
 use Rattle.link_marks.specs.KeptHistory.{history_stack_on, history_stack, HistoryKept}
 use Rattle.link_marks.specs.KeptContents.{ContentsKept, ClosedAt, ClosedKept}
 use Rattle.link_marks.proofs.Histories.{settled_at_rest}
-use Rattle.link_marks.proofs.HistorySteps.{top_shown}
+use Rattle.link_marks.proofs.HistorySteps.{top_stack}
 use Rattle.link_marks.proofs.FillCuts.{opens_of-open_fill}
 use Rattle.link_marks.proofs.Committed.{committed_len-settled, first_more, first_below}
 
@@ -63,9 +63,9 @@ module _ (n size start : ℕ) (c : Core) (frame : Frame) (below : List Frame) (k
   closed_frame (opening noted page) answer after same (opens now a is) = subst (ClosedKept start) (sym is) (closed_opened n start c k t z frame.kind page frame below)
   closed_frame (reserved number) answer after same step = subst (ClosedKept start) (sym step.1) z
   closed_frame releasing answer after same (releases alone more a is) = subst (ClosedKept start) (sym is)
-      (closed_released n start c k t z (settled_at_rest c.history (top_shown n start c frame below h top ∙ ap (λ (p : Phase). history_stack_on p frame.kind (history_stack below)) same ∙ ap history_stack alone)) (omega arith))
+      (closed_released n start c k t z (settled_at_rest c.history (top_stack n start c frame below h top ∙ ap (λ (p : Phase). history_stack_on p frame.kind (history_stack below)) same ∙ ap history_stack alone)) (omega arith))
   closed_frame releasing answer after same (releases_last alone last a is) = subst (ClosedKept start) (sym is)
-      (closed_released n start c k t z (settled_at_rest c.history (top_shown n start c frame below h top ∙ ap (λ (p : Phase). history_stack_on p frame.kind (history_stack below)) same ∙ ap history_stack alone)) (omega arith))
+      (closed_released n start c k t z (settled_at_rest c.history (top_stack n start c frame below h top ∙ ap (λ (p : Phase). history_stack_on p frame.kind (history_stack below)) same ∙ ap history_stack alone)) (omega arith))
 
 closed_read : (n start : ℕ) (c : Core) (phase : ReaderPhase) (answer : Answer) (after : Core) → ClosedKept start c → ReadStep n c phase answer after → ClosedKept start after
 closed_read n start c loading_link answer after z (loads_header page fill at a is) = subst (ClosedKept start) (sym is) z

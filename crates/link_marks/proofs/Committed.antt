@@ -7,8 +7,8 @@ use Rattle.trace_model.specs.History.{Action, push, push_close, open_fill, reser
 use Rattle.trace_model.specs.Packing.{opens_of}
 use Rattle.link_marks.specs.KeptContents.{IsRising}
 use Rattle.link_marks.proofs.FramePhases.{some_is, none_some}
-use Rattle.link_marks.proofs.Histories.{written_snoc}
-use Rattle.link_marks.proofs.FillCuts.{length-finished_at, IsRising-least, opens_at, opens_more}
+use Rattle.link_marks.proofs.Histories.{writer_snoc}
+use Rattle.link_marks.proofs.FillCuts.{length-records_with_payload, IsRising-least, opens_at, opens_more}
 use Rattle.link_marks.proofs.ContentSteps.{records_snoc}
 
 either_way : (b : Bool) → (b ≡ true) ⊎ (b ≡ false)
@@ -61,40 +61,40 @@ take_unfinished zero (Some k) (Some p) (x ∷ xs) low = refl
 take_unfinished (suc least) (Some zero) (Some p) (x ∷ xs) low = let bad = low 0 refl in absurd (omega arith)
 take_unfinished (suc least) (Some (suc k)) (Some p) (x ∷ xs) low = ap (λ (l : List Reservation). x ∷ l) (take_unfinished least (Some k) (Some p) xs (λ j e. let same : k ≡ j = some_is k j e in let le = low (suc k) refl in omega arith))
 
-pub take_acted : (least : ℕ) (stack : List Frame) (xs : List Reservation) (a : Action) → least ≤ length xs → Behind least stack → take least (after_action stack xs a).records ≡ take least xs
-take_acted least stack xs (push moment len) le b = refl
-take_acted least stack xs push_close le b = refl
-take_acted least stack xs open_fill le b = refl
-take_acted least [] xs reserve le b = refl
-take_acted least (record_frame moment len None ∷ stack) xs reserve le b = take-append-le least xs _ le
-take_acted least (record_frame moment len (Some k) ∷ stack) xs reserve le b = refl
-take_acted least (close_frame ∷ stack) xs reserve le b = refl
-take_acted least [] xs (leave payload) le b = refl
-take_acted least (record_frame moment len number ∷ stack) xs (leave payload) le b = take_unfinished least number payload xs b.0
-take_acted least (close_frame ∷ stack) xs (leave payload) le b = refl
+pub take_after_action : (least : ℕ) (stack : List Frame) (xs : List Reservation) (a : Action) → least ≤ length xs → Behind least stack → take least (after_action stack xs a).records ≡ take least xs
+take_after_action least stack xs (push moment len) le b = refl
+take_after_action least stack xs push_close le b = refl
+take_after_action least stack xs open_fill le b = refl
+take_after_action least [] xs reserve le b = refl
+take_after_action least (record_frame moment len None ∷ stack) xs reserve le b = take-append-le least xs _ le
+take_after_action least (record_frame moment len (Some k) ∷ stack) xs reserve le b = refl
+take_after_action least (close_frame ∷ stack) xs reserve le b = refl
+take_after_action least [] xs (leave payload) le b = refl
+take_after_action least (record_frame moment len number ∷ stack) xs (leave payload) le b = take_unfinished least number payload xs b.0
+take_after_action least (close_frame ∷ stack) xs (leave payload) le b = refl
 
-pub length_acted : (stack : List Frame) (xs : List Reservation) (a : Action) → length xs ≤ length (after_action stack xs a).records
-length_acted stack xs (push moment len) = omega arith
-length_acted stack xs push_close = omega arith
-length_acted stack xs open_fill = omega arith
-length_acted [] xs reserve = omega arith
-length_acted (record_frame moment len None ∷ stack) xs reserve = omega (arith, length-append {A = Reservation})
-length_acted (record_frame moment len (Some k) ∷ stack) xs reserve = omega arith
-length_acted (close_frame ∷ stack) xs reserve = omega arith
-length_acted [] xs (leave payload) = omega arith
-length_acted (record_frame moment len number ∷ stack) xs (leave payload) = omega (arith, length-finished_at number payload xs)
-length_acted (close_frame ∷ stack) xs (leave payload) = omega arith
+pub length_after_action : (stack : List Frame) (xs : List Reservation) (a : Action) → length xs ≤ length (after_action stack xs a).records
+length_after_action stack xs (push moment len) = omega arith
+length_after_action stack xs push_close = omega arith
+length_after_action stack xs open_fill = omega arith
+length_after_action [] xs reserve = omega arith
+length_after_action (record_frame moment len None ∷ stack) xs reserve = omega (arith, length-append {A = Reservation})
+length_after_action (record_frame moment len (Some k) ∷ stack) xs reserve = omega arith
+length_after_action (close_frame ∷ stack) xs reserve = omega arith
+length_after_action [] xs (leave payload) = omega arith
+length_after_action (record_frame moment len number ∷ stack) xs (leave payload) = omega (arith, length-records_with_payload number payload xs)
+length_after_action (close_frame ∷ stack) xs (leave payload) = omega arith
 
-behind_acted : (least : ℕ) (stack : List Frame) (xs : List Reservation) (a : Action) → least ≤ length xs → Behind least stack → Behind least (after_action stack xs a).stack
-behind_acted least stack xs (push moment len) le b = ((λ k e. absurd (none_some e)), b)
-behind_acted least stack xs push_close le b = ((λ k e. absurd (none_some e)), b)
-behind_acted least stack xs open_fill le b = b
-behind_acted least [] xs reserve le b = tt
-behind_acted least (record_frame moment len None ∷ stack) xs reserve le b = ((λ k e. let same : length xs ≡ k = some_is (length xs) k e in omega arith), b.1)
-behind_acted least (record_frame moment len (Some n) ∷ stack) xs reserve le b = b
-behind_acted least (close_frame ∷ stack) xs reserve le b = b
-behind_acted least [] xs (leave payload) le b = tt
-behind_acted least (f ∷ stack) xs (leave payload) le b = b.1
+behind_after_action : (least : ℕ) (stack : List Frame) (xs : List Reservation) (a : Action) → least ≤ length xs → Behind least stack → Behind least (after_action stack xs a).stack
+behind_after_action least stack xs (push moment len) le b = ((λ k e. absurd (none_some e)), b)
+behind_after_action least stack xs push_close le b = ((λ k e. absurd (none_some e)), b)
+behind_after_action least stack xs open_fill le b = b
+behind_after_action least [] xs reserve le b = tt
+behind_after_action least (record_frame moment len None ∷ stack) xs reserve le b = ((λ k e. let same : length xs ≡ k = some_is (length xs) k e in omega arith), b.1)
+behind_after_action least (record_frame moment len (Some n) ∷ stack) xs reserve le b = b
+behind_after_action least (close_frame ∷ stack) xs reserve le b = b
+behind_after_action least [] xs (leave payload) le b = tt
+behind_after_action least (f ∷ stack) xs (leave payload) le b = b.1
 
 committed_more : (h : List Action) (a : Action) → CommittedAt (settled_prefix h) h → CommittedAt (settled_prefix (h ++ a ∷ [])) (h ++ a ∷ [])
 committed_more h a k = ⊎_elim settled unsettled (either_way (is_settled (h ++ a ∷ [])))
@@ -109,10 +109,10 @@ committed_more h a k = ⊎_elim settled unsettled (either_way (is_settled (h ++ 
     unsettled : is_settled (h ++ a ∷ []) ≡ false → CommittedAt (settled_prefix (h ++ a ∷ [])) (h ++ a ∷ [])
     unsettled f = subst (λ (g : List Action). CommittedAt g (h ++ a ∷ [])) (sym (settled_more h a ∙ cond-false _ _ _ f)) record {
       agrees = ap (λ (l : List Reservation). map as_record (take (length (reserved_records (settled_prefix h))) l)) (records_snoc h a)
-          ∙ ap (map as_record) (take_acted (length (reserved_records (settled_prefix h))) (writer_after h).stack (writer_after h).records a k.within k.behind)
+          ∙ ap (map as_record) (take_after_action (length (reserved_records (settled_prefix h))) (writer_after h).stack (writer_after h).records a k.within k.behind)
           ∙ k.agrees;
-      within = let within = k.within in let more = length_acted (writer_after h).stack (writer_after h).records a in let e = ap (length {A = Reservation}) (records_snoc h a) in omega arith;
-      behind = subst (Behind (length (reserved_records (settled_prefix h)))) (sym (ap (λ (w : WriterState). w.stack) (written_snoc h a))) (behind_acted (length (reserved_records (settled_prefix h))) (writer_after h).stack (writer_after h).records a k.within k.behind);
+      within = let within = k.within in let more = length_after_action (writer_after h).stack (writer_after h).records a in let e = ap (length {A = Reservation}) (records_snoc h a) in omega arith;
+      behind = subst (Behind (length (reserved_records (settled_prefix h)))) (sym (ap (λ (w : WriterState). w.stack) (writer_snoc h a))) (behind_after_action (length (reserved_records (settled_prefix h))) (writer_after h).stack (writer_after h).records a k.within k.behind);
     }
 
 committed_from : (front behind : List Action) → CommittedAt (settled_prefix front) front → CommittedAt (settled_prefix (front ++ behind)) (front ++ behind)
@@ -139,7 +139,7 @@ committed_len-settled h t = let e = ap (λ (g : List Action). length (reserved_r
 pub committed_len-more : (h : List Action) (a : Action) → committed_len h ≤ committed_len (h ++ a ∷ [])
 committed_len-more h a = ⊎_elim
     (λ t. let e = ap (λ (g : List Action). length (reserved_records g)) (settled_more h a ∙ cond-true _ _ _ t) in let within = (committed_prefix h).within in
-    let more = length_acted (writer_after h).stack (writer_after h).records a in let e' = ap (length {A = Reservation}) (records_snoc h a) in omega arith)
+    let more = length_after_action (writer_after h).stack (writer_after h).records a in let e' = ap (length {A = Reservation}) (records_snoc h a) in omega arith)
     (λ f. let e = ap (λ (g : List Action). length (reserved_records g)) (settled_more h a ∙ cond-false _ _ _ f) in omega arith)
     (either_way (is_settled (h ++ a ∷ [])))
 

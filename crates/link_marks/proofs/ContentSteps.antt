@@ -11,8 +11,8 @@ use Rattle.link_marks.specs.KeptHistory.{history_frame, history_stack, HistoryKe
 use Rattle.link_marks.specs.KeptContents.{PagesKept, ContentsKept}
 use Rattle.link_marks.proofs.LinkFills.{header_tells, fill_at}
 use Rattle.link_marks.proofs.FrameChanges.{top_kept}
-use Rattle.link_marks.proofs.Histories.{written_snoc, opened_stack, shown_standing}
-use Rattle.link_marks.proofs.HistorySteps.{top_shown}
+use Rattle.link_marks.proofs.Histories.{writer_snoc, opened_stack, stack_standing}
+use Rattle.link_marks.proofs.HistorySteps.{top_stack}
 use Rattle.link_marks.proofs.FillCuts.{opens_of-push, opens_of-push_close, opens_of-reserve, opens_of-leave, opens_of-open_fill}
 use Rattle.link_marks.proofs.PageChanges.{pages_later, pages_reserved, pages_begun, pages_finished, pages_swapped}
 
@@ -21,7 +21,7 @@ same_pages : (n start : ℕ) (order : List ℕ) (held : List Held) (cuts cuts' :
 same_pages n start order held cuts cuts' xs xs' head opened a b k = subst (λ (l : List ℕ). PagesKept n start order held l xs' head opened) (sym a) (subst (λ (l : List Reservation). PagesKept n start order held cuts l head opened) (sym b) k)
 
 pub records_snoc : (h : List Action) (a : Action) → reserved_records (h ++ a ∷ []) ≡ (after_action (writer_after h).stack (writer_after h).records a).records
-records_snoc h a = ap (λ (w : WriterState). w.records) (written_snoc h a)
+records_snoc h a = ap (λ (w : WriterState). w.records) (writer_snoc h a)
 
 pub records_left : (h : List Action) (f : history.Frame) (stack : List history.Frame) (payload : Option (List ℕ)) → (writer_after h).stack ≡ f ∷ stack → reserved_records (h ++ leave payload ∷ []) ≡ records_after_leave f payload (reserved_records h)
 records_left h f stack payload e = records_snoc h (leave payload) ∙ ap (λ (s : List history.Frame). (after_action s (writer_after h).records (leave payload)).records) e
@@ -41,13 +41,13 @@ module _ (n start : ℕ) (c : Core) (frame : Frame) (below : List Frame) (some :
       (records_left c.history (history_frame frame.kind frame.phase) (history_stack below) payload stack ∙ left_is frame.kind frame.phase payload (reserved_records c.history))
       (pages_finished n start c.order c.spare c.held (opens_of c.history) (reserved_records c.history) c.head c.opened some a t (own_number frame.kind frame.phase) payload)
 
-  pub contents_begun_on : (kind : Kind) → ContentsKept n start (after_begin kind c frame below)
-  contents_begun_on (for_record moment len) = t
-  contents_begun_on for_close = contents_leave None
+  pub contents_after_begin : (kind : Kind) → ContentsKept n start (after_begin kind c frame below)
+  contents_after_begin (for_record moment len) = t
+  contents_after_begin for_close = contents_leave None
 
 module _ (n size start : ℕ) (c : Core) (frame : Frame) (below : List Frame) (k : LinksKept n c) (h : HistoryKept n start c) (t : ContentsKept n start c) (top : c.frames ≡ frame ∷ below) where
   stack_top : (old : Phase) → frame.phase ≡ old → old ≢ releasing → (writer_after c.history).stack ≡ history_frame frame.kind frame.phase ∷ history_stack below
-  stack_top old same stands = top_shown n start c frame below h top ∙ shown_standing frame.kind frame.phase (history_stack below) (λ e. stands (sym same ∙ e))
+  stack_top old same stands = top_stack n start c frame below h top ∙ stack_standing frame.kind frame.phase (history_stack below) (λ e. stands (sym same ∙ e))
 
   some_page : 1 ≤ n
   some_page = let two = k.some_pages in omega arith
@@ -59,7 +59,7 @@ module _ (n size start : ℕ) (c : Core) (frame : Frame) (below : List Frame) (k
   contents_goes after phase is = subst (ContentsKept n start) (sym is) t
 
   contents_anew : (noted : ℕ) (answer : Answer) (after : Core) (old : Phase) → frame.phase ≡ old → old ≢ releasing → BeginsAnew c frame below noted answer after → ContentsKept n start after
-  contents_anew noted answer after old same stands step = subst (ContentsKept n start) (sym step.after_is) (contents_begun_on n start c frame below some_page k.apart t (stack_top old same stands) frame.kind)
+  contents_anew noted answer after old same stands step = subst (ContentsKept n start) (sym step.after_is) (contents_after_begin n start c frame below some_page k.apart t (stack_top old same stands) frame.kind)
 
   contents_reserve : (answer : Answer) (after : Core) → frame.phase ≡ reserving → ReserveStep n size c frame below answer after → ContentsKept n start after
   contents_reserve answer after same (reserves moment len r kind r_is fits a is) = let unread = k.head_le in let behind = k.done_lt in
@@ -108,7 +108,7 @@ module _ (n size start : ℕ) (c : Core) (frame : Frame) (below : List Frame) (k
       let is_begun : ContentsKept n start (with_new_tail c page) =
       same_pages n start c.order held (opens_of c.history ++ length (reserved_records c.history) ∷ []) (opens_of (c.history ++ open_fill ∷ [])) (reserved_records c.history) (reserved_records (c.history ++ open_fill ∷ [])) c.head (c.opened + 1)
       (opens_of-open_fill c.history) (records_snoc c.history open_fill) begun_pages in
-      subst (ContentsKept n start) (sym is) (contents_begun_on n start (with_new_tail c page) frame below some_page k.apart is_begun
+      subst (ContentsKept n start) (sym is) (contents_after_begin n start (with_new_tail c page) frame below some_page k.apart is_begun
       (opened_stack c.history (history_frame frame.kind frame.phase ∷ history_stack below) (stack_top (opening noted page) same (λ e. cc))) frame.kind)
 
   contents_release : (answer : Answer) (after : Core) → ReleaseStep c frame below answer after → ContentsKept n start after

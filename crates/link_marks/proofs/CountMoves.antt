@@ -10,9 +10,9 @@ use Rattle.link_marks.specs.WindowLaws.{HeadIsTaken, HeadIsLost, LossesNeedAFull
 use Rattle.link_marks.proofs.LinkFills.{header_tells, header_inside, fill_at}
 use Rattle.link_marks.proofs.HistorySteps.{step_owed}
 
-begun_on_head : (kind : Kind) (c : Core) (frame : Frame) (below : List Frame) → (after_begin kind c frame below).head ≡ c.head
-begun_on_head (for_record moment len) c frame below = refl
-begun_on_head for_close c frame below = refl
+after_begin_head : (kind : Kind) (c : Core) (frame : Frame) (below : List Frame) → (after_begin kind c frame below).head ≡ c.head
+after_begin_head (for_record moment len) c frame below = refl
+after_begin_head for_close c frame below = refl
 
 -- the head stays, is taken, or is lost
 abbrev HeadMoves : ℕ → Core → Answer → Core → Type 0
@@ -24,7 +24,7 @@ DoneMoves c after = (after.done ≡ c.done) ⊎ (IsTrue (is_settled c.history) �
 
 module _ (n size : ℕ) (c : Core) (frame : Frame) (below : List Frame) (answer : Answer) (after : Core) (k : LinksKept n c) (top : c.frames ≡ frame ∷ below) where
   stays_anew : (noted : ℕ) → BeginsAnew c frame below noted answer after → HeadMoves n c answer after
-  stays_anew noted step = inl (ap (λ (s : Core). s.head) step.after_is ∙ begun_on_head frame.kind c frame below)
+  stays_anew noted step = inl (ap (λ (s : Core). s.head) step.after_is ∙ after_begin_head frame.kind c frame below)
 
   stays : (next : Core) → next.head ≡ c.head → after ≡ next → HeadMoves n c answer after
   stays next same is = inl (ap (λ (s : Core). s.head) is ∙ same)
@@ -65,7 +65,7 @@ module _ (n size : ℕ) (c : Core) (frame : Frame) (below : List Frame) (answer 
 
   open_moves : (noted page : ℕ) → OpenStep n c frame below noted page answer after → HeadMoves n c answer after
   open_moves noted page (open_late step) = stays_anew noted step
-  open_moves noted page (opens now a is) = inl (ap (λ (s : Core). s.head) is ∙ begun_on_head frame.kind (with_new_tail c page) frame below)
+  open_moves noted page (opens now a is) = inl (ap (λ (s : Core). s.head) is ∙ after_begin_head frame.kind (with_new_tail c page) frame below)
 
   release_moves : ReleaseStep c frame below answer after → HeadMoves n c answer after
   release_moves (releases alone more a is) = stays _ refl is

@@ -108,12 +108,12 @@ opened_last from (cut ∷ cuts) xs = opened_last cut cuts xs
 
 -- ---- an end: the record with its bytes, in its fill
 
-pub length-finished_at : (number : Option ℕ) (payload : Option (List ℕ)) (xs : List Reservation) → length (records_with_payload number payload xs) ≡ length xs
-length-finished_at None payload xs = refl
-length-finished_at (Some k) None xs = refl
-length-finished_at (Some k) (Some p) [] = refl
-length-finished_at (Some zero) (Some p) (x ∷ xs) = refl
-length-finished_at (Some (suc k)) (Some p) (x ∷ xs) = ap suc (length-finished_at (Some k) (Some p) xs)
+pub length-records_with_payload : (number : Option ℕ) (payload : Option (List ℕ)) (xs : List Reservation) → length (records_with_payload number payload xs) ≡ length xs
+length-records_with_payload None payload xs = refl
+length-records_with_payload (Some k) None xs = refl
+length-records_with_payload (Some k) (Some p) [] = refl
+length-records_with_payload (Some zero) (Some p) (x ∷ xs) = refl
+length-records_with_payload (Some (suc k)) (Some p) (x ∷ xs) = ap suc (length-records_with_payload (Some k) (Some p) xs)
 
 -- the part of the records from a index on, or none of it, that an end changes
 abbrev finished_from : ℕ → ℕ → List ℕ → List Reservation → List Reservation
@@ -130,28 +130,28 @@ finished_shift from k p xs = dite (dec_le from k)
     (λ high. finished_high (suc from) (suc k) p xs (omega arith) ∙ ap (λ (j : ℕ). records_with_payload (Some j) (Some p) xs) (let e : suc k - suc from ≡ k - from = omega arith in e) ∙ sym (finished_high from k p xs high))
     (λ low. finished_low (suc from) (suc k) p xs (omega arith) ∙ sym (finished_low from k p xs (omega arith)))
 
-drop-finished_at : (from k : ℕ) (p : List ℕ) (xs : List Reservation) → drop from (records_with_payload (Some k) (Some p) xs) ≡ finished_from from k p (drop from xs)
-drop-finished_at zero k p xs = ap (λ (j : ℕ). records_with_payload (Some j) (Some p) xs) (let e : k ≡ k - 0 = omega arith in e) ∙ sym (finished_high 0 k p xs (omega arith))
-drop-finished_at (suc from) k p [] = cond_both (nat_lt k (suc from)) [] (records_with_payload (Some (k - suc from)) (Some p) []) (λ (ys : List Reservation). ◌≡◌ {A = List Reservation} [] ys) (λ _. refl) (λ _. refl)
-drop-finished_at (suc from) zero p (x ∷ xs) = sym (finished_low (suc from) 0 p (drop from xs) (omega arith))
-drop-finished_at (suc from) (suc k) p (x ∷ xs) = drop-finished_at from k p xs ∙ sym (finished_shift from k p (drop from xs))
+drop-records_with_payload : (from k : ℕ) (p : List ℕ) (xs : List Reservation) → drop from (records_with_payload (Some k) (Some p) xs) ≡ finished_from from k p (drop from xs)
+drop-records_with_payload zero k p xs = ap (λ (j : ℕ). records_with_payload (Some j) (Some p) xs) (let e : k ≡ k - 0 = omega arith in e) ∙ sym (finished_high 0 k p xs (omega arith))
+drop-records_with_payload (suc from) k p [] = cond_both (nat_lt k (suc from)) [] (records_with_payload (Some (k - suc from)) (Some p) []) (λ (ys : List Reservation). ◌≡◌ {A = List Reservation} [] ys) (λ _. refl) (λ _. refl)
+drop-records_with_payload (suc from) zero p (x ∷ xs) = sym (finished_low (suc from) 0 p (drop from xs) (omega arith))
+drop-records_with_payload (suc from) (suc k) p (x ∷ xs) = drop-records_with_payload from k p xs ∙ sym (finished_shift from k p (drop from xs))
 
-take-finished_at : (m k : ℕ) (p : List ℕ) (xs : List Reservation) → take m (records_with_payload (Some k) (Some p) xs) ≡ records_with_payload (Some k) (Some p) (take m xs)
-take-finished_at zero k p xs = refl
-take-finished_at (suc m) k p [] = refl
-take-finished_at (suc m) zero p (x ∷ xs) = refl
-take-finished_at (suc m) (suc k) p (x ∷ xs) = ap (λ (l : List Reservation). x ∷ l) (take-finished_at m k p xs)
+take-records_with_payload : (m k : ℕ) (p : List ℕ) (xs : List Reservation) → take m (records_with_payload (Some k) (Some p) xs) ≡ records_with_payload (Some k) (Some p) (take m xs)
+take-records_with_payload zero k p xs = refl
+take-records_with_payload (suc m) k p [] = refl
+take-records_with_payload (suc m) zero p (x ∷ xs) = refl
+take-records_with_payload (suc m) (suc k) p (x ∷ xs) = ap (λ (l : List Reservation). x ∷ l) (take-records_with_payload m k p xs)
 
 take-finished_from : (m from k : ℕ) (p : List ℕ) (xs : List Reservation) → take m (finished_from from k p xs) ≡ finished_from from k p (take m xs)
 take-finished_from m from k p xs = dite (dec_le from k)
-    (λ high. ap (take m) (finished_high from k p xs high) ∙ take-finished_at m (k - from) p xs ∙ sym (finished_high from k p (take m xs) high))
+    (λ high. ap (take m) (finished_high from k p xs high) ∙ take-records_with_payload m (k - from) p xs ∙ sym (finished_high from k p (take m xs) high))
     (λ low. ap (take m) (finished_low from k p xs (omega arith)) ∙ sym (finished_low from k p (take m xs) (omega arith)))
 
 finished_cut : (from : ℕ) (cuts : List ℕ) (xs : List Reservation) (k : ℕ) (p : List ℕ) (i : ℕ) → i ≤ length cuts
     → get_or (cut_from from cuts (records_with_payload (Some k) (Some p) xs)) i [] ≡ finished_from (get_or (from ∷ cuts) i 0) k p (get_or (cut_from from cuts xs) i [])
-finished_cut from [] xs k p zero low = drop-finished_at from k p xs
+finished_cut from [] xs k p zero low = drop-records_with_payload from k p xs
 finished_cut from [] xs k p (suc i) low = absurd (omega arith)
-finished_cut from (cut ∷ cuts) xs k p zero low = ap (take (cut - from)) (drop-finished_at from k p xs) ∙ take-finished_from (cut - from) from k p (drop from xs)
+finished_cut from (cut ∷ cuts) xs k p zero low = ap (take (cut - from)) (drop-records_with_payload from k p xs) ∙ take-finished_from (cut - from) from k p (drop from xs)
 finished_cut from (cut ∷ cuts) xs k p (suc i) low = finished_cut cut cuts xs k p i (omega arith)
 
 -- a fill of the finished records is the fill, finished

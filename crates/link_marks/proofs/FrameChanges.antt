@@ -73,6 +73,6 @@ leaves_kept n c frame [] payload k top none =
 leaves_kept n c frame (next ∷ below) payload k top none = popped n c frame (next ∷ below) k top (map (held_with_payload (own_number frame.kind frame.phase) payload) c.held) (c.history ++ leave payload ∷ []) none
 
 -- A fill was begun by another frame: the one on top tries again, or leaves.
-pub begun_on_kept : (n : ℕ) (c : Core) (kind : Kind) (frame : Frame) (below : List Frame) → LinksKept n c → c.frames ≡ frame ∷ below → owned_update frame.phase ≡ None → LinksKept n (after_begin kind c frame below)
-begun_on_kept n c (for_record moment len) frame below k top none = rephased n c frame below k top reserving c.held c.history (knows_reserving n c.links c.order c.head c.done c.opened) (sym none)
-begun_on_kept n c for_close frame below k top none = leaves_kept n c frame below None k top none
+pub after_begin_kept : (n : ℕ) (c : Core) (kind : Kind) (frame : Frame) (below : List Frame) → LinksKept n c → c.frames ≡ frame ∷ below → owned_update frame.phase ≡ None → LinksKept n (after_begin kind c frame below)
+after_begin_kept n c (for_record moment len) frame below k top none = rephased n c frame below k top reserving c.held c.history (knows_reserving n c.links c.order c.head c.done c.opened) (sym none)
+after_begin_kept n c for_close frame below k top none = leaves_kept n c frame below None k top none

@@ -14,34 +14,34 @@ use Rattle.link_marks.proofs.FramePhases.{none_some}
 
 -- ---- one more action
 
-pub written_snoc : (h : List Action) (a : Action) → writer_after (h ++ a ∷ []) ≡ after_action (writer_after h).stack (writer_after h).records a
-written_snoc h a = fold-append (λ (w : WriterState) (x : Action). after_action w.stack w.records x) record { stack = []; records = [] } h (a ∷ [])
+pub writer_snoc : (h : List Action) (a : Action) → writer_after (h ++ a ∷ []) ≡ after_action (writer_after h).stack (writer_after h).records a
+writer_snoc h a = fold-append (λ (w : WriterState) (x : Action). after_action w.stack w.records x) record { stack = []; records = [] } h (a ∷ [])
 
 pub opened_stack : (h : List Action) (stack : List history.Frame) → (writer_after h).stack ≡ stack → (writer_after (h ++ open_fill ∷ [])).stack ≡ stack
-opened_stack h stack e = ap (λ (w : WriterState). w.stack) (written_snoc h open_fill) ∙ e
+opened_stack h stack e = ap (λ (w : WriterState). w.stack) (writer_snoc h open_fill) ∙ e
 
 pub left_stack : (h : List Action) (f : history.Frame) (stack : List history.Frame) (payload : Option (List ℕ)) → (writer_after h).stack ≡ f ∷ stack → (writer_after (h ++ leave payload ∷ [])).stack ≡ stack
-left_stack h f stack payload e = ap (λ (w : WriterState). w.stack) (written_snoc h (leave payload)) ∙ ap (λ (s : List history.Frame). (after_action s (writer_after h).records (leave payload)).stack) e
+left_stack h f stack payload e = ap (λ (w : WriterState). w.stack) (writer_snoc h (leave payload)) ∙ ap (λ (s : List history.Frame). (after_action s (writer_after h).records (leave payload)).stack) e
 
 pub reserved_stack : (h : List Action) (moment len : ℕ) (stack : List history.Frame) → (writer_after h).stack ≡ history.record_frame moment len None ∷ stack
     → (writer_after (h ++ reserve ∷ [])).stack ≡ history.record_frame moment len (Some (length (reserved_records h))) ∷ stack
-reserved_stack h moment len stack e = ap (λ (w : WriterState). w.stack) (written_snoc h reserve) ∙ ap (λ (s : List history.Frame). (after_action s (writer_after h).records reserve).stack) e
+reserved_stack h moment len stack e = ap (λ (w : WriterState). w.stack) (writer_snoc h reserve) ∙ ap (λ (s : List history.Frame). (after_action s (writer_after h).records reserve).stack) e
 
 pub settled_at_rest : (h : List Action) → (writer_after h).stack ≡ [] → IsTrue (is_settled h)
 settled_at_rest h e = rw e refl
 
 -- ---- the frames, shown as the history's stack
 
-pub shown_standing : (kind : Kind) (phase : Phase) (below : List history.Frame) → phase ≢ releasing → history_stack_on phase kind below ≡ history_frame kind phase ∷ below
-shown_standing kind reserving below ne = refl
-shown_standing kind (looking o) below ne = refl
-shown_standing kind (claiming o page) below ne = refl
-shown_standing kind (looking_next role o page) below ne = refl
-shown_standing kind (marking role o page next) below ne = refl
-shown_standing kind (clearing o page) below ne = refl
-shown_standing kind (opening o page) below ne = refl
-shown_standing kind (reserved number) below ne = refl
-shown_standing kind releasing below ne = absurd (ne refl)
+pub stack_standing : (kind : Kind) (phase : Phase) (below : List history.Frame) → phase ≢ releasing → history_stack_on phase kind below ≡ history_frame kind phase ∷ below
+stack_standing kind reserving below ne = refl
+stack_standing kind (looking o) below ne = refl
+stack_standing kind (claiming o page) below ne = refl
+stack_standing kind (looking_next role o page) below ne = refl
+stack_standing kind (marking role o page next) below ne = refl
+stack_standing kind (clearing o page) below ne = refl
+stack_standing kind (opening o page) below ne = refl
+stack_standing kind (reserved number) below ne = refl
+stack_standing kind releasing below ne = absurd (ne refl)
 
 written_alike : (kind : Kind) (p q : Phase) → number_in p ≡ number_in q → history_frame kind p ≡ history_frame kind q
 written_alike (for_record moment len) p q e = ap (λ (x : Option ℕ). history.record_frame moment len x) e
@@ -56,12 +56,12 @@ pub may_leave : (kind : Kind) (phase : Phase) (below : List history.Frame) → n
 may_leave (for_record moment len) phase below none = subst (λ (x : Option ℕ). MayLeave (history.record_frame moment len x ∷ below) None) (sym none) refl
 may_leave for_close phase below none = refl
 
-pub shown_alike : (kind : Kind) (p q : Phase) (below : List history.Frame) → p ≢ releasing → q ≢ releasing → number_in p ≡ number_in q → history_stack_on p kind below ≡ history_stack_on q kind below
-shown_alike kind p q below not_p not_q e = shown_standing kind p below not_p ∙ ap (λ (f : history.Frame). f ∷ below) (written_alike kind p q e) ∙ sym (shown_standing kind q below not_q)
+pub stack_alike : (kind : Kind) (p q : Phase) (below : List history.Frame) → p ≢ releasing → q ≢ releasing → number_in p ≡ number_in q → history_stack_on p kind below ≡ history_stack_on q kind below
+stack_alike kind p q below not_p not_q e = stack_standing kind p below not_p ∙ ap (λ (f : history.Frame). f ∷ below) (written_alike kind p q e) ∙ sym (stack_standing kind q below not_q)
 
-pub shown_left : (c : Core) (frame : Frame) (below : List Frame) → history_stack (frames_after_leave c frame below) ≡ history_stack below
-shown_left c frame [] = cond_both ((c.done + 1) == c.opened) [] (record { kind = frame.kind; phase = releasing } ∷ []) (λ (fs : List Frame). history_stack fs ≡ []) (λ _. refl) (λ _. refl)
-shown_left c frame (next ∷ below) = refl
+pub stack_left : (c : Core) (frame : Frame) (below : List Frame) → history_stack (frames_after_leave c frame below) ≡ history_stack below
+stack_left c frame [] = cond_both ((c.done + 1) == c.opened) [] (record { kind = frame.kind; phase = releasing } ∷ []) (λ (fs : List Frame). history_stack fs ≡ []) (λ _. refl) (λ _. refl)
+stack_left c frame (next ∷ below) = refl
 
 -- ---- fills that were passed
 

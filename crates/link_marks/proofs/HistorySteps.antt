@@ -18,13 +18,13 @@ use Rattle.link_marks.specs.KeptHistory.{history_frame, history_stack_on, histor
 use Rattle.link_marks.proofs.FramePhases.{none_some, pair_is}
 use Rattle.link_marks.proofs.LinkFills.{header_inside, header_tells, fill_at}
 use Rattle.link_marks.proofs.FrameChanges.{top_kept}
-use Rattle.link_marks.proofs.Histories.{written_snoc, opened_stack, left_stack, reserved_stack, settled_at_rest, shown_standing, may_open, may_leave, shown_alike, shown_left, taken_more, taken_last, why_stays, passing_on, passing_left}
+use Rattle.link_marks.proofs.Histories.{writer_snoc, opened_stack, left_stack, reserved_stack, settled_at_rest, stack_standing, may_open, may_leave, stack_alike, stack_left, taken_more, taken_last, why_stays, passing_on, passing_left}
 
 -- ---- what is known of history and lost fills
 
 module _ (n start : ℕ) (c : Core) (frame : Frame) (below : List Frame) (h : HistoryKept n start c) (top : c.frames ≡ frame ∷ below) where
-  pub top_shown : (writer_after c.history).stack ≡ history_stack_on frame.phase frame.kind (history_stack below)
-  top_shown = h.stack ∙ ap history_stack top
+  pub top_stack : (writer_after c.history).stack ≡ history_stack_on frame.phase frame.kind (history_stack below)
+  top_stack = h.stack ∙ ap history_stack top
 
   -- the frame on top goes on, and about to open a fill it stays so
   history_goes : (phase : Phase) → frame.phase ≢ releasing → phase ≢ releasing → number_in frame.phase ≡ number_in phase
@@ -32,7 +32,7 @@ module _ (n start : ℕ) (c : Core) (frame : Frame) (below : List Frame) (h : Hi
       → HistoryKept n start (in_phase c frame below phase)
   history_goes phase stands stands' same passes = record {
     allowed = h.allowed;
-    stack = top_shown ∙ shown_alike frame.kind frame.phase phase (history_stack below) stands stands' same;
+    stack = top_stack ∙ stack_alike frame.kind frame.phase phase (history_stack below) stands stands' same;
     lost = λ f low high. why_stays n c.reader.taken c.reader.taken c.opened c.opened c.frames (record { kind = frame.kind; phase = phase } ∷ below) f (λ t. t) (omega arith)
         (λ p. inr (refl, passing_on frame below (record { kind = frame.kind; phase = phase } ∷ below) c.opened (λ page at. inl (passes page at)) (λ q. inr q) (subst (λ (fs : List Frame). Passing fs c.opened) top p)))
         (h.lost f low high);
@@ -41,8 +41,8 @@ module _ (n start : ℕ) (c : Core) (frame : Frame) (below : List Frame) (h : Hi
   -- the frame on top leaves, about to open no fill
   history_leaves : (payload : Option (List ℕ)) → frame.phase ≢ releasing → MayLeave (history_frame frame.kind frame.phase ∷ history_stack below) payload → ((page : ℕ) → passed_spot frame.phase ≡ Some (spot c.opened page) → ⊥) → HistoryKept n start (after_leave c frame below payload)
   history_leaves payload stands may passes = record {
-    allowed = IsHistory-push c.history (leave payload) h.allowed (subst (λ (s : List history.Frame). MayLeave s payload) (sym (top_shown ∙ shown_standing frame.kind frame.phase (history_stack below) stands)) may);
-    stack = left_stack c.history (history_frame frame.kind frame.phase) (history_stack below) payload (top_shown ∙ shown_standing frame.kind frame.phase (history_stack below) stands) ∙ sym (shown_left c frame below);
+    allowed = IsHistory-push c.history (leave payload) h.allowed (subst (λ (s : List history.Frame). MayLeave s payload) (sym (top_stack ∙ stack_standing frame.kind frame.phase (history_stack below) stands)) may);
+    stack = left_stack c.history (history_frame frame.kind frame.phase) (history_stack below) payload (top_stack ∙ stack_standing frame.kind frame.phase (history_stack below) stands) ∙ sym (stack_left c frame below);
     lost = λ f low high. why_stays n c.reader.taken c.reader.taken c.opened c.opened c.frames (frames_after_leave c frame below) f (λ t. t) (omega arith)
         (λ p. inr (refl, passing_on frame below (frames_after_leave c frame below) c.opened (λ page at. absurd (passes page at)) (passing_left c frame below c.opened) (subst (λ (fs : List Frame). Passing fs c.opened) top p)))
         (h.lost f low high);
@@ -106,7 +106,7 @@ module _ (n size start : ℕ) (c : Core) (frame : Frame) (below : List Frame) (k
   one_spot noted page f page' e = sym (pair_is noted page f page' e).0
 
   reserve_owed : (answer : Answer) (after : Core) → frame.phase ≡ reserving → ReserveStep n size c frame below answer after → Owed n start c after
-  reserve_owed answer after same (reserves moment len r kind r_is fits a is) = let stack = top_shown n start c frame below h top ∙ ap (λ (p : Phase). history_stack_on p frame.kind (history_stack below)) same ∙ ap (λ (x : Kind). history_frame x reserving ∷ history_stack below) kind in subst (Owed n start c) (sym is) record {
+  reserve_owed answer after same (reserves moment len r kind r_is fits a is) = let stack = top_stack n start c frame below h top ∙ ap (λ (p : Phase). history_stack_on p frame.kind (history_stack below)) same ∙ ap (λ (x : Kind). history_frame x reserving ∷ history_stack below) kind in subst (Owed n start c) (sym is) record {
     kept = record {
       allowed = IsHistory-push c.history reserve h.allowed (subst MayReserve (sym stack) refl);
       stack = reserved_stack c.history moment len (history_stack below) stack
@@ -138,7 +138,7 @@ module _ (n size start : ℕ) (c : Core) (frame : Frame) (below : List Frame) (k
       subst (Owed n start c) (sym is) record {
         kept = record {
           allowed = h.allowed;
-          stack = top_shown n start c frame below h top ∙ shown_alike frame.kind frame.phase (looking_next owner noted page) (history_stack below) (λ e. claim_stands (sym same ∙ e)) (λ e. cc) (ap number_in same);
+          stack = top_stack n start c frame below h top ∙ stack_alike frame.kind frame.phase (looking_next owner noted page) (history_stack below) (λ e. claim_stands (sym same ∙ e)) (λ e. cc) (ap number_in same);
           lost = λ f low high. dite (ℕ_discrete f c.head)
               (λ e. inr (inr (omega arith, inl (page, ap (λ (o : ℕ). Some (spot o page)) now))))
               (λ ne. why_stays n c.reader.taken c.reader.taken c.opened c.opened c.frames frames f (λ t. t) (omega arith)
@@ -173,10 +173,10 @@ module _ (n size start : ℕ) (c : Core) (frame : Frame) (below : List Frame) (k
   release_owed : (answer : Answer) (after : Core) → frame.phase ≡ releasing → ReleaseStep c frame below answer after → Owed n start c after
   release_owed answer after same (releases alone more a is) = subst (Owed n start c) (sym is) record {
     kept = record { allowed = h.allowed; stack = h.stack; lost = h.lost };
-    window = inr (released_one, record { step = record { may = (omega arith, settled_at_rest c.history (top_shown n start c frame below h top ∙ ap (λ (p : Phase). history_stack_on p frame.kind (history_stack below)) same ∙ ap history_stack alone)); after_is = refl }; shown = (refl, refl) });
+    window = inr (released_one, record { step = record { may = (omega arith, settled_at_rest c.history (top_stack n start c frame below h top ∙ ap (λ (p : Phase). history_stack_on p frame.kind (history_stack below)) same ∙ ap history_stack alone)); after_is = refl }; shown = (refl, refl) });
   }
   release_owed answer after same (releases_last alone last a is) =
-      let none : (writer_after c.history).stack ≡ [] = top_shown n start c frame below h top ∙ ap (λ (p : Phase). history_stack_on p frame.kind (history_stack below)) same ∙ ap history_stack alone in
+      let none : (writer_after c.history).stack ≡ [] = top_stack n start c frame below h top ∙ ap (λ (p : Phase). history_stack_on p frame.kind (history_stack below)) same ∙ ap history_stack alone in
       subst (Owed n start c) (sym is) record {
         kept = record {
           allowed = h.allowed;
@@ -189,15 +189,15 @@ module _ (n size start : ℕ) (c : Core) (frame : Frame) (below : List Frame) (k
       }
 
 module _ (n size start : ℕ) (c : Core) (frame : Frame) (below : List Frame) (k : LinksKept n c) (h : HistoryKept n start c) (top : c.frames ≡ frame ∷ below) where
-  relinked_shown : (after : Core) (g : ℕ) (l : Link) (what : Happening) → IsShown c after what → IsShown c (record after { links = (with_link n c g l).links }) what
-  relinked_shown after g l opened_one s = s
-  relinked_shown after g l released_one s = s
-  relinked_shown after g l took_one s = s
-  relinked_shown after g l lost_one s = s
+  links_with_shown : (after : Core) (g : ℕ) (l : Link) (what : Happening) → IsShown c after what → IsShown c (record after { links = (with_link n c g l).links }) what
+  links_with_shown after g l opened_one s = s
+  links_with_shown after g l released_one s = s
+  links_with_shown after g l took_one s = s
+  links_with_shown after g l lost_one s = s
 
   -- a link is set, and the frame goes on
   with_link_owed : (after : Core) (g : ℕ) (l : Link) → Owed n start c after → Owed n start c (record after { links = (with_link n c g l).links })
-  with_link_owed after g l owed = record { kept = record { allowed = owed.kept.allowed; stack = owed.kept.stack; lost = owed.kept.lost }; window = ⊎_elim (λ stays. inl stays) (λ (what, h). inr (what, record { step = h.step; shown = relinked_shown after g l what h.shown })) owed.window }
+  with_link_owed after g l owed = record { kept = record { allowed = owed.kept.allowed; stack = owed.kept.stack; lost = owed.kept.lost }; window = ⊎_elim (λ stays. inl stays) (λ (what, h). inr (what, record { step = h.step; shown = links_with_shown after g l what h.shown })) owed.window }
 
   mark_owed : (role : Role) (noted page next : ℕ) (answer : Answer) (after : Core) → frame.phase ≡ marking role noted page next → MarkStep n c frame below role noted page next answer after → Owed n start c after
   mark_owed role noted page next answer after same (mark_late helps step) = anew n size start c frame below k h top noted answer after (marking role noted page next) same (λ e. cc) refl (one_spot n size start c frame below k h top noted page) step
@@ -219,7 +219,7 @@ module _ (n size start : ℕ) (c : Core) (frame : Frame) (below : List Frame) (k
   begun_reader for_close page = refl
 
   opens_for : (old : Phase) → frame.phase ≡ old → number_in old ≡ None → old ≢ releasing → MayOpen (writer_after c.history).stack
-  opens_for old same none stands = subst MayOpen (sym (top_shown n start c frame below h top ∙ shown_standing frame.kind frame.phase (history_stack below) (λ e. stands (sym same ∙ e)))) (may_open frame.kind frame.phase (history_stack below) (ap number_in same ∙ none))
+  opens_for old same none stands = subst MayOpen (sym (top_stack n start c frame below h top ∙ stack_standing frame.kind frame.phase (history_stack below) (λ e. stands (sym same ∙ e)))) (may_open frame.kind frame.phase (history_stack below) (ap number_in same ∙ none))
 
   open_owed : (noted page : ℕ) (answer : Answer) (after : Core) → frame.phase ≡ opening noted page → OpenStep n c frame below noted page answer after → Owed n start c after
   open_owed noted page answer after same (open_late step) = anew n size start c frame below k h top noted answer after (opening noted page) same (λ e. cc) refl (one_spot n size start c frame below k h top noted page) step
@@ -294,7 +294,7 @@ pushed_owed : (n start : ℕ) (c after : Core) (kind : Kind) (action : Action) �
 pushed_owed n start c after kind action h may pushes is = subst (Owed n start c) (sym is) record {
   kept = record {
     allowed = IsHistory-push c.history action h.allowed may;
-    stack = ap (λ (w : WriterState). w.stack) (written_snoc c.history action) ∙ pushes ∙ ap (λ (s : List history.Frame). history_frame kind reserving ∷ s) h.stack;
+    stack = ap (λ (w : WriterState). w.stack) (writer_snoc c.history action) ∙ pushes ∙ ap (λ (s : List history.Frame). history_frame kind reserving ∷ s) h.stack;
     lost = λ f low high. why_stays n c.reader.taken c.reader.taken c.opened c.opened c.frames (record { kind = kind; phase = reserving } ∷ c.frames) f (λ t. t) (omega arith) (λ p. inr (refl, inr p)) (h.lost f low high);
   };
   window = inl (refl, refl);

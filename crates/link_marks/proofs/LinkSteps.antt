@@ -9,7 +9,7 @@ use Rattle.link_marks.specs.KeptLinks.{Stands, PhaseKept, FramesKept, LinksKept}
 use Rattle.link_marks.proofs.Positions.{link_here}
 use Rattle.link_marks.proofs.FramePhases.{none_some, normal_ne_header, Noted, Passed, IsSet, knows_reserving, knows_reserved, knows_looking, knows_claiming, knows_looking_next, knows_marking, knows_clearing, knows_opening, knows_releasing}
 use Rattle.link_marks.proofs.LinkFills.{normal_inside, update_inside}
-use Rattle.link_marks.proofs.FrameChanges.{restacked, rephased, leaves_kept, begun_on_kept, top_kept}
+use Rattle.link_marks.proofs.FrameChanges.{restacked, rephased, leaves_kept, after_begin_kept, top_kept}
 use Rattle.link_marks.proofs.WriterSteps.{claims_kept, marks_kept, clears_kept, begun_kept, released_kept}
 use Rattle.link_marks.proofs.ReaderSteps.{read_kept}
 
@@ -26,7 +26,7 @@ module _ (n size : ℕ) (c : Core) (frame : Frame) (below : List Frame) (k : Lin
   leaves after payload none is = subst (LinksKept n) (sym is) (leaves_kept n c frame below payload k top none)
 
   anew : (noted : ℕ) (answer : Answer) (after : Core) → owned_update frame.phase ≡ None → BeginsAnew c frame below noted answer after → LinksKept n after
-  anew noted answer after none step = subst (LinksKept n) (sym step.after_is) (begun_on_kept n c frame.kind frame below k top none)
+  anew noted answer after none step = subst (LinksKept n) (sym step.after_is) (after_begin_kept n c frame.kind frame below k top none)
 
   goes : (after : Core) (phase : Phase) → PhaseKept n c.links c.order c.head c.done c.opened phase → owned_update phase ≡ owned_update frame.phase → after ≡ in_phase c frame below phase → LinksKept n after
   goes after phase facts same is = subst (LinksKept n) (sym is) (rephased n c frame below k top phase c.held c.history facts same)
@@ -113,7 +113,7 @@ module _ (n size : ℕ) (c : Core) (frame : Frame) (below : List Frame) (k : Lin
   open_kept noted page answer after same (open_late step) = anew n size c frame below k top noted answer after (ap owned_update same) step
   open_kept noted page answer after same (opens now a is) = let kept = kept_in n size c frame below k top (opening noted page) same in
       let (open_yet, inside, page_is) = kept.passed noted page refl in let (x, y, z, small) = kept.noted noted refl in
-      subst (LinksKept n) (sym is) (begun_on_kept n (with_new_tail c page) frame.kind frame below (begun_kept n c page k (omega arith) (omega arith)) top (ap owned_update same))
+      subst (LinksKept n) (sym is) (after_begin_kept n (with_new_tail c page) frame.kind frame below (begun_kept n c page k (omega arith) (omega arith)) top (ap owned_update same))
 
   release_kept : (answer : Answer) (after : Core) → frame.phase ≡ releasing → ReleaseStep c frame below answer after → LinksKept n after
   release_kept answer after same (releases alone more a is) =

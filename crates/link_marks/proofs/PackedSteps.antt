@@ -16,8 +16,8 @@ use Rattle.link_marks.specs.KeptLinks.{FramesKept, LinksKept}
 use Rattle.link_marks.specs.KeptHistory.{history_frame, history_stack, HistoryKept}
 use Rattle.link_marks.specs.KeptContents.{ContentsKept}
 use Rattle.link_marks.proofs.FramePhases.{none_some}
-use Rattle.link_marks.proofs.Histories.{opened_stack, shown_standing}
-use Rattle.link_marks.proofs.HistorySteps.{top_shown}
+use Rattle.link_marks.proofs.Histories.{opened_stack, stack_standing}
+use Rattle.link_marks.proofs.HistorySteps.{top_stack}
 use Rattle.link_marks.proofs.FillCuts.{opens_of-push, opens_of-push_close, opens_of-reserve, opens_of-leave, opens_of-open_fill}
 use Rattle.link_marks.proofs.ContentSteps.{records_snoc, records_left, records_reserved, left_is}
 use Rattle.link_marks.proofs.PackedHistories.{plain, plain-finished, tail_at, tail_is, wanted_record, HaveRoom, room_alike, room_reserved, room_opened, IsFit, AreFit, fit_more, FitsPage, NeedsFill, needs_alike, needs_reserved, fit_open_record, fit_open_close, some_reservation}
@@ -91,9 +91,9 @@ module _ (size : ℕ) (c : Core) (frame : Frame) (below : List Frame) (rest : Li
       (ap (map plain) (records_left c.history (history_frame frame.kind frame.phase) rest payload stack ∙ left_is frame.kind frame.phase payload (reserved_records c.history)) ∙ plain-finished (own_number frame.kind frame.phase) payload (reserved_records c.history))
       tt p (needs_left size (opens_of c.history) (reserved_records c.history) c.opened c frame below p.needs.0.0 p.needs.1)
 
-  packed_begun_on : (kind : Kind) → (writer_after c.history).stack ≡ history_frame frame.kind frame.phase ∷ rest → PackedKept size (after_begin kind c frame below)
-  packed_begun_on (for_record moment len) stack = packed_goes reserving (λ is. absurd (none_some is))
-  packed_begun_on for_close stack = packed_leaves None stack
+  packed_after_begin : (kind : Kind) → (writer_after c.history).stack ≡ history_frame frame.kind frame.phase ∷ rest → PackedKept size (after_begin kind c frame below)
+  packed_after_begin (for_record moment len) stack = packed_goes reserving (λ is. absurd (none_some is))
+  packed_after_begin for_close stack = packed_leaves None stack
 
 -- the tail page holds the tail's records
 tail_held : (n start : ℕ) (c : Core) → LinksKept n c → ContentsKept n start c → (contents_of c (tail_page n c)).records ≡ tail_at (opens_of c.history) (reserved_records c.history)
@@ -111,7 +111,7 @@ module _ (n size start : ℕ) (c : Core) (frame : Frame) (below : List Frame) (k
   p = subst (PackedAt size c.history c.opened) top q
 
   stack_top : (old : Phase) → frame.phase ≡ old → old ≢ releasing → (writer_after c.history).stack ≡ history_frame frame.kind frame.phase ∷ history_stack below
-  stack_top old same stands = top_shown n start c frame below h top ∙ shown_standing frame.kind frame.phase (history_stack below) (λ e. stands (sym same ∙ e))
+  stack_top old same stands = top_stack n start c frame below h top ∙ stack_standing frame.kind frame.phase (history_stack below) (λ e. stands (sym same ∙ e))
 
   packs_leave : (after : Core) (old : Phase) (payload : Option (List ℕ)) → frame.phase ≡ old → old ≢ releasing → after ≡ after_leave c frame below payload → PackedKept size after
   packs_leave after old payload same stands is = subst (PackedKept size) (sym is) (packed_leaves size c frame below (history_stack below) p payload (stack_top old same stands))
@@ -120,7 +120,7 @@ module _ (n size start : ℕ) (c : Core) (frame : Frame) (below : List Frame) (k
   packs_notes after old phase same noted is = subst (PackedKept size) (sym is) (packed_notes size c frame below (history_stack below) p phase (noted ∙ sym (ap noted_fill same)))
 
   packs_anew : (noted : ℕ) (answer : Answer) (after : Core) (old : Phase) → frame.phase ≡ old → old ≢ releasing → BeginsAnew c frame below noted answer after → PackedKept size after
-  packs_anew noted answer after old same stands step = subst (PackedKept size) (sym step.after_is) (packed_begun_on size c frame below (history_stack below) p frame.kind (stack_top old same stands))
+  packs_anew noted answer after old same stands step = subst (PackedKept size) (sym step.after_is) (packed_after_begin size c frame below (history_stack below) p frame.kind (stack_top old same stands))
 
   -- a page is needed, by what the tail page holds
   needs_page : (kind : Kind) → NeedsPage n size c kind → NeedsFill size (opens_of c.history) (reserved_records c.history) kind
@@ -160,7 +160,7 @@ module _ (n size start : ℕ) (c : Core) (frame : Frame) (below : List Frame) (k
         fit = fit_more size c.history open_fill p.fit (fit_open size c.history frame.kind frame.phase (history_stack below) stack (ap number_in same) p.needs.0.0 (p.needs.0.1 (ap noted_fill same ∙ ap Some now)));
         needs = needs_opened n c size cuts (opens_of (h0 ++ open_fill ∷ [])) xs (reserved_records (h0 ++ open_fill ∷ [])) (frame ∷ below) (subst (FramesKept n c.links c.order c.head c.done c.opened) top k.frames) p.needs;
       } in
-      subst (PackedKept size) (sym is) (packed_begun_on size (with_new_tail c page) frame below (history_stack below) begins frame.kind (opened_stack c.history (history_frame frame.kind frame.phase ∷ history_stack below) stack))
+      subst (PackedKept size) (sym is) (packed_after_begin size (with_new_tail c page) frame below (history_stack below) begins frame.kind (opened_stack c.history (history_frame frame.kind frame.phase ∷ history_stack below) stack))
 
   packs_after : (role : Role) (noted page : ℕ) (old : Phase) → frame.phase ≡ old → noted_fill old ≡ Some noted → PackedKept size (in_phase c frame below (after_next role noted page))
   packs_after owner noted page old same noted_is = packed_notes size c frame below (history_stack below) p (clearing noted page) (sym (ap noted_fill same ∙ noted_is))

@@ -11,7 +11,7 @@ use Rattle.trace_model.specs.Ring.{Held, page_at, AreApart}
 use Rattle.trace_model.specs.Steps.{held_with_payload}
 use Rattle.link_marks.specs.KeptContents.{IsRising, PagesKept}
 use Rattle.link_marks.proofs.Positions.{apart, page_else}
-use Rattle.link_marks.proofs.FillCuts.{IsRising-more, IsRising-snoc, reserved_before, reserved_last, opened_before, opened_last, length-finished_at, finished_fill}
+use Rattle.link_marks.proofs.FillCuts.{IsRising-more, IsRising-snoc, reserved_before, reserved_last, opened_before, opened_last, length-records_with_payload, finished_fill}
 
 abbrev pub nothing : Held
 nothing = record { first = 0; records = [] }
@@ -80,7 +80,7 @@ module _ (n start : ℕ) (order : List ℕ) (spare : ℕ) (held : List Held) (cu
     begun = k.begun;
     from_start = k.from_start;
     bodies = length-map held (held_with_payload number payload) ∙ k.bodies;
-    rising = subst (IsRising 0 cuts) (sym (length-finished_at number payload xs)) k.rising;
+    rising = subst (IsRising 0 cuts) (sym (length-records_with_payload number payload xs)) k.rising;
     each = λ f low high. get_or-map (held_with_payload number payload) held (page_at n order f) nothing nothing (let below = page_below n order spare f some a in omega arith)
         ∙ ap (held_with_payload number payload) (k.each f low high)
         ∙ finished_fill number payload cuts xs (f - start) (omega arith);

@@ -12,7 +12,7 @@ use Rattle.trace_model.specs.Ring.{Held, Taken, first_of_fill, IsFillOf, AreFill
 use Rattle.link_marks.specs.KeptContents.{IsRising}
 use Rattle.link_marks.specs.KeptPartition.{covered_total, piece_of, pieces_of, PartitionAt}
 use Rattle.link_marks.proofs.FillCuts.{length-cut_from, cut-stays, opens_at, opens_more}
-use Rattle.link_marks.proofs.Committed.{Behind, committed_prefix, take_acted, committed_len, first_below}
+use Rattle.link_marks.proofs.Committed.{Behind, committed_prefix, take_after_action, committed_len, first_below}
 use Rattle.link_marks.proofs.ContentSteps.{records_snoc}
 use Rattle.link_marks.proofs.PartitionLemmas.{first_old, first_new, covered_total-snoc, get_snoc, partition_snoc, fill_behind, first_rises, first_rises_to, take_split, take_map}
 
@@ -20,7 +20,7 @@ use Rattle.link_marks.proofs.PartitionLemmas.{first_old, first_new, covered_tota
 frozen_yet : (h : List Action) (a : Action) (e : ℕ) → e ≤ committed_len h → take e (reserved_records (h ++ a ∷ [])) ≡ take e (reserved_records h)
 frozen_yet h a e low = let k = committed_prefix h in
     ap (λ (l : List Reservation). take e l) (records_snoc h a)
-    ∙ take_acted e (writer_after h).stack (writer_after h).records a (let within = k.within in omega arith) (fewer (committed_len h) e low (writer_after h).stack k.behind)
+    ∙ take_after_action e (writer_after h).stack (writer_after h).records a (let within = k.within in omega arith) (fewer (committed_len h) e low (writer_after h).stack k.behind)
   where
     fewer : (most least : ℕ) → least ≤ most → (stack : List Frame) → Behind most stack → Behind least stack
     fewer most least le [] b = tt

@@ -44,12 +44,12 @@ pub data Relinks (n : ℕ) (c : Core) (event : Event) (after : Core) : Type 0 wh
       → after.links ≡ links_with n (links_with n c.links c.head (normal_link c.spare (c.head + n))) (suc c.head) (header_link next (suc c.head))
       → Relinks n c event after
 
-links_begun_on : (kind : Kind) (c : Core) (frame : Frame) (below : List Frame) → (after_begin kind c frame below).links ≡ c.links
-links_begun_on (for_record moment len) c frame below = refl
-links_begun_on for_close c frame below = refl
+links_after_begin : (kind : Kind) (c : Core) (frame : Frame) (below : List Frame) → (after_begin kind c frame below).links ≡ c.links
+links_after_begin (for_record moment len) c frame below = refl
+links_after_begin for_close c frame below = refl
 
 anew : (n : ℕ) (c : Core) (event : Event) (frame : Frame) (below : List Frame) (noted : ℕ) (answer : Answer) (after : Core) → BeginsAnew c frame below noted answer after → Relinks n c event after
-anew n c event frame below noted answer after step = leaves_links (ap (λ (d : Core). d.links) step.after_is ∙ links_begun_on frame.kind c frame below)
+anew n c event frame below noted answer after step = leaves_links (ap (λ (d : Core). d.links) step.after_is ∙ links_after_begin frame.kind c frame below)
 
 stays : (n : ℕ) (c : Core) (event : Event) (after d : Core) → after ≡ d → d.links ≡ c.links → Relinks n c event after
 stays n c event after d is same = leaves_links (ap (λ (x : Core). x.links) is ∙ same)
@@ -87,7 +87,7 @@ module _ (n size : ℕ) (c : Core) (event : Event) (frame : Frame) (below : List
       let kept = subst (PhaseKept n c.links c.order c.head c.done c.opened) same (top_kept n c frame below k top) in
       clears_own frame below noted page lost steps_is top (ap owned_update same) sum (kept.clears noted lost refl sum) at (ap (λ (x : Core). x.links) is)
   relinks_frame (opening noted page) answer after same (open_late step) = anew n c event frame below noted answer after step
-  relinks_frame (opening noted page) answer after same (opens now a is) = stays n c event after _ is (links_begun_on frame.kind (with_new_tail c page) frame below)
+  relinks_frame (opening noted page) answer after same (opens now a is) = stays n c event after _ is (links_after_begin frame.kind (with_new_tail c page) frame below)
   relinks_frame (reserved number) answer after same step = stays n c event after c step.1 refl
   relinks_frame releasing answer after same (releases alone more a is) = stays n c event after _ is refl
   relinks_frame releasing answer after same (releases_last alone last a is) = stays n c event after _ is refl

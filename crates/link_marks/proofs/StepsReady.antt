@@ -98,9 +98,9 @@ leave_ready n c frame [] payload room stack =
     (λ more. record { room = room; stack = (refl, tt) })
 leave_ready n c frame (next ∷ below) payload room stack = record { room = room; stack = stack }
 
-pub begun_on_ready : (n : ℕ) (c : Core) (kind : Kind) (frame : Frame) (below : List Frame) (room : (seen : ℕ) → link_into n c.links c.head ≡ normal_link seen c.head → c.opened < c.head + n) → StackReady n c.links c.head below → Ready n (after_begin kind c frame below)
-begun_on_ready n c (for_record moment len) frame below room stack = record { room = room; stack = (tt, stack) }
-begun_on_ready n c for_close frame below room stack = leave_ready n c frame below None room stack
+pub after_begin_ready : (n : ℕ) (c : Core) (kind : Kind) (frame : Frame) (below : List Frame) (room : (seen : ℕ) → link_into n c.links c.head ≡ normal_link seen c.head → c.opened < c.head + n) → StackReady n c.links c.head below → Ready n (after_begin kind c frame below)
+after_begin_ready n c (for_record moment len) frame below room stack = record { room = room; stack = (tt, stack) }
+after_begin_ready n c for_close frame below room stack = leave_ready n c frame below None room stack
 
 -- A free position that a frame sees: it isn't one whose UPDATE stands.
 pub free_marked : (n : ℕ) (c : Core) (noted page lost : ℕ) → LinksKept n c → noted ≡ c.opened → link_into n c.links noted ≡ normal_link page noted → lost + n ≡ noted → IsMarked n c.links c.head lost
@@ -120,7 +120,7 @@ module _ (n size : ℕ) (c : Core) (frame : Frame) (below : List Frame) (k : Lin
   leaves after payload is = subst (Ready n) (sym is) (leave_ready n c frame below payload r.room (below_ready n size c frame below k r top))
 
   anew : (noted : ℕ) (answer : Answer) (after : Core) → BeginsAnew c frame below noted answer after → Ready n after
-  anew noted answer after step = subst (Ready n) (sym step.after_is) (begun_on_ready n c frame.kind frame below r.room (below_ready n size c frame below k r top))
+  anew noted answer after step = subst (Ready n) (sym step.after_is) (after_begin_ready n c frame.kind frame below r.room (below_ready n size c frame below k r top))
 
   on : (after : Core) (phase : Phase) → PhaseReady n c.links c.head frame.kind below phase → after ≡ in_phase c frame below phase → Ready n after
   on after phase facts is = goes n size c frame below k r top after phase facts is
@@ -199,7 +199,7 @@ module _ (n size : ℕ) (c : Core) (frame : Frame) (below : List Frame) (k : Lin
   open_ready : (noted page : ℕ) (answer : Answer) (after : Core) → frame.phase ≡ opening noted page → OpenStep n c frame below noted page answer after → Ready n after
   open_ready noted page answer after same (open_late step) = anew noted answer after step
   open_ready noted page answer after same (opens now a is) =
-      subst (Ready n) (sym is) (begun_on_ready n (with_new_tail c page) frame.kind frame below (λ seen at. more seen at (k.each c.head (omega arith) (let some_pages = k.some_pages in omega arith))) (below_ready n size c frame below k r top))
+      subst (Ready n) (sym is) (after_begin_ready n (with_new_tail c page) frame.kind frame below (λ seen at. more seen at (k.each c.head (omega arith) (let some_pages = k.some_pages in omega arith))) (below_ready n size c frame below k r top))
     where
       more : (seen : ℕ) → link_into n c.links c.head ≡ normal_link seen c.head → LinkKept n c.links c.order c.head c.frames c.head → c.opened + 1 < c.head + n
       more seen at (is_normal e waits) = let (lost, next, st) = waits refl in

@@ -13,7 +13,7 @@ use Rattle.link_marks.specs.ToldRuns.{fills_taken, numbers_of, IsToldBy}
 use Rattle.link_marks.proofs.LinkFills.{header_inside, header_tells, fill_at}
 use Rattle.link_marks.proofs.FrameChanges.{top_kept}
 use Rattle.link_marks.proofs.Histories.{settled_at_rest}
-use Rattle.link_marks.proofs.HistorySteps.{top_shown}
+use Rattle.link_marks.proofs.HistorySteps.{top_stack}
 use Rattle.link_marks.proofs.WindowRuns.{run_rises, run-append, taken-append, actions-append, numbers-push}
 use Rattle.link_marks.proofs.RingsKept.{ring_start, ring_step, reached_kept}
 
@@ -81,13 +81,13 @@ module _ (n size start : ℕ) (c : Core) (frame : Frame) (below : List Frame) (k
   leads_frame releasing answer after same (releases alone more a is) = subst (Leads n c) (sym is) record {
     deeds = happens released_one ∷ [];
     actions = sym (append-nil c.history);
-    window = ((omega arith, settled_at_rest c.history (top_shown n start c frame below h top ∙ ap (λ (p : Phase). history_stack_on p frame.kind (history_stack below)) same ∙ ap history_stack alone)), refl);
+    window = ((omega arith, settled_at_rest c.history (top_stack n start c frame below h top ∙ ap (λ (p : Phase). history_stack_on p frame.kind (history_stack below)) same ∙ ap history_stack alone)), refl);
     took = sym (append-nil (numbers_of c.reader.taken));
   }
   leads_frame releasing answer after same (releases_last alone last a is) = subst (Leads n c) (sym is) record {
     deeds = happens released_one ∷ [];
     actions = sym (append-nil c.history);
-    window = ((omega arith, settled_at_rest c.history (top_shown n start c frame below h top ∙ ap (λ (p : Phase). history_stack_on p frame.kind (history_stack below)) same ∙ ap history_stack alone)), refl);
+    window = ((omega arith, settled_at_rest c.history (top_stack n start c frame below h top ∙ ap (λ (p : Phase). history_stack_on p frame.kind (history_stack below)) same ∙ ap history_stack alone)), refl);
     took = sym (append-nil (numbers_of c.reader.taken));
   }
 

@@ -8,7 +8,7 @@ use Rattle.trace_model.specs.Words.{slot_len, padded}
 use Rattle.trace_model.specs.History.{Action, push, push_close, reserve, leave, Reservation, Frame, WriterState, last_moment, reservation_for, records_with_payload, after_action, writer_after, reserved_records, is_settled, settled_prefix_within, as_record, committed_records}
 use Rattle.text_model.specs.Script.{Command, write, close}
 use Rattle.text_model.specs.Replay.{is_writable, actions_of, history_of_lines}
-use Rattle.trace_model.proofs.HistoryPrefixes.{written-append}
+use Rattle.trace_model.proofs.HistoryPrefixes.{writer-append}
 
 -- a history without a standing frame is its own settled front
 settled_within_whole : (n : ℕ) (history : List Action) → length history ≤ n → (writer_after history).stack ≡ [] → settled_prefix_within n history ≡ history
@@ -50,7 +50,7 @@ act w a = after_action w.stack w.records a
 written_behind : (history actions : List Action) → (writer_after history).stack ≡ [] → writer_after (history ++ actions) ≡ fold (λ v a. after_action v.stack v.records a) (let w : WriterState = record { stack = []; records = reserved_records history } in w) actions
 written_behind history actions none =
     let start : WriterState = record { stack = []; records = [] } in
-    written-append start history actions ∙ ap (λ (w : WriterState). fold (λ v a. after_action v.stack v.records a) w actions) (written_none history none)
+    writer-append start history actions ∙ ap (λ (w : WriterState). fold (λ v a. after_action v.stack v.records a) w actions) (written_none history none)
 
 -- What the lines so far leave: no frame, these committed records, the last of this moment.
 pub record LinesLeave (size : ℕ) (commands : List Command) (records : List Record) (last : ℕ) : Type 0 where

@@ -48,12 +48,12 @@ StandsAt-finished zero payload (x ∷ records) (suc k) r h = inr (λ e. omega ar
 StandsAt-finished (suc number) payload (x ∷ records) zero r h = inr (λ e. omega arith, h)
 StandsAt-finished (suc number) payload (x ∷ records) (suc k) r h = IsFinished-cons number payload x records k r (StandsAt-finished number payload records k r h)
 
-length-finished_at : (number : Option ℕ) (payload : Option (List ℕ)) (records : List Reservation) → length (records_with_payload number payload records) ≡ length records
-length-finished_at None payload records = refl
-length-finished_at (Some number) None records = refl
-length-finished_at (Some number) (Some payload) [] = refl
-length-finished_at (Some zero) (Some payload) (r ∷ records) = refl
-length-finished_at (Some (suc number)) (Some payload) (r ∷ records) = ap suc (length-finished_at (Some number) (Some payload) records)
+length-records_with_payload : (number : Option ℕ) (payload : Option (List ℕ)) (records : List Reservation) → length (records_with_payload number payload records) ≡ length records
+length-records_with_payload None payload records = refl
+length-records_with_payload (Some number) None records = refl
+length-records_with_payload (Some number) (Some payload) [] = refl
+length-records_with_payload (Some zero) (Some payload) (r ∷ records) = refl
+length-records_with_payload (Some (suc number)) (Some payload) (r ∷ records) = ap suc (length-records_with_payload (Some number) (Some payload) records)
 
 -- ---- what the stack and the records keep
 
@@ -119,7 +119,7 @@ reserve-IsKept moment len None stack records none h =
 HasItsRecord-finished : (number : ℕ) (payload : List ℕ) (records : List Reservation) (len : ℕ) (other : Option ℕ) → HasItsRecord records len other → HasItsRecord (records_with_payload (Some number) (Some payload) records) len other
 HasItsRecord-finished number payload records len None h = tt
 HasItsRecord-finished number payload records len (Some other) h = (
-  subst (λ (n : ℕ). other < n) (sym (length-finished_at (Some number) (Some payload) records)) h.0,
+  subst (λ (n : ℕ). other < n) (sym (length-records_with_payload (Some number) (Some payload) records)) h.0,
   λ r at. ⊎_elim
       (λ one. ap (λ (q : Reservation). q.len) (sym one.2) ∙ h.1 one.0 (subst (λ (n : ℕ). StandsAt n records one.0) one.3 one.1))
       (λ same. h.1 r same.1)

@@ -53,24 +53,24 @@ leaving_keeps : (xs : List Reservation) (f : Frame) (payload : Option (List ℕ)
 leaving_keeps xs (record_frame moment len number) payload records f h = finished_keeps xs records number payload f h
 leaving_keeps xs close_frame payload records f h = h
 
-acted_keeps : (xs : List Reservation) (stack : List Frame) (records : List Reservation) (a : Action) → AreFramesFrom (length xs) stack → IsPrefix xs records → IsBehind xs (after_action stack records a)
-acted_keeps xs stack records (push moment len) f h = record { frames = (tt, f); front = h }
-acted_keeps xs stack records push_close f h = record { frames = (tt, f); front = h }
-acted_keeps xs stack records open_fill f h = record { frames = f; front = h }
-acted_keeps xs [] records reserve f h = record { frames = tt; front = h }
-acted_keeps xs (top ∷ stack) records reserve f h = reserving_keeps xs top stack records f.0 f.1 h
-acted_keeps xs [] records (leave payload) f h = record { frames = tt; front = h }
-acted_keeps xs (top ∷ stack) records (leave payload) f h =
+after_action_keeps : (xs : List Reservation) (stack : List Frame) (records : List Reservation) (a : Action) → AreFramesFrom (length xs) stack → IsPrefix xs records → IsBehind xs (after_action stack records a)
+after_action_keeps xs stack records (push moment len) f h = record { frames = (tt, f); front = h }
+after_action_keeps xs stack records push_close f h = record { frames = (tt, f); front = h }
+after_action_keeps xs stack records open_fill f h = record { frames = f; front = h }
+after_action_keeps xs [] records reserve f h = record { frames = tt; front = h }
+after_action_keeps xs (top ∷ stack) records reserve f h = reserving_keeps xs top stack records f.0 f.1 h
+after_action_keeps xs [] records (leave payload) f h = record { frames = tt; front = h }
+after_action_keeps xs (top ∷ stack) records (leave payload) f h =
     record { frames = f.1; front = leaving_keeps xs top payload records f.0 h }
 
 fold_keeps : (xs : List Reservation) (w : WriterState) (history : List Action) → IsBehind xs w → IsBehind xs (fold (λ v a. after_action v.stack v.records a) w history)
 fold_keeps xs w [] h = h
 fold_keeps xs w (a ∷ history) h =
-    fold_keeps xs (after_action w.stack w.records a) history (acted_keeps xs w.stack w.records a h.frames h.front)
+    fold_keeps xs (after_action w.stack w.records a) history (after_action_keeps xs w.stack w.records a h.frames h.front)
 
-pub written-append : (w : WriterState) (front behind : List Action) → fold (λ v a. after_action v.stack v.records a) w (front ++ behind) ≡ fold (λ v a. after_action v.stack v.records a) (fold (λ v a. after_action v.stack v.records a) w front) behind
-written-append w [] behind = refl
-written-append w (a ∷ front) behind = written-append (after_action w.stack w.records a) front behind
+pub writer-append : (w : WriterState) (front behind : List Action) → fold (λ v a. after_action v.stack v.records a) w (front ++ behind) ≡ fold (λ v a. after_action v.stack v.records a) (fold (λ v a. after_action v.stack v.records a) w front) behind
+writer-append w [] behind = refl
+writer-append w (a ∷ front) behind = writer-append (after_action w.stack w.records a) front behind
 
 -- where no frame stands, all that follows keeps the records
 stack_cases : (stack : List Frame) → (stack ≡ []) ⊎ ((f : Frame) × (below : List Frame) × (stack ≡ f ∷ below))
@@ -81,14 +81,14 @@ pub none_stands : (history : List Action) → is_settled history ≡ true → (w
 none_stands history h =
     ⊎_elim (λ e. e) (λ some. let wrong : false ≡ true = rw some.2 at h in cc) (stack_cases (writer_after history).stack)
 
-written_keeps : (front behind : List Action) → is_settled front ≡ true → IsPrefix (reserved_records front) (reserved_records (front ++ behind))
-written_keeps front behind h =
+writer_keeps : (front behind : List Action) → is_settled front ≡ true → IsPrefix (reserved_records front) (reserved_records (front ++ behind))
+writer_keeps front behind h =
     let w = writer_after front in
     let none : w.stack ≡ [] = none_stands front h in
     let frames : AreFramesFrom (length w.records) w.stack = rw none tt in
     let kept = fold_keeps w.records w behind record { frames = frames; front = ([], sym (append-nil w.records)) } in
     let start : WriterState = record { stack = []; records = [] } in
-    (kept.front.0, ap (λ (v : WriterState). v.records) (written-append start front behind) ∙ kept.front.1)
+    (kept.front.0, ap (λ (v : WriterState). v.records) (writer-append start front behind) ∙ kept.front.1)
 
 cond_either : {A : Type 0} (P : A → Type 0) (b : Bool) (x y : A) → (b ≡ true → P x) → P y → P (cond b x y)
 cond_either P true x y first second = first refl
@@ -108,5 +108,5 @@ settled_within (suc n) history =
 pub settled_records_prefix : (history : List Action) → IsPrefix (reserved_records (settled_prefix history)) (reserved_records history)
 settled_records_prefix history =
     let front = settled_within (length history) history in
-    let kept = written_keeps (settled_prefix history) front.is_prefix.0 front.settled in
+    let kept = writer_keeps (settled_prefix history) front.is_prefix.0 front.settled in
     (kept.0, ap reserved_records front.is_prefix.1 ∙ kept.1)
