@@ -4,13 +4,13 @@ use Rattle.trace_model.specs.History.{Action, push, push_close, open_fill, reser
 use Rattle.trace_model.specs.Packing.{opens_of}
 use Rattle.trace_model.specs.Frames.{Kind, for_record, for_close, Phase, reserving, looking, claiming, looking_next, marking, clearing, opening, reserved, releasing, Frame}
 use Rattle.trace_model.specs.Ring.{ReaderPhase, loading_link, loading_done, storing_link, swapping, Core}
-use Rattle.trace_model.specs.Steps.{Event, Answer, begun, begun_on, BeginsAnew, reserves, finds_nothing, is_crowded, is_worn, notes, look_late, sees_free, sees_header, sees_update, claim_late, claims, claim_fails, next_late, sees_normal, sees_other, mark_late, marks, mark_fails, clears, open_late, opens, releases, releases_last, FrameStep, Step, push_step, push_refused, close_step, close_refused, frame_step, frame_lacks, end_step, end_lacks, end_early, read_step, loads_header, loads_update, loads_owed, loads_passed, finds_none, finds_closed, swaps, swap_fails, ReadStep}
-use Rattle.link_marks.specs.Kept.{LinksKept}
-use Rattle.link_marks.specs.KeptHistory.{shown_on, shown, HistoryKept}
+use Rattle.trace_model.specs.Steps.{Event, Answer, with_new_tail, after_begin, BeginsAnew, reserves, finds_nothing, is_crowded, is_worn, notes, look_late, sees_free, sees_header, sees_update, claim_late, claims, claim_fails, next_late, sees_normal, sees_other, mark_late, marks, mark_fails, clears, open_late, opens, releases, releases_last, FrameStep, Step, push_step, push_refused, close_step, close_refused, frame_step, frame_lacks, end_step, end_lacks, end_early, read_step, loads_header, loads_update, loads_owed, loads_passed, finds_none, finds_closed, swaps, swap_fails, ReadStep}
+use Rattle.link_marks.specs.KeptLinks.{LinksKept}
+use Rattle.link_marks.specs.KeptHistory.{history_stack_on, history_stack, HistoryKept}
 use Rattle.link_marks.specs.KeptContents.{ContentsKept, ClosedAt, ClosedKept}
 use Rattle.link_marks.proofs.Histories.{settled_at_rest}
-use Rattle.link_marks.proofs.HistorySteps.{top_shown}
-use Rattle.link_marks.proofs.Cuts.{opens_of-open_fill}
+use Rattle.link_marks.proofs.HistorySteps.{top_stack}
+use Rattle.link_marks.proofs.FillCuts.{opens_of-open_fill}
 use Rattle.link_marks.proofs.Committed.{committed_len-settled, first_more, first_below}
 
 module _ (n start : ℕ) (c : Core) (k : LinksKept n c) (t : ContentsKept n start c) (z : ClosedKept start c) where
@@ -20,11 +20,11 @@ module _ (n start : ℕ) (c : Core) (k : LinksKept n c) (t : ContentsKept n star
   closed_more : (a : Action) → ClosedAt start (c.history ++ a ∷ []) c.done
   closed_more a = first_more c.history a (c.done - start) counted z
 
-  closed_begun : (kind : Kind) (frame : Frame) (below : List Frame) → ClosedKept start (begun_on kind c frame below)
+  closed_begun : (kind : Kind) (frame : Frame) (below : List Frame) → ClosedKept start (after_begin kind c frame below)
   closed_begun (for_record moment len) frame below = z
   closed_begun for_close frame below = closed_more (leave None)
 
-  closed_opened : (kind : Kind) (page : ℕ) (frame : Frame) (below : List Frame) → ClosedKept start (begun_on kind (begun c page) frame below)
+  closed_opened : (kind : Kind) (page : ℕ) (frame : Frame) (below : List Frame) → ClosedKept start (after_begin kind (with_new_tail c page) frame below)
   closed_opened (for_record moment len) page frame below = closed_more open_fill
   closed_opened for_close page frame below = first_more (c.history ++ open_fill ∷ []) (leave None) (c.done - start)
       (let low = counted in omega (arith, ap (length {A = ℕ}) (opens_of-open_fill c.history), length-append (opens_of c.history) (length (reserved_records c.history) ∷ [])))
@@ -63,9 +63,9 @@ module _ (n size start : ℕ) (c : Core) (frame : Frame) (below : List Frame) (k
   closed_frame (opening noted page) answer after same (opens now a is) = subst (ClosedKept start) (sym is) (closed_opened n start c k t z frame.kind page frame below)
   closed_frame (reserved number) answer after same step = subst (ClosedKept start) (sym step.1) z
   closed_frame releasing answer after same (releases alone more a is) = subst (ClosedKept start) (sym is)
-      (closed_released n start c k t z (settled_at_rest c.history (top_shown n start c frame below h top ∙ ap (λ (p : Phase). shown_on p frame.kind (shown below)) same ∙ ap shown alone)) (omega arith))
+      (closed_released n start c k t z (settled_at_rest c.history (top_stack n start c frame below h top ∙ ap (λ (p : Phase). history_stack_on p frame.kind (history_stack below)) same ∙ ap history_stack alone)) (omega arith))
   closed_frame releasing answer after same (releases_last alone last a is) = subst (ClosedKept start) (sym is)
-      (closed_released n start c k t z (settled_at_rest c.history (top_shown n start c frame below h top ∙ ap (λ (p : Phase). shown_on p frame.kind (shown below)) same ∙ ap shown alone)) (omega arith))
+      (closed_released n start c k t z (settled_at_rest c.history (top_stack n start c frame below h top ∙ ap (λ (p : Phase). history_stack_on p frame.kind (history_stack below)) same ∙ ap history_stack alone)) (omega arith))
 
 closed_read : (n start : ℕ) (c : Core) (phase : ReaderPhase) (answer : Answer) (after : Core) → ClosedKept start c → ReadStep n c phase answer after → ClosedKept start after
 closed_read n start c loading_link answer after z (loads_header page fill at a is) = subst (ClosedKept start) (sym is) z

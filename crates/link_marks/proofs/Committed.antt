@@ -1,14 +1,14 @@
--- The committed records are a front of the reserved ones, whatever the frames did.
+-- The committed records are a prefix of the reserved ones, whatever the frames did.
 use Rattle.std.proofs.Common.{◌≡◌, ℕ, zero, suc, ◌<◌, ◌≤◌, ◌⊎◌, Bool, true, false, cond, List, [], ◌∷◌, ◌++◌, length, get_or, take, map, Option, Some, None, refl, sym, ap, ◌∙◌, subst, inl, inr, ⊎_elim, arith, length-append, append_assoc, append-nil}
 use Rattle.std.proofs.lemmas.Bool.{cond-true, cond-false}
 use Rattle.std.proofs.lemmas.List.{take-append-le, take_all}
 use Rattle.std.proofs.Math.ListN.{get_or-append}
-use Rattle.trace_model.specs.History.{Action, push, push_close, open_fill, reserve, leave, Reservation, Frame, record_frame, close_frame, Written, acted, written_by, reserved_records, is_settled, settled_front_within, settled_front, finished, finished_at}
+use Rattle.trace_model.specs.History.{Action, push, push_close, open_fill, reserve, leave, Reservation, Frame, record_frame, close_frame, WriterState, after_action, writer_after, reserved_records, is_settled, settled_prefix_within, settled_prefix, as_record, records_with_payload}
 use Rattle.trace_model.specs.Packing.{opens_of}
 use Rattle.link_marks.specs.KeptContents.{IsRising}
-use Rattle.link_marks.proofs.Phases.{some_is, none_some}
-use Rattle.link_marks.proofs.Histories.{written_snoc}
-use Rattle.link_marks.proofs.Cuts.{length-finished_at, IsRising-least, opens_at, opens_more}
+use Rattle.link_marks.proofs.FramePhases.{some_is, none_some}
+use Rattle.link_marks.proofs.Histories.{writer_snoc}
+use Rattle.link_marks.proofs.FillCuts.{length-records_with_payload, IsRising-least, opens_at, opens_more}
 use Rattle.link_marks.proofs.ContentSteps.{records_snoc}
 
 either_way : (b : Bool) → (b ≡ true) ⊎ (b ≡ false)
@@ -17,22 +17,22 @@ either_way false = inr refl
 
 -- ---- the settled front of one more action
 
-within_append : (m : ℕ) (h rest : List Action) → m ≤ length h → settled_front_within m (h ++ rest) ≡ settled_front_within m h
+within_append : (m : ℕ) (h rest : List Action) → m ≤ length h → settled_prefix_within m (h ++ rest) ≡ settled_prefix_within m h
 within_append zero h rest low = refl
 within_append (suc m) h rest low =
     (λ i. cond (is_settled (take-append-le (suc m) h rest low i)) (take-append-le (suc m) h rest low i) (within_append m h rest (let l : m ≤ length h = omega arith in l) i))
 
-settled_more : (h : List Action) (a : Action) → settled_front (h ++ a ∷ []) ≡ cond (is_settled (h ++ a ∷ [])) (h ++ a ∷ []) (settled_front h)
+settled_more : (h : List Action) (a : Action) → settled_prefix (h ++ a ∷ []) ≡ cond (is_settled (h ++ a ∷ [])) (h ++ a ∷ []) (settled_prefix h)
 settled_more h a =
     let len : length (h ++ a ∷ []) ≡ suc (length h) = omega (arith, length-append h (a ∷ [])) in
     let whole : take (suc (length h)) (h ++ a ∷ []) ≡ h ++ a ∷ [] = take_all (suc (length h)) (h ++ a ∷ []) (omega arith) in
-    ap (λ (m : ℕ). settled_front_within m (h ++ a ∷ [])) len
+    ap (λ (m : ℕ). settled_prefix_within m (h ++ a ∷ [])) len
     ∙ (λ i. cond (is_settled (whole i)) (whole i) (within_append (length h) h (a ∷ []) (let l : length h ≤ length h = omega arith in l) i))
 
-pub settled_stack : (h : List Action) → is_settled h ≡ true → (written_by h).stack ≡ []
-settled_stack h t = by_stack (written_by h).stack refl
+pub settled_stack : (h : List Action) → is_settled h ≡ true → (writer_after h).stack ≡ []
+settled_stack h t = by_stack (writer_after h).stack refl
   where
-    by_stack : (s : List Frame) → (written_by h).stack ≡ s → (written_by h).stack ≡ []
+    by_stack : (s : List Frame) → (writer_after h).stack ≡ s → (writer_after h).stack ≡ []
     by_stack [] e = e
     by_stack (f ∷ s) e = absurd (let bad = rw e at t in cc)
 
@@ -49,11 +49,11 @@ Behind least [] = Unit {0}
 Behind least (f ∷ stack) = ((k : ℕ) → number_with f ≡ Some k → least ≤ k) × Behind least stack
 
 pub record CommittedAt (front h : List Action) : Type 0 where
-  pub agrees : map finished (take (length (reserved_records front)) (reserved_records h)) ≡ map finished (reserved_records front)
+  pub agrees : map as_record (take (length (reserved_records front)) (reserved_records h)) ≡ map as_record (reserved_records front)
   pub within : length (reserved_records front) ≤ length (reserved_records h)
-  pub behind : Behind (length (reserved_records front)) (written_by h).stack
+  pub behind : Behind (length (reserved_records front)) (writer_after h).stack
 
-take_unfinished : (least : ℕ) (number : Option ℕ) (payload : Option (List ℕ)) (xs : List Reservation) → ((k : ℕ) → number ≡ Some k → least ≤ k) → take least (finished_at number payload xs) ≡ take least xs
+take_unfinished : (least : ℕ) (number : Option ℕ) (payload : Option (List ℕ)) (xs : List Reservation) → ((k : ℕ) → number ≡ Some k → least ≤ k) → take least (records_with_payload number payload xs) ≡ take least xs
 take_unfinished least None payload xs low = refl
 take_unfinished least (Some k) None xs low = refl
 take_unfinished least (Some k) (Some p) [] low = refl
@@ -61,85 +61,85 @@ take_unfinished zero (Some k) (Some p) (x ∷ xs) low = refl
 take_unfinished (suc least) (Some zero) (Some p) (x ∷ xs) low = let bad = low 0 refl in absurd (omega arith)
 take_unfinished (suc least) (Some (suc k)) (Some p) (x ∷ xs) low = ap (λ (l : List Reservation). x ∷ l) (take_unfinished least (Some k) (Some p) xs (λ j e. let same : k ≡ j = some_is k j e in let le = low (suc k) refl in omega arith))
 
-pub take_acted : (least : ℕ) (stack : List Frame) (xs : List Reservation) (a : Action) → least ≤ length xs → Behind least stack → take least (acted stack xs a).records ≡ take least xs
-take_acted least stack xs (push moment len) le b = refl
-take_acted least stack xs push_close le b = refl
-take_acted least stack xs open_fill le b = refl
-take_acted least [] xs reserve le b = refl
-take_acted least (record_frame moment len None ∷ stack) xs reserve le b = take-append-le least xs _ le
-take_acted least (record_frame moment len (Some k) ∷ stack) xs reserve le b = refl
-take_acted least (close_frame ∷ stack) xs reserve le b = refl
-take_acted least [] xs (leave payload) le b = refl
-take_acted least (record_frame moment len number ∷ stack) xs (leave payload) le b = take_unfinished least number payload xs b.0
-take_acted least (close_frame ∷ stack) xs (leave payload) le b = refl
+pub take_after_action : (least : ℕ) (stack : List Frame) (xs : List Reservation) (a : Action) → least ≤ length xs → Behind least stack → take least (after_action stack xs a).records ≡ take least xs
+take_after_action least stack xs (push moment len) le b = refl
+take_after_action least stack xs push_close le b = refl
+take_after_action least stack xs open_fill le b = refl
+take_after_action least [] xs reserve le b = refl
+take_after_action least (record_frame moment len None ∷ stack) xs reserve le b = take-append-le least xs _ le
+take_after_action least (record_frame moment len (Some k) ∷ stack) xs reserve le b = refl
+take_after_action least (close_frame ∷ stack) xs reserve le b = refl
+take_after_action least [] xs (leave payload) le b = refl
+take_after_action least (record_frame moment len number ∷ stack) xs (leave payload) le b = take_unfinished least number payload xs b.0
+take_after_action least (close_frame ∷ stack) xs (leave payload) le b = refl
 
-pub length_acted : (stack : List Frame) (xs : List Reservation) (a : Action) → length xs ≤ length (acted stack xs a).records
-length_acted stack xs (push moment len) = omega arith
-length_acted stack xs push_close = omega arith
-length_acted stack xs open_fill = omega arith
-length_acted [] xs reserve = omega arith
-length_acted (record_frame moment len None ∷ stack) xs reserve = omega (arith, length-append {A = Reservation})
-length_acted (record_frame moment len (Some k) ∷ stack) xs reserve = omega arith
-length_acted (close_frame ∷ stack) xs reserve = omega arith
-length_acted [] xs (leave payload) = omega arith
-length_acted (record_frame moment len number ∷ stack) xs (leave payload) = omega (arith, length-finished_at number payload xs)
-length_acted (close_frame ∷ stack) xs (leave payload) = omega arith
+pub length_after_action : (stack : List Frame) (xs : List Reservation) (a : Action) → length xs ≤ length (after_action stack xs a).records
+length_after_action stack xs (push moment len) = omega arith
+length_after_action stack xs push_close = omega arith
+length_after_action stack xs open_fill = omega arith
+length_after_action [] xs reserve = omega arith
+length_after_action (record_frame moment len None ∷ stack) xs reserve = omega (arith, length-append {A = Reservation})
+length_after_action (record_frame moment len (Some k) ∷ stack) xs reserve = omega arith
+length_after_action (close_frame ∷ stack) xs reserve = omega arith
+length_after_action [] xs (leave payload) = omega arith
+length_after_action (record_frame moment len number ∷ stack) xs (leave payload) = omega (arith, length-records_with_payload number payload xs)
+length_after_action (close_frame ∷ stack) xs (leave payload) = omega arith
 
-behind_acted : (least : ℕ) (stack : List Frame) (xs : List Reservation) (a : Action) → least ≤ length xs → Behind least stack → Behind least (acted stack xs a).stack
-behind_acted least stack xs (push moment len) le b = ((λ k e. absurd (none_some e)), b)
-behind_acted least stack xs push_close le b = ((λ k e. absurd (none_some e)), b)
-behind_acted least stack xs open_fill le b = b
-behind_acted least [] xs reserve le b = tt
-behind_acted least (record_frame moment len None ∷ stack) xs reserve le b = ((λ k e. let same : length xs ≡ k = some_is (length xs) k e in omega arith), b.1)
-behind_acted least (record_frame moment len (Some n) ∷ stack) xs reserve le b = b
-behind_acted least (close_frame ∷ stack) xs reserve le b = b
-behind_acted least [] xs (leave payload) le b = tt
-behind_acted least (f ∷ stack) xs (leave payload) le b = b.1
+behind_after_action : (least : ℕ) (stack : List Frame) (xs : List Reservation) (a : Action) → least ≤ length xs → Behind least stack → Behind least (after_action stack xs a).stack
+behind_after_action least stack xs (push moment len) le b = ((λ k e. absurd (none_some e)), b)
+behind_after_action least stack xs push_close le b = ((λ k e. absurd (none_some e)), b)
+behind_after_action least stack xs open_fill le b = b
+behind_after_action least [] xs reserve le b = tt
+behind_after_action least (record_frame moment len None ∷ stack) xs reserve le b = ((λ k e. let same : length xs ≡ k = some_is (length xs) k e in omega arith), b.1)
+behind_after_action least (record_frame moment len (Some n) ∷ stack) xs reserve le b = b
+behind_after_action least (close_frame ∷ stack) xs reserve le b = b
+behind_after_action least [] xs (leave payload) le b = tt
+behind_after_action least (f ∷ stack) xs (leave payload) le b = b.1
 
-committed_more : (h : List Action) (a : Action) → CommittedAt (settled_front h) h → CommittedAt (settled_front (h ++ a ∷ [])) (h ++ a ∷ [])
+committed_more : (h : List Action) (a : Action) → CommittedAt (settled_prefix h) h → CommittedAt (settled_prefix (h ++ a ∷ [])) (h ++ a ∷ [])
 committed_more h a k = ⊎_elim settled unsettled (either_way (is_settled (h ++ a ∷ [])))
   where
-    settled : is_settled (h ++ a ∷ []) ≡ true → CommittedAt (settled_front (h ++ a ∷ [])) (h ++ a ∷ [])
+    settled : is_settled (h ++ a ∷ []) ≡ true → CommittedAt (settled_prefix (h ++ a ∷ [])) (h ++ a ∷ [])
     settled t = subst (λ (f : List Action). CommittedAt f (h ++ a ∷ [])) (sym (settled_more h a ∙ cond-true _ _ _ t)) record {
-      agrees = ap (map finished) (take_all (length (reserved_records (h ++ a ∷ []))) (reserved_records (h ++ a ∷ [])) (omega arith));
+      agrees = ap (map as_record) (take_all (length (reserved_records (h ++ a ∷ []))) (reserved_records (h ++ a ∷ [])) (omega arith));
       within = omega arith;
       behind = subst (Behind (length (reserved_records (h ++ a ∷ [])))) (sym (settled_stack (h ++ a ∷ []) t)) tt;
     }
 
-    unsettled : is_settled (h ++ a ∷ []) ≡ false → CommittedAt (settled_front (h ++ a ∷ [])) (h ++ a ∷ [])
+    unsettled : is_settled (h ++ a ∷ []) ≡ false → CommittedAt (settled_prefix (h ++ a ∷ [])) (h ++ a ∷ [])
     unsettled f = subst (λ (g : List Action). CommittedAt g (h ++ a ∷ [])) (sym (settled_more h a ∙ cond-false _ _ _ f)) record {
-      agrees = ap (λ (l : List Reservation). map finished (take (length (reserved_records (settled_front h))) l)) (records_snoc h a)
-          ∙ ap (map finished) (take_acted (length (reserved_records (settled_front h))) (written_by h).stack (written_by h).records a k.within k.behind)
+      agrees = ap (λ (l : List Reservation). map as_record (take (length (reserved_records (settled_prefix h))) l)) (records_snoc h a)
+          ∙ ap (map as_record) (take_after_action (length (reserved_records (settled_prefix h))) (writer_after h).stack (writer_after h).records a k.within k.behind)
           ∙ k.agrees;
-      within = let within = k.within in let more = length_acted (written_by h).stack (written_by h).records a in let e = ap (length {A = Reservation}) (records_snoc h a) in omega arith;
-      behind = subst (Behind (length (reserved_records (settled_front h)))) (sym (ap (λ (w : Written). w.stack) (written_snoc h a))) (behind_acted (length (reserved_records (settled_front h))) (written_by h).stack (written_by h).records a k.within k.behind);
+      within = let within = k.within in let more = length_after_action (writer_after h).stack (writer_after h).records a in let e = ap (length {A = Reservation}) (records_snoc h a) in omega arith;
+      behind = subst (Behind (length (reserved_records (settled_prefix h)))) (sym (ap (λ (w : WriterState). w.stack) (writer_snoc h a))) (behind_after_action (length (reserved_records (settled_prefix h))) (writer_after h).stack (writer_after h).records a k.within k.behind);
     }
 
-committed_from : (front behind : List Action) → CommittedAt (settled_front front) front → CommittedAt (settled_front (front ++ behind)) (front ++ behind)
-committed_from front [] k = subst (λ (h : List Action). CommittedAt (settled_front h) h) (sym (append-nil front)) k
-committed_from front (a ∷ behind) k = subst (λ (h : List Action). CommittedAt (settled_front h) h) (append_assoc front (a ∷ []) behind) (committed_from (front ++ a ∷ []) behind (committed_more front a k))
+committed_from : (front behind : List Action) → CommittedAt (settled_prefix front) front → CommittedAt (settled_prefix (front ++ behind)) (front ++ behind)
+committed_from front [] k = subst (λ (h : List Action). CommittedAt (settled_prefix h) h) (sym (append-nil front)) k
+committed_from front (a ∷ behind) k = subst (λ (h : List Action). CommittedAt (settled_prefix h) h) (append_assoc front (a ∷ []) behind) (committed_from (front ++ a ∷ []) behind (committed_more front a k))
 
 -- whatever was done, the committed records are the first ones that are reserved, as they are by now
-pub committed_front : (h : List Action) → CommittedAt (settled_front h) h
-committed_front h = committed_from [] h record { agrees = refl; within = omega arith; behind = tt }
+pub committed_prefix : (h : List Action) → CommittedAt (settled_prefix h) h
+committed_prefix h = committed_from [] h record { agrees = refl; within = omega arith; behind = tt }
 
 -- ---- how many are committed
 
-whole_front : (m : ℕ) (h : List Action) → length h ≤ m → is_settled h ≡ true → settled_front_within m h ≡ h
+whole_front : (m : ℕ) (h : List Action) → length h ≤ m → is_settled h ≡ true → settled_prefix_within m h ≡ h
 whole_front zero [] low t = refl
 whole_front zero (a ∷ h) low t = absurd (omega arith)
-whole_front (suc m) h low t = let whole : take (suc m) h ≡ h = take_all (suc m) h low in (λ i. cond (is_settled (whole i)) (whole i) (settled_front_within m h)) ∙ cond-true _ _ _ t
+whole_front (suc m) h low t = let whole : take (suc m) h ≡ h = take_all (suc m) h low in (λ i. cond (is_settled (whole i)) (whole i) (settled_prefix_within m h)) ∙ cond-true _ _ _ t
 
 abbrev pub committed_len : List Action → ℕ
-committed_len h = length (reserved_records (settled_front h))
+committed_len h = length (reserved_records (settled_prefix h))
 
 pub committed_len-settled : (h : List Action) → is_settled h ≡ true → length (reserved_records h) ≤ committed_len h
 committed_len-settled h t = let e = ap (λ (g : List Action). length (reserved_records g)) (whole_front (length h) h (omega arith) t) in omega arith
 
 pub committed_len-more : (h : List Action) (a : Action) → committed_len h ≤ committed_len (h ++ a ∷ [])
 committed_len-more h a = ⊎_elim
-    (λ t. let e = ap (λ (g : List Action). length (reserved_records g)) (settled_more h a ∙ cond-true _ _ _ t) in let within = (committed_front h).within in
-    let more = length_acted (written_by h).stack (written_by h).records a in let e' = ap (length {A = Reservation}) (records_snoc h a) in omega arith)
+    (λ t. let e = ap (λ (g : List Action). length (reserved_records g)) (settled_more h a ∙ cond-true _ _ _ t) in let within = (committed_prefix h).within in
+    let more = length_after_action (writer_after h).stack (writer_after h).records a in let e' = ap (length {A = Reservation}) (records_snoc h a) in omega arith)
     (λ f. let e = ap (λ (g : List Action). length (reserved_records g)) (settled_more h a ∙ cond-false _ _ _ f) in omega arith)
     (either_way (is_settled (h ++ a ∷ [])))
 

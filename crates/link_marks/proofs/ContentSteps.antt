@@ -1,53 +1,53 @@
 -- Each step keeps the fills in their pages.
 use Rattle.std.proofs.Common.{◌≡◌, ◌≢◌, ℕ, ◌+◌, ◌-◌, ◌≤◌, List, [], ◌∷◌, ◌++◌, length, map, set, Option, Some, None, refl, sym, ap, ◌∙◌, subst, arith}
 use Rattle.trace_model.specs.History as history
-use Rattle.trace_model.specs.History.{Action, push, push_close, open_fill, reserve, leave, Reservation, Written, acted, written_by, reserved_records, reserved_for, finished_at, left_by}
+use Rattle.trace_model.specs.History.{Action, push, push_close, open_fill, reserve, leave, Reservation, WriterState, after_action, writer_after, reserved_records, reservation_for, records_with_payload, records_after_leave}
 use Rattle.trace_model.specs.Packing.{opens_of}
 use Rattle.trace_model.specs.Frames.{Kind, for_record, for_close, Role, helper, Phase, reserving, looking, claiming, looking_next, marking, clearing, opening, reserved, releasing, Frame}
 use Rattle.trace_model.specs.Ring.{Held, ReaderPhase, loading_link, loading_done, storing_link, swapping, Core, page_at, AreApart}
-use Rattle.trace_model.specs.Steps.{Event, Answer, in_phase, after_leave, finished_in, record_of, begun, begun_on, BeginsAnew, ReserveStep, reserves, finds_nothing, is_crowded, is_worn, notes, LookStep, look_late, sees_free, sees_header, sees_update, ClaimStep, claim_late, claims, claim_fails, NextStep, next_late, sees_normal, sees_other, MarkStep, mark_late, marks, mark_fails, ClearStep, clears, OpenStep, open_late, opens, ReleaseStep, releases, releases_last, FrameStep, Step, push_step, push_refused, close_step, close_refused, frame_step, frame_lacks, end_step, end_lacks, end_early, read_step, LoadStep, loads_header, loads_update, loads_owed, loads_passed, LoadDoneStep, finds_none, finds_closed, SwapStep, swaps, swap_fails, ReadStep, after_swap}
-use Rattle.link_marks.specs.Kept.{PhaseKept, LinksKept}
-use Rattle.link_marks.specs.KeptHistory.{written_frame, shown, HistoryKept}
+use Rattle.trace_model.specs.Steps.{Event, Answer, in_phase, after_leave, held_with_payload, own_number, with_new_tail, after_begin, BeginsAnew, ReserveStep, reserves, finds_nothing, is_crowded, is_worn, notes, LookStep, look_late, sees_free, sees_header, sees_update, ClaimStep, claim_late, claims, claim_fails, NextStep, next_late, sees_normal, sees_other, MarkStep, mark_late, marks, mark_fails, ClearStep, clears, OpenStep, open_late, opens, ReleaseStep, releases, releases_last, FrameStep, Step, push_step, push_refused, close_step, close_refused, frame_step, frame_lacks, end_step, end_lacks, end_early, read_step, LoadStep, loads_header, loads_update, loads_owed, loads_passed, LoadDoneStep, finds_none, finds_closed, SwapStep, swaps, swap_fails, ReadStep, after_swap}
+use Rattle.link_marks.specs.KeptLinks.{PhaseKept, LinksKept}
+use Rattle.link_marks.specs.KeptHistory.{history_frame, history_stack, HistoryKept}
 use Rattle.link_marks.specs.KeptContents.{PagesKept, ContentsKept}
-use Rattle.link_marks.proofs.Inside.{header_tells, fill_at}
-use Rattle.link_marks.proofs.Stacks.{top_kept}
-use Rattle.link_marks.proofs.Histories.{written_snoc, opened_stack, shown_standing}
-use Rattle.link_marks.proofs.HistorySteps.{top_shown}
-use Rattle.link_marks.proofs.Cuts.{opens_of-push, opens_of-push_close, opens_of-reserve, opens_of-leave, opens_of-open_fill}
-use Rattle.link_marks.proofs.Pages.{pages_later, pages_reserved, pages_begun, pages_finished, pages_swapped}
+use Rattle.link_marks.proofs.LinkFills.{header_tells, fill_at}
+use Rattle.link_marks.proofs.FrameChanges.{top_kept}
+use Rattle.link_marks.proofs.Histories.{writer_snoc, opened_stack, stack_standing}
+use Rattle.link_marks.proofs.HistorySteps.{top_stack}
+use Rattle.link_marks.proofs.FillCuts.{opens_of-push, opens_of-push_close, opens_of-reserve, opens_of-leave, opens_of-open_fill}
+use Rattle.link_marks.proofs.PageChanges.{pages_later, pages_reserved, pages_begun, pages_finished, pages_swapped}
 
 -- the same cuts and records, by equations
 same_pages : (n start : ℕ) (order : List ℕ) (held : List Held) (cuts cuts' : List ℕ) (xs xs' : List Reservation) (head opened : ℕ) → cuts' ≡ cuts → xs' ≡ xs → PagesKept n start order held cuts xs head opened → PagesKept n start order held cuts' xs' head opened
 same_pages n start order held cuts cuts' xs xs' head opened a b k = subst (λ (l : List ℕ). PagesKept n start order held l xs' head opened) (sym a) (subst (λ (l : List Reservation). PagesKept n start order held cuts l head opened) (sym b) k)
 
-pub records_snoc : (h : List Action) (a : Action) → reserved_records (h ++ a ∷ []) ≡ (acted (written_by h).stack (written_by h).records a).records
-records_snoc h a = ap (λ (w : Written). w.records) (written_snoc h a)
+pub records_snoc : (h : List Action) (a : Action) → reserved_records (h ++ a ∷ []) ≡ (after_action (writer_after h).stack (writer_after h).records a).records
+records_snoc h a = ap (λ (w : WriterState). w.records) (writer_snoc h a)
 
-pub records_left : (h : List Action) (f : history.Frame) (stack : List history.Frame) (payload : Option (List ℕ)) → (written_by h).stack ≡ f ∷ stack → reserved_records (h ++ leave payload ∷ []) ≡ left_by f payload (reserved_records h)
-records_left h f stack payload e = records_snoc h (leave payload) ∙ ap (λ (s : List history.Frame). (acted s (written_by h).records (leave payload)).records) e
+pub records_left : (h : List Action) (f : history.Frame) (stack : List history.Frame) (payload : Option (List ℕ)) → (writer_after h).stack ≡ f ∷ stack → reserved_records (h ++ leave payload ∷ []) ≡ records_after_leave f payload (reserved_records h)
+records_left h f stack payload e = records_snoc h (leave payload) ∙ ap (λ (s : List history.Frame). (after_action s (writer_after h).records (leave payload)).records) e
 
-pub records_reserved : (h : List Action) (moment len : ℕ) (stack : List history.Frame) → (written_by h).stack ≡ history.record_frame moment len None ∷ stack → reserved_records (h ++ reserve ∷ []) ≡ reserved_records h ++ reserved_for moment len (reserved_records h) ∷ []
-records_reserved h moment len stack e = records_snoc h reserve ∙ ap (λ (s : List history.Frame). (acted s (written_by h).records reserve).records) e
+pub records_reserved : (h : List Action) (moment len : ℕ) (stack : List history.Frame) → (writer_after h).stack ≡ history.record_frame moment len None ∷ stack → reserved_records (h ++ reserve ∷ []) ≡ reserved_records h ++ reservation_for moment len (reserved_records h) ∷ []
+records_reserved h moment len stack e = records_snoc h reserve ∙ ap (λ (s : List history.Frame). (after_action s (writer_after h).records reserve).records) e
 
-pub left_is : (kind : Kind) (phase : Phase) (payload : Option (List ℕ)) (xs : List Reservation) → left_by (written_frame kind phase) payload xs ≡ finished_at (record_of kind phase) payload xs
+pub left_is : (kind : Kind) (phase : Phase) (payload : Option (List ℕ)) (xs : List Reservation) → records_after_leave (history_frame kind phase) payload xs ≡ records_with_payload (own_number kind phase) payload xs
 left_is (for_record moment len) phase payload xs = refl
 left_is for_close phase payload xs = refl
 
-module _ (n start : ℕ) (c : Core) (frame : Frame) (below : List Frame) (some : 1 ≤ n) (a : AreApart n c.order c.spare) (t : ContentsKept n start c) (stack : (written_by c.history).stack ≡ written_frame frame.kind frame.phase ∷ shown below) where
+module _ (n start : ℕ) (c : Core) (frame : Frame) (below : List Frame) (some : 1 ≤ n) (a : AreApart n c.order c.spare) (t : ContentsKept n start c) (stack : (writer_after c.history).stack ≡ history_frame frame.kind frame.phase ∷ history_stack below) where
   pub contents_leave : (payload : Option (List ℕ)) → ContentsKept n start (after_leave c frame below payload)
-  contents_leave payload = same_pages n start c.order (map (finished_in (record_of frame.kind frame.phase) payload) c.held) (opens_of c.history) (opens_of (c.history ++ leave payload ∷ []))
-      (finished_at (record_of frame.kind frame.phase) payload (reserved_records c.history)) (reserved_records (c.history ++ leave payload ∷ [])) c.head c.opened
+  contents_leave payload = same_pages n start c.order (map (held_with_payload (own_number frame.kind frame.phase) payload) c.held) (opens_of c.history) (opens_of (c.history ++ leave payload ∷ []))
+      (records_with_payload (own_number frame.kind frame.phase) payload (reserved_records c.history)) (reserved_records (c.history ++ leave payload ∷ [])) c.head c.opened
       (opens_of-leave c.history payload)
-      (records_left c.history (written_frame frame.kind frame.phase) (shown below) payload stack ∙ left_is frame.kind frame.phase payload (reserved_records c.history))
-      (pages_finished n start c.order c.spare c.held (opens_of c.history) (reserved_records c.history) c.head c.opened some a t (record_of frame.kind frame.phase) payload)
+      (records_left c.history (history_frame frame.kind frame.phase) (history_stack below) payload stack ∙ left_is frame.kind frame.phase payload (reserved_records c.history))
+      (pages_finished n start c.order c.spare c.held (opens_of c.history) (reserved_records c.history) c.head c.opened some a t (own_number frame.kind frame.phase) payload)
 
-  pub contents_begun_on : (kind : Kind) → ContentsKept n start (begun_on kind c frame below)
-  contents_begun_on (for_record moment len) = t
-  contents_begun_on for_close = contents_leave None
+  pub contents_after_begin : (kind : Kind) → ContentsKept n start (after_begin kind c frame below)
+  contents_after_begin (for_record moment len) = t
+  contents_after_begin for_close = contents_leave None
 
 module _ (n size start : ℕ) (c : Core) (frame : Frame) (below : List Frame) (k : LinksKept n c) (h : HistoryKept n start c) (t : ContentsKept n start c) (top : c.frames ≡ frame ∷ below) where
-  stack_top : (old : Phase) → frame.phase ≡ old → old ≢ releasing → (written_by c.history).stack ≡ written_frame frame.kind frame.phase ∷ shown below
-  stack_top old same stands = top_shown n start c frame below h top ∙ shown_standing frame.kind frame.phase (shown below) (λ e. stands (sym same ∙ e))
+  stack_top : (old : Phase) → frame.phase ≡ old → old ≢ releasing → (writer_after c.history).stack ≡ history_frame frame.kind frame.phase ∷ history_stack below
+  stack_top old same stands = top_stack n start c frame below h top ∙ stack_standing frame.kind frame.phase (history_stack below) (λ e. stands (sym same ∙ e))
 
   some_page : 1 ≤ n
   some_page = let two = k.some_pages in omega arith
@@ -59,13 +59,13 @@ module _ (n size start : ℕ) (c : Core) (frame : Frame) (below : List Frame) (k
   contents_goes after phase is = subst (ContentsKept n start) (sym is) t
 
   contents_anew : (noted : ℕ) (answer : Answer) (after : Core) (old : Phase) → frame.phase ≡ old → old ≢ releasing → BeginsAnew c frame below noted answer after → ContentsKept n start after
-  contents_anew noted answer after old same stands step = subst (ContentsKept n start) (sym step.after_is) (contents_begun_on n start c frame below some_page k.apart t (stack_top old same stands) frame.kind)
+  contents_anew noted answer after old same stands step = subst (ContentsKept n start) (sym step.after_is) (contents_after_begin n start c frame below some_page k.apart t (stack_top old same stands) frame.kind)
 
   contents_reserve : (answer : Answer) (after : Core) → frame.phase ≡ reserving → ReserveStep n size c frame below answer after → ContentsKept n start after
   contents_reserve answer after same (reserves moment len r kind r_is fits a is) = let unread = k.head_le in let behind = k.done_lt in
       subst (ContentsKept n start) (sym is) (same_pages n start c.order _ (opens_of c.history) (opens_of (c.history ++ reserve ∷ [])) (reserved_records c.history ++ r ∷ []) (reserved_records (c.history ++ reserve ∷ [])) c.head c.opened
       (opens_of-reserve c.history)
-      (records_reserved c.history moment len (shown below) (stack_top reserving same (λ e. cc) ∙ ap (λ (p : Phase). written_frame frame.kind p ∷ shown below) same ∙ ap (λ (x : Kind). written_frame x reserving ∷ shown below) kind)
+      (records_reserved c.history moment len (history_stack below) (stack_top reserving same (λ e. cc) ∙ ap (λ (p : Phase). history_frame frame.kind p ∷ history_stack below) same ∙ ap (λ (x : Kind). history_frame x reserving ∷ history_stack below) kind)
       ∙ ap (λ (x : Reservation). reserved_records c.history ++ x ∷ []) (sym r_is))
       (pages_reserved n start c.order c.spare c.held (opens_of c.history) (reserved_records c.history) c.head c.opened some_page k.apart t r (c.opened - 1) (omega arith) (omega arith) k.opened_le))
   contents_reserve answer after same (finds_nothing kind none a is) = contents_leaves after reserving None same (λ e. cc) is
@@ -105,11 +105,11 @@ module _ (n size start : ℕ) (c : Core) (frame : Frame) (below : List Frame) (k
       let begun_pages : PagesKept n start c.order held (opens_of c.history ++ length (reserved_records c.history) ∷ []) (reserved_records c.history) c.head (c.opened + 1) =
       subst (λ (p : ℕ). PagesKept n start c.order (set c.held p record { first = length (reserved_records c.history); records = [] }) (opens_of c.history ++ length (reserved_records c.history) ∷ []) (reserved_records c.history) c.head (c.opened + 1)) (sym there)
       (pages_begun n start c.order c.spare c.held (opens_of c.history) (reserved_records c.history) c.head c.opened some_page k.apart t (omega arith) (omega arith)) in
-      let is_begun : ContentsKept n start (begun c page) =
+      let is_begun : ContentsKept n start (with_new_tail c page) =
       same_pages n start c.order held (opens_of c.history ++ length (reserved_records c.history) ∷ []) (opens_of (c.history ++ open_fill ∷ [])) (reserved_records c.history) (reserved_records (c.history ++ open_fill ∷ [])) c.head (c.opened + 1)
       (opens_of-open_fill c.history) (records_snoc c.history open_fill) begun_pages in
-      subst (ContentsKept n start) (sym is) (contents_begun_on n start (begun c page) frame below some_page k.apart is_begun
-      (opened_stack c.history (written_frame frame.kind frame.phase ∷ shown below) (stack_top (opening noted page) same (λ e. cc))) frame.kind)
+      subst (ContentsKept n start) (sym is) (contents_after_begin n start (with_new_tail c page) frame below some_page k.apart is_begun
+      (opened_stack c.history (history_frame frame.kind frame.phase ∷ history_stack below) (stack_top (opening noted page) same (λ e. cc))) frame.kind)
 
   contents_release : (answer : Answer) (after : Core) → ReleaseStep c frame below answer after → ContentsKept n start after
   contents_release answer after (releases alone more a is) = subst (ContentsKept n start) (sym is) t

@@ -3,10 +3,10 @@ use Rattle.std.proofs.Common.{◌≡◌, ◌≢◌, ℕ, ◌+◌, ◌<◌, ◌�
 use Rattle.std.proofs.lemmas.List.{length-map}
 use mathlib.Core.Logic.{dite}
 use native.Mathlib.Decide.{ℕ_discrete}
-use Rattle.trace_model.specs.History.{Action, push, push_close, open_fill, reserve, leave, Reservation, Frame, record_frame, close_frame, acted, written_by, reserved_records}
+use Rattle.trace_model.specs.History.{Action, push, push_close, open_fill, reserve, leave, Reservation, Frame, record_frame, close_frame, after_action, writer_after, reserved_records}
 use Rattle.trace_model.specs.Packing.{opens_of, cut_from, fills_of, tail_of, IsPacked}
 use Rattle.link_marks.specs.KeptContents.{IsRising}
-use Rattle.link_marks.proofs.Cuts.{length-cut_from, IsRising-more, IsRising-snoc, reserved_before, opened_before, opens_of-push, opens_of-push_close, opens_of-reserve, opens_of-leave, opens_of-open_fill}
+use Rattle.link_marks.proofs.FillCuts.{length-cut_from, IsRising-more, IsRising-snoc, reserved_before, opened_before, opens_of-push, opens_of-push_close, opens_of-reserve, opens_of-leave, opens_of-open_fill}
 use Rattle.link_marks.proofs.ContentSteps.{records_snoc}
 use Rattle.link_marks.proofs.PackedHistories.{plain, plain-finished, cut-plain, plain_nil, tail_is}
 
@@ -14,13 +14,13 @@ use Rattle.link_marks.proofs.PackedHistories.{plain, plain-finished, cut-plain, 
 abbrev Grown : List Reservation → List Reservation → Type 0
 Grown xs ys = (map plain ys ≡ map plain xs) ⊎ ((s : Reservation) × (ys ≡ xs ++ s ∷ []))
 
-grown_reserve : (stack : List Frame) (xs : List Reservation) → Grown xs (acted stack xs reserve).records
+grown_reserve : (stack : List Frame) (xs : List Reservation) → Grown xs (after_action stack xs reserve).records
 grown_reserve [] xs = inl refl
 grown_reserve (record_frame moment len None ∷ stack) xs = inr (_, refl)
 grown_reserve (record_frame moment len (Some number) ∷ stack) xs = inl refl
 grown_reserve (close_frame ∷ stack) xs = inl refl
 
-grown_leave : (stack : List Frame) (xs : List Reservation) (payload : Option (List ℕ)) → Grown xs (acted stack xs (leave payload)).records
+grown_leave : (stack : List Frame) (xs : List Reservation) (payload : Option (List ℕ)) → Grown xs (after_action stack xs (leave payload)).records
 grown_leave [] xs payload = inl refl
 grown_leave (record_frame moment len number ∷ stack) xs payload = inl (plain-finished number payload xs)
 grown_leave (close_frame ∷ stack) xs payload = inl refl
@@ -55,7 +55,7 @@ abbrev FullIn : List Action → Type 0
 FullIn h = AreFull (opens_of h) (reserved_records h)
 
 -- an action that begins no fill
-full_acts : (h : List Action) (a : Action) → opens_of (h ++ a ∷ []) ≡ opens_of h → Grown (reserved_records h) (acted (written_by h).stack (written_by h).records a).records → FullIn h → FullIn (h ++ a ∷ [])
+full_acts : (h : List Action) (a : Action) → opens_of (h ++ a ∷ []) ≡ opens_of h → Grown (reserved_records h) (after_action (writer_after h).stack (writer_after h).records a).records → FullIn h → FullIn (h ++ a ∷ [])
 full_acts h a cuts grown k = subst (λ (l : List ℕ). AreFull l (reserved_records (h ++ a ∷ []))) (sym cuts) (subst (AreFull (opens_of h)) (sym (records_snoc h a))
     (⊎_elim (λ same. full_alike (opens_of h) (reserved_records h) _ same k) (λ (s, is). subst (AreFull (opens_of h)) (sym is) (full_more (opens_of h) (reserved_records h) s k)) grown))
 
@@ -64,8 +64,8 @@ full_act h (push moment len) begins k = full_acts h (push moment len) (opens_of-
 full_act h push_close begins k = full_acts h push_close (opens_of-push_close h) (inl refl) k
 full_act h open_fill begins k = subst (λ (l : List ℕ). AreFull l (reserved_records (h ++ open_fill ∷ []))) (sym (opens_of-open_fill h)) (subst (AreFull (opens_of h ++ length (reserved_records h) ∷ [])) (sym (records_snoc h open_fill))
     (full_opened (opens_of h) (reserved_records h) (λ none. begins refl (tail_is h ∙ none)) k))
-full_act h reserve begins k = full_acts h reserve (opens_of-reserve h) (grown_reserve (written_by h).stack (written_by h).records) k
-full_act h (leave payload) begins k = full_acts h (leave payload) (opens_of-leave h payload) (grown_leave (written_by h).stack (written_by h).records payload) k
+full_act h reserve begins k = full_acts h reserve (opens_of-reserve h) (grown_reserve (writer_after h).stack (writer_after h).records) k
+full_act h (leave payload) begins k = full_acts h (leave payload) (opens_of-leave h payload) (grown_leave (writer_after h).stack (writer_after h).records payload) k
 
 -- behind a front in which it is so
 full_behind : (front behind : List Action) → ((f b : List Action) → front ++ behind ≡ f ++ open_fill ∷ b → tail_of f ≢ []) → FullIn front → FullIn (front ++ behind)

@@ -2,7 +2,7 @@
 use Rattle.std.proofs.Common.{◌≡◌, ℕ, List, [], ◌∷◌, ◌++◌, length, refl, sym, ap, ◌∙◌, arith, length-append}
 use Rattle.trace_model.specs.Window.{Window, Happening, opened_one, released_one, took_one, lost_one, window_after}
 use Rattle.trace_model.specs.Ring.{Taken, Reader, Core, window_of}
-use Rattle.link_marks.specs.Laws.{Happened}
+use Rattle.link_marks.specs.WindowLaws.{Happened}
 
 -- a list isn't longer than itself
 pushed : (xs ys : List Taken) (t : Taken) → ys ≡ xs ++ t ∷ [] → ys ≡ xs → ⊥

@@ -1,40 +1,46 @@
-pub mod Turns
-pub mod Phases
-pub mod Inside
-pub mod Stacks
+-- fills and their positions, links, and what a step makes of links, counts, frames and the reader
+pub mod Positions
+pub mod FramePhases
+pub mod LinkFills
+pub mod FrameChanges
 pub mod WriterSteps
 pub mod ReaderSteps
-pub mod EachStep
-pub mod Start
+pub mod LinkSteps
+-- the history of the frames, and the pages with their records
 pub mod Histories
 pub mod HistorySteps
 pub mod Happenings
-pub mod Cuts
-pub mod Pages
+pub mod FillCuts
+pub mod PageChanges
 pub mod ContentSteps
 pub mod Committed
 pub mod ClosedSteps
-pub mod Rings
-pub mod Rests
-pub mod Parts
-pub mod PartSteps
-pub mod PartRuns
+-- the partition of the records, and the invariant as a whole
+pub mod PartitionLemmas
+pub mod PartitionChanges
+pub mod PartitionSteps
+pub mod NewRing
+pub mod RingsKept
+pub mod UnreadRest
+-- runs of the window, answers, links that stand once, packed histories
 pub mod WindowRuns
 pub mod ToldSteps
-pub mod Answered
+pub mod AnswersRight
+pub mod RefusalsDue
 pub mod Relinking
 pub mod PackedHistories
 pub mod PackedSteps
 pub mod PackedRuns
-pub mod ExamplesComputed
-pub mod ExamplesSound
-pub mod ExamplesTried
-pub mod ExamplesRefused
-pub mod ExamplesReady
-pub mod ExamplesGiven
-pub mod ExamplesDetermined
-pub mod ExamplesStarts
-pub mod ExamplesMoves
 pub mod FullFills
-pub mod TakenFull
-pub mod Refusals
+pub mod TakenHoldRecords
+-- the step as a function: it gives the steps and no others; the head and the count of closed fills move by it
+pub mod StepFunction
+pub mod StepFunctionSound
+pub mod StepsReady
+pub mod StepsGiven
+pub mod StepsDetermined
+pub mod OneNewRing
+pub mod CountMoves
+-- the worked examples and the wrong steps
+pub mod ExamplesRun
+pub mod WrongStepsRefused

@@ -6,13 +6,13 @@ use Rattle.std.proofs.lemmas.List.{map_push}
 use mathlib.Core.Logic.{dite}
 use native.Mathlib.Decide.{ℕ_discrete, dec_le}
 use Rattle.trace_model.specs.Words.{slot_len, encoded_len}
-use Rattle.trace_model.specs.History.{Action, push, push_close, open_fill, reserve, leave, Reservation, Frame, record_frame, close_frame, last_moment, reserved_for, finished_at, written_by, reserved_records}
-use Rattle.trace_model.specs.Packing.{opens_of, cut_from, fills_of, tail_of, len_behind, fill_len, FitsBehind, wanted_by, wanted, Closes, IsPacked}
+use Rattle.trace_model.specs.History.{Action, push, push_close, open_fill, reserve, leave, Reservation, Frame, record_frame, close_frame, last_moment, reservation_for, records_with_payload, writer_after, reserved_records}
+use Rattle.trace_model.specs.Packing.{opens_of, cut_from, fills_of, tail_of, len_behind, fill_len, FitsBehind, next_reservation_of, next_reservation, Closes, IsPacked}
 use Rattle.trace_model.specs.Frames.{Kind, for_record, for_close}
 use Rattle.trace_model.proofs.Lengths.{slot_len_ge_four, slot_len-slot_len}
 use Rattle.link_marks.specs.KeptContents.{IsRising}
-use Rattle.link_marks.proofs.Phases.{none_some}
-use Rattle.link_marks.proofs.Cuts.{length-cut_from, reserved_before, reserved_last, opened_before, opened_last}
+use Rattle.link_marks.proofs.FramePhases.{none_some}
+use Rattle.link_marks.proofs.FillCuts.{length-cut_from, reserved_before, reserved_last, opened_before, opened_last}
 
 -- ---- a record without its bytes
 
@@ -27,7 +27,7 @@ pub fill_len-plain : (xs : List Reservation) → fill_len (map plain xs) ≡ fil
 fill_len-plain [] = refl
 fill_len-plain (x ∷ xs) = ap (λ (k : ℕ). encoded_len x.len 0 true + k) (len_behind-plain x.moment xs)
 
-pub plain-finished : (number : Option ℕ) (payload : Option (List ℕ)) (xs : List Reservation) → map plain (finished_at number payload xs) ≡ map plain xs
+pub plain-finished : (number : Option ℕ) (payload : Option (List ℕ)) (xs : List Reservation) → map plain (records_with_payload number payload xs) ≡ map plain xs
 plain-finished None payload xs = refl
 plain-finished (Some k) None xs = refl
 plain-finished (Some k) (Some p) [] = refl
@@ -108,13 +108,13 @@ fill_more (x ∷ xs) s moment moment' len = add_le (encoded_len x.len 0 true) _ 
 
 -- ---- what the frame on top wants
 
-pub wanted_record : (h : List Action) (moment len : ℕ) (below : List Frame) → (written_by h).stack ≡ record_frame moment len None ∷ below → wanted h ≡ Some (reserved_for moment len (reserved_records h))
-wanted_record h moment len below e = ap (λ (s : List Frame). wanted_by s (reserved_records h)) e
+pub wanted_record : (h : List Action) (moment len : ℕ) (below : List Frame) → (writer_after h).stack ≡ record_frame moment len None ∷ below → next_reservation h ≡ Some (reservation_for moment len (reserved_records h))
+wanted_record h moment len below e = ap (λ (s : List Frame). next_reservation_of s (reserved_records h)) e
 
-pub wanted_close : (h : List Action) (below : List Frame) → (written_by h).stack ≡ close_frame ∷ below → wanted h ≡ None
-wanted_close h below e = ap (λ (s : List Frame). wanted_by s (reserved_records h)) e
+pub wanted_close : (h : List Action) (below : List Frame) → (writer_after h).stack ≡ close_frame ∷ below → next_reservation h ≡ None
+wanted_close h below e = ap (λ (s : List Frame). next_reservation_of s (reserved_records h)) e
 
-pub closes_close : (h : List Action) (below : List Frame) → (written_by h).stack ≡ close_frame ∷ below → Closes (written_by h).stack
+pub closes_close : (h : List Action) (below : List Frame) → (writer_after h).stack ≡ close_frame ∷ below → Closes (writer_after h).stack
 closes_close h below e = subst Closes (sym e) tt
 
 -- ---- the fills have room
@@ -153,8 +153,8 @@ room_opened size cuts xs room i = dite (dec_le i (length cuts))
 abbrev pub IsFit : ℕ → List Action → Action → Type 0
 IsFit size front (push moment len) = Unit {0}
 IsFit size front push_close = Unit {0}
-IsFit size front open_fill = (tail_of front ≢ []) × ((r : Reservation) → wanted front ≡ Some r → FitsBehind size (tail_of front) r → ⊥) × (wanted front ≡ None → Closes (written_by front).stack)
-IsFit size front reserve = (r : Reservation) → wanted front ≡ Some r → FitsBehind size (tail_of front) r
+IsFit size front open_fill = (tail_of front ≢ []) × ((r : Reservation) → next_reservation front ≡ Some r → FitsBehind size (tail_of front) r → ⊥) × (next_reservation front ≡ None → Closes (writer_after front).stack)
+IsFit size front reserve = (r : Reservation) → next_reservation front ≡ Some r → FitsBehind size (tail_of front) r
 IsFit size front (leave payload) = Unit {0}
 
 abbrev pub AreFit : ℕ → List Action → Type 0
@@ -170,16 +170,16 @@ not_nil : (front behind : List Action) (x : Action) → [] ≡ front ++ x ∷ be
 not_nil [] behind x e = cc
 not_nil (y ∷ front) behind x e = cc
 
--- a place in a list with one element more is the last one, or stands in the list
-snoc_place : (h front behind : List Action) (a x : Action) → h ++ a ∷ [] ≡ front ++ x ∷ behind → ((h ≡ front) × (a ≡ x)) ⊎ ((rest : List Action) × (h ≡ front ++ x ∷ rest))
-snoc_place [] [] behind a x e = inl (refl, first_is a x [] behind e)
-snoc_place [] (y ∷ front) behind a x e = absurd (not_nil front behind x (rest_is a y [] (front ++ x ∷ behind) e))
-snoc_place (z ∷ h) [] behind a x e = inr (h, ap (λ (b : Action). b ∷ h) (first_is z x (h ++ a ∷ []) behind e))
-snoc_place (z ∷ h) (y ∷ front) behind a x e = let here = first_is z y (h ++ a ∷ []) (front ++ x ∷ behind) e in
-    ⊎_elim (λ (f, same). inl ((λ i. here i ∷ f i), same)) (λ (rest, is). inr (rest, λ i. here i ∷ is i)) (snoc_place h front behind a x (rest_is z y (h ++ a ∷ []) (front ++ x ∷ behind) e))
+-- a index in a list with one element more is the last one, or stands in the list
+snoc_index : (h front behind : List Action) (a x : Action) → h ++ a ∷ [] ≡ front ++ x ∷ behind → ((h ≡ front) × (a ≡ x)) ⊎ ((rest : List Action) × (h ≡ front ++ x ∷ rest))
+snoc_index [] [] behind a x e = inl (refl, first_is a x [] behind e)
+snoc_index [] (y ∷ front) behind a x e = absurd (not_nil front behind x (rest_is a y [] (front ++ x ∷ behind) e))
+snoc_index (z ∷ h) [] behind a x e = inr (h, ap (λ (b : Action). b ∷ h) (first_is z x (h ++ a ∷ []) behind e))
+snoc_index (z ∷ h) (y ∷ front) behind a x e = let here = first_is z y (h ++ a ∷ []) (front ++ x ∷ behind) e in
+    ⊎_elim (λ (f, same). inl ((λ i. here i ∷ f i), same)) (λ (rest, is). inr (rest, λ i. here i ∷ is i)) (snoc_index h front behind a x (rest_is z y (h ++ a ∷ []) (front ++ x ∷ behind) e))
 
 pub fit_more : (size : ℕ) (h : List Action) (a : Action) → AreFit size h → IsFit size h a → AreFit size (h ++ a ∷ [])
-fit_more size h a fit new front behind x e = ⊎_elim (λ (f, same). subst (λ (g : List Action). IsFit size g x) f (subst (IsFit size h) same new)) (λ (rest, is). fit front rest x is) (snoc_place h front behind a x e)
+fit_more size h a fit new front behind x e = ⊎_elim (λ (f, same). subst (λ (g : List Action). IsFit size g x) f (subst (IsFit size h) same new)) (λ (rest, is). fit front rest x is) (snoc_index h front behind a x e)
 
 pub fit_none : (size : ℕ) → AreFit size []
 fit_none size front behind a e = absurd (not_nil front behind a e)
@@ -202,7 +202,7 @@ FitsPage size for_close = Unit {0}
 
 -- the tail has no room for the frame's record, or holds a record that it is to close
 abbrev pub NeedsFill : ℕ → List ℕ → List Reservation → Kind → Type 0
-NeedsFill size cuts xs (for_record moment len) = FitsBehind size (tail_at cuts xs) (reserved_for moment len xs) → ⊥
+NeedsFill size cuts xs (for_record moment len) = FitsBehind size (tail_at cuts xs) (reservation_for moment len xs) → ⊥
 NeedsFill size cuts xs for_close = tail_at cuts xs ≢ []
 
 pub plain_nil : (xs : List Reservation) → map plain xs ≡ [] → xs ≡ []
@@ -213,9 +213,9 @@ pub needs_alike : (size : ℕ) (cuts : List ℕ) (xs ys : List Reservation) (kin
 needs_alike size cuts xs ys (for_record moment len) same needs = λ fits. needs (
     let tails : map plain (tail_at cuts ys) ≡ map plain (tail_at cuts xs) = sym (cut-plain 0 cuts ys (length cuts)) ∙ ap (λ (l : List Reservation). tail_at cuts l) same ∙ cut-plain 0 cuts xs (length cuts) in
     let lasts : last_moment ys ≡ last_moment xs = sym (last_moment-plain ys) ∙ ap last_moment same ∙ last_moment-plain xs in
-    let whole : map plain (tail_at cuts ys ++ reserved_for moment len ys ∷ []) ≡ map plain (tail_at cuts xs ++ reserved_for moment len xs ∷ []) =
-    map_push plain (tail_at cuts ys) (reserved_for moment len ys) ∙ (λ i. tails i ++ record { moment = max moment (lasts i); len = slot_len len; bytes = None } ∷ []) ∙ sym (map_push plain (tail_at cuts xs) (reserved_for moment len xs)) in
-    let e = sym (fill_len-plain (tail_at cuts ys ++ reserved_for moment len ys ∷ [])) ∙ ap fill_len whole ∙ fill_len-plain (tail_at cuts xs ++ reserved_for moment len xs ∷ []) in
+    let whole : map plain (tail_at cuts ys ++ reservation_for moment len ys ∷ []) ≡ map plain (tail_at cuts xs ++ reservation_for moment len xs ∷ []) =
+    map_push plain (tail_at cuts ys) (reservation_for moment len ys) ∙ (λ i. tails i ++ record { moment = max moment (lasts i); len = slot_len len; bytes = None } ∷ []) ∙ sym (map_push plain (tail_at cuts xs) (reservation_for moment len xs)) in
+    let e = sym (fill_len-plain (tail_at cuts ys ++ reservation_for moment len ys ∷ [])) ∙ ap fill_len whole ∙ fill_len-plain (tail_at cuts xs ++ reservation_for moment len xs ∷ []) in
     subst (λ (k : ℕ). k ≤ size) e fits)
 needs_alike size cuts xs ys for_close same needs = λ none. needs (plain_nil (tail_at cuts xs) (sym (cut-plain 0 cuts xs (length cuts)) ∙ ap (λ (l : List Reservation). tail_at cuts l) (sym same) ∙ cut-plain 0 cuts ys (length cuts) ∙ ap (map plain) none))
 
@@ -229,8 +229,8 @@ snoc_some (x ∷ xs) r e = cc
 pub needs_reserved : (size : ℕ) (cuts : List ℕ) (xs : List Reservation) (s : Reservation) (kind : Kind) → IsRising 0 cuts (length xs) → NeedsFill size cuts xs kind → NeedsFill size cuts (xs ++ s ∷ []) kind
 needs_reserved size cuts xs s (for_record moment len) rising needs = λ fits. needs (
     let more = fill_more (tail_at cuts xs) s (max moment (last_moment xs)) (max moment (last_moment (xs ++ s ∷ []))) (slot_len len) in
-    let behind : tail_at cuts (xs ++ s ∷ []) ++ reserved_for moment len (xs ++ s ∷ []) ∷ [] ≡ tail_at cuts xs ++ (s ∷ reserved_for moment len (xs ++ s ∷ []) ∷ []) =
-    ap (λ (l : List Reservation). l ++ reserved_for moment len (xs ++ s ∷ []) ∷ []) (reserved_last 0 cuts xs s rising) ∙ append_assoc (tail_at cuts xs) (s ∷ []) (reserved_for moment len (xs ++ s ∷ []) ∷ []) in
+    let behind : tail_at cuts (xs ++ s ∷ []) ++ reservation_for moment len (xs ++ s ∷ []) ∷ [] ≡ tail_at cuts xs ++ (s ∷ reservation_for moment len (xs ++ s ∷ []) ∷ []) =
+    ap (λ (l : List Reservation). l ++ reservation_for moment len (xs ++ s ∷ []) ∷ []) (reserved_last 0 cuts xs s rising) ∙ append_assoc (tail_at cuts xs) (s ∷ []) (reservation_for moment len (xs ++ s ∷ []) ∷ []) in
     le_on _ _ more (subst (λ (l : List Reservation). fill_len l ≤ size) behind fits))
 needs_reserved size cuts xs s for_close rising needs = λ none. snoc_some (tail_at cuts xs) s (sym (reserved_last 0 cuts xs s rising) ∙ none)
 
@@ -238,22 +238,22 @@ needs_reserved size cuts xs s for_close rising needs = λ none. snoc_some (tail_
 pub some_reservation : (a b : Reservation) → Some a ≡ Some b → a ≡ b
 some_reservation a b e = cc
 
-pub fit_open_record : (size : ℕ) (h : List Action) (moment len : ℕ) (below : List Frame) → (written_by h).stack ≡ record_frame moment len None ∷ below → FitsPage size (for_record moment len)
+pub fit_open_record : (size : ℕ) (h : List Action) (moment len : ℕ) (below : List Frame) → (writer_after h).stack ≡ record_frame moment len None ∷ below → FitsPage size (for_record moment len)
     → NeedsFill size (opens_of h) (reserved_records h) (for_record moment len)
     → IsFit size h open_fill
 fit_open_record size h moment len below stack fits needs = (
-  λ none. needs (subst (λ (l : List Reservation). FitsBehind size l (reserved_for moment len (reserved_records h))) (sym (sym (tail_is h) ∙ none)) (alone_fits fits)),
-  λ r is fits. needs (subst (λ (l : List Reservation). FitsBehind size l (reserved_for moment len (reserved_records h))) (tail_is h) (subst (FitsBehind size (tail_of h)) (some_reservation r (reserved_for moment len (reserved_records h)) (sym is ∙ wanted_record h moment len below stack)) fits)),
+  λ none. needs (subst (λ (l : List Reservation). FitsBehind size l (reservation_for moment len (reserved_records h))) (sym (sym (tail_is h) ∙ none)) (alone_fits fits)),
+  λ r is fits. needs (subst (λ (l : List Reservation). FitsBehind size l (reservation_for moment len (reserved_records h))) (tail_is h) (subst (FitsBehind size (tail_of h)) (some_reservation r (reservation_for moment len (reserved_records h)) (sym is ∙ wanted_record h moment len below stack)) fits)),
   λ is. absurd (none_some (sym is ∙ wanted_record h moment len below stack)),
 )
   where
-    alone_fits : encoded_len len 0 true ≤ size → FitsBehind size [] (reserved_for moment len (reserved_records h))
+    alone_fits : encoded_len len 0 true ≤ size → FitsBehind size [] (reservation_for moment len (reserved_records h))
     alone_fits low = subst (λ (k : ℕ). k ≤ size) (ap (λ (s : ℕ). ((0 + (if nat_le s 112 then 4 else 8)) + s) + 0) (sym (slot_len-slot_len len))) (let plus : encoded_len len 0 true + 0 ≤ size = plus_none (encoded_len len 0 true) low in plus)
       where
         plus_none : (k : ℕ) → k ≤ size → k + 0 ≤ size
         plus_none k le = omega arith
 
-pub fit_open_close : (size : ℕ) (h : List Action) (below : List Frame) → (written_by h).stack ≡ close_frame ∷ below → NeedsFill size (opens_of h) (reserved_records h) for_close → IsFit size h open_fill
+pub fit_open_close : (size : ℕ) (h : List Action) (below : List Frame) → (writer_after h).stack ≡ close_frame ∷ below → NeedsFill size (opens_of h) (reserved_records h) for_close → IsFit size h open_fill
 fit_open_close size h below stack needs = (
   λ none. needs (sym (tail_is h) ∙ none),
   λ r is fits. none_some (sym (wanted_close h below stack) ∙ is),

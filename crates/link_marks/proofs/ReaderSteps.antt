@@ -5,18 +5,18 @@ use mathlib.Core.Logic.{dite}
 use native.Mathlib.Decide.{ℕ_discrete}
 use Rattle.trace_model.specs.Links.{Link, normal_link, header_link, update_link}
 use Rattle.trace_model.specs.Frames.{Frame, Phase}
-use Rattle.trace_model.specs.Ring.{ReaderPhase, loading_link, loading_done, storing_link, swapping, Reader, Core, link_into, relinked, page_at, AreApart}
+use Rattle.trace_model.specs.Ring.{ReaderPhase, loading_link, loading_done, storing_link, swapping, Reader, Core, link_into, links_with, page_at, AreApart}
 use Rattle.trace_model.specs.Steps.{Answer, reader_at, LoadStep, loads_header, loads_update, loads_owed, loads_passed, LoadDoneStep, finds_none, finds_closed, StoreStep, SwapStep, swaps, swap_fails, ReadStep, after_swap}
-use Rattle.link_marks.specs.Kept.{PhaseKept, LinkKept, is_normal, is_header, is_update, HasSeen, ReaderKept, LinksKept}
-use Rattle.link_marks.proofs.Turns.{link_here, link_else, link_turn, page_turn, page_here, page_else}
-use Rattle.link_marks.proofs.Phases.{normal_ne_update, normal_ne_header, header_ne_update, relink_phase, map_frames}
-use Rattle.link_marks.proofs.Inside.{normal_tells, header_tells, update_tells, owned_by, fill_at, behind_closed}
+use Rattle.link_marks.specs.KeptLinks.{PhaseKept, LinkKept, is_normal, is_header, is_update, HasSeen, ReaderKept, LinksKept}
+use Rattle.link_marks.proofs.Positions.{link_here, link_else, link_turn, page_turn, page_here, page_else}
+use Rattle.link_marks.proofs.FramePhases.{normal_ne_update, normal_ne_header, header_ne_update, relink_phase, map_frames}
+use Rattle.link_marks.proofs.LinkFills.{normal_tells, header_tells, update_tells, owned_by, fill_at, behind_closed}
 
 -- the reader goes on; the spare's link may be set
 pub reader_kept : (n : ℕ) (c : Core) (spare_link : Link) (reader : Reader) → LinksKept n c → reader.hint ≤ c.head → ReaderKept n c.links c.order spare_link c.head c.done reader.hint reader.phase → LinksKept n (record c { spare_link = spare_link; reader = reader })
 reader_kept n c spare_link reader k le facts = record {
   some_pages = k.some_pages;
-  places = k.places;
+  positions = k.positions;
   apart = k.apart;
   head_le = k.head_le;
   done_lt = k.done_lt;
@@ -55,30 +55,30 @@ store_kept n c after page fill answer k facts step = let l : Link = header_link 
 
 -- ---- the swap
 
--- the pages still differ where the spare took the place of one
-swapped_apart : (n : ℕ) (order : List ℕ) (spare place page : ℕ) → AreApart n order spare → place < n → page ≡ get_or order place 0 → AreApart n (set order place spare) page
-swapped_apart n order spare place page a low is =
+-- the pages still differ where the spare took the position of one
+swapped_apart : (n : ℕ) (order : List ℕ) (spare position page : ℕ) → AreApart n order spare → position < n → page ≡ get_or order position 0 → AreApart n (set order position spare) page
+swapped_apart n order spare position page a low is =
     let wide = a.pages in
-    let here : get_or (set order place spare) place 0 ≡ spare = get_or-set_same order place spare 0 (omega arith) in
-    let there = λ (i : ℕ) (ne : i ≢ place). get_or-set_other order place i spare 0 ne in record {
-      pages = length-set order place spare ∙ a.pages;
-      each = λ i below. dite (ℕ_discrete i place)
-          (λ e. subst (λ (p : ℕ). p < n + 1) (sym (ap (λ (j : ℕ). get_or (set order place spare) j 0) e ∙ here)) a.spare_below)
+    let here : get_or (set order position spare) position 0 ≡ spare = get_or-set_same order position spare 0 (omega arith) in
+    let there = λ (i : ℕ) (ne : i ≢ position). get_or-set_other order position i spare 0 ne in record {
+      pages = length-set order position spare ∙ a.pages;
+      each = λ i below. dite (ℕ_discrete i position)
+          (λ e. subst (λ (p : ℕ). p < n + 1) (sym (ap (λ (j : ℕ). get_or (set order position spare) j 0) e ∙ here)) a.spare_below)
           (λ ne. subst (λ (p : ℕ). p < n + 1) (sym (there i ne)) (a.each i below));
-      differ = λ i j below_i below_j same. dite (ℕ_discrete i place)
-          (λ e. dite (ℕ_discrete j place)
+      differ = λ i j below_i below_j same. dite (ℕ_discrete i position)
+          (λ e. dite (ℕ_discrete j position)
           (λ e'. e ∙ sym e')
-          (λ ne'. absurd (a.spare_differs j below_j (sym (there j ne') ∙ sym same ∙ ap (λ (m : ℕ). get_or (set order place spare) m 0) e ∙ here))))
-          (λ ne. dite (ℕ_discrete j place)
-          (λ e'. absurd (a.spare_differs i below_i (sym (there i ne) ∙ same ∙ ap (λ (m : ℕ). get_or (set order place spare) m 0) e' ∙ here)))
+          (λ ne'. absurd (a.spare_differs j below_j (sym (there j ne') ∙ sym same ∙ ap (λ (m : ℕ). get_or (set order position spare) m 0) e ∙ here))))
+          (λ ne. dite (ℕ_discrete j position)
+          (λ e'. absurd (a.spare_differs i below_i (sym (there i ne) ∙ same ∙ ap (λ (m : ℕ). get_or (set order position spare) m 0) e' ∙ here)))
           (λ ne'. a.differ i j below_i below_j (sym (there i ne) ∙ same ∙ there j ne')));
-      spare_below = subst (λ (p : ℕ). p < n + 1) (sym is) (a.each place low);
-      spare_differs = λ i below same. dite (ℕ_discrete i place)
-          (λ e. a.spare_differs place low (sym is ∙ sym same ∙ ap (λ (m : ℕ). get_or (set order place spare) m 0) e ∙ here))
-          (λ ne. ne (a.differ i place below low (sym (there i ne) ∙ same ∙ is)));
+      spare_below = subst (λ (p : ℕ). p < n + 1) (sym is) (a.each position low);
+      spare_differs = λ i below same. dite (ℕ_discrete i position)
+          (λ e. a.spare_differs position low (sym is ∙ sym same ∙ ap (λ (m : ℕ). get_or (set order position spare) m 0) e ∙ here))
+          (λ ne. ne (a.differ i position below low (sym (there i ne) ∙ same ∙ is)));
     }
 
--- where the page at the place of the head changes, behind which the frames' fills lie
+-- where the page at the position of the head changes, behind which the frames' fills lie
 reorder_phase : (n : ℕ) (links : List Link) (order : List ℕ) (head done opened spare : ℕ) (phase : Phase) → 2 ≤ n → head < done → PhaseKept n links order head done opened phase
     → PhaseKept n links (set order (head % n) spare) head done opened phase
 reorder_phase n links order head done opened spare phase some closed k = record {
@@ -106,11 +106,11 @@ module _ (n : ℕ) (c : Core) (page : ℕ) (k : LinksKept n c) (closed : c.head 
   head_link = normal_link c.spare (c.head + n)
 
   once : List Link
-  once = relinked n c.links c.head (normal_link c.spare (c.head + n))
+  once = links_with n c.links c.head (normal_link c.spare (c.head + n))
 
   once_wide : length once ≡ n
   unfolding once
-  once_wide = length-set c.links _ (normal_link c.spare (c.head + n)) ∙ k.places
+  once_wide = length-set c.links _ (normal_link c.spare (c.head + n)) ∙ k.positions
 
   next_once : link_into n once (suc c.head) ≡ normal_link (page_at n c.order (suc c.head)) (suc c.head)
   unfolding once
@@ -118,9 +118,9 @@ module _ (n : ℕ) (c : Core) (page : ℕ) (k : LinksKept n c) (closed : c.head 
       link_else c.head n c.links (suc c.head) c.head (normal_link c.spare (c.head + n)) (omega arith) (omega arith) (omega arith) (omega arith) (λ e. omega arith) ∙ behind_closed n c k closed
 
   swapped_phase : (phase : Phase) → PhaseKept n c.links c.order c.head c.done c.opened phase
-      → PhaseKept n (relinked n once (suc c.head) c.spare_link) (set c.order (c.head % n) c.spare) (c.head + 1) c.done c.opened phase
+      → PhaseKept n (links_with n once (suc c.head) c.spare_link) (set c.order (c.head % n) c.spare) (c.head + 1) c.done c.opened phase
   unfolding once
-  swapped_phase phase facts = let some_pages = k.some_pages in let wide = k.places in
+  swapped_phase phase facts = let some_pages = k.some_pages in let wide = k.positions in
       relink_phase n once (set c.order (c.head % n) c.spare) c.head (c.head + 1) c.done c.opened (suc c.head) (normal_link (page_at n c.order (suc c.head)) (suc c.head)) c.spare_link phase (omega arith) once_wide (omega arith) next_once
       (λ o p u _ _. normal_ne_update (page_at n c.order (suc c.head)) (suc c.head) p u)
       (λ seen u _ e. normal_ne_header seen (suc u) (page_at n c.order (suc c.head)) (suc c.head) (sym e ∙ ready))
@@ -129,11 +129,11 @@ module _ (n : ℕ) (c : Core) (page : ℕ) (k : LinksKept n c) (closed : c.head 
       (λ seen u below e. let fills : c.head + n ≡ suc u = ap (λ (l : Link). l.fill) e in absurd (omega arith))
       (reorder_phase n c.links c.order c.head c.done c.opened c.spare phase (omega arith) closed facts))
 
-  swapped_link : (f : ℕ) → c.head + 1 ≤ f → f < (c.head + 1) + n → LinkKept n (relinked n once (suc c.head) c.spare_link) (set c.order (c.head % n) c.spare) (c.head + 1) c.frames f
+  swapped_link : (f : ℕ) → c.head + 1 ≤ f → f < (c.head + 1) + n → LinkKept n (links_with n once (suc c.head) c.spare_link) (set c.order (c.head % n) c.spare) (c.head + 1) c.frames f
   unfolding once
-  swapped_link f low high = let some_pages = k.some_pages in let wide = k.places in let pages = k.apart.pages in
+  swapped_link f low high = let some_pages = k.some_pages in let wide = k.positions in let pages = k.apart.pages in
       let first : Link = normal_link c.spare (c.head + n) in
-      let links : List Link = relinked n once (suc c.head) c.spare_link in
+      let links : List Link = links_with n once (suc c.head) c.spare_link in
       let order : List ℕ = set c.order (c.head % n) c.spare in
       dite (ℕ_discrete f (suc c.head))
       (λ e. is_header
@@ -157,17 +157,17 @@ module _ (n : ℕ) (c : Core) (page : ℕ) (k : LinksKept n c) (closed : c.head 
 
   pub swaps_kept : LinksKept n (after_swap n c page c.head)
   unfolding once
-  swaps_kept = let some_pages = k.some_pages in let wide = k.places in let within = k.opened_le in
+  swaps_kept = let some_pages = k.some_pages in let wide = k.positions in let within = k.opened_le in
       let told = header_tells n c.links c.order c.head c.frames c.head page c.head (k.each c.head (omega arith) (omega arith)) at in record {
         some_pages = k.some_pages;
-        places = length-set once _ c.spare_link ∙ once_wide;
+        positions = length-set once _ c.spare_link ∙ once_wide;
         apart = swapped_apart n c.order c.spare (c.head % n) page k.apart (mod-lt c.head (omega arith)) told.2;
         head_le = omega arith;
         done_lt = k.done_lt;
         opened_le = omega arith;
         fits = k.fits;
         each = swapped_link;
-        frames = map_frames n c.links (relinked n once (suc c.head) c.spare_link) c.order (set c.order (c.head % n) c.spare) c.head (c.head + 1) c.done c.done c.opened c.opened c.frames swapped_phase k.frames;
+        frames = map_frames n c.links (links_with n once (suc c.head) c.spare_link) c.order (set c.order (c.head % n) c.spare) c.head (c.head + 1) c.done c.done c.opened c.opened c.frames swapped_phase k.frames;
         movers = k.movers;
         hint_le = omega arith;
         reader = tt;

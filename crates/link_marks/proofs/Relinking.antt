@@ -4,17 +4,17 @@ use Rattle.std.proofs.lemmas.List.{get_or-set_other}
 use mathlib.Core.Logic.{dite}
 use native.Mathlib.Decide.{ℕ_discrete}
 use Rattle.trace_model.specs.Links.{Link, normal_link, header_link, update_link}
-use Rattle.trace_model.specs.Frames.{Kind, for_record, for_close, owner, Phase, reserving, looking, claiming, looking_next, marking, clearing, opening, reserved, releasing, Frame, moving_in}
-use Rattle.trace_model.specs.Ring.{link_into, relinked, page_at, ReaderPhase, loading_link, loading_done, storing_link, swapping, Core}
-use Rattle.trace_model.specs.Steps.{Event, steps, reads, Answer, begun, begun_on, BeginsAnew, reserves, finds_nothing, is_crowded, is_worn, notes, look_late, sees_free, sees_header, sees_update, claim_late, claims, claim_fails, next_late, sees_normal, sees_other, mark_late, marks, mark_fails, clears, open_late, opens, releases, releases_last, FrameStep, Step, push_step, push_refused, close_step, close_refused, frame_step, frame_lacks, end_step, end_lacks, end_early, read_step, loads_header, loads_update, loads_owed, loads_passed, finds_none, finds_closed, swaps, swap_fails, ReadStep, Exchange, Run}
-use Rattle.link_marks.specs.Kept.{PhaseKept, LinkKept, is_normal, is_header, is_update, ReaderKept, LinksKept}
+use Rattle.trace_model.specs.Frames.{Kind, for_record, for_close, owner, Phase, reserving, looking, claiming, looking_next, marking, clearing, opening, reserved, releasing, Frame, owned_update}
+use Rattle.trace_model.specs.Ring.{link_into, links_with, page_at, ReaderPhase, loading_link, loading_done, storing_link, swapping, Core}
+use Rattle.trace_model.specs.Steps.{Event, steps, reads, Answer, with_new_tail, after_begin, BeginsAnew, reserves, finds_nothing, is_crowded, is_worn, notes, look_late, sees_free, sees_header, sees_update, claim_late, claims, claim_fails, next_late, sees_normal, sees_other, mark_late, marks, mark_fails, clears, open_late, opens, releases, releases_last, FrameStep, Step, push_step, push_refused, close_step, close_refused, frame_step, frame_lacks, end_step, end_lacks, end_early, read_step, loads_header, loads_update, loads_owed, loads_passed, finds_none, finds_closed, swaps, swap_fails, ReadStep, Exchange, Run}
+use Rattle.link_marks.specs.KeptLinks.{PhaseKept, LinkKept, is_normal, is_header, is_update, ReaderKept, LinksKept}
 use Rattle.link_marks.specs.RingKept.{IsRingKept}
 use Rattle.link_marks.specs.LinkLaws.{age_of, IsHeaderSet, IsClaimed, IsCleared}
-use Rattle.link_marks.proofs.Turns.{at_place, link_here}
-use Rattle.link_marks.proofs.Phases.{normal_ne_header, normal_ne_update, header_ne_update, IsSet}
-use Rattle.link_marks.proofs.Inside.{header_inside, header_tells, next_inside, owned_by, fill_at, behind_closed}
-use Rattle.link_marks.proofs.Stacks.{top_kept}
-use Rattle.link_marks.proofs.Rings.{ring_step, ring_run}
+use Rattle.link_marks.proofs.Positions.{at_position, link_here}
+use Rattle.link_marks.proofs.FramePhases.{normal_ne_header, normal_ne_update, header_ne_update, IsSet}
+use Rattle.link_marks.proofs.LinkFills.{header_inside, header_tells, next_inside, owned_by, fill_at, behind_closed}
+use Rattle.link_marks.proofs.FrameChanges.{top_kept}
+use Rattle.link_marks.proofs.RingsKept.{ring_step, ring_run}
 
 -- ---- what a step sets
 
@@ -28,28 +28,28 @@ pub record IsLost (n : ℕ) (c after : Core) (noted lost : ℕ) : Type 0 where
   pub top : Frame
   pub below : List Frame
   pub is_top : after.frames ≡ top ∷ below
-  pub owns : moving_in top.phase ≡ Some noted
+  pub owns : owned_update top.phase ≡ Some noted
 
 -- the links are as they were; or the head's HEADER is an UPDATE; or the HEADER that was owed is set; or a
 -- frame's UPDATE is cleared; or the reader takes the head
 pub data Relinks (n : ℕ) (c : Core) (event : Event) (after : Core) : Type 0 where
   leaves_links : after.links ≡ c.links → Relinks n c event after
-  claims_head : (noted page lost : ℕ) → event ≡ steps → IsLost n c after noted lost → link_into n c.links noted ≡ header_link page lost → after.links ≡ relinked n c.links noted (update_link page lost) → Relinks n c event after
-  marks_head : (lost next : ℕ) → event ≡ steps → suc lost ≡ c.head → after.head ≡ c.head → link_into n c.links (suc lost) ≡ normal_link next (suc lost) → after.links ≡ relinked n c.links (suc lost) (header_link next (suc lost)) → Relinks n c event after
-  clears_own : (frame : Frame) (below : List Frame) (noted page lost : ℕ) → event ≡ steps → c.frames ≡ frame ∷ below → moving_in frame.phase ≡ Some noted → lost + n ≡ noted → IsSet n c.links c.order c.head c.done c.opened lost
+  claims_head : (noted page lost : ℕ) → event ≡ steps → IsLost n c after noted lost → link_into n c.links noted ≡ header_link page lost → after.links ≡ links_with n c.links noted (update_link page lost) → Relinks n c event after
+  marks_head : (lost next : ℕ) → event ≡ steps → suc lost ≡ c.head → after.head ≡ c.head → link_into n c.links (suc lost) ≡ normal_link next (suc lost) → after.links ≡ links_with n c.links (suc lost) (header_link next (suc lost)) → Relinks n c event after
+  clears_own : (frame : Frame) (below : List Frame) (noted page lost : ℕ) → event ≡ steps → c.frames ≡ frame ∷ below → owned_update frame.phase ≡ Some noted → lost + n ≡ noted → IsSet n c.links c.order c.head c.done c.opened lost
       → link_into n c.links noted ≡ update_link page lost
-      → after.links ≡ relinked n c.links noted (normal_link page noted)
+      → after.links ≡ links_with n c.links noted (normal_link page noted)
       → Relinks n c event after
   swaps_head : (page next : ℕ) → event ≡ reads → after.head ≡ c.head + 1 → link_into n c.links c.head ≡ header_link page c.head → link_into n c.links (suc c.head) ≡ normal_link next (suc c.head)
-      → after.links ≡ relinked n (relinked n c.links c.head (normal_link c.spare (c.head + n))) (suc c.head) (header_link next (suc c.head))
+      → after.links ≡ links_with n (links_with n c.links c.head (normal_link c.spare (c.head + n))) (suc c.head) (header_link next (suc c.head))
       → Relinks n c event after
 
-links_begun_on : (kind : Kind) (c : Core) (frame : Frame) (below : List Frame) → (begun_on kind c frame below).links ≡ c.links
-links_begun_on (for_record moment len) c frame below = refl
-links_begun_on for_close c frame below = refl
+links_after_begin : (kind : Kind) (c : Core) (frame : Frame) (below : List Frame) → (after_begin kind c frame below).links ≡ c.links
+links_after_begin (for_record moment len) c frame below = refl
+links_after_begin for_close c frame below = refl
 
 anew : (n : ℕ) (c : Core) (event : Event) (frame : Frame) (below : List Frame) (noted : ℕ) (answer : Answer) (after : Core) → BeginsAnew c frame below noted answer after → Relinks n c event after
-anew n c event frame below noted answer after step = leaves_links (ap (λ (d : Core). d.links) step.after_is ∙ links_begun_on frame.kind c frame below)
+anew n c event frame below noted answer after step = leaves_links (ap (λ (d : Core). d.links) step.after_is ∙ links_after_begin frame.kind c frame below)
 
 stays : (n : ℕ) (c : Core) (event : Event) (after d : Core) → after ≡ d → d.links ≡ c.links → Relinks n c event after
 stays n c event after d is same = leaves_links (ap (λ (x : Core). x.links) is ∙ same)
@@ -85,9 +85,9 @@ module _ (n size : ℕ) (c : Core) (event : Event) (frame : Frame) (below : List
   relinks_frame (marking role noted page next) answer after same (mark_fails lost goes_on sum other a is) = stays n c event after _ is refl
   relinks_frame (clearing noted page) answer after same (clears lost sum at a is) =
       let kept = subst (PhaseKept n c.links c.order c.head c.done c.opened) same (top_kept n c frame below k top) in
-      clears_own frame below noted page lost steps_is top (ap moving_in same) sum (kept.clears noted lost refl sum) at (ap (λ (x : Core). x.links) is)
+      clears_own frame below noted page lost steps_is top (ap owned_update same) sum (kept.clears noted lost refl sum) at (ap (λ (x : Core). x.links) is)
   relinks_frame (opening noted page) answer after same (open_late step) = anew n c event frame below noted answer after step
-  relinks_frame (opening noted page) answer after same (opens now a is) = stays n c event after _ is (links_begun_on frame.kind (begun c page) frame below)
+  relinks_frame (opening noted page) answer after same (opens now a is) = stays n c event after _ is (links_after_begin frame.kind (with_new_tail c page) frame below)
   relinks_frame (reserved number) answer after same step = stays n c event after c step.1 refl
   relinks_frame releasing answer after same (releases alone more a is) = stays n c event after _ is refl
   relinks_frame releasing answer after same (releases_last alone last a is) = stays n c event after _ is refl
@@ -106,8 +106,8 @@ relinks_read n c event (swapping page fill) answer after k reads_is facts (swaps
     let here : fill ≡ c.head = told.0 ∙ told.1 in let closed = facts.1 in
     swaps_head page (page_at n c.order (suc c.head)) reads_is (ap (λ (x : Core). x.head) is) (ap (link_into n c.links) (sym here) ∙ at ∙ ap (header_link page) here) (behind_closed n c k (omega arith))
     (ap (λ (x : Core). x.links) is
-    ∙ ap (λ (l : Link). relinked n (relinked n c.links fill (normal_link c.spare (fill + n))) (suc fill) l) facts.2
-    ∙ ap (λ (f : ℕ). relinked n (relinked n c.links f (normal_link c.spare (f + n))) (suc f) (header_link (page_at n c.order (suc f)) (suc f))) here)
+    ∙ ap (λ (l : Link). links_with n (links_with n c.links fill (normal_link c.spare (fill + n))) (suc fill) l) facts.2
+    ∙ ap (λ (f : ℕ). links_with n (links_with n c.links f (normal_link c.spare (f + n))) (suc f) (header_link (page_at n c.order (suc f)) (suc f))) here)
 relinks_read n c event (swapping page fill) answer after k reads_is facts (swap_fails at a is) = stays n c event after _ is refl
 
 pub relinks_step : (n size : ℕ) (c : Core) (event : Event) (answer : Answer) (after : Core) → LinksKept n c → Step n size c event answer after → Relinks n c event after
@@ -122,25 +122,25 @@ relinks_step n size c event answer after k (end_lacks payload e none a is) = sta
 relinks_step n size c event answer after k (end_early payload frame below e top none a is) = stays n c event after c is refl
 relinks_step n size c event answer after k (read_step e step) = relinks_read n c event c.reader.phase answer after k e k.reader step
 
--- ---- one place
+-- ---- one position
 
-same_place : (n : ℕ) (links : List Link) (f g : ℕ) → f % n ≡ g % n → link_into n links f ≡ link_into n links g
-same_place n links f g e = ap (λ (i : ℕ). get_or links i (normal_link 0 0)) e
+same_position : (n : ℕ) (links : List Link) (f g : ℕ) → f % n ≡ g % n → link_into n links f ≡ link_into n links g
+same_position n links f g e = ap (λ (i : ℕ). get_or links i (normal_link 0 0)) e
 
-set_here : (n : ℕ) (links : List Link) (f g : ℕ) (l : Link) → 1 ≤ n → length links ≡ n → f % n ≡ g % n → link_into n (relinked n links g l) f ≡ l
-set_here n links f g l some wide e = same_place n (relinked n links g l) f g e ∙ link_here n links g l some wide
+set_here : (n : ℕ) (links : List Link) (f g : ℕ) (l : Link) → 1 ≤ n → length links ≡ n → f % n ≡ g % n → link_into n (links_with n links g l) f ≡ l
+set_here n links f g l some wide e = same_position n (links_with n links g l) f g e ∙ link_here n links g l some wide
 
-set_else : (n : ℕ) (links : List Link) (f g : ℕ) (l : Link) → f % n ≢ g % n → link_into n (relinked n links g l) f ≡ link_into n links f
+set_else : (n : ℕ) (links : List Link) (f g : ℕ) (l : Link) → f % n ≢ g % n → link_into n (links_with n links g l) f ≡ link_into n links f
 set_else n links f g l ne = get_or-set_other links (g % n) (f % n) l (normal_link 0 0) ne
 
--- what a step makes of the link into one place
+-- what a step makes of the link into one position
 pub data Turn (n : ℕ) (c : Core) (event : Event) (after : Core) (f : ℕ) : Type 0 where
   stands_still : link_into n after.links f ≡ link_into n c.links f → Turn n c event after f
   to_update : (page lost : ℕ) → event ≡ steps → IsLost n c after (lost + n) lost → link_into n c.links f ≡ header_link page lost → link_into n after.links f ≡ update_link page lost → Turn n c event after f
   to_header : (page fill : ℕ) → link_into n c.links f ≡ normal_link page fill → link_into n after.links f ≡ header_link page fill → fill ≡ after.head
       → ((event ≡ steps) × (c.head ≡ fill) × (link_into n c.links c.head ≡ normal_link page fill)) ⊎ ((event ≡ reads) × (c.head + 1 ≡ fill))
       → Turn n c event after f
-  to_next : (frame : Frame) (below : List Frame) (page lost : ℕ) → event ≡ steps → c.frames ≡ frame ∷ below → moving_in frame.phase ≡ Some (lost + n) → IsSet n c.links c.order c.head c.done c.opened lost → link_into n c.links f ≡ update_link page lost
+  to_next : (frame : Frame) (below : List Frame) (page lost : ℕ) → event ≡ steps → c.frames ≡ frame ∷ below → owned_update frame.phase ≡ Some (lost + n) → IsSet n c.links c.order c.head c.done c.opened lost → link_into n c.links f ≡ update_link page lost
       → link_into n after.links f ≡ normal_link page (lost + n)
       → Turn n c event after f
   to_spare : (page other fill : ℕ) → link_into n c.links f ≡ header_link page fill → link_into n after.links f ≡ normal_link other (fill + n) → Turn n c event after f
@@ -148,27 +148,27 @@ pub data Turn (n : ℕ) (c : Core) (event : Event) (after : Core) (f : ℕ) : Ty
 turn_of : (n : ℕ) (c : Core) (event : Event) (after : Core) (f : ℕ) → 1 ≤ n → length c.links ≡ n → Relinks n c event after → Turn n c event after f
 turn_of n c event after f some wide (leaves_links same) = stands_still (ap (λ (l : List Link). link_into n l f) same)
 turn_of n c event after f some wide (claims_head noted page lost by lose at is) = dite (ℕ_discrete (f % n) (noted % n))
-    (λ e. to_update page lost by (subst (λ (o : ℕ). IsLost n c after o lost) (sym lose.sum) lose) (same_place n c.links f noted e ∙ at) (ap (λ (l : List Link). link_into n l f) is ∙ set_here n c.links f noted (update_link page lost) some wide e))
+    (λ e. to_update page lost by (subst (λ (o : ℕ). IsLost n c after o lost) (sym lose.sum) lose) (same_position n c.links f noted e ∙ at) (ap (λ (l : List Link). link_into n l f) is ∙ set_here n c.links f noted (update_link page lost) some wide e))
     (λ ne. stands_still (ap (λ (l : List Link). link_into n l f) is ∙ set_else n c.links f noted (update_link page lost) ne))
 turn_of n c event after f some wide (marks_head lost next by here head at is) = dite (ℕ_discrete (f % n) (suc lost % n))
-    (λ e. to_header next (suc lost) (same_place n c.links f (suc lost) e ∙ at) (ap (λ (l : List Link). link_into n l f) is ∙ set_here n c.links f (suc lost) (header_link next (suc lost)) some wide e) (here ∙ sym head)
+    (λ e. to_header next (suc lost) (same_position n c.links f (suc lost) e ∙ at) (ap (λ (l : List Link). link_into n l f) is ∙ set_here n c.links f (suc lost) (header_link next (suc lost)) some wide e) (here ∙ sym head)
     (inl (by, sym here, ap (link_into n c.links) (sym here) ∙ at)))
     (λ ne. stands_still (ap (λ (l : List Link). link_into n l f) is ∙ set_else n c.links f (suc lost) (header_link next (suc lost)) ne))
 turn_of n c event after f some wide (clears_own frame below noted page lost by top own sum set at is) = dite (ℕ_discrete (f % n) (noted % n))
-    (λ e. to_next frame below page lost by top (own ∙ ap Some (sym sum)) set (same_place n c.links f noted e ∙ at) (ap (λ (l : List Link). link_into n l f) is ∙ set_here n c.links f noted (normal_link page noted) some wide e ∙ ap (normal_link page) (sym sum)))
+    (λ e. to_next frame below page lost by top (own ∙ ap Some (sym sum)) set (same_position n c.links f noted e ∙ at) (ap (λ (l : List Link). link_into n l f) is ∙ set_here n c.links f noted (normal_link page noted) some wide e ∙ ap (normal_link page) (sym sum)))
     (λ ne. stands_still (ap (λ (l : List Link). link_into n l f) is ∙ set_else n c.links f noted (normal_link page noted) ne))
 turn_of n c event after f some wide (swaps_head page next by head at behind is) =
     let first : Link = normal_link c.spare (c.head + n) in
-    let once : List Link = relinked n c.links c.head first in
+    let once : List Link = links_with n c.links c.head first in
     let once_wide : length once ≡ n = length-set c.links (c.head % n) first ∙ wide in
     dite (ℕ_discrete (f % n) (suc c.head % n))
-    (λ e. to_header next (suc c.head) (same_place n c.links f (suc c.head) e ∙ behind) (ap (λ (l : List Link). link_into n l f) is ∙ set_here n once f (suc c.head) (header_link next (suc c.head)) some once_wide e) (omega arith) (inr (by, omega arith)))
+    (λ e. to_header next (suc c.head) (same_position n c.links f (suc c.head) e ∙ behind) (ap (λ (l : List Link). link_into n l f) is ∙ set_here n once f (suc c.head) (header_link next (suc c.head)) some once_wide e) (omega arith) (inr (by, omega arith)))
     (λ ne. let outer = ap (λ (l : List Link). link_into n l f) is ∙ set_else n once f (suc c.head) (header_link next (suc c.head)) ne in dite (ℕ_discrete (f % n) (c.head % n))
-    (λ e. to_spare page c.spare c.head (same_place n c.links f c.head e ∙ at) (outer ∙ set_here n c.links f c.head first some wide e))
+    (λ e. to_spare page c.spare c.head (same_position n c.links f c.head e ∙ at) (outer ∙ set_here n c.links f c.head first some wide e))
     (λ ne'. stands_still (outer ∙ set_else n c.links f c.head first ne')))
 
 pub turn_step : (n size : ℕ) (c : Core) (event : Event) (answer : Answer) (after : Core) (f : ℕ) → LinksKept n c → Step n size c event answer after → Turn n c event after f
-turn_step n size c event answer after f k step = turn_of n c event after f (let two = k.some_pages in omega arith) k.places (relinks_step n size c event answer after k step)
+turn_step n size c event answer after f k step = turn_of n c event after f (let two = k.some_pages in omega arith) k.positions (relinks_step n size c event answer after k step)
 
 -- ---- ages
 
@@ -214,16 +214,16 @@ once_run n size start c between after exchanges more f r run rest ne = stands_on
 pub header_at : (n : ℕ) (c : Core) (k : LinksKept n c) (f page fill : ℕ) → link_into n c.links f ≡ header_link page fill → (fill ≡ c.head) × (page ≡ page_at n c.order c.head) × (c.head % n ≡ f % n)
 header_at n c k f page fill at =
     let some_pages = k.some_pages in
-    let (g, low, high, place) = at_place c.head n (f % n) (mod-lt f (omega arith)) in
-    let (told, here, page_is) = header_tells n c.links c.order c.head c.frames g page fill (k.each g low high) (ap (λ (i : ℕ). get_or c.links i (normal_link 0 0)) place ∙ at) in
-    (told ∙ here, page_is ∙ ap (page_at n c.order) here, ap (λ (i : ℕ). i % n) (sym here) ∙ place)
+    let (g, low, high, position) = at_position c.head n (f % n) (mod-lt f (omega arith)) in
+    let (told, here, page_is) = header_tells n c.links c.order c.head c.frames g page fill (k.each g low high) (ap (λ (i : ℕ). get_or c.links i (normal_link 0 0)) position ∙ at) in
+    (told ∙ here, page_is ∙ ap (page_at n c.order) here, ap (λ (i : ℕ). i % n) (sym here) ∙ position)
 
 pub one_header : (n start : ℕ) (c : Core) (f g page other_page fill other_fill : ℕ) → IsRingKept n start c → link_into n c.links f ≡ header_link page fill → link_into n c.links g ≡ header_link other_page other_fill
     → (fill ≡ c.head) × (other_fill ≡ fill) × (other_page ≡ page) × (g % n ≡ f % n)
 one_header n start c f g page other_page fill other_fill r at other =
-    let (a, p, place) = header_at n c r.links f page fill at in
-    let (b, q, other_place) = header_at n c r.links g other_page other_fill other in
-    (a, b ∙ sym a, q ∙ sym p, sym other_place ∙ place)
+    let (a, p, position) = header_at n c r.links f page fill at in
+    let (b, q, other_position) = header_at n c r.links g other_page other_fill other in
+    (a, b ∙ sym a, q ∙ sym p, sym other_position ∙ position)
 
 page_of : (l m : Link) → l ≡ m → l.page ≡ m.page
 page_of l m e = ap (λ (x : Link). x.page) e
@@ -233,8 +233,8 @@ fill_of l m e = ap (λ (x : Link). x.fill) e
 
 -- where the head's link is NORMAL, no HEADER stands
 no_header : (n : ℕ) (c : Core) (k : LinksKept n c) (page fill : ℕ) → link_into n c.links c.head ≡ normal_link page fill → (g other_page other_fill : ℕ) → link_into n c.links g ≢ header_link other_page other_fill
-no_header n c k page fill waits g other_page other_fill at = let (a, p, place) = header_at n c k g other_page other_fill at in
-    normal_ne_header page fill other_page other_fill (sym waits ∙ same_place n c.links c.head g place ∙ at)
+no_header n c k page fill waits g other_page other_fill at = let (a, p, position) = header_at n c k g other_page other_fill at in
+    normal_ne_header page fill other_page other_fill (sym waits ∙ same_position n c.links c.head g position ∙ at)
 
 header_set : (n : ℕ) (c : Core) (event : Event) (after : Core) (f page fill : ℕ) → LinksKept n c → Turn n c event after f → link_into n c.links f ≢ header_link page fill → link_into n after.links f ≡ header_link page fill → IsHeaderSet n c event after f page fill
 header_set n c event after f page fill k (stands_still same) ne is = absurd (ne (sym same ∙ is))
@@ -264,10 +264,10 @@ pub headers_once : (n size start : ℕ) (c between : Core) (exchanges : List Exc
 headers_once n size start c between exchanges event answer after f g page other_page fill r at run step ne is =
     let r' = ring_run n size start c between exchanges r run in
     let set = headers_owed n size start between event answer after g other_page fill r' step ne is in
-    let (here, page_is, place) = header_at n c r.links f page fill at in
-    let (there, other_is, other_place) = header_at n after (ring_step n size start between event answer after r' step).links g other_page fill is in
-    let same : f % n ≡ g % n = sym place ∙ ap (λ (k : ℕ). k % n) (sym here ∙ there) ∙ other_place in
-    too_old (link_into n c.links f) (link_into n between.links f) page other_page fill at (raised_run n size start c between exchanges f r run) (same_place n between.links f g same ∙ set.waited)
+    let (here, page_is, position) = header_at n c r.links f page fill at in
+    let (there, other_is, other_position) = header_at n after (ring_step n size start between event answer after r' step).links g other_page fill is in
+    let same : f % n ≡ g % n = sym position ∙ ap (λ (k : ℕ). k % n) (sym here ∙ there) ∙ other_position in
+    too_old (link_into n c.links f) (link_into n between.links f) page other_page fill at (raised_run n size start c between exchanges f r run) (same_position n between.links f g same ∙ set.waited)
 
 -- ---- the UPDATE
 

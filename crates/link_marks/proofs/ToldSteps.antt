@@ -1,48 +1,49 @@
 -- Every run of a ring is a run of its window: each step is told by deeds.
-use Rattle.std.proofs.Common.{◌≡◌, ℕ, ◌+◌, ◌^◌, ◌<◌, ◌≤◌, List, [], ◌∷◌, ◌++◌, None, Some, refl, sym, ap, ◌∙◌, subst, arith, append_assoc, append-nil}
+use Rattle.std.proofs.Common.{◌≡◌, ℕ, ◌+◌, ◌<◌, ◌≤◌, List, [], ◌∷◌, ◌++◌, None, Some, refl, sym, ap, ◌∙◌, subst, arith, append_assoc, append-nil}
 use Rattle.trace_model.specs.History.{Action, push, push_close, open_fill, reserve, leave}
 use Rattle.trace_model.specs.Frames.{Kind, for_record, for_close, Phase, reserving, looking, claiming, looking_next, marking, clearing, opening, reserved, releasing, Frame}
 use Rattle.trace_model.specs.Window.{Window, first_window, opened_one, released_one, took_one, lost_one, Deed, acts, happens, actions_of, WindowRunFrom}
 use Rattle.trace_model.specs.Ring.{ReaderPhase, loading_link, loading_done, storing_link, swapping, Reader, Core, IsStart, window_of}
-use Rattle.trace_model.specs.Steps.{Event, Answer, begun, begun_on, BeginsAnew, reserves, finds_nothing, is_crowded, is_worn, notes, look_late, sees_free, sees_header, sees_update, claim_late, claims, claim_fails, next_late, sees_normal, sees_other, mark_late, marks, mark_fails, clears, open_late, opens, releases, releases_last, FrameStep, Step, push_step, push_refused, close_step, close_refused, frame_step, frame_lacks, end_step, end_lacks, end_early, read_step, loads_header, loads_update, loads_owed, loads_passed, finds_none, finds_closed, swaps, swap_fails, ReadStep, taken_from, Exchange, Run}
-use Rattle.link_marks.specs.Kept.{PhaseKept, ReaderKept, LinksKept}
-use Rattle.link_marks.specs.KeptHistory.{shown_on, shown, HistoryKept}
+use Rattle.trace_model.specs.Steps.{Event, Answer, with_new_tail, after_begin, BeginsAnew, reserves, finds_nothing, is_crowded, is_worn, notes, look_late, sees_free, sees_header, sees_update, claim_late, claims, claim_fails, next_late, sees_normal, sees_other, mark_late, marks, mark_fails, clears, open_late, opens, releases, releases_last, FrameStep, Step, push_step, push_refused, close_step, close_refused, frame_step, frame_lacks, end_step, end_lacks, end_early, read_step, loads_header, loads_update, loads_owed, loads_passed, finds_none, finds_closed, swaps, swap_fails, ReadStep, taken_fill, Exchange, Run}
+use Rattle.link_marks.specs.KeptLinks.{PhaseKept, ReaderKept, LinksKept}
+use Rattle.link_marks.specs.KeptHistory.{history_stack_on, history_stack, HistoryKept}
 use Rattle.link_marks.specs.RingKept.{IsRingKept}
-use Rattle.link_marks.specs.WindowRuns.{fills_taken, numbers_of, IsToldBy}
-use Rattle.link_marks.proofs.Inside.{header_inside, header_tells, fill_at}
-use Rattle.link_marks.proofs.Stacks.{top_kept}
+use Rattle.link_marks.specs.Reached.{IsReached}
+use Rattle.link_marks.specs.ToldRuns.{fills_taken, numbers_of, IsToldBy}
+use Rattle.link_marks.proofs.LinkFills.{header_inside, header_tells, fill_at}
+use Rattle.link_marks.proofs.FrameChanges.{top_kept}
 use Rattle.link_marks.proofs.Histories.{settled_at_rest}
-use Rattle.link_marks.proofs.HistorySteps.{top_shown}
+use Rattle.link_marks.proofs.HistorySteps.{top_stack}
 use Rattle.link_marks.proofs.WindowRuns.{run_rises, run-append, taken-append, actions-append, numbers-push}
-use Rattle.link_marks.proofs.Rings.{ring_start, ring_step, ring_run}
+use Rattle.link_marks.proofs.RingsKept.{ring_start, ring_step, reached_kept}
 
 -- the deeds lead from one state to another
 pub record Leads (n : ℕ) (c after : Core) : Type 0 where
   pub deeds : List Deed
-  pub acted : after.history ≡ c.history ++ actions_of deeds
+  pub actions : after.history ≡ c.history ++ actions_of deeds
   pub window : WindowRunFrom n c.history (window_of c) deeds (window_of after)
   pub took : numbers_of after.reader.taken ≡ numbers_of c.reader.taken ++ fills_taken c.head deeds
 
 -- no deed
 idle : (n : ℕ) (c after : Core) → after.history ≡ c.history → window_of after ≡ window_of c → numbers_of after.reader.taken ≡ numbers_of c.reader.taken → Leads n c after
-idle n c after h w t = record { deeds = []; acted = h ∙ sym (append-nil c.history); window = sym w; took = t ∙ sym (append-nil (numbers_of c.reader.taken)) }
+idle n c after h w t = record { deeds = []; actions = h ∙ sym (append-nil c.history); window = sym w; took = t ∙ sym (append-nil (numbers_of c.reader.taken)) }
 
 -- a frame's action
 does : (n : ℕ) (c after : Core) (a : Action) → after.history ≡ c.history ++ a ∷ [] → window_of after ≡ window_of c → numbers_of after.reader.taken ≡ numbers_of c.reader.taken → Leads n c after
-does n c after a h w t = record { deeds = acts a ∷ []; acted = h; window = sym w; took = t ∙ sym (append-nil (numbers_of c.reader.taken)) }
+does n c after a h w t = record { deeds = acts a ∷ []; actions = h; window = sym w; took = t ∙ sym (append-nil (numbers_of c.reader.taken)) }
 
-leads_anew : (n : ℕ) (c : Core) (frame : Frame) (below : List Frame) (kind : Kind) → Leads n c (begun_on kind c frame below)
-leads_anew n c frame below (for_record moment len) = idle n c (begun_on (for_record moment len) c frame below) refl refl refl
-leads_anew n c frame below for_close = does n c (begun_on for_close c frame below) (leave None) refl refl refl
+leads_anew : (n : ℕ) (c : Core) (frame : Frame) (below : List Frame) (kind : Kind) → Leads n c (after_begin kind c frame below)
+leads_anew n c frame below (for_record moment len) = idle n c (after_begin (for_record moment len) c frame below) refl refl refl
+leads_anew n c frame below for_close = does n c (after_begin for_close c frame below) (leave None) refl refl refl
 
 anew : (n : ℕ) (c : Core) (frame : Frame) (below : List Frame) (noted : ℕ) (answer : Answer) (after : Core) → BeginsAnew c frame below noted answer after → Leads n c after
 anew n c frame below noted answer after step = subst (Leads n c) (sym step.after_is) (leads_anew n c frame below frame.kind)
 
-leads_begun : (n : ℕ) (c : Core) (frame : Frame) (below : List Frame) (page : ℕ) (kind : Kind) → c.opened < c.head + n → Leads n c (begun_on kind (begun c page) frame below)
-leads_begun n c frame below page (for_record moment len) room = record { deeds = acts open_fill ∷ happens opened_one ∷ []; acted = refl; window = (room, refl); took = sym (append-nil (numbers_of c.reader.taken)) }
+leads_begun : (n : ℕ) (c : Core) (frame : Frame) (below : List Frame) (page : ℕ) (kind : Kind) → c.opened < c.head + n → Leads n c (after_begin kind (with_new_tail c page) frame below)
+leads_begun n c frame below page (for_record moment len) room = record { deeds = acts open_fill ∷ happens opened_one ∷ []; actions = refl; window = (room, refl); took = sym (append-nil (numbers_of c.reader.taken)) }
 leads_begun n c frame below page for_close room = record {
   deeds = acts open_fill ∷ happens opened_one ∷ acts (leave None) ∷ [];
-  acted = append_assoc c.history (open_fill ∷ []) (leave None ∷ []);
+  actions = append_assoc c.history (open_fill ∷ []) (leave None ∷ []);
   window = (room, refl);
   took = sym (append-nil (numbers_of c.reader.taken));
 }
@@ -63,7 +64,7 @@ module _ (n size start : ℕ) (c : Core) (frame : Frame) (below : List Frame) (k
       let (open_yet, begun_yet, room, small) = (subst (PhaseKept n c.links c.order c.head c.done c.opened) same (top_kept n c frame below k top)).noted noted refl in
       let unread = k.head_le in let within = k.opened_le in
       let (here, page_is, head_at) = header_inside n c k noted page lost (omega arith) (omega arith) sum at in
-      subst (Leads n c) (sym is) record { deeds = happens lost_one ∷ []; acted = sym (append-nil c.history); window = ((omega arith, omega arith), refl); took = sym (append-nil (numbers_of c.reader.taken)) }
+      subst (Leads n c) (sym is) record { deeds = happens lost_one ∷ []; actions = sym (append-nil c.history); window = ((omega arith, omega arith), refl); took = sym (append-nil (numbers_of c.reader.taken)) }
   leads_frame (claiming noted page) answer after same (claim_fails now other a is) = subst (Leads n c) (sym is) (idle n c _ refl refl refl)
   leads_frame (looking_next role noted page) answer after same (next_late helps step) = anew n c frame below noted answer after step
   leads_frame (looking_next role noted page) answer after same (sees_normal lost next goes_on sum at a is) = subst (Leads n c) (sym is) (idle n c _ refl refl refl)
@@ -79,14 +80,14 @@ module _ (n size start : ℕ) (c : Core) (frame : Frame) (below : List Frame) (k
   leads_frame (reserved number) answer after same step = subst (Leads n c) (sym step.1) (idle n c c refl refl refl)
   leads_frame releasing answer after same (releases alone more a is) = subst (Leads n c) (sym is) record {
     deeds = happens released_one ∷ [];
-    acted = sym (append-nil c.history);
-    window = ((omega arith, settled_at_rest c.history (top_shown n start c frame below h top ∙ ap (λ (p : Phase). shown_on p frame.kind (shown below)) same ∙ ap shown alone)), refl);
+    actions = sym (append-nil c.history);
+    window = ((omega arith, settled_at_rest c.history (top_stack n start c frame below h top ∙ ap (λ (p : Phase). history_stack_on p frame.kind (history_stack below)) same ∙ ap history_stack alone)), refl);
     took = sym (append-nil (numbers_of c.reader.taken));
   }
   leads_frame releasing answer after same (releases_last alone last a is) = subst (Leads n c) (sym is) record {
     deeds = happens released_one ∷ [];
-    acted = sym (append-nil c.history);
-    window = ((omega arith, settled_at_rest c.history (top_shown n start c frame below h top ∙ ap (λ (p : Phase). shown_on p frame.kind (shown below)) same ∙ ap shown alone)), refl);
+    actions = sym (append-nil c.history);
+    window = ((omega arith, settled_at_rest c.history (top_stack n start c frame below h top ∙ ap (λ (p : Phase). history_stack_on p frame.kind (history_stack below)) same ∙ ap history_stack alone)), refl);
     took = sym (append-nil (numbers_of c.reader.taken));
   }
 
@@ -104,9 +105,9 @@ leads_read n c (swapping page fill) answer after k facts (swaps at a is) =
     let here : fill ≡ c.head = told.0 ∙ told.1 in let closed = facts.1 in
     subst (Leads n c) (sym is) record {
       deeds = happens took_one ∷ [];
-      acted = sym (append-nil c.history);
+      actions = sym (append-nil c.history);
       window = (omega arith, refl);
-      took = numbers-push c.reader.taken (taken_from c page fill) ∙ ap (λ (f : ℕ). numbers_of c.reader.taken ++ f ∷ []) here;
+      took = numbers-push c.reader.taken (taken_fill c page fill) ∙ ap (λ (f : ℕ). numbers_of c.reader.taken ++ f ∷ []) here;
     }
 leads_read n c (swapping page fill) answer after k facts (swap_fails at a is) = subst (Leads n c) (sym is) (idle n c _ refl refl refl)
 
@@ -127,8 +128,8 @@ leads_step n size start c event answer after k h (read_step e step) = leads_read
 leads_on : (n : ℕ) (c between after : Core) → Leads n c between → Leads n between after → Leads n c after
 leads_on n c between after x y = record {
   deeds = x.deeds ++ y.deeds;
-  acted = y.acted ∙ ap (λ (h : List Action). h ++ actions_of y.deeds) x.acted ∙ append_assoc c.history (actions_of x.deeds) (actions_of y.deeds) ∙ ap (λ (h : List Action). c.history ++ h) (sym (actions-append x.deeds y.deeds));
-  window = run-append n c.history (window_of c) (window_of between) (window_of after) x.deeds y.deeds x.window (subst (λ (h : List Action). WindowRunFrom n h (window_of between) y.deeds (window_of after)) x.acted y.window);
+  actions = y.actions ∙ ap (λ (h : List Action). h ++ actions_of y.deeds) x.actions ∙ append_assoc c.history (actions_of x.deeds) (actions_of y.deeds) ∙ ap (λ (h : List Action). c.history ++ h) (sym (actions-append x.deeds y.deeds));
+  window = run-append n c.history (window_of c) (window_of between) (window_of after) x.deeds y.deeds x.window (subst (λ (h : List Action). WindowRunFrom n h (window_of between) y.deeds (window_of after)) x.actions y.window);
   took = y.took ∙ ap (λ (l : List ℕ). l ++ fills_taken between.head y.deeds) x.took ∙ append_assoc (numbers_of c.reader.taken) (fills_taken c.head x.deeds) (fills_taken between.head y.deeds)
       ∙ ap (λ (l : List ℕ). numbers_of c.reader.taken ++ l) (sym (taken-append n c.history (window_of c) (window_of between) x.deeds y.deeds x.window));
 }
@@ -141,15 +142,16 @@ leads_run n size start c after (x ∷ exchanges) r (between, step, run) = leads_
 from_start : (n start : ℕ) (c after : Core) → IsStart n start c → IsRingKept n start after → (x : Leads n c after) → IsToldBy n start after x.deeds
 from_start n start c after s r x =
     let first : window_of c ≡ first_window start = λ i. record { head = s.head i; done = s.done i; opened = s.opened i } in record {
-      acted = sym (x.acted ∙ ap (λ (h : List Action). h ++ actions_of x.deeds) s.history);
+      actions = sym (x.actions ∙ ap (λ (h : List Action). h ++ actions_of x.deeds) s.history);
       window = subst (λ (w : Window). WindowRunFrom n [] w x.deeds (window_of after)) first (subst (λ (h : List Action). WindowRunFrom n h (window_of c) x.deeds (window_of after)) s.history x.window);
       took = ap (λ (f : ℕ). fills_taken f x.deeds) (sym s.head) ∙ sym (x.took ∙ ap (λ (r : Reader). numbers_of r.taken ++ fills_taken c.head x.deeds) s.reader);
       begun = r.contents.begun;
     }
 
-pub run_told : (n size start : ℕ) (c after : Core) (exchanges : List Exchange) → 2 ≤ n → start + 1 + n ≤ 2 ^ 48 → IsStart n start c → Run n size c exchanges after → (deeds : List Deed) × IsToldBy n start after deeds
-run_told n size start c after exchanges some fits s run = let r = ring_start n start c some fits s in let x = leads_run n size start c after exchanges r run in
-    (x.deeds, from_start n start c after s (ring_run n size start c after exchanges r run) x)
+pub run_told : (n size start : ℕ) (c : Core) → IsReached n size start c → (deeds : List Deed) × IsToldBy n start c deeds
+run_told n size start c r =
+    let x = leads_run n size start r.from c r.exchanges (ring_start n start r.from r.may_start r.is_new) r.run in
+    (x.deeds, from_start n start r.from c r.is_new (reached_kept n size start c r) x)
 
 pub counts_rise : (n size start : ℕ) (c after : Core) (exchanges : List Exchange) → IsRingKept n start c → Run n size c exchanges after → (c.head ≤ after.head) × (c.done ≤ after.done) × (c.opened ≤ after.opened)
 counts_rise n size start c after exchanges r run = let x = leads_run n size start c after exchanges r run in

@@ -6,7 +6,7 @@ use native.Mathlib.Decide.{ℕ_discrete}
 use Rattle.trace_model.specs.History.{Action}
 use Rattle.trace_model.specs.Window.{Window, opened_one, released_one, took_one, lost_one, window_after, Deed, acts, happens, actions_of, WindowRunFrom}
 use Rattle.trace_model.specs.Ring.{Taken}
-use Rattle.link_marks.specs.WindowRuns.{fills_taken, fills_lost, numbers_of}
+use Rattle.link_marks.specs.ToldRuns.{fills_taken, fills_lost, numbers_of}
 
 -- ---- the counts
 

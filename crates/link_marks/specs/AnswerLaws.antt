@@ -1,5 +1,6 @@
--- The laws of a ring's answers, as statements: each is the contract of a function of src/laws.rt.
-use Rattle.std.specs.Prelude.{◌≡◌, ℕ, ◌+◌, ◌^◌, ◌<◌, ◌≤◌, ◌⊎◌, List, [], ◌∷◌, ◌++◌}
+-- The laws of a ring's answers, as statements: each is a clause of a function of src/laws/answers.rt.
+use Rattle.std.specs.Prelude.{◌≡◌, ℕ, ◌+◌, ◌<◌, ◌≤◌, ◌⊎◌, List, [], ◌∷◌, ◌++◌}
+use Rattle.trace_model.specs.declared.limits.TheConstants.{LINK_FILLS}
 use Rattle.trace_model.specs.Frames.{reserving, Frame, crowded, worn}
 use Rattle.trace_model.specs.Links.{update_link}
 use Rattle.trace_model.specs.Ring.{link_into, page_at, Taken, Core, window_of, IsMoved, IsTaken}
@@ -23,22 +24,34 @@ pub record IsInNeed (n size : ℕ) (c : Core) : Type 0 where
 -- such a frame is refused as crowded where no page is released; and where one is, as worn where the tail is the
 -- last fill that has a number
 abbrev pub RefusalsAreDue : Type 0
-RefusalsAreDue = (n size : ℕ) (c : Core) (answer : Answer) (after : Core) → Step n size c steps answer after → IsInNeed n size c
-    → (IsCrowded n (window_of c) → answer ≡ refused crowded) × ((IsCrowded n (window_of c) → ⊥) → 2 ^ 48 ≤ c.opened + n → answer ≡ refused worn)
+RefusalsAreDue = (n size : ℕ) (c : Core) (answer : Answer) (after : Core)
+    → Step n size c steps answer after
+    → IsInNeed n size c
+    → (IsCrowded n (window_of c) → answer ≡ refused crowded)
+    × ((IsCrowded n (window_of c) → ⊥) → LINK_FILLS ≤ c.opened + n → answer ≡ refused worn)
 
 -- a frame is refused as crowded only where no page is released
 abbrev pub CrowdedIsRight : Type 0
-CrowdedIsRight = (n size : ℕ) (c : Core) (event : Event) (after : Core) → Step n size c event (refused crowded) after → IsCrowded n (window_of c)
+CrowdedIsRight = (n size : ℕ) (c : Core) (event : Event) (after : Core)
+    → Step n size c event (refused crowded) after
+    → IsCrowded n (window_of c)
 
 -- a frame is refused as worn only where a page is released, and the tail is the last fill that has a number
 abbrev pub WornIsRight : Type 0
-WornIsRight = (n size start : ℕ) (c : Core) (event : Event) (after : Core) → IsRingKept n start c → Step n size c event (refused worn) after
-    → (c.opened + n ≡ 2 ^ 48) × (IsCrowded n (window_of c) → ⊥)
+WornIsRight = (n size start : ℕ) (c : Core) (event : Event) (after : Core)
+    → IsRingKept n start c
+    → Step n size c event (refused worn) after
+    → (c.opened + n ≡ LINK_FILLS) × (IsCrowded n (window_of c) → ⊥)
 
 -- the reader finds nothing only where the head is the first fill that isn't closed, and then it takes nothing
 abbrev pub EmptyIsRight : Type 0
-EmptyIsRight = (n size start : ℕ) (c : Core) (event : Event) (done : ℕ) (after : Core) → IsRingKept n start c → Step n size c event (empty done) after
-    → (c.head ≡ done) × (c.done ≡ done) × ArePassed n start c done × (after.reader.taken ≡ c.reader.taken)
+EmptyIsRight = (n size start : ℕ) (c : Core) (event : Event) (done : ℕ) (after : Core)
+    → IsRingKept n start c
+    → Step n size c event (empty done) after
+    → (c.head ≡ done)
+    × (c.done ≡ done)
+    × ArePassed n start c done
+    × (after.reader.taken ≡ c.reader.taken)
 
 -- A move of the head stands in the reader's way: all fills below this one are passed, which is no less than
 -- the reader knew; and the UPDATE of just one frame stands.
@@ -52,10 +65,17 @@ pub record IsInTheWay (n start : ℕ) (c : Core) (fill : ℕ) : Type 0 where
   pub owner : IsMoved c.frames (lost + n)
 
 abbrev pub MovingIsRight : Type 0
-MovingIsRight = (n size start : ℕ) (c : Core) (event : Event) (fill : ℕ) (after : Core) → IsRingKept n start c → Step n size c event (moving fill) after
+MovingIsRight = (n size start : ℕ) (c : Core) (event : Event) (fill : ℕ) (after : Core)
+    → IsRingKept n start c
+    → Step n size c event (moving fill) after
     → IsInTheWay n start c fill × (after.reader.taken ≡ c.reader.taken)
 
 -- what is taken is the head, and that is closed; and it is what is then held as taken last
 abbrev pub SwappedIsRight : Type 0
-SwappedIsRight = (n size start : ℕ) (c : Core) (event : Event) (t : Taken) (after : Core) → IsRingKept n start c → Step n size c event (swapped t) after
-    → (t.fill ≡ c.head) × (c.head < c.done) × (after.head ≡ c.head + 1) × (after.reader.taken ≡ c.reader.taken ++ t ∷ [])
+SwappedIsRight = (n size start : ℕ) (c : Core) (event : Event) (t : Taken) (after : Core)
+    → IsRingKept n start c
+    → Step n size c event (swapped t) after
+    → (t.fill ≡ c.head)
+    × (c.head < c.done)
+    × (after.head ≡ c.head + 1)
+    × (after.reader.taken ≡ c.reader.taken ++ t ∷ [])

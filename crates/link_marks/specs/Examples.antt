@@ -20,6 +20,10 @@ pushing_close = record { event = pushes_close; answer = pushed } ∷ []
 abbrev pub stepping : List Answer → List Exchange
 stepping answers = map (λ answer. record { event = steps; answer = answer }) answers
 
+-- so many times the frame goes on, and then it answers this
+abbrev pub after_going : ℕ → Answer → List Answer
+after_going count answer = replicate count going ++ answer ∷ []
+
 -- the frame on top is ended with this payload
 abbrev pub ending : List ℕ → Answer → List Exchange
 ending payload answer = record { event = ends payload; answer = answer } ∷ []
@@ -48,25 +52,38 @@ held_as records = map (λ r. record { moment = r.moment; len = length r.bytes; b
 -- a take's answer: the fill, the number of its first record, how many were missed in front of it, and its
 -- records
 abbrev pub took : (fill first missed : ℕ) → List Record → Answer
-took fill first missed records = swapped record { fill = fill; skipped = missed; held = record { first = first; records = held_as records } }
+took fill first missed records = swapped record {
+  fill = fill;
+  skipped = missed;
+  held = record { first = first; records = held_as records };
+}
 
 -- ---- events that stand for one line of a script
 
 -- a record that fits in the tail page, written from its push to its end
 abbrev pub writing : (moment : ℕ) → List ℕ → (number : ℕ) → List Exchange
-writing moment payload number = pushing moment (length payload) ++ stepping (reserved_as number ∷ []) ++ ending payload full
+writing moment payload number =
+    pushing moment (length payload)
+    ++ stepping (reserved_as number ∷ [])
+    ++ ending payload full
 
--- a record that is written on a new page, where a place is free: it notes the need, looks, opens the page
+-- a record that is written on a new page, where a position is free: it notes the need, looks, opens the page
 -- and reserves; and closes the page in front
 abbrev pub writing_on_free : (moment : ℕ) → List ℕ → (number : ℕ) → List Exchange
 writing_on_free moment payload number =
-    pushing moment (length payload) ++ stepping (going ∷ going ∷ going ∷ reserved_as number ∷ []) ++ ending payload full ++ stepping (gone ∷ [])
+    pushing moment (length payload)
+    ++ stepping (after_going 3 (reserved_as number))
+    ++ ending payload full
+    ++ stepping (gone ∷ [])
 
 -- the same in a full ring, whose head it moves: it notes the need, looks, claims the head, looks at the next
 -- link, marks it, clears its UPDATE, opens the page and reserves
 abbrev pub writing_over_head : (moment : ℕ) → List ℕ → (number : ℕ) → List Exchange
 writing_over_head moment payload number =
-    pushing moment (length payload) ++ stepping (going ∷ going ∷ going ∷ going ∷ going ∷ going ∷ going ∷ reserved_as number ∷ []) ++ ending payload full ++ stepping (gone ∷ [])
+    pushing moment (length payload)
+    ++ stepping (after_going 7 (reserved_as number))
+    ++ ending payload full
+    ++ stepping (gone ∷ [])
 
 -- a close frame that begins a page and leaves, which is its last step or not
 abbrev pub closing : Answer → List Exchange
@@ -78,9 +95,11 @@ take_of answer = taking (reading ∷ reading ∷ reading ∷ answer ∷ [])
 
 -- ---- runs
 
--- From the new ring of n places these exchanges are a run, and then these records are committed.
+-- From the new ring of n positions these exchanges are a run, and then these records are committed.
 abbrev pub IsExample : (n size : ℕ) → List Exchange → List Record → Type 0
-IsExample n size exchanges committed = (start : Core) → IsStart n 0 start → (after : Core) × Run n size start exchanges after × (committed_records after.history ≡ committed)
+IsExample n size exchanges committed = (start : Core)
+    → IsStart n 0 start
+    → (after : Core) × Run n size start exchanges after × (committed_records after.history ≡ committed)
 
 -- ---- the examples
 
@@ -147,10 +166,10 @@ abbrev pub helpers_at_the_head : List Exchange
 helpers_at_the_head =
     writing 1 (all 1) 0 ++ writing_on_free 2 (all 2) 1 ++ writing_on_free 3 (all 3) 2 ++ writing_on_free 4 (all 4) 3
     ++ pushing 5 28 ++ stepping (going ∷ going ∷ going ∷ [])
-    ++ pushing 6 28 ++ stepping (going ∷ going ∷ going ∷ going ∷ going ∷ reserved_as 4 ∷ []) ++ ending (all 6) pending
-    ++ pushing 7 28 ++ stepping (going ∷ going ∷ going ∷ going ∷ going ∷ going ∷ going ∷ reserved_as 5 ∷ []) ++ ending (all 7) pending
+    ++ pushing 6 28 ++ stepping (after_going 5 (reserved_as 4)) ++ ending (all 6) pending
+    ++ pushing 7 28 ++ stepping (after_going 7 (reserved_as 5)) ++ ending (all 7) pending
     ++ stepping (going ∷ going ∷ going ∷ [])
-    ++ stepping (going ∷ going ∷ going ∷ going ∷ going ∷ going ∷ going ∷ reserved_as 6 ∷ []) ++ ending (all 5) full
+    ++ stepping (after_going 7 (reserved_as 6)) ++ ending (all 5) full
     ++ stepping (going ∷ going ∷ gone ∷ [])
     ++ taking (reading ∷ reading ∷ reading ∷ []) ++ take_of (took 3 3 3 (at 4 (all 4) ∷ []))
     ++ take_of (took 4 4 0 (at 6 (all 6) ∷ []))
@@ -159,7 +178,8 @@ helpers_at_the_head =
 
 abbrev pub HelpersAtTheHead : Type 0
 HelpersAtTheHead =
-    IsExample 4 32 helpers_at_the_head (at 1 (all 1) ∷ at 2 (all 2) ∷ at 3 (all 3) ∷ at 4 (all 4) ∷ at 6 (all 6) ∷ at 7 (all 7) ∷ at 7 (all 5) ∷ [])
+    IsExample 4 32 helpers_at_the_head
+    (at 1 (all 1) ∷ at 2 (all 2) ∷ at 3 (all 3) ∷ at 4 (all 4) ∷ at 6 (all 6) ∷ at 7 (all 7) ∷ at 7 (all 5) ∷ [])
 
 -- The reader has seen the HEADER of fill 0 on page 0 and stands still, while two records are written over the
 -- head: now that page is the head again, of fill 2. The reader's swap fails; it goes on to the head, takes fill

@@ -1,22 +1,31 @@
 -- What each step of a ring keeps of its pages and their records.
 use Rattle.std.specs.Prelude.{◌≡◌, ℕ, ◌+◌, ◌-◌, ◌<◌, ◌≤◌, List, [], ◌∷◌, length, slice_index_or}
-use Rattle.trace_model.specs.History.{Action, Reservation, reserved_records, settled_front}
+use Rattle.trace_model.specs.History.{Action, Reservation, reserved_records, settled_prefix}
 use Rattle.trace_model.specs.Packing.{opens_of, cut_from}
-use Rattle.trace_model.specs.Ring.{Held, Core, page_at, first_of_fill}
+use Rattle.trace_model.specs.Ring.{Held, empty_page, Core, page_at, first_of_fill}
 
--- these places rise from one to another, none of them below the one before it
+-- these cuts rise from one to another, none of them below the one before it
 abbrev pub IsRising : ℕ → List ℕ → ℕ → Type 0
 IsRising from [] to = from ≤ to
 IsRising from (cut ∷ cuts) to = (from ≤ cut) × IsRising cut cuts to
 
--- the page of a fill holds the records that the cuts give it, from its first number on
+-- a fill as the cuts give it: its records, from its first number on
+abbrev pub cut_fill : ℕ → List ℕ → List Reservation → ℕ → Held
+cut_fill start cuts records f = record {
+  first = slice_index_or (0 ∷ cuts) (f - start) 0;
+  records = slice_index_or (cut_from 0 cuts records) (f - start) [];
+}
+
+-- the page of a fill holds it
 abbrev pub Holds : ℕ → ℕ → List ℕ → List Held → List ℕ → List Reservation → ℕ → Type 0
-Holds n start order held cuts records f = slice_index_or held (page_at n order f) record { first = 0; records = [] }
-    ≡ record { first = slice_index_or (0 ∷ cuts) (f - start) 0; records = slice_index_or (cut_from 0 cuts records) (f - start) [] }
+Holds n start order held cuts records f =
+    slice_index_or held (page_at n order f) empty_page ≡ cut_fill start cuts records f
 
 -- The fills are as many as are begun, each page has room for one, and those that are begun and not taken or
 -- lost stand in their pages.
-pub record PagesKept (n start : ℕ) (order : List ℕ) (held : List Held) (cuts : List ℕ) (records : List Reservation) (head opened : ℕ) : Type 0 where
+pub record PagesKept (n start : ℕ) (order : List ℕ) (held : List Held) (cuts : List ℕ) (records : List Reservation)
+    (head opened : ℕ)
+    : Type 0 where
   pub begun : opened ≡ start + 1 + length cuts
   pub from_start : start ≤ head
   pub bodies : length held ≡ n + 1
@@ -24,11 +33,12 @@ pub record PagesKept (n start : ℕ) (order : List ℕ) (held : List Held) (cuts
   pub each : (f : ℕ) → head ≤ f → f < opened → Holds n start order held cuts records f
 
 abbrev pub ContentsKept : ℕ → ℕ → Core → Type 0
-ContentsKept n start c = PagesKept n start c.order c.held (opens_of c.history) (reserved_records c.history) c.head c.opened
+ContentsKept n start c =
+    PagesKept n start c.order c.held (opens_of c.history) (reserved_records c.history) c.head c.opened
 
 -- the records of the fills that are closed are committed
 abbrev pub ClosedAt : ℕ → List Action → ℕ → Type 0
-ClosedAt start history done = first_of_fill history start done ≤ length (reserved_records (settled_front history))
+ClosedAt start history done = first_of_fill history start done ≤ length (reserved_records (settled_prefix history))
 
 abbrev pub ClosedKept : ℕ → Core → Type 0
 ClosedKept start c = ClosedAt start c.history c.done

@@ -1,4 +1,12 @@
-//! A link into a place of the ring, and the word that holds it.
+//! A link into a position of the ring, and the word that holds it.
+
+use trace_model::LINK_PAGES;
+
+/// The page of a link counts from bit 2 of its word on.
+const PAGE_UNIT: u64 = 4;
+
+/// The fill of a link counts from bit 16 of its word on.
+const FILL_UNIT: u64 = 65_536;
 
 /// What a link says of the page that it leads to.
 #[derive(Clone, Copy, Debug, PartialEq, Eq)]
@@ -11,27 +19,28 @@ pub enum Mark {
     Update,
 }
 
-/// A link into a place: the page that stands there, and the fill that the mark speaks of.
+/// A link into a position: the page that stands there, and the fill that the mark speaks of.
 #[derive(Clone, Copy, Debug, PartialEq, Eq)]
 pub struct Link {
     /// What the link says of the page.
     pub mark: Mark,
-    /// The number of the page.
+    /// The number of the page, below `LINK_PAGES`.
     pub page: u16,
-    /// The number of the fill.
+    /// The number of the fill, below `LINK_FILLS`.
     pub fill: u64,
 }
 
 impl Link {
-    ghost use Rattle.std.specs.Prelude.{◌≡◌, ◌%◌, ◌^◌, ◌<◌, ◌↔◌, IsNone, IfSome};
+    ghost use Rattle.std.specs.Prelude.{◌≡◌, ◌%◌, ◌<◌, ◌↔◌, IsNone, IfSome};
     ghost use Rattle.trace_model.specs.Links.{word_of, FitsWord};
-    ghost use Rattle.link_marks.specs.Packed.{link_of};
+    ghost use Rattle.trace_model.specs.declared.limits.TheConstants.{LINK_FILLS, LINK_PAGES};
+    ghost use Rattle.link_marks.specs.ModelLinks.{link_of};
 
     /// The word of this link: the mark in bits 0 and 1, the page in bits 2 to 15, the fill in bits 16
     /// to 63.
     pub fn pack(&self) -> u64
-        requires page_fits { self.now.page < 2 ^ 14 }
-        requires fill_fits { self.now.fill < 2 ^ 48 }
+        requires page_fits { self.now.page < LINK_PAGES }
+        requires fill_fits { self.now.fill < LINK_FILLS }
         ensures { result ≡ word_of (link_of self.now) }
     {
         let mark = match self.mark {
@@ -39,7 +48,7 @@ impl Link {
             Mark::Header => 1,
             Mark::Update => 2,
         };
-        mark + 4 * self.page as u64 + 65536 * self.fill
+        mark + PAGE_UNIT * self.page as u64 + FILL_UNIT * self.fill
     }
 
     /// The link whose word this is, or `None` where the two low bits are those of no mark.
@@ -57,8 +66,8 @@ impl Link {
         };
         Some(Link {
             mark,
-            page: (word / 4 % 16384) as u16,
-            fill: word / 65536,
+            page: (word / PAGE_UNIT % LINK_PAGES) as u16,
+            fill: word / FILL_UNIT,
         })
     }
 }

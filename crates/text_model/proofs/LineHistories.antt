@@ -1,12 +1,12 @@
 -- The lines of a script keep the discipline of the stack.
 use Rattle.std.proofs.Common.{ℕ, Bool, true, false, cond, List, [], ◌∷◌, ◌++◌, length, Some, refl}
-use Rattle.trace_model.specs.History.{Action, push, reserve, leave, Reservation, Written, IsHistory}
+use Rattle.trace_model.specs.History.{Action, push, reserve, leave, Reservation, WriterState, IsHistory}
 use Rattle.text_model.specs.Script.{Command, write, close, take_page, deliver}
 use Rattle.text_model.specs.Replay.{is_writable, actions_of, history_of_lines}
 use Rattle.trace_model.proofs.Allowed.{AreAllowed, IsHistory-allowed}
 
 -- where no frame stands
-abbrev none_standing : List Reservation → Written
+abbrev none_standing : List Reservation → WriterState
 none_standing records = record { stack = []; records = records }
 
 write_allowed : (moment : ℕ) (payload : List ℕ) (accepted : Bool) (records : List Reservation) (behind : List Action) → ((others : List Reservation) → AreAllowed (none_standing others) behind)

@@ -39,8 +39,8 @@ contains_at ps k p at = (k, slice_get_within ps k p at, get_or_from_slice_get ps
 -- more parcels have and miss more
 pub below_more : (ps qs : List Parcel) → ((p : Parcel) → Contains ps p → Contains qs p) → IsBelow ps qs
 below_more ps qs more = record {
-  has = λ cpu number r h. let (k, at) = element_at qs h.parcel (more h.parcel (contains_at ps h.place h.parcel h.at)) in record { place = k; parcel = h.parcel; at = at; pair = h.pair };
-  misses = λ cpu number h. let (k, at) = element_at qs h.parcel (more h.parcel (contains_at ps h.place h.parcel h.at)) in record { place = k; parcel = h.parcel; at = at; missing = h.missing };
+  has = λ cpu number r h. let (k, at) = element_at qs h.parcel (more h.parcel (contains_at ps h.index h.parcel h.at)) in record { index = k; parcel = h.parcel; at = at; pair = h.pair };
+  misses = λ cpu number h. let (k, at) = element_at qs h.parcel (more h.parcel (contains_at ps h.index h.parcel h.at)) in record { index = k; parcel = h.parcel; at = at; missing = h.missing };
 }
 
 -- the same parcels, in any order and with any repeats

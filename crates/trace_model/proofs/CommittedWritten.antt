@@ -3,9 +3,9 @@ use Rattle.std.proofs.Common.{◌≡◌, ◌⊎◌, inl, inr, ⊎_elim, ℕ, zer
 use Rattle.std.specs.List.{All, AllByRecursion}
 use Rattle.std.proofs.lemmas.List.Elements.{All-from_recursion}
 use Rattle.trace_model.specs.Words.{slot_len, padded}
-use Rattle.trace_model.specs.History.{Action, push, push_close, open_fill, reserve, leave, Reservation, IsWritten, Frame, record_frame, close_frame, Written, reserved_for, finished_at, reserved_by, left_by, acted, written_by, reserved_records, settled_front, MayAct, IsHistory}
+use Rattle.trace_model.specs.History.{Action, push, push_close, open_fill, reserve, leave, Reservation, IsWritten, Frame, record_frame, close_frame, WriterState, reservation_for, records_with_payload, after_reserve, records_after_leave, after_action, writer_after, reserved_records, settled_prefix, MayAct, IsHistory}
 use Rattle.trace_model.proofs.Lengths.{length-padded}
-use Rattle.trace_model.proofs.HistoryFronts.{none_stands, settled_within}
+use Rattle.trace_model.proofs.HistoryPrefixes.{none_stands, settled_within}
 use Rattle.trace_model.proofs.Allowed.{AreAllowed, allowed-IsHistory, AreAllowed-front}
 
 -- ---- places in a list of records
@@ -41,19 +41,19 @@ IsFinished-cons : (number : ℕ) (payload : List ℕ) (x : Reservation) (records
 IsFinished-cons number payload x records k r (inl one) = inl (one.0, one.1, one.2, ap suc one.3)
 IsFinished-cons number payload x records k r (inr other) = inr (λ e. other.0 (omega arith), other.1)
 
-StandsAt-finished : (number : ℕ) (payload : List ℕ) (records : List Reservation) (k : ℕ) (r : Reservation) → StandsAt k (finished_at (Some number) (Some payload) records) r → IsFinished number payload records k r
+StandsAt-finished : (number : ℕ) (payload : List ℕ) (records : List Reservation) (k : ℕ) (r : Reservation) → StandsAt k (records_with_payload (Some number) (Some payload) records) r → IsFinished number payload records k r
 StandsAt-finished number payload [] k r h = absurd h
 StandsAt-finished zero payload (x ∷ records) zero r h = inl (x, refl, h, refl)
 StandsAt-finished zero payload (x ∷ records) (suc k) r h = inr (λ e. omega arith, h)
 StandsAt-finished (suc number) payload (x ∷ records) zero r h = inr (λ e. omega arith, h)
 StandsAt-finished (suc number) payload (x ∷ records) (suc k) r h = IsFinished-cons number payload x records k r (StandsAt-finished number payload records k r h)
 
-length-finished_at : (number : Option ℕ) (payload : Option (List ℕ)) (records : List Reservation) → length (finished_at number payload records) ≡ length records
-length-finished_at None payload records = refl
-length-finished_at (Some number) None records = refl
-length-finished_at (Some number) (Some payload) [] = refl
-length-finished_at (Some zero) (Some payload) (r ∷ records) = refl
-length-finished_at (Some (suc number)) (Some payload) (r ∷ records) = ap suc (length-finished_at (Some number) (Some payload) records)
+length-records_with_payload : (number : Option ℕ) (payload : Option (List ℕ)) (records : List Reservation) → length (records_with_payload number payload records) ≡ length records
+length-records_with_payload None payload records = refl
+length-records_with_payload (Some number) None records = refl
+length-records_with_payload (Some number) (Some payload) [] = refl
+length-records_with_payload (Some zero) (Some payload) (r ∷ records) = refl
+length-records_with_payload (Some (suc number)) (Some payload) (r ∷ records) = ap suc (length-records_with_payload (Some number) (Some payload) records)
 
 -- ---- what the stack and the records keep
 
@@ -99,10 +99,10 @@ frames-push records last [] h = tt
 frames-push records last (record_frame moment len number ∷ stack) h = (HasItsRecord-push records last len number h.0, frames-push records last stack h.1)
 frames-push records last (close_frame ∷ stack) h = (tt, frames-push records last stack h.1)
 
-reserve-IsKept : (moment len : ℕ) (number : Option ℕ) (stack : List Frame) (records : List Reservation) → number ≡ None → IsKept (record_frame moment len number ∷ stack) records → (let w = reserved_by (record_frame moment len number) stack records in IsKept w.stack w.records)
+reserve-IsKept : (moment len : ℕ) (number : Option ℕ) (stack : List Frame) (records : List Reservation) → number ≡ None → IsKept (record_frame moment len number ∷ stack) records → (let w = after_reserve (record_frame moment len number) stack records in IsKept w.stack w.records)
 reserve-IsKept moment len (Some number) stack records none h = absurd (none_is_no_number number (sym none))
 reserve-IsKept moment len None stack records none h =
-    let last = reserved_for moment len records in
+    let last = reservation_for moment len records in
     record {
       frames = (
         (omega (arith, length-append records (last ∷ [])), λ r at. ⊎_elim (λ old. let below = StandsAt-lt (length records) records r old in absurd (omega arith)) (λ new. ap (λ (q : Reservation). q.len) (sym new.1)) (StandsAt-push (length records) records last r at)),
@@ -116,17 +116,17 @@ reserve-IsKept moment len None stack records none h =
 
 -- ---- a frame that leaves
 
-HasItsRecord-finished : (number : ℕ) (payload : List ℕ) (records : List Reservation) (len : ℕ) (other : Option ℕ) → HasItsRecord records len other → HasItsRecord (finished_at (Some number) (Some payload) records) len other
+HasItsRecord-finished : (number : ℕ) (payload : List ℕ) (records : List Reservation) (len : ℕ) (other : Option ℕ) → HasItsRecord records len other → HasItsRecord (records_with_payload (Some number) (Some payload) records) len other
 HasItsRecord-finished number payload records len None h = tt
 HasItsRecord-finished number payload records len (Some other) h = (
-  subst (λ (n : ℕ). other < n) (sym (length-finished_at (Some number) (Some payload) records)) h.0,
+  subst (λ (n : ℕ). other < n) (sym (length-records_with_payload (Some number) (Some payload) records)) h.0,
   λ r at. ⊎_elim
       (λ one. ap (λ (q : Reservation). q.len) (sym one.2) ∙ h.1 one.0 (subst (λ (n : ℕ). StandsAt n records one.0) one.3 one.1))
       (λ same. h.1 r same.1)
       (StandsAt-finished number payload records other r at),
 )
 
-frames-finished : (number : ℕ) (payload : List ℕ) (records : List Reservation) (stack : List Frame) → AllByRecursion (IsFrameOf records) stack → AllByRecursion (IsFrameOf (finished_at (Some number) (Some payload) records)) stack
+frames-finished : (number : ℕ) (payload : List ℕ) (records : List Reservation) (stack : List Frame) → AllByRecursion (IsFrameOf records) stack → AllByRecursion (IsFrameOf (records_with_payload (Some number) (Some payload) records)) stack
 frames-finished number payload records [] h = tt
 frames-finished number payload records (record_frame moment len other ∷ stack) h = (HasItsRecord-finished number payload records len other h.0, frames-finished number payload records stack h.1)
 frames-finished number payload records (close_frame ∷ stack) h = (tt, frames-finished number payload records stack h.1)
@@ -136,7 +136,7 @@ written_with-IsWritten : (payload : List ℕ) (len : ℕ) (before r : Reservatio
 written_with-IsWritten payload len before r is slot fits =
     subst IsWritten is (length-padded payload ∙ fits ∙ sym slot)
 
-leave-IsKept : (f : Frame) (stack : List Frame) (records : List Reservation) (payload : Option (List ℕ)) → MayAct (f ∷ stack) (leave payload) → IsKept (f ∷ stack) records → IsKept stack (left_by f payload records)
+leave-IsKept : (f : Frame) (stack : List Frame) (records : List Reservation) (payload : Option (List ℕ)) → MayAct (f ∷ stack) (leave payload) → IsKept (f ∷ stack) records → IsKept stack (records_after_leave f payload records)
 leave-IsKept (record_frame moment len None) stack records payload may h = record {
   frames = h.frames.1;
   each = λ k r at. ⊎_elim (λ done. inl done) (λ stands. inr (⊎_elim (λ e. absurd (none_is_no_number k e)) (λ below. below) stands)) (h.each k r at);
@@ -156,36 +156,36 @@ leave-IsKept close_frame stack records payload may h = record {
 
 -- ---- a whole history
 
-acted-IsKept : (stack : List Frame) (records : List Reservation) (a : Action) → MayAct stack a → IsKept stack records → (let w = acted stack records a in IsKept w.stack w.records)
-acted-IsKept stack records (push moment len) may h = record {
+after_action-IsKept : (stack : List Frame) (records : List Reservation) (a : Action) → MayAct stack a → IsKept stack records → (let w = after_action stack records a in IsKept w.stack w.records)
+after_action-IsKept stack records (push moment len) may h = record {
   frames = (tt, h.frames);
   each = λ k r at. ⊎_elim (λ done. inl done) (λ stands. inr (inr stands)) (h.each k r at);
 }
-acted-IsKept stack records push_close may h = record {
+after_action-IsKept stack records push_close may h = record {
   frames = (tt, h.frames);
   each = λ k r at. ⊎_elim (λ done. inl done) (λ stands. inr (inr stands)) (h.each k r at);
 }
-acted-IsKept stack records open_fill may h = h
-acted-IsKept [] records reserve may h = h
-acted-IsKept (record_frame moment len number ∷ stack) records reserve may h = reserve-IsKept moment len number stack records may h
-acted-IsKept (close_frame ∷ stack) records reserve may h = h
-acted-IsKept [] records (leave payload) may h = h
-acted-IsKept (f ∷ stack) records (leave payload) may h = leave-IsKept f stack records payload may h
+after_action-IsKept stack records open_fill may h = h
+after_action-IsKept [] records reserve may h = h
+after_action-IsKept (record_frame moment len number ∷ stack) records reserve may h = reserve-IsKept moment len number stack records may h
+after_action-IsKept (close_frame ∷ stack) records reserve may h = h
+after_action-IsKept [] records (leave payload) may h = h
+after_action-IsKept (f ∷ stack) records (leave payload) may h = leave-IsKept f stack records payload may h
 
-fold-IsKept : (w : Written) (history : List Action) → AreAllowed w history → IsKept w.stack w.records → (let v = fold (λ v a. acted v.stack v.records a) w history in IsKept v.stack v.records)
+fold-IsKept : (w : WriterState) (history : List Action) → AreAllowed w history → IsKept w.stack w.records → (let v = fold (λ v a. after_action v.stack v.records a) w history in IsKept v.stack v.records)
 fold-IsKept w [] allowed h = h
-fold-IsKept w (a ∷ history) allowed h = fold-IsKept (acted w.stack w.records a) history allowed.1 (acted-IsKept w.stack w.records a allowed.0 h)
+fold-IsKept w (a ∷ history) allowed h = fold-IsKept (after_action w.stack w.records a) history allowed.1 (after_action-IsKept w.stack w.records a allowed.0 h)
 
 each_written : (records : List Reservation) → ((k : ℕ) (r : Reservation) → StandsAt k records r → IsWritten r) → AllByRecursion IsWritten records
 each_written [] h = tt
 each_written (r ∷ records) h = (h 0 r refl, each_written records (λ k q at. h (suc k) q at))
 
-pub committed-IsWritten : (history : List Action) → IsHistory history → All IsWritten (reserved_records (settled_front history))
+pub committed-IsWritten : (history : List Action) → IsHistory history → All IsWritten (reserved_records (settled_prefix history))
 committed-IsWritten history keeps =
-    let start : Written = record { stack = []; records = [] } in
-    let front = settled_front history in
+    let start : WriterState = record { stack = []; records = [] } in
+    let front = settled_prefix history in
     let found = settled_within (length history) history in
-    let allowed : AreAllowed start front = AreAllowed-front start front found.is_front.0 (subst (AreAllowed start) found.is_front.1 (allowed-IsHistory history keeps)) in
+    let allowed : AreAllowed start front = AreAllowed-front start front found.is_prefix.0 (subst (AreAllowed start) found.is_prefix.1 (allowed-IsHistory history keeps)) in
     let kept = fold-IsKept start front allowed (record { frames = tt; each = λ k r at. absurd at }) in
-    let none : (written_by front).stack ≡ [] = none_stands front found.settled in
+    let none : (writer_after front).stack ≡ [] = none_stands front found.settled in
     All-from_recursion IsWritten (reserved_records front) (each_written (reserved_records front) (λ k r at. ⊎_elim (λ done. done) (λ stands. absurd (subst (Stands k) none stands)) (kept.each k r at)))

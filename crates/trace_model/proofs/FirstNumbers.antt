@@ -3,7 +3,7 @@ use Rattle.std.proofs.Common.{◌≡◌, ℕ, zero, suc, ◌+◌, ◌<◌, ◌�
 use Rattle.std.proofs.lemmas.Option.{none-some}
 use Rattle.std.specs.List.{slice_get}
 use Rattle.trace_model.specs.Record.{Record}
-use Rattle.trace_model.specs.Partition.{Piece, IsPartition, covered, first_from, first_of, IsNumberedFrom}
+use Rattle.trace_model.specs.Partition.{Piece, IsPartition, covered_count, first_from, first_of, IsNumberedFrom}
 use Rattle.trace_model.proofs.Elements.{some_is, get_in_front, get_behind}
 
 -- ---- where a piece lies
@@ -14,25 +14,25 @@ record IsPlaced (records : List Record) (pieces : List Piece) (rest : List Recor
   lost : List Record
   behind : List Record
   whole : records ≡ before ++ (lost ++ (p.records ++ behind))
-  parts : IsPartition before (take k pieces) []
+  partition : IsPartition before (take k pieces) []
   skips : length lost ≡ p.skipped
   others : IsPartition behind (drop (suc k) pieces) rest
 
 placed : (records : List Record) (pieces : List Piece) (rest : List Record) (k : ℕ) (p : Piece) → IsPartition records pieces rest → slice_get pieces k ≡ Some p → IsPlaced records pieces rest k p
-placed records [] rest k p parts at = absurd (none-some p at)
-placed records (q ∷ pieces) rest zero p (lost, behind, size, cut, parts) at =
+placed records [] rest k p partition at = absurd (none-some p at)
+placed records (q ∷ pieces) rest zero p (lost, behind, size, cut, partition) at =
     let same : q ≡ p = some_is q p at in
     record {
       before = [];
       lost = lost;
       behind = behind;
       whole = cut ∙ ap (λ (x : Piece). lost ++ (x.records ++ behind)) same;
-      parts = refl;
+      partition = refl;
       skips = size ∙ ap (λ (x : Piece). x.skipped) same;
-      others = parts;
+      others = partition;
     }
-placed records (q ∷ pieces) rest (suc k) p (lost, behind, size, cut, parts) at =
-    let s = placed behind pieces rest k p parts at in
+placed records (q ∷ pieces) rest (suc k) p (lost, behind, size, cut, partition) at =
+    let s = placed behind pieces rest k p partition at in
     let left = s.lost ++ (p.records ++ s.behind) in
     record {
       before = lost ++ (q.records ++ s.before);
@@ -41,7 +41,7 @@ placed records (q ∷ pieces) rest (suc k) p (lost, behind, size, cut, parts) at
       whole = cut ∙ ap (λ (xs : List Record). lost ++ (q.records ++ xs)) s.whole
           ∙ ap (λ (xs : List Record). lost ++ xs) (sym (append_assoc q.records s.before left))
           ∙ sym (append_assoc lost (q.records ++ s.before) left);
-      parts = (lost, s.before, size, refl, s.parts);
+      partition = (lost, s.before, size, refl, s.partition);
       skips = s.skips;
       others = s.others;
     }
@@ -49,37 +49,37 @@ placed records (q ∷ pieces) rest (suc k) p (lost, behind, size, cut, parts) at
 -- the first number is how many records stand in front
 number_is : (number : ℕ) (pieces : List Piece) (k : ℕ) (p : Piece) (before lost : List Record) → slice_get pieces k ≡ Some p → IsPartition before (take k pieces) [] → length lost ≡ p.skipped
     → first_from number pieces k ≡ Some (number + (length before + length lost))
-number_is number [] k p before lost at parts size = absurd (none-some p at)
-number_is number (q ∷ pieces) zero p before lost at parts size =
+number_is number [] k p before lost at partition size = absurd (none-some p at)
+number_is number (q ∷ pieces) zero p before lost at partition size =
     let same = ap (λ (x : Piece). x.skipped) (some_is q p at) in
-    let none = ap (length {A = Record}) parts in
+    let none = ap (length {A = Record}) partition in
     ap Some (let e : number + q.skipped ≡ number + (length before + length lost) = omega arith in e)
-number_is number (q ∷ pieces) (suc k) p before lost at (skipped, behind, size, cut, parts) is =
+number_is number (q ∷ pieces) (suc k) p before lost at (skipped, behind, size, cut, partition) is =
     let sum = ap (length {A = Record}) cut ∙ length-append skipped (q.records ++ behind) in
     let more = length-append q.records behind in
-    number_is (number + covered q) pieces k p behind lost at parts is
-    ∙ ap Some (let e : number + covered q + (length behind + length lost) ≡ number + (length before + length lost) = omega arith in e)
+    number_is (number + covered_count q) pieces k p behind lost at partition is
+    ∙ ap Some (let e : number + covered_count q + (length behind + length lost) ≡ number + (length before + length lost) = omega arith in e)
 
 pub numbered_from : (records : List Record) (pieces : List Piece) (rest : List Record) (k : ℕ) (p : Piece) → IsPartition records pieces rest → slice_get pieces k ≡ Some p → (first : ℕ) × IsNumberedFrom records pieces rest k p first
-numbered_from records pieces rest k p parts at =
-    let s = placed records pieces rest k p parts at in
-    (length s.before + length s.lost, record { before = s.before; lost = s.lost; behind = s.behind; whole = s.whole; parts = s.parts; skips = s.skips; others = s.others; number = refl })
+numbered_from records pieces rest k p partition at =
+    let s = placed records pieces rest k p partition at in
+    (length s.before + length s.lost, record { before = s.before; lost = s.lost; behind = s.behind; whole = s.whole; partition = s.partition; skips = s.skips; others = s.others; number = refl })
 
 pub first_is_count : (records : List Record) (pieces : List Piece) (rest : List Record) (k : ℕ) (p : Piece) (first : ℕ) → slice_get pieces k ≡ Some p → IsNumberedFrom records pieces rest k p first → first_of pieces k ≡ Some first
 first_is_count records pieces rest k p first at s =
     let number = s.number in
-    number_is 0 pieces k p s.before s.lost at s.parts s.skips ∙ ap Some (let e : 0 + (length s.before + length s.lost) ≡ first = omega arith in e)
+    number_is 0 pieces k p s.before s.lost at s.partition s.skips ∙ ap Some (let e : 0 + (length s.before + length s.lost) ≡ first = omega arith in e)
 
 pub count_is_first : (records : List Record) (pieces : List Piece) (rest : List Record) (k : ℕ) (p : Piece) (first : ℕ) → IsPartition records pieces rest → slice_get pieces k ≡ Some p → first_of pieces k ≡ Some first → IsNumberedFrom records pieces rest k p first
-count_is_first records pieces rest k p first parts at is =
-    let (count, s) = numbered_from records pieces rest k p parts at in
+count_is_first records pieces rest k p first partition at is =
+    let (count, s) = numbered_from records pieces rest k p partition at in
     subst (IsNumberedFrom records pieces rest k p) (some_is count first (sym (first_is_count records pieces rest k p count at s) ∙ is)) s
 
 -- a piece's own records are those of the whole list from its first number on
 pub own_records : (records : List Record) (pieces : List Piece) (rest : List Record) (k : ℕ) (p : Piece) (first i : ℕ) (r : Record) → IsPartition records pieces rest → slice_get pieces k ≡ Some p → first_of pieces k ≡ Some first
     → slice_get p.records i ≡ Some r → slice_get records (first + i) ≡ Some r
-own_records records pieces rest k p first i r parts at is there =
-    let s = count_is_first records pieces rest k p first parts at is in
+own_records records pieces rest k p first i r partition at is there =
+    let s = count_is_first records pieces rest k p first partition at is in
     let number = s.number in
     ap (λ (xs : List Record). slice_get xs (first + i)) s.whole
     ∙ ap (slice_get (s.before ++ (s.lost ++ (p.records ++ s.behind)))) (let e : first + i ≡ length s.before + (length s.lost + i) = omega arith in e)
@@ -88,8 +88,8 @@ own_records records pieces rest k p first i r parts at is there =
     ∙ get_in_front p.records s.behind i r there
 
 pub first_within : (records : List Record) (pieces : List Piece) (rest : List Record) (k : ℕ) (p : Piece) (first : ℕ) → IsPartition records pieces rest → slice_get pieces k ≡ Some p → first_of pieces k ≡ Some first → first ≤ length records
-first_within records pieces rest k p first parts at is =
-    let s = count_is_first records pieces rest k p first parts at is in
+first_within records pieces rest k p first partition at is =
+    let s = count_is_first records pieces rest k p first partition at is in
     let number = s.number in
     let all = ap (length {A = Record}) s.whole ∙ length-append s.before (s.lost ++ (p.records ++ s.behind)) in
     let more = length-append s.lost (p.records ++ s.behind) in omega arith
@@ -102,7 +102,7 @@ first_above number (q ∷ pieces) zero p first at is =
     let same = ap (λ (x : Piece). x.skipped) (some_is q p at) in
     let sum = some_is (number + q.skipped) first is in omega arith
 first_above number (q ∷ pieces) (suc k) p first at is =
-    let above = first_above (number + covered q) pieces k p first at is in omega arith
+    let above = first_above (number + covered_count q) pieces k p first at is in omega arith
 
 -- no number is among the records of one piece and among those that one skips
 pub held_or_lost : (number : ℕ) (pieces : List Piece) (j k : ℕ) (p q : Piece) (first other x : ℕ) → slice_get pieces j ≡ Some p → slice_get pieces k ≡ Some q
@@ -115,9 +115,9 @@ held_or_lost number (s ∷ pieces) zero zero p q first other x held lost is that
 held_or_lost number (s ∷ pieces) zero (suc k) p q first other x held lost is that low high least below =
     let here = some_is (number + s.skipped) first is in
     let size = ap (λ (y : Piece). length y.records) (some_is s p held) in
-    let above = first_above (number + covered s) pieces k q other lost that in omega arith
+    let above = first_above (number + covered_count s) pieces k q other lost that in omega arith
 held_or_lost number (s ∷ pieces) (suc j) zero p q first other x held lost is that low high least below =
     let there = some_is (number + s.skipped) other that in
-    let above = first_above (number + covered s) pieces j p first held is in omega arith
+    let above = first_above (number + covered_count s) pieces j p first held is in omega arith
 held_or_lost number (s ∷ pieces) (suc j) (suc k) p q first other x held lost is that low high least below =
-    held_or_lost (number + covered s) pieces j k p q first other x held lost is that low high least below
+    held_or_lost (number + covered_count s) pieces j k p q first other x held lost is that low high least below

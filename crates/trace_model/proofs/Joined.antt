@@ -6,26 +6,26 @@ use Rattle.trace_model.proofs.Elements.{get_in_front, get_behind, get_in_either}
 
 pub joined_left : (parcels others : List Parcel) → IsBelow parcels (parcels ++ others)
 joined_left ps qs = record {
-  has = λ cpu number r h. record { place = h.place; parcel = h.parcel; at = get_in_front ps qs h.place h.parcel h.at; pair = h.pair };
-  misses = λ cpu number h. record { place = h.place; parcel = h.parcel; at = get_in_front ps qs h.place h.parcel h.at; missing = h.missing };
+  has = λ cpu number r h. record { index = h.index; parcel = h.parcel; at = get_in_front ps qs h.index h.parcel h.at; pair = h.pair };
+  misses = λ cpu number h. record { index = h.index; parcel = h.parcel; at = get_in_front ps qs h.index h.parcel h.at; missing = h.missing };
 }
 
 pub joined_right : (parcels others : List Parcel) → IsBelow others (parcels ++ others)
 joined_right ps qs = record {
-  has = λ cpu number r h. record { place = length ps + h.place; parcel = h.parcel; at = get_behind ps qs h.place ∙ h.at; pair = h.pair };
-  misses = λ cpu number h. record { place = length ps + h.place; parcel = h.parcel; at = get_behind ps qs h.place ∙ h.at; missing = h.missing };
+  has = λ cpu number r h. record { index = length ps + h.index; parcel = h.parcel; at = get_behind ps qs h.index ∙ h.at; pair = h.pair };
+  misses = λ cpu number h. record { index = length ps + h.index; parcel = h.parcel; at = get_behind ps qs h.index ∙ h.at; missing = h.missing };
 }
 
 pub joined_below : (parcels others above : List Parcel) → IsBelow parcels above → IsBelow others above → IsBelow (parcels ++ others) above
 joined_below ps qs above a b = record {
   has = λ cpu number r h. ⊎_elim
-      (λ (j, there). a.has cpu number r record { place = j; parcel = h.parcel; at = there; pair = h.pair })
-      (λ (j, there). b.has cpu number r record { place = j; parcel = h.parcel; at = there; pair = h.pair })
-      (get_in_either ps qs h.place h.parcel h.at);
+      (λ (j, there). a.has cpu number r record { index = j; parcel = h.parcel; at = there; pair = h.pair })
+      (λ (j, there). b.has cpu number r record { index = j; parcel = h.parcel; at = there; pair = h.pair })
+      (get_in_either ps qs h.index h.parcel h.at);
   misses = λ cpu number h. ⊎_elim
-      (λ (j, there). a.misses cpu number record { place = j; parcel = h.parcel; at = there; missing = h.missing })
-      (λ (j, there). b.misses cpu number record { place = j; parcel = h.parcel; at = there; missing = h.missing })
-      (get_in_either ps qs h.place h.parcel h.at);
+      (λ (j, there). a.misses cpu number record { index = j; parcel = h.parcel; at = there; missing = h.missing })
+      (λ (j, there). b.misses cpu number record { index = j; parcel = h.parcel; at = there; missing = h.missing })
+      (get_in_either ps qs h.index h.parcel h.at);
 }
 
 -- what lies below parcels that agree agrees

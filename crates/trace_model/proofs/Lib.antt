@@ -8,7 +8,7 @@ pub mod Places
 pub mod Stepped
 pub mod Walked
 pub mod WordFaults
-pub mod HistoryFronts
+pub mod HistoryPrefixes
 pub mod Allowed
 pub mod CommittedWritten
 pub mod RecordsFill

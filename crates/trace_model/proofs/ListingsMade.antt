@@ -102,24 +102,24 @@ abbrev lines_of : List Parcel → List Line
 lines_of [] = []
 lines_of (p ∷ ps) = lines_from p.cpu p.first p.records ++ lines_of ps
 
-line_at : (cpu number : ℕ) (records : List Record) (place : ℕ) (r : Record) → slice_get records place ≡ Some r → slice_get (lines_from cpu number records) place ≡ Some (line_of cpu (number + place) r)
-line_at cpu number [] place r at = absurd (none-some r at)
+line_at : (cpu number : ℕ) (records : List Record) (index : ℕ) (r : Record) → slice_get records index ≡ Some r → slice_get (lines_from cpu number records) index ≡ Some (line_of cpu (number + index) r)
+line_at cpu number [] index r at = absurd (none-some r at)
 line_at cpu number (x ∷ records) zero r at = ap Some (λ i. line_of cpu ((let e : number ≡ number + 0 = omega arith in e) i) (some_is x r at i))
-line_at cpu number (x ∷ records) (suc place) r at = line_at cpu (suc number) records place r at ∙ ap (λ (n : ℕ). Some (line_of cpu n r)) (let e : suc number + place ≡ number + suc place = omega arith in e)
+line_at cpu number (x ∷ records) (suc index) r at = line_at cpu (suc number) records index r at ∙ ap (λ (n : ℕ). Some (line_of cpu n r)) (let e : suc number + index ≡ number + suc index = omega arith in e)
 
 -- a line stands for a record of the parcel
 record IsLineOf (cpu number : ℕ) (records : List Record) (l : Line) : Type 0 where
-  place : ℕ
+  index : ℕ
   cpu_is : l.cpu ≡ cpu
-  number_is : l.number ≡ number + place
-  record_is : slice_get records place ≡ Some (record_of l)
+  number_is : l.number ≡ number + index
+  record_is : slice_get records index ≡ Some (record_of l)
 
 line_from : (cpu number : ℕ) (records : List Record) (k : ℕ) (l : Line) → slice_get (lines_from cpu number records) k ≡ Some l → IsLineOf cpu number records l
 line_from cpu number [] k l at = absurd (none-some l at)
 line_from cpu number (x ∷ records) zero l at =
     let same = some_is (line_of cpu number x) l at in
     record {
-      place = 0;
+      index = 0;
       cpu_is = ap (λ (m : Line). m.cpu) (sym same);
       number_is = ap (λ (m : Line). m.number) (sym same) ∙ (let e : number ≡ number + 0 = omega arith in e);
       record_is = ap (λ (m : Line). Some (record_of m)) same;
@@ -127,23 +127,23 @@ line_from cpu number (x ∷ records) zero l at =
 line_from cpu number (x ∷ records) (suc k) l at =
     let f = line_from cpu (suc number) records k l at in
     record {
-      place = suc f.place;
+      index = suc f.index;
       cpu_is = f.cpu_is;
-      number_is = f.number_is ∙ (let e : suc number + f.place ≡ number + suc f.place = omega arith in e);
+      number_is = f.number_is ∙ (let e : suc number + f.index ≡ number + suc f.index = omega arith in e);
       record_is = f.record_is;
     }
 
-stands_for : (ps : List Parcel) (cpu number : ℕ) (r : Record) (place : ℕ) (p : Parcel) → slice_get ps place ≡ Some p → IsPairOf p cpu number r → Stands (lines_of ps) (line_of cpu number r)
-stands_for [] cpu number r place p at pair = absurd (none-some p at)
+stands_for : (ps : List Parcel) (cpu number : ℕ) (r : Record) (index : ℕ) (p : Parcel) → slice_get ps index ≡ Some p → IsPairOf p cpu number r → Stands (lines_of ps) (line_of cpu number r)
+stands_for [] cpu number r index p at pair = absurd (none-some p at)
 stands_for (q ∷ ps) cpu number r zero p at pair =
-    let there = subst (λ (x : Parcel). slice_get (lines_from x.cpu x.first x.records) pair.place ≡ Some (line_of x.cpu (x.first + pair.place) r)) (sym (some_is q p at)) (line_at p.cpu p.first p.records pair.place r pair.record_is) in
+    let there = subst (λ (x : Parcel). slice_get (lines_from x.cpu x.first x.records) pair.index ≡ Some (line_of x.cpu (x.first + pair.index) r)) (sym (some_is q p at)) (line_at p.cpu p.first p.records pair.index r pair.record_is) in
     let same = some_is q p at in (
-      pair.place,
-      get_in_front (lines_from q.cpu q.first q.records) (lines_of ps) pair.place (line_of cpu number r)
-          (there ∙ (λ i. Some (line_of ((ap (λ (x : Parcel). x.cpu) same ∙ sym pair.cpu_is) i) ((ap (λ (x : Parcel). x.first + pair.place) same ∙ sym pair.number_is) i) r))),
+      pair.index,
+      get_in_front (lines_from q.cpu q.first q.records) (lines_of ps) pair.index (line_of cpu number r)
+          (there ∙ (λ i. Some (line_of ((ap (λ (x : Parcel). x.cpu) same ∙ sym pair.cpu_is) i) ((ap (λ (x : Parcel). x.first + pair.index) same ∙ sym pair.number_is) i) r))),
     )
-stands_for (q ∷ ps) cpu number r (suc place) p at pair =
-    let (k, there) = stands_for ps cpu number r place p at pair in
+stands_for (q ∷ ps) cpu number r (suc index) p at pair =
+    let (k, there) = stands_for ps cpu number r index p at pair in
     let front = lines_from q.cpu q.first q.records in
     (length front + k, get_behind front (lines_of ps) k ∙ there)
 
@@ -151,9 +151,9 @@ stands_by : (ps : List Parcel) (l : Line) → Stands (lines_of ps) l → Has ps 
 stands_by [] l (k, at) = absurd (none-some l at)
 stands_by (q ∷ ps) l (k, at) = ⊎_elim
     (λ (j, there). let f = line_from q.cpu q.first q.records j l there in
-    record { place = 0; parcel = q; at = refl; pair = record { place = f.place; cpu_is = f.cpu_is; number_is = f.number_is; record_is = f.record_is } })
+    record { index = 0; parcel = q; at = refl; pair = record { index = f.index; cpu_is = f.cpu_is; number_is = f.number_is; record_is = f.record_is } })
     (λ (j, there). let h = stands_by ps l (j, there) in
-    record { place = suc h.place; parcel = h.parcel; at = h.at; pair = h.pair })
+    record { index = suc h.index; parcel = h.parcel; at = h.at; pair = h.pair })
     (get_in_either (lines_from q.cpu q.first q.records) (lines_of ps) k l at)
 
 -- lines with one key are one line, where the parcels agree
@@ -172,6 +172,6 @@ some_listing ps agree =
       record {
         ordered = o.ordered;
         of_them = λ k line at. stands_by ps line (o.of_them line (k, at));
-        whole = λ cpu number r h. o.keeps (line_of cpu number r) (stands_for ps cpu number r h.place h.parcel h.at h.pair);
+        whole = λ cpu number r h. o.keeps (line_of cpu number r) (stands_for ps cpu number r h.index h.parcel h.at h.pair);
       },
     )

@@ -7,22 +7,28 @@ use Rattle.trace_model.specs.Parcel.{Parcel, IsPairOf, IsMissingOf}
 
 -- some parcel of these has the record under this CPU and number
 pub record Has (parcels : List Parcel) (cpu number : ℕ) (r : Record) : Type 0 where
-  pub place : ℕ
+  pub index : ℕ
   pub parcel : Parcel
-  pub at : slice_get parcels place ≡ Some parcel
+  pub at : slice_get parcels index ≡ Some parcel
   pub pair : IsPairOf parcel cpu number r
 
 -- some parcel of these misses the number
 pub record Misses (parcels : List Parcel) (cpu number : ℕ) : Type 0 where
-  pub place : ℕ
+  pub index : ℕ
   pub parcel : Parcel
-  pub at : slice_get parcels place ≡ Some parcel
+  pub at : slice_get parcels index ≡ Some parcel
   pub missing : IsMissingOf parcel cpu number
 
 -- No number has two records, and none is both held and lost: only such parcels make a collection.
 pub record Agree (parcels : List Parcel) : Type 0 where
-  pub one_record : (cpu number : ℕ) (r other : Record) → Has parcels cpu number r → Has parcels cpu number other → r ≡ other
-  pub not_lost : (cpu number : ℕ) (r : Record) → Has parcels cpu number r → Misses parcels cpu number → ⊥
+  pub one_record : (cpu number : ℕ) (r other : Record)
+      → Has parcels cpu number r
+      → Has parcels cpu number other
+      → r ≡ other
+  pub not_lost : (cpu number : ℕ) (r : Record)
+      → Has parcels cpu number r
+      → Misses parcels cpu number
+      → ⊥
 
 -- all that the first have and miss, the others have and miss
 pub record IsBelow (parcels others : List Parcel) : Type 0 where

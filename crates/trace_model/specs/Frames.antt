@@ -16,7 +16,7 @@ pub data Role : Type 0 where
   helper : Role
 
 -- How far a frame has come. noted: the number of begun fills when it found that it needs a page, which
--- is the number of the fill to open. page: the page at that fill's place. next: the page behind that.
+-- is the number of the fill to open. page: the page at that fill's position. next: the page behind that.
 -- reserved: its record has this number. releasing: it has left, stands alone, and closes fills.
 pub data Phase : Type 0 where
   reserving : Phase
@@ -34,30 +34,31 @@ pub record Frame : Type 0 where
   pub phase : Phase
 
 -- the fill that a frame is about to open, where it has noted one
-abbrev pub noted_in : Phase → Option ℕ
-noted_in reserving = None
-noted_in (looking o) = Some o
-noted_in (claiming o page) = Some o
-noted_in (looking_next role o page) = Some o
-noted_in (marking role o page next) = Some o
-noted_in (clearing o page) = Some o
-noted_in (opening o page) = Some o
-noted_in (reserved number) = None
-noted_in releasing = None
+abbrev pub noted_fill : Phase → Option ℕ
+noted_fill reserving = None
+noted_fill (looking o) = Some o
+noted_fill (claiming o page) = Some o
+noted_fill (looking_next role o page) = Some o
+noted_fill (marking role o page next) = Some o
+noted_fill (clearing o page) = Some o
+noted_fill (opening o page) = Some o
+noted_fill (reserved number) = None
+noted_fill releasing = None
 
--- the fill at whose place stands the UPDATE that a frame has set and not yet cleared: the one to open
-abbrev pub moving_in : Phase → Option ℕ
-moving_in reserving = None
-moving_in (looking o) = None
-moving_in (claiming o page) = None
-moving_in (looking_next owner o page) = Some o
-moving_in (looking_next helper o page) = None
-moving_in (marking owner o page next) = Some o
-moving_in (marking helper o page next) = None
-moving_in (clearing o page) = Some o
-moving_in (opening o page) = None
-moving_in (reserved number) = None
-moving_in releasing = None
+-- the fill to open, where at its position stands the UPDATE that the frame owns: it has set that, and not
+-- yet cleared it
+abbrev pub owned_update : Phase → Option ℕ
+owned_update reserving = None
+owned_update (looking o) = None
+owned_update (claiming o page) = None
+owned_update (looking_next owner o page) = Some o
+owned_update (looking_next helper o page) = None
+owned_update (marking owner o page next) = Some o
+owned_update (marking helper o page next) = None
+owned_update (clearing o page) = Some o
+owned_update (opening o page) = None
+owned_update (reserved number) = None
+owned_update releasing = None
 
 -- why a write is refused: docs/FORMATS.md, "Writer frames"
 pub data Refusal : Type 0 where

@@ -32,7 +32,7 @@ pub data Frame : Type 0 where
   close_frame : Frame
 
 -- the stack, the top first, and the reserved records, the first reservation first
-pub record Written : Type 0 where
+pub record WriterState : Type 0 where
   pub stack : List Frame
   pub records : List Reservation
 
@@ -44,79 +44,90 @@ last_moment (r ∷ s ∷ records) = last_moment (s ∷ records)
 
 -- a record of this moment, for a payload of len bytes, behind these: a moment below the last one's is
 -- raised to it
-abbrev pub reserved_for : (moment len : ℕ) → List Reservation → Reservation
-reserved_for moment len records = record { moment = max moment (last_moment records); len = slot_len len; bytes = None }
+abbrev pub reservation_for : (moment len : ℕ) → List Reservation → Reservation
+reservation_for moment len records = record {
+  moment = max moment (last_moment records);
+  len = slot_len len;
+  bytes = None;
+}
 
 -- the record of this number with its bytes, which fill its slot
-abbrev pub finished_at : Option ℕ → Option (List ℕ) → List Reservation → List Reservation
-finished_at None payload records = records
-finished_at (Some number) None records = records
-finished_at (Some number) (Some payload) [] = []
-finished_at (Some zero) (Some payload) (r ∷ records) = record r { bytes = Some (padded payload) } ∷ records
-finished_at (Some (suc number)) (Some payload) (r ∷ records) = r ∷ finished_at (Some number) (Some payload) records
+abbrev pub records_with_payload : Option ℕ → Option (List ℕ) → List Reservation → List Reservation
+records_with_payload None payload records = records
+records_with_payload (Some number) None records = records
+records_with_payload (Some number) (Some payload) [] = []
+records_with_payload (Some zero) (Some payload) (r ∷ records) = record r { bytes = Some (padded payload) } ∷ records
+records_with_payload (Some (suc number)) (Some payload) (r ∷ records) =
+    r ∷ records_with_payload (Some number) (Some payload) records
 
 -- a record frame without a record gets the next one; any other frame stays as it is
-abbrev pub reserved_by : Frame → List Frame → List Reservation → Written
-reserved_by (record_frame moment len None) stack records = record {
+abbrev pub after_reserve : Frame → List Frame → List Reservation → WriterState
+after_reserve (record_frame moment len None) stack records = record {
   stack = record_frame moment len (Some (length records)) ∷ stack;
-  records = records ++ reserved_for moment len records ∷ [];
+  records = records ++ reservation_for moment len records ∷ [];
 }
-reserved_by (record_frame moment len (Some number)) stack records = record {
+after_reserve (record_frame moment len (Some number)) stack records = record {
   stack = record_frame moment len (Some number) ∷ stack;
   records = records;
 }
-reserved_by close_frame stack records = record { stack = close_frame ∷ stack; records = records }
+after_reserve close_frame stack records = record { stack = close_frame ∷ stack; records = records }
 
 -- the record of a frame that leaves gets its bytes, if it has one
-abbrev pub left_by : Frame → Option (List ℕ) → List Reservation → List Reservation
-left_by (record_frame moment len number) payload records = finished_at number payload records
-left_by close_frame payload records = records
+abbrev pub records_after_leave : Frame → Option (List ℕ) → List Reservation → List Reservation
+records_after_leave (record_frame moment len number) payload records = records_with_payload number payload records
+records_after_leave close_frame payload records = records
 
 -- what an action makes of it; where no frame stands, reserve and leave do nothing
-abbrev pub acted : List Frame → List Reservation → Action → Written
-acted stack records (push moment len) = record { stack = record_frame moment len None ∷ stack; records = records }
-acted stack records push_close = record { stack = close_frame ∷ stack; records = records }
-acted stack records open_fill = record { stack = stack; records = records }
-acted [] records reserve = record { stack = []; records = records }
-acted (f ∷ stack) records reserve = reserved_by f stack records
-acted [] records (leave payload) = record { stack = []; records = records }
-acted (f ∷ stack) records (leave payload) = record { stack = stack; records = left_by f payload records }
+abbrev pub after_action : List Frame → List Reservation → Action → WriterState
+after_action stack records (push moment len) = record {
+  stack = record_frame moment len None ∷ stack;
+  records = records;
+}
+after_action stack records push_close = record { stack = close_frame ∷ stack; records = records }
+after_action stack records open_fill = record { stack = stack; records = records }
+after_action [] records reserve = record { stack = []; records = records }
+after_action (f ∷ stack) records reserve = after_reserve f stack records
+after_action [] records (leave payload) = record { stack = []; records = records }
+after_action (f ∷ stack) records (leave payload) = record {
+  stack = stack;
+  records = records_after_leave f payload records;
+}
 
 -- what a history leaves, from nothing
-abbrev pub written_by : List Action → Written
-written_by history = fold (λ w a. acted w.stack w.records a) record { stack = []; records = [] } history
+abbrev pub writer_after : List Action → WriterState
+writer_after history = fold (λ w a. after_action w.stack w.records a) record { stack = []; records = [] } history
 
--- all reserved records, the first reservation first; one's place here is its number
+-- all reserved records, the first reservation first; one's index here is its number
 abbrev pub reserved_records : List Action → List Reservation
-reserved_records history = (written_by history).records
+reserved_records history = (writer_after history).records
 
 -- no frame stands
 abbrev pub is_settled : List Action → Bool
-is_settled history = has_none (written_by history).stack
+is_settled history = has_none (writer_after history).stack
   where
     has_none : List Frame → Bool
     has_none [] = true
     has_none (f ∷ stack) = false
 
--- of the fronts of at most n actions, the longest behind which no frame stands
-abbrev pub settled_front_within : ℕ → List Action → List Action
-settled_front_within zero history = []
-settled_front_within (suc n) history =
-    if is_settled (take (suc n) history) then take (suc n) history else settled_front_within n history
+-- of the prefixes of at most n actions, the longest behind which no frame stands
+abbrev pub settled_prefix_within : ℕ → List Action → List Action
+settled_prefix_within zero history = []
+settled_prefix_within (suc n) history =
+    if is_settled (take (suc n) history) then take (suc n) history else settled_prefix_within n history
 
--- the longest front of a history behind which no frame stands
-abbrev pub settled_front : List Action → List Action
-settled_front history = settled_front_within (length history) history
+-- the longest prefix of a history behind which no frame stands
+abbrev pub settled_prefix : List Action → List Action
+settled_prefix history = settled_prefix_within (length history) history
 
 -- A reserved record as it is read. Until its frame has left its bytes are told as zeros; none of the
 -- committed records of a history is such.
-abbrev pub finished : Reservation → Record
-finished r = record { moment = r.moment; bytes = unwrap_or r.bytes (replicate r.len 0) }
+abbrev pub as_record : Reservation → Record
+as_record r = record { moment = r.moment; bytes = unwrap_or r.bytes (replicate r.len 0) }
 
--- The committed records: what was reserved up to the last moment at which no frame stood. One's place
+-- The committed records: what was reserved up to the last moment at which no frame stood. One's index
 -- here is its number.
 abbrev pub committed_records : List Action → List Record
-committed_records history = map finished (reserved_records (settled_front history))
+committed_records history = map as_record (reserved_records (settled_prefix history))
 
 -- a reservation is a record frame's that has no record yet
 abbrev pub MayReserve : List Frame → Type 0
@@ -152,4 +163,4 @@ MayAct stack (leave payload) = MayLeave stack payload
 -- of it allow.
 abbrev pub IsHistory : List Action → Type 0
 IsHistory history = (front behind : List Action) (a : Action) → history ≡ front ++ a ∷ behind
-    → MayAct (written_by front).stack a
+    → MayAct (writer_after front).stack a

@@ -1,20 +1,24 @@
+-- records, their words, and pages as bytes
 pub mod Record
 pub mod Words
 pub mod Reading
 pub mod Faults
+pub mod FirstFault
 pub mod Order
 pub mod Overwriting
-pub mod History
-pub mod Sublist
-pub mod Laws
-pub mod FirstFault
 pub mod Image
-pub mod Links
-pub mod Window
-pub mod Frames
+pub mod Laws
+-- what the frames of a CPU did, and the fills that this makes
+pub mod Sublist
+pub mod History
 pub mod Packing
+-- a ring: its links, frames and counts, its state, and one step
+pub mod Links
+pub mod Frames
+pub mod Window
 pub mod Ring
 pub mod Steps
+-- what was taken: the partition, parcels, collections and listings
 pub mod Partition
 pub mod Parcel
 pub mod Collection

@@ -1,8 +1,9 @@
--- The links of a ring: each tells which page stands at a place, and in which fill.
+-- The links of a ring: each tells which page stands at a position, and in which fill.
 -- After Documentation/trace/ring-buffer-design.rst, "Making the Ring Buffer Lockless": the two low bits
 -- of a page's next pointer say HEADER or UPDATE. That the fill's number stands in the link too is this
 -- project's own, and so is the word (docs/FORMATS.md, "Link word").
-use Rattle.std.specs.Prelude.{ℕ, ◌+◌, ◌*◌, ◌^◌, ◌<◌}
+use Rattle.std.specs.Prelude.{ℕ, ◌+◌, ◌*◌, ◌<◌}
+use Rattle.trace_model.specs.declared.limits.TheConstants.{LINK_PAGES, LINK_FILLS}
 
 -- normal: nothing is told of the page. header: the page is the head. update: a writer moves the head
 -- away from the page.
@@ -38,5 +39,5 @@ word_of l = mark_code l.mark + 4 * l.page + 65536 * l.fill
 
 -- the page and the fill have as many bits as the word has for them
 pub record FitsWord (l : Link) : Type 0 where
-  pub page_fits : l.page < 2 ^ 14
-  pub fill_fits : l.fill < 2 ^ 48
+  pub page_fits : l.page < LINK_PAGES
+  pub fill_fits : l.fill < LINK_FILLS

@@ -3,21 +3,22 @@
 -- what the tail page has left goes to the next page. docs/FORMATS.md, "Record words", "The ring".
 use Rattle.std.specs.Prelude.{◌≡◌, ◌≢◌, ℕ, ◌+◌, ◌-◌, ◌<◌, ◌≤◌, true, false, List, [], ◌∷◌, ◌++◌, length, take, drop, Option, Some, None, slice_index_or}
 use Rattle.trace_model.specs.Words.{encoded_len}
-use Rattle.trace_model.specs.History.{Action, push, push_close, open_fill, reserve, leave, Reservation, Frame, record_frame, close_frame, written_by, reserved_records, reserved_for}
+use Rattle.trace_model.specs.History.{Action, push, push_close, open_fill, reserve, leave, Reservation, Frame, record_frame, close_frame, writer_after, reserved_records, reservation_for}
 
 -- how many records were reserved in front of each open, in order
 abbrev pub opens_behind : List Action → List Action → List ℕ
 opens_behind front [] = []
 opens_behind front (push moment len ∷ behind) = opens_behind (front ++ push moment len ∷ []) behind
 opens_behind front (push_close ∷ behind) = opens_behind (front ++ push_close ∷ []) behind
-opens_behind front (open_fill ∷ behind) = length (reserved_records front) ∷ opens_behind (front ++ open_fill ∷ []) behind
+opens_behind front (open_fill ∷ behind) =
+    length (reserved_records front) ∷ opens_behind (front ++ open_fill ∷ []) behind
 opens_behind front (reserve ∷ behind) = opens_behind (front ++ reserve ∷ []) behind
 opens_behind front (leave payload ∷ behind) = opens_behind (front ++ leave payload ∷ []) behind
 
 abbrev pub opens_of : List Action → List ℕ
 opens_of history = opens_behind [] history
 
--- a list cut at rising places, of which none is below from: one more piece than there are cuts
+-- a list cut at rising indexes, of which none is below from: one more sublist than there are cuts
 abbrev pub cut_from : {A : Type 0} → ℕ → List ℕ → List A → List (List A)
 cut_from from [] xs = drop from xs ∷ []
 cut_from from (cut ∷ cuts) xs = take (cut - from) (drop from xs) ∷ cut_from cut cuts xs
@@ -45,14 +46,14 @@ abbrev pub FitsBehind : ℕ → List Reservation → Reservation → Type 0
 FitsBehind size records r = fill_len (records ++ r ∷ []) ≤ size
 
 -- what the frame on top would reserve: nothing for a close frame, and for one that has its record
-abbrev pub wanted_by : List Frame → List Reservation → Option Reservation
-wanted_by [] records = None
-wanted_by (record_frame moment len None ∷ stack) records = Some (reserved_for moment len records)
-wanted_by (record_frame moment len (Some number) ∷ stack) records = None
-wanted_by (close_frame ∷ stack) records = None
+abbrev pub next_reservation_of : List Frame → List Reservation → Option Reservation
+next_reservation_of [] records = None
+next_reservation_of (record_frame moment len None ∷ stack) records = Some (reservation_for moment len records)
+next_reservation_of (record_frame moment len (Some number) ∷ stack) records = None
+next_reservation_of (close_frame ∷ stack) records = None
 
-abbrev pub wanted : List Action → Option Reservation
-wanted history = wanted_by (written_by history).stack (reserved_records history)
+abbrev pub next_reservation : List Action → Option Reservation
+next_reservation history = next_reservation_of (writer_after history).stack (reserved_records history)
 
 -- the frame on top is a close frame
 abbrev pub Closes : List Frame → Type 0
@@ -65,7 +66,19 @@ Closes (close_frame ∷ stack) = Unit {0}
 -- doesn't fit.
 pub record IsPacked (history : List Action) (size : ℕ) : Type 0 where
   pub rooms : (k : ℕ) → k < length (fills_of history) → fill_len (slice_index_or (fills_of history) k []) ≤ size
-  pub reserves : (front behind : List Action) (r : Reservation) → history ≡ front ++ reserve ∷ behind → wanted front ≡ Some r → FitsBehind size (tail_of front) r
-  pub begins : (front behind : List Action) → history ≡ front ++ open_fill ∷ behind → tail_of front ≢ []
-  pub needed : (front behind : List Action) (r : Reservation) → history ≡ front ++ open_fill ∷ behind → wanted front ≡ Some r → FitsBehind size (tail_of front) r → ⊥
-  pub asked : (front behind : List Action) → history ≡ front ++ open_fill ∷ behind → wanted front ≡ None → Closes (written_by front).stack
+  pub reserves : (front behind : List Action) (r : Reservation)
+      → history ≡ front ++ reserve ∷ behind
+      → next_reservation front ≡ Some r
+      → FitsBehind size (tail_of front) r
+  pub begins : (front behind : List Action)
+      → history ≡ front ++ open_fill ∷ behind
+      → tail_of front ≢ []
+  pub needed : (front behind : List Action) (r : Reservation)
+      → history ≡ front ++ open_fill ∷ behind
+      → next_reservation front ≡ Some r
+      → FitsBehind size (tail_of front) r
+      → ⊥
+  pub asked : (front behind : List Action)
+      → history ≡ front ++ open_fill ∷ behind
+      → next_reservation front ≡ None
+      → Closes (writer_after front).stack

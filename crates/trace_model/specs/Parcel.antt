@@ -15,10 +15,10 @@ pub record Parcel : Type 0 where
 
 -- the record that the parcel has under a CPU and a number
 pub record IsPairOf (parcel : Parcel) (cpu number : ℕ) (r : Record) : Type 0 where
-  pub place : ℕ
+  pub index : ℕ
   pub cpu_is : cpu ≡ parcel.cpu
-  pub number_is : number ≡ parcel.first + place
-  pub record_is : slice_get parcel.records place ≡ Some r
+  pub number_is : number ≡ parcel.first + index
+  pub record_is : slice_get parcel.records index ≡ Some r
 
 -- the number was lost in front of the parcel's records
 pub record IsMissingOf (parcel : Parcel) (cpu number : ℕ) : Type 0 where
@@ -29,10 +29,12 @@ pub record IsMissingOf (parcel : Parcel) (cpu number : ℕ) : Type 0 where
 -- The parcel is one piece of a partition: its records, the numbers missed in front, and as its first
 -- number the count of all that stands in front of them.
 pub record IsGenuine (parcel : Parcel) (pieces : List Piece) : Type 0 where
-  pub place : ℕ
-  pub piece_is : slice_get pieces place ≡ Some record { skipped = parcel.missed; records = parcel.records }
-  pub first_is : first_of pieces place ≡ Some parcel.first
+  pub index : ℕ
+  pub piece_is : slice_get pieces index ≡ Some record { skipped = parcel.missed; records = parcel.records }
+  pub first_is : first_of pieces index ≡ Some parcel.first
 
 -- each parcel is genuine for the pieces of its own CPU
 abbrev pub AreGenuine : List Parcel → (ℕ → List Piece) → Type 0
-AreGenuine parcels pieces = (k : ℕ) (parcel : Parcel) → slice_get parcels k ≡ Some parcel → IsGenuine parcel (pieces parcel.cpu)
+AreGenuine parcels pieces = (k : ℕ) (parcel : Parcel)
+    → slice_get parcels k ≡ Some parcel
+    → IsGenuine parcel (pieces parcel.cpu)

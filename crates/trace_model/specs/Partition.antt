@@ -11,30 +11,36 @@ pub record Piece : Type 0 where
 -- so on, and then the rest.
 abbrev pub IsPartition : List Record → List Piece → List Record → Type 0
 IsPartition records [] rest = records ≡ rest
-IsPartition records (p ∷ pieces) rest = (lost behind : List Record) × (length lost ≡ p.skipped) × (records ≡ lost ++ (p.records ++ behind)) × IsPartition behind pieces rest
+IsPartition records (p ∷ pieces) rest =
+    (lost behind : List Record)
+    × (length lost ≡ p.skipped)
+    × (records ≡ lost ++ (p.records ++ behind))
+    × IsPartition behind pieces rest
 
 -- how many records a piece covers, with those that it skips
-abbrev pub covered : Piece → ℕ
-covered p = p.skipped + length p.records
+abbrev pub covered_count : Piece → ℕ
+covered_count p = p.skipped + length p.records
 
 -- how many records stand in front of the list of a piece: all that the pieces in front of it cover, and
 -- those that it skips; counted from a number on
 abbrev pub first_from : ℕ → List Piece → ℕ → Option ℕ
 first_from number [] k = None
 first_from number (p ∷ pieces) zero = Some (number + p.skipped)
-first_from number (p ∷ pieces) (suc k) = first_from (number + covered p) pieces k
+first_from number (p ∷ pieces) (suc k) = first_from (number + covered_count p) pieces k
 
 abbrev pub first_of : List Piece → ℕ → Option ℕ
 first_of pieces k = first_from 0 pieces k
 
--- The piece at a place has its records from this number on: so many records of the whole list stand in
+-- The piece at an index has its records from this number on: so many records of the whole list stand in
 -- front of them, those of the pieces before it with what these skip, and those that it skips itself.
-pub record IsNumberedFrom (records : List Record) (pieces : List Piece) (rest : List Record) (place : ℕ) (p : Piece) (first : ℕ) : Type 0 where
+pub record IsNumberedFrom (records : List Record) (pieces : List Piece) (rest : List Record)
+    (index : ℕ) (p : Piece) (first : ℕ)
+    : Type 0 where
   pub before : List Record
   pub lost : List Record
   pub behind : List Record
   pub whole : records ≡ before ++ (lost ++ (p.records ++ behind))
-  pub parts : IsPartition before (take place pieces) []
+  pub partition : IsPartition before (take index pieces) []
   pub skips : length lost ≡ p.skipped
-  pub others : IsPartition behind (drop (suc place) pieces) rest
+  pub others : IsPartition behind (drop (suc index) pieces) rest
   pub number : first ≡ length before + length lost

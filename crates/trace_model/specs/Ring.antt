@@ -2,24 +2,25 @@
 -- After Documentation/trace/ring-buffer-design.rst and kernel/trace/ring_buffer.c (struct
 -- ring_buffer_per_cpu, rb_handle_head_page, rb_get_reader_page); docs/FORMATS.md, "The ring".
 use Rattle.std.specs.Prelude.{◌≡◌, ◌≢◌, ℕ, suc, ◌+◌, ◌-◌, ◌%◌, ◌<◌, ◌≤◌, ◌⊎◌, List, [], ◌∷◌, length, take, map, Some, slice_index_or, slice_get, slice_set}
-use Rattle.trace_model.specs.History.{Action, Reservation, reserved_records, committed_records, finished}
+use Rattle.trace_model.specs.Record.{Record}
+use Rattle.trace_model.specs.History.{Action, Reservation, reserved_records, committed_records, as_record}
 use Rattle.trace_model.specs.Packing.{opens_of, fills_of}
 use Rattle.trace_model.specs.Links.{Link, normal_link, header_link, update_link}
-use Rattle.trace_model.specs.Frames.{Frame, noted_in, moving_in}
+use Rattle.trace_model.specs.Frames.{Frame, noted_fill, owned_update}
 use Rattle.trace_model.specs.Window.{Window}
-use Rattle.trace_model.specs.Sublist.{IsFront}
+use Rattle.trace_model.specs.Sublist.{IsPrefix}
 
--- ---- links and places
+-- ---- links and positions
 
--- the link into the place of a fill, in a ring of n places: fill f lies at place f % n
+-- the link into the position of a fill, in a ring of n positions: fill f lies at position f % n
 abbrev pub link_into : ℕ → List Link → ℕ → Link
 link_into n links f = slice_index_or links (f % n) (normal_link 0 0)
 
--- the same links, with this one into the place of fill f
-abbrev pub relinked : ℕ → List Link → ℕ → Link → List Link
-relinked n links f l = slice_set links (f % n) l
+-- the same links, with this one into the position of fill f
+abbrev pub links_with : ℕ → List Link → ℕ → Link → List Link
+links_with n links f l = slice_set links (f % n) l
 
--- the page at the place of a fill, by the order of pages
+-- the page at the position of a fill, by the order of pages
 abbrev pub page_at : ℕ → List ℕ → ℕ → ℕ
 page_at n order f = slice_index_or order (f % n) 0
 
@@ -29,6 +30,10 @@ page_at n order f = slice_index_or order (f % n) 0
 pub record Held : Type 0 where
   pub first : ℕ
   pub records : List Reservation
+
+-- a page without a record
+abbrev pub empty_page : Held
+empty_page = record { first = 0; records = [] }
 
 -- A fill that the reader took: how many records were lost in front of it since the last one taken, and
 -- its own.
@@ -52,8 +57,8 @@ pub record Reader : Type 0 where
   pub expected : ℕ
   pub taken : List Taken
 
--- links: the link into each place. order: the page at each place. spare: the reader's page, outside the
--- ring, with its own link. held: what each page holds, by its number. history: what the frames did.
+-- links: the link into each position. order: the page at each position. spare: the reader's page, outside
+-- the ring, with its own link. held: what each page holds, by its number. history: what the frames did.
 pub record Core : Type 0 where
   pub links : List Link
   pub order : List ℕ
@@ -72,30 +77,34 @@ window_of c = record { head = c.head; done = c.done; opened = c.opened }
 
 -- ---- the start
 
--- The state of a new ring of n places whose first fill has this number: fill f lies on page f % n, the
+-- the reader of a new ring whose first fill has this number
+abbrev pub first_reader : ℕ → Reader
+first_reader start = record { phase = loading_link; hint = start; expected = 0; taken = [] }
+
+-- The state of a new ring of n positions whose first fill has this number: fill f lies on page f % n, the
 -- head is the first fill and the tail, and the spare is page n.
 pub record IsStart (n start : ℕ) (c : Core) : Type 0 where
-  pub places : length c.links ≡ n
+  pub positions : length c.links ≡ n
   pub first_link : link_into n c.links start ≡ header_link (start % n) start
   pub links : (f : ℕ) → start < f → f < start + n → link_into n c.links f ≡ normal_link (f % n) f
   pub pages : length c.order ≡ n
-  pub order : (place : ℕ) → place < n → slice_index_or c.order place 0 ≡ place
+  pub order : (position : ℕ) → position < n → slice_index_or c.order position 0 ≡ position
   pub spare : c.spare ≡ n
   pub spare_link : c.spare_link ≡ normal_link 0 0
   pub head : c.head ≡ start
   pub done : c.done ≡ start
   pub opened : c.opened ≡ start + 1
   pub frames : c.frames ≡ []
-  pub reader : c.reader ≡ record { phase = loading_link; hint = start; expected = 0; taken = [] }
+  pub reader : c.reader ≡ first_reader start
   pub bodies : length c.held ≡ n + 1
-  pub held : (page : ℕ) → page < n + 1 → slice_index_or c.held page record { first = 0; records = [] } ≡ record { first = 0; records = [] }
+  pub held : (page : ℕ) → page < n + 1 → slice_index_or c.held page empty_page ≡ empty_page
   pub history : c.history ≡ []
 
 -- ---- what holds of it
 
--- this frame has set the UPDATE at the place of fill f and not yet cleared it
+-- this frame has set the UPDATE at the position of fill f and not yet cleared it
 abbrev pub Moves : List Frame → ℕ → ℕ → Type 0
-Moves frames k f = (frame : Frame) × (slice_get frames k ≡ Some frame) × (moving_in frame.phase ≡ Some f)
+Moves frames k f = (frame : Frame) × (slice_get frames k ≡ Some frame) × (owned_update frame.phase ≡ Some f)
 
 -- just one frame on the stack has set it
 pub record IsMoved (frames : List Frame) (f : ℕ) : Type 0 where
@@ -103,16 +112,27 @@ pub record IsMoved (frames : List Frame) (f : ℕ) : Type 0 where
   pub moves : Moves frames by f
   pub alone : (k : ℕ) → Moves frames k f → k ≡ by
 
--- The link into the place of a fill behind the head tells that fill; or it still tells the fill that was
+-- The link into the position of a fill behind the head tells that fill; or it still tells the fill that was
 -- lost there, which is so just where a frame has set this UPDATE and not yet cleared it.
 pub data IsBehindHead (n : ℕ) (c : Core) (f : ℕ) : Type 0 where
-  told : link_into n c.links f ≡ normal_link (page_at n c.order f) f → ((k : ℕ) → Moves c.frames k f → ⊥) → IsBehindHead n c f
-  moved : (lost : ℕ) → lost + n ≡ f → link_into n c.links f ≡ update_link (page_at n c.order f) lost → IsMoved c.frames f → IsBehindHead n c f
+  told : link_into n c.links f ≡ normal_link (page_at n c.order f) f
+      → ((k : ℕ) → Moves c.frames k f → ⊥)
+      → IsBehindHead n c f
+  moved : (lost : ℕ)
+      → lost + n ≡ f
+      → link_into n c.links f ≡ update_link (page_at n c.order f) lost
+      → IsMoved c.frames f
+      → IsBehindHead n c f
 
 -- The link to the head is its HEADER; or the HEADER is owed by a move of the head that still stands.
 pub data IsAtHead (n : ℕ) (c : Core) : Type 0 where
-  marked : link_into n c.links c.head ≡ header_link (page_at n c.order c.head) c.head → IsAtHead n c
-  owed : (lost : ℕ) → suc lost ≡ c.head → link_into n c.links c.head ≡ normal_link (page_at n c.order c.head) c.head → IsMoved c.frames (lost + n) → IsAtHead n c
+  marked : link_into n c.links c.head ≡ header_link (page_at n c.order c.head) c.head
+      → IsAtHead n c
+  owed : (lost : ℕ)
+      → suc lost ≡ c.head
+      → link_into n c.links c.head ≡ normal_link (page_at n c.order c.head) c.head
+      → IsMoved c.frames (lost + n)
+      → IsAtHead n c
 
 -- the pages of the ring differ, and the spare is the other one of n + 1
 pub record AreApart (n : ℕ) (order : List ℕ) (spare : ℕ) : Type 0 where
@@ -126,27 +146,41 @@ pub record AreApart (n : ℕ) (order : List ℕ) (spare : ℕ) : Type 0 where
 abbrev pub first_of_fill : List Action → ℕ → ℕ → ℕ
 first_of_fill history start f = slice_index_or (0 ∷ opens_of history) (f - start) 0
 
--- the page of a fill that is begun and not yet taken or lost holds that fill's records, from its first
--- number on
+-- a fill as the history has it: its records, from its first number on
+abbrev pub fill_of : List Action → ℕ → ℕ → Held
+fill_of history start f = record {
+  first = first_of_fill history start f;
+  records = slice_index_or (fills_of history) (f - start) [];
+}
+
+-- the page of a fill that is begun and not yet taken or lost holds that fill
 abbrev pub HoldsFill : ℕ → ℕ → Core → ℕ → Type 0
-HoldsFill n start c f = slice_index_or c.held (page_at n c.order f) record { first = 0; records = [] }
-    ≡ record { first = first_of_fill c.history start f; records = slice_index_or (fills_of c.history) (f - start) [] }
+HoldsFill n start c f = slice_index_or c.held (page_at n c.order f) empty_page ≡ fill_of c.history start f
 
 -- A taken page is a fill of the history: its number is that fill's, it has all its records and no others, as
 -- they are in the history, from its first number on.
 pub record IsFillOf (start : ℕ) (history : List Action) (t : Taken) : Type 0 where
   pub from_start : start ≤ t.fill
   pub begun : t.fill < start + length (fills_of history)
-  pub held : t.held ≡ record { first = first_of_fill history start t.fill; records = slice_index_or (fills_of history) (t.fill - start) [] }
+  pub held : t.held ≡ fill_of history start t.fill
 
 -- What the reader took are such fills, and their numbers rise.
 pub record AreFillsOf (start : ℕ) (history : List Action) (taken : List Taken) : Type 0 where
   pub each : (k : ℕ) (t : Taken) → slice_get taken k ≡ Some t → IsFillOf start history t
-  pub rising : (j k : ℕ) (earlier later : Taken) → j < k → slice_get taken j ≡ Some earlier → slice_get taken k ≡ Some later → earlier.fill < later.fill
+  pub rising : (j k : ℕ) (earlier later : Taken)
+      → j < k
+      → slice_get taken j ≡ Some earlier
+      → slice_get taken k ≡ Some later
+      → earlier.fill < later.fill
 
 -- a fill that the reader took
 abbrev pub IsTaken : Core → ℕ → Type 0
 IsTaken c f = (k : ℕ) × (t : Taken) × (slice_get c.reader.taken k ≡ Some t) × (t.fill ≡ f)
+
+-- the records that stand in the fills below this one, as they are by now
+abbrev pub records_before_fill : List Action → ℕ → ℕ → List Record
+records_before_fill history start f =
+    map as_record (take (first_of_fill history start f) (reserved_records history))
 
 -- where the reader is about to swap, the spare's link is the HEADER of the next fill
 abbrev pub IsSwapReady : ℕ → Core → ReaderPhase → Type 0
@@ -155,12 +189,12 @@ IsSwapReady n c (loading_done page fill) = Unit {0}
 IsSwapReady n c (storing_link page fill) = Unit {0}
 IsSwapReady n c (swapping page fill) = c.spare_link ≡ header_link (page_at n c.order (suc fill)) (suc fill)
 
--- The ring, between any two steps. Each place has a link, and each page a body; the pages go round; the window
--- keeps its order, from the first fill on, and the fills begun are those of the history; links behind the head,
--- and to it, are as above; pages hold their fills; what is closed is committed, and a fill that is lost was lost in a full ring; and what a frame
--- or the reader has seen is no more than was true.
+-- The ring, between any two steps. Each position has a link, and each page a body; the pages go round; the
+-- window keeps its order, from the first fill on, and the fills begun are those of the history; links behind
+-- the head, and to it, are as above; pages hold their fills; what is closed is committed, and a fill that is
+-- lost was lost in a full ring; and what a frame or the reader has seen is no more than was true.
 pub record IsRing (n start : ℕ) (c : Core) : Type 0 where
-  pub places : length c.links ≡ n
+  pub positions : length c.links ≡ n
   pub bodies : length c.held ≡ n + 1
   pub apart : AreApart n c.order c.spare
   pub head_le : c.head ≤ c.done
@@ -171,9 +205,12 @@ pub record IsRing (n start : ℕ) (c : Core) : Type 0 where
   pub behind_head : (f : ℕ) → c.head < f → f < c.head + n → IsBehindHead n c f
   pub at_head : IsAtHead n c
   pub contents : (f : ℕ) → c.head ≤ f → f < c.opened → HoldsFill n start c f
-  pub closed : IsFront (map finished (take (first_of_fill c.history start c.done) (reserved_records c.history))) (committed_records c.history)
+  pub closed : IsPrefix (records_before_fill c.history start c.done) (committed_records c.history)
   pub lost : (f : ℕ) → start ≤ f → f < c.head → IsTaken c f ⊎ (f + n ≤ c.opened)
   pub lost_at_rest : (f : ℕ) → start ≤ f → f < c.head → c.frames ≡ [] → IsTaken c f ⊎ (f + n < c.opened)
   pub hint_le : c.reader.hint ≤ c.head
-  pub noted : (k o : ℕ) (frame : Frame) → slice_get c.frames k ≡ Some frame → noted_in frame.phase ≡ Some o → (c.done < o) × (o ≤ c.opened)
+  pub noted : (k o : ℕ) (frame : Frame)
+      → slice_get c.frames k ≡ Some frame
+      → noted_fill frame.phase ≡ Some o
+      → (c.done < o) × (o ≤ c.opened)
   pub ready : IsSwapReady n c c.reader.phase

@@ -2,13 +2,14 @@
 -- After kernel/trace/ring_buffer.c (rb_reserve_next_event, rb_move_tail, rb_handle_head_page, rb_commit,
 -- rb_get_reader_page, rb_head_page_replace) and docs/FORMATS.md, "Writer frames" and "The reader". A step
 -- reads or writes one word of the ring at most, with what goes with it in the frame or in the reader.
-use Rattle.std.specs.Prelude.{◌≡◌, ◌≢◌, ℕ, suc, ◌+◌, ◌-◌, ◌%◌, ◌^◌, ◌<◌, ◌≤◌, ◌⊎◌, true, if◌then◌else◌, ◌==◌, nat_lt, List, [], ◌∷◌, ◌++◌, length, map, Option, Some, None, slice_index_or, slice_set}
+use Rattle.std.specs.Prelude.{◌≡◌, ◌≢◌, ℕ, suc, ◌+◌, ◌-◌, ◌%◌, ◌<◌, ◌≤◌, ◌⊎◌, true, if◌then◌else◌, ◌==◌, nat_lt, List, [], ◌∷◌, ◌++◌, length, map, Option, Some, None, slice_index_or, slice_set}
 use Rattle.trace_model.specs.Words.{slot_len, encoded_len}
-use Rattle.trace_model.specs.History.{Action, push, push_close, open_fill, reserve, leave, Reservation, reserved_for, reserved_records, finished_at}
+use Rattle.trace_model.specs.History.{Action, push, push_close, open_fill, reserve, leave, Reservation, reservation_for, reserved_records, records_with_payload}
 use Rattle.trace_model.specs.Packing.{FitsBehind}
 use Rattle.trace_model.specs.Links.{Link, normal_link, header_link, update_link}
 use Rattle.trace_model.specs.Frames.{Kind, for_record, for_close, Role, owner, helper, Phase, reserving, looking, claiming, looking_next, marking, clearing, opening, reserved, releasing, Frame, Refusal, too_deep, too_long, late_moment, crowded, worn, no_frame, not_reserved}
-use Rattle.trace_model.specs.Ring.{Held, Taken, ReaderPhase, loading_link, loading_done, storing_link, swapping, Core, link_into, relinked, page_at}
+use Rattle.trace_model.specs.declared.limits.TheConstants.{MAX_FRAMES, MOMENT_LIMIT, LINK_FILLS}
+use Rattle.trace_model.specs.Ring.{Held, empty_page, Taken, Reader, ReaderPhase, loading_link, loading_done, storing_link, swapping, Core, link_into, links_with, page_at}
 
 -- A frame is pushed, for a record or for a close; the frame on top makes one step, or is ended with its
 -- payload, which takes the slot that the record has; the reader makes one step, which begins a take where
@@ -47,36 +48,59 @@ with_action c action = record c { history = c.history ++ action ∷ [] }
 abbrev pub in_phase : Core → Frame → List Frame → Phase → Core
 in_phase c frame below phase = record c { frames = record { kind = frame.kind; phase = phase } ∷ below }
 
--- the link into the place of a fill is set
+-- the link into the position of a fill is set
 abbrev pub with_link : ℕ → Core → ℕ → Link → Core
-with_link n c f l = record c { links = relinked n c.links f l }
+with_link n c f l = record c { links = links_with n c.links f l }
 
 -- a page holds these records from now on
 abbrev pub with_held : Core → ℕ → Held → Core
 with_held c page h = record c { held = slice_set c.held page h }
 
-abbrev pub held_by : Core → ℕ → Held
-held_by c page = slice_index_or c.held page record { first = 0; records = [] }
+-- what a page holds
+abbrev pub contents_of : Core → ℕ → Held
+contents_of c page = slice_index_or c.held page empty_page
 
 -- the tail page
 abbrev pub tail_page : ℕ → Core → ℕ
 tail_page n c = page_at n c.order (c.opened - 1)
 
+-- what the tail page holds
+abbrev pub tail_contents : ℕ → Core → Held
+tail_contents n c = contents_of c (tail_page n c)
+
+-- the reservation of a record of this moment, for a payload of len bytes, where it is made now
+abbrev pub new_reservation : Core → (moment len : ℕ) → Reservation
+new_reservation c moment len = reservation_for moment len (reserved_records c.history)
+
+-- the state in which a record is reserved: it stands last in the tail page
+abbrev pub with_reservation : ℕ → Core → Reservation → Core
+with_reservation n c r =
+    with_action (with_held c (tail_page n c) record {
+      first = (tail_contents n c).first;
+      records = (tail_contents n c).records ++ r ∷ [];
+    }) reserve
+
 -- The frame leaves: one with a frame below it is popped, and so is the last one where no fill is left to
 -- close; else that one stays, to close them.
-abbrev pub frames_left : Core → Frame → List Frame → List Frame
-frames_left c frame [] = if (c.done + 1) == c.opened then [] else record { kind = frame.kind; phase = releasing } ∷ []
-frames_left c frame (next ∷ below) = next ∷ below
+abbrev pub frames_after_leave : Core → Frame → List Frame → List Frame
+frames_after_leave c frame [] =
+    if (c.done + 1) == c.opened then [] else record { kind = frame.kind; phase = releasing } ∷ []
+frames_after_leave c frame (next ∷ below) = next ∷ below
 
 abbrev pub leave_answer : Core → List Frame → Answer
 leave_answer c [] = if (c.done + 1) == c.opened then gone else going
 leave_answer c (next ∷ below) = gone
 
 -- what a page holds, with the payload of the record of this number
-abbrev pub finished_in : Option ℕ → Option (List ℕ) → Held → Held
-finished_in None payload h = h
-finished_in (Some number) payload h =
-    record { first = h.first; records = if nat_lt number h.first then h.records else finished_at (Some (number - h.first)) payload h.records }
+abbrev pub held_with_payload : Option ℕ → Option (List ℕ) → Held → Held
+held_with_payload None payload h = h
+held_with_payload (Some number) payload h = record {
+  first = h.first;
+  records =
+      if nat_lt number h.first
+      then h.records
+      else records_with_payload (Some (number - h.first)) payload h.records;
+}
 
 -- the number of the frame's record, once it has reserved
 abbrev pub number_in : Phase → Option ℕ
@@ -91,23 +115,27 @@ number_in (reserved number) = Some number
 number_in releasing = None
 
 -- the number of the record that a frame leaves behind
-abbrev pub record_of : Kind → Phase → Option ℕ
-record_of (for_record moment len) phase = number_in phase
-record_of for_close phase = None
+abbrev pub own_number : Kind → Phase → Option ℕ
+own_number (for_record moment len) phase = number_in phase
+own_number for_close phase = None
 
+-- the state in which the frame has left
 abbrev pub after_leave : Core → Frame → List Frame → Option (List ℕ) → Core
-after_leave c frame below payload =
-    record c { frames = frames_left c frame below; history = c.history ++ leave payload ∷ []; held = map (finished_in (record_of frame.kind frame.phase) payload) c.held }
+after_leave c frame below payload = record c {
+  frames = frames_after_leave c frame below;
+  history = c.history ++ leave payload ∷ [];
+  held = map (held_with_payload (own_number frame.kind frame.phase) payload) c.held;
+}
 
 -- A page was begun by this frame or by another: a record frame tries again, a close frame has what it
 -- wanted and leaves.
-abbrev pub begun_on : Kind → Core → Frame → List Frame → Core
-begun_on (for_record moment len) c frame below = in_phase c frame below reserving
-begun_on for_close c frame below = after_leave c frame below None
+abbrev pub after_begin : Kind → Core → Frame → List Frame → Core
+after_begin (for_record moment len) c frame below = in_phase c frame below reserving
+after_begin for_close c frame below = after_leave c frame below None
 
-abbrev pub begun_answer : Kind → Core → List Frame → Answer
-begun_answer (for_record moment len) c below = going
-begun_answer for_close c below = leave_answer c below
+abbrev pub begin_answer : Kind → Core → List Frame → Answer
+begin_answer (for_record moment len) c below = going
+begin_answer for_close c below = leave_answer c below
 
 -- after the look at the next link: only the owner clears
 abbrev pub after_next : Role → ℕ → ℕ → Phase
@@ -122,94 +150,214 @@ GoesOn helper noted opened = noted ≡ opened
 -- the frame needs a page: its record doesn't fit in the tail page, or it closes one that holds a record
 abbrev pub NeedsPage : ℕ → ℕ → Core → Kind → Type 0
 NeedsPage n size c (for_record moment len) =
-    FitsBehind size (held_by c (tail_page n c)).records (reserved_for moment len (reserved_records c.history)) → ⊥
-NeedsPage n size c for_close = (held_by c (tail_page n c)).records ≢ []
+    FitsBehind size (tail_contents n c).records (new_reservation c moment len) → ⊥
+NeedsPage n size c for_close = (tail_contents n c).records ≢ []
 
 -- ---- the steps of a frame, phase by phase
 
 -- Private: the record is reserved in the tail page; or there is nothing to close; or a page is needed,
 -- and refused or noted.
-pub data ReserveStep (n size : ℕ) (c : Core) (frame : Frame) (below : List Frame) (answer : Answer) (after : Core) : Type 0 where
-  reserves : (moment len : ℕ) (r : Reservation) → frame.kind ≡ for_record moment len
-      → r ≡ reserved_for moment len (reserved_records c.history)
-      → FitsBehind size (held_by c (tail_page n c)).records r
+pub data ReserveStep (n size : ℕ) (c : Core) (frame : Frame) (below : List Frame) (answer : Answer) (after : Core)
+    : Type 0 where
+  reserves : (moment len : ℕ) (r : Reservation)
+      → frame.kind ≡ for_record moment len
+      → r ≡ new_reservation c moment len
+      → FitsBehind size (tail_contents n c).records r
       → answer ≡ reserved_as (length (reserved_records c.history))
-      → after
-      ≡ in_phase (with_action (with_held c (tail_page n c) record { first = (held_by c (tail_page n c)).first; records = (held_by c (tail_page n c)).records ++ r ∷ [] }) reserve) frame below (reserved (length (reserved_records c.history)))
+      → after ≡ in_phase (with_reservation n c r) frame below (reserved (length (reserved_records c.history)))
       → ReserveStep n size c frame below answer after
-  finds_nothing : frame.kind ≡ for_close → (held_by c (tail_page n c)).records ≡ [] → answer ≡ leave_answer c below → after ≡ after_leave c frame below None → ReserveStep n size c frame below answer after
-  is_crowded : NeedsPage n size c frame.kind → c.opened ≡ c.done + n → answer ≡ refused crowded → after ≡ after_leave c frame below None → ReserveStep n size c frame below answer after
-  is_worn : NeedsPage n size c frame.kind → c.opened ≢ c.done + n → 2 ^ 48 ≤ c.opened + n → answer ≡ refused worn → after ≡ after_leave c frame below None → ReserveStep n size c frame below answer after
-  notes : NeedsPage n size c frame.kind → c.opened ≢ c.done + n → c.opened + n < 2 ^ 48 → answer ≡ going → after ≡ in_phase c frame below (looking c.opened) → ReserveStep n size c frame below answer after
+  finds_nothing :
+      frame.kind ≡ for_close
+      → (tail_contents n c).records ≡ []
+      → answer ≡ leave_answer c below
+      → after ≡ after_leave c frame below None
+      → ReserveStep n size c frame below answer after
+  is_crowded :
+      NeedsPage n size c frame.kind
+      → c.opened ≡ c.done + n
+      → answer ≡ refused crowded
+      → after ≡ after_leave c frame below None
+      → ReserveStep n size c frame below answer after
+  is_worn :
+      NeedsPage n size c frame.kind
+      → c.opened ≢ c.done + n
+      → LINK_FILLS ≤ c.opened + n
+      → answer ≡ refused worn
+      → after ≡ after_leave c frame below None
+      → ReserveStep n size c frame below answer after
+  notes :
+      NeedsPage n size c frame.kind
+      → c.opened ≢ c.done + n
+      → c.opened + n < LINK_FILLS
+      → answer ≡ going
+      → after ≡ in_phase c frame below (looking c.opened)
+      → ReserveStep n size c frame below answer after
 
 -- Another frame has begun a fill since this one noted what to open.
-pub record BeginsAnew (c : Core) (frame : Frame) (below : List Frame) (noted : ℕ) (answer : Answer) (after : Core) : Type 0 where
+pub record BeginsAnew (c : Core) (frame : Frame) (below : List Frame) (noted : ℕ) (answer : Answer) (after : Core)
+    : Type 0 where
   pub passed : noted ≢ c.opened
-  pub answer_is : answer ≡ begun_answer frame.kind c below
-  pub after_is : after ≡ begun_on frame.kind c frame below
+  pub answer_is : answer ≡ begin_answer frame.kind c below
+  pub after_is : after ≡ after_begin frame.kind c frame below
 
--- A load of the link into the place of the fill to open: the place is free, or its page is the head, or a
--- frame below is moving the head.
-pub data LookStep (n : ℕ) (c : Core) (frame : Frame) (below : List Frame) (noted : ℕ) (answer : Answer) (after : Core) : Type 0 where
-  look_late : BeginsAnew c frame below noted answer after → LookStep n c frame below noted answer after
-  sees_free : (page : ℕ) → noted ≡ c.opened → link_into n c.links noted ≡ normal_link page noted → answer ≡ going → after ≡ in_phase c frame below (opening noted page) → LookStep n c frame below noted answer after
-  sees_header : (page lost : ℕ) → noted ≡ c.opened → lost + n ≡ noted → link_into n c.links noted ≡ header_link page lost → answer ≡ going → after ≡ in_phase c frame below (claiming noted page) → LookStep n c frame below noted answer after
-  sees_update : (page lost : ℕ) → noted ≡ c.opened → lost + n ≡ noted → link_into n c.links noted ≡ update_link page lost → answer ≡ going → after ≡ in_phase c frame below (looking_next helper noted page)
+-- A load of the link into the position of the fill to open: the position is free, or its page is the head, or
+-- a frame below is moving the head.
+pub data LookStep (n : ℕ) (c : Core) (frame : Frame) (below : List Frame)
+    (noted : ℕ) (answer : Answer) (after : Core)
+    : Type 0 where
+  look_late :
+      BeginsAnew c frame below noted answer after
       → LookStep n c frame below noted answer after
+  sees_free : (page : ℕ)
+      → noted ≡ c.opened
+      → link_into n c.links noted ≡ normal_link page noted
+      → answer ≡ going
+      → after ≡ in_phase c frame below (opening noted page)
+      → LookStep n c frame below noted answer after
+  sees_header : (page lost : ℕ)
+      → noted ≡ c.opened
+      → lost + n ≡ noted
+      → link_into n c.links noted ≡ header_link page lost
+      → answer ≡ going
+      → after ≡ in_phase c frame below (claiming noted page)
+      → LookStep n c frame below noted answer after
+  sees_update : (page lost : ℕ)
+      → noted ≡ c.opened
+      → lost + n ≡ noted
+      → link_into n c.links noted ≡ update_link page lost
+      → answer ≡ going
+      → after ≡ in_phase c frame below (looking_next helper noted page)
+      → LookStep n c frame below noted answer after
+
+-- the head, which lies on this page as this fill, is lost: its HEADER is an UPDATE
+abbrev pub with_head_claimed : ℕ → Core → (noted page lost : ℕ) → Core
+with_head_claimed n c noted page lost = record (with_link n c noted (update_link page lost)) { head = c.head + 1 }
 
 -- A compare and exchange of that link from HEADER to UPDATE: done, the head is lost and the frame owns the
 -- UPDATE.
-pub data ClaimStep (n : ℕ) (c : Core) (frame : Frame) (below : List Frame) (noted page : ℕ) (answer : Answer) (after : Core) : Type 0 where
-  claim_late : BeginsAnew c frame below noted answer after → ClaimStep n c frame below noted page answer after
-  claims : (lost : ℕ) → noted ≡ c.opened → lost + n ≡ noted → link_into n c.links noted ≡ header_link page lost → answer ≡ going
-      → after ≡ in_phase (record (with_link n c noted (update_link page lost)) { head = c.head + 1 }) frame below (looking_next owner noted page)
+pub data ClaimStep (n : ℕ) (c : Core) (frame : Frame) (below : List Frame)
+    (noted page : ℕ) (answer : Answer) (after : Core)
+    : Type 0 where
+  claim_late :
+      BeginsAnew c frame below noted answer after
       → ClaimStep n c frame below noted page answer after
-  claim_fails : noted ≡ c.opened → ((lost : ℕ) → lost + n ≡ noted → link_into n c.links noted ≢ header_link page lost) → answer ≡ going → after ≡ in_phase c frame below (looking noted) → ClaimStep n c frame below noted page answer after
+  claims : (lost : ℕ)
+      → noted ≡ c.opened
+      → lost + n ≡ noted
+      → link_into n c.links noted ≡ header_link page lost
+      → answer ≡ going
+      → after ≡ in_phase (with_head_claimed n c noted page lost) frame below (looking_next owner noted page)
+      → ClaimStep n c frame below noted page answer after
+  claim_fails :
+      noted ≡ c.opened
+      → ((lost : ℕ) → lost + n ≡ noted → link_into n c.links noted ≢ header_link page lost)
+      → answer ≡ going
+      → after ≡ in_phase c frame below (looking noted)
+      → ClaimStep n c frame below noted page answer after
 
 -- A load of the next link, that of the page which is passed: does it still wait for the HEADER?
-pub data NextStep (n : ℕ) (c : Core) (frame : Frame) (below : List Frame) (role : Role) (noted page : ℕ) (answer : Answer) (after : Core) : Type 0 where
-  next_late : role ≡ helper → BeginsAnew c frame below noted answer after → NextStep n c frame below role noted page answer after
-  sees_normal : (lost next : ℕ) → GoesOn role noted c.opened → lost + n ≡ noted → link_into n c.links (suc lost) ≡ normal_link next (suc lost) → answer ≡ going → after ≡ in_phase c frame below (marking role noted page next)
+pub data NextStep (n : ℕ) (c : Core) (frame : Frame) (below : List Frame)
+    (role : Role) (noted page : ℕ) (answer : Answer) (after : Core)
+    : Type 0 where
+  next_late :
+      role ≡ helper
+      → BeginsAnew c frame below noted answer after
       → NextStep n c frame below role noted page answer after
-  sees_other : (lost : ℕ) → GoesOn role noted c.opened → lost + n ≡ noted → ((next : ℕ) → link_into n c.links (suc lost) ≢ normal_link next (suc lost)) → answer ≡ going → after ≡ in_phase c frame below (after_next role noted page)
+  sees_normal : (lost next : ℕ)
+      → GoesOn role noted c.opened
+      → lost + n ≡ noted
+      → link_into n c.links (suc lost) ≡ normal_link next (suc lost)
+      → answer ≡ going
+      → after ≡ in_phase c frame below (marking role noted page next)
+      → NextStep n c frame below role noted page answer after
+  sees_other : (lost : ℕ)
+      → GoesOn role noted c.opened
+      → lost + n ≡ noted
+      → ((next : ℕ) → link_into n c.links (suc lost) ≢ normal_link next (suc lost))
+      → answer ≡ going
+      → after ≡ in_phase c frame below (after_next role noted page)
       → NextStep n c frame below role noted page answer after
 
 -- A compare and exchange of the next link from NORMAL to HEADER, done or not.
-pub data MarkStep (n : ℕ) (c : Core) (frame : Frame) (below : List Frame) (role : Role) (noted page next : ℕ) (answer : Answer) (after : Core) : Type 0 where
-  mark_late : role ≡ helper → BeginsAnew c frame below noted answer after → MarkStep n c frame below role noted page next answer after
-  marks : (lost : ℕ) → GoesOn role noted c.opened → lost + n ≡ noted → link_into n c.links (suc lost) ≡ normal_link next (suc lost) → answer ≡ going
-      → after ≡ in_phase (with_link n c (suc lost) (header_link next (suc lost))) frame below (after_next role noted page)
+pub data MarkStep (n : ℕ) (c : Core) (frame : Frame) (below : List Frame)
+    (role : Role) (noted page next : ℕ) (answer : Answer) (after : Core)
+    : Type 0 where
+  mark_late :
+      role ≡ helper
+      → BeginsAnew c frame below noted answer after
       → MarkStep n c frame below role noted page next answer after
-  mark_fails : (lost : ℕ) → GoesOn role noted c.opened → lost + n ≡ noted → link_into n c.links (suc lost) ≢ normal_link next (suc lost) → answer ≡ going → after ≡ in_phase c frame below (after_next role noted page)
+  marks : (lost : ℕ)
+      → GoesOn role noted c.opened
+      → lost + n ≡ noted
+      → link_into n c.links (suc lost) ≡ normal_link next (suc lost)
+      → answer ≡ going
+      → after
+      ≡ in_phase (with_link n c (suc lost) (header_link next (suc lost))) frame below (after_next role noted page)
+      → MarkStep n c frame below role noted page next answer after
+  mark_fails : (lost : ℕ)
+      → GoesOn role noted c.opened
+      → lost + n ≡ noted
+      → link_into n c.links (suc lost) ≢ normal_link next (suc lost)
+      → answer ≡ going
+      → after ≡ in_phase c frame below (after_next role noted page)
       → MarkStep n c frame below role noted page next answer after
 
 -- A compare and exchange of the link from UPDATE to NORMAL by the frame that owns it.
-pub data ClearStep (n : ℕ) (c : Core) (frame : Frame) (below : List Frame) (noted page : ℕ) (answer : Answer) (after : Core) : Type 0 where
-  clears : (lost : ℕ) → lost + n ≡ noted → link_into n c.links noted ≡ update_link page lost → answer ≡ going → after ≡ in_phase (with_link n c noted (normal_link page noted)) frame below (opening noted page)
+pub data ClearStep (n : ℕ) (c : Core) (frame : Frame) (below : List Frame)
+    (noted page : ℕ) (answer : Answer) (after : Core)
+    : Type 0 where
+  clears : (lost : ℕ)
+      → lost + n ≡ noted
+      → link_into n c.links noted ≡ update_link page lost
+      → answer ≡ going
+      → after ≡ in_phase (with_link n c noted (normal_link page noted)) frame below (opening noted page)
       → ClearStep n c frame below noted page answer after
 
 -- The state in which the fill is begun: its page is empty, and its first record will be the next one that
 -- is reserved.
-abbrev pub begun : Core → ℕ → Core
-begun c page = record (with_action (with_held c page record { first = length (reserved_records c.history); records = [] }) open_fill) { opened = c.opened + 1 }
+abbrev pub with_new_tail : Core → ℕ → Core
+with_new_tail c page =
+    let empty : Held = record { first = length (reserved_records c.history); records = [] } in
+    record (with_action (with_held c page empty) open_fill) { opened = c.opened + 1 }
 
 -- A store of the number of begun fills.
-pub data OpenStep (n : ℕ) (c : Core) (frame : Frame) (below : List Frame) (noted page : ℕ) (answer : Answer) (after : Core) : Type 0 where
-  open_late : BeginsAnew c frame below noted answer after → OpenStep n c frame below noted page answer after
-  opens : noted ≡ c.opened → answer ≡ begun_answer frame.kind (begun c page) below → after ≡ begun_on frame.kind (begun c page) frame below → OpenStep n c frame below noted page answer after
+pub data OpenStep (n : ℕ) (c : Core) (frame : Frame) (below : List Frame)
+    (noted page : ℕ) (answer : Answer) (after : Core)
+    : Type 0 where
+  open_late :
+      BeginsAnew c frame below noted answer after
+      → OpenStep n c frame below noted page answer after
+  opens :
+      noted ≡ c.opened
+      → answer ≡ begin_answer frame.kind (with_new_tail c page) below
+      → after ≡ after_begin frame.kind (with_new_tail c page) frame below
+      → OpenStep n c frame below noted page answer after
 
 -- A store of the number of closed fills; with the last one that is left to close, the frame is gone.
-pub data ReleaseStep (c : Core) (frame : Frame) (below : List Frame) (answer : Answer) (after : Core) : Type 0 where
-  releases : below ≡ [] → c.done + 2 < c.opened → answer ≡ going → after ≡ record c { done = c.done + 1 } → ReleaseStep c frame below answer after
-  releases_last : below ≡ [] → c.done + 2 ≡ c.opened → answer ≡ gone → after ≡ record c { done = c.done + 1; frames = [] } → ReleaseStep c frame below answer after
+pub data ReleaseStep (c : Core) (frame : Frame) (below : List Frame) (answer : Answer) (after : Core)
+    : Type 0 where
+  releases :
+      below ≡ []
+      → c.done + 2 < c.opened
+      → answer ≡ going
+      → after ≡ record c { done = c.done + 1 }
+      → ReleaseStep c frame below answer after
+  releases_last :
+      below ≡ []
+      → c.done + 2 ≡ c.opened
+      → answer ≡ gone
+      → after ≡ record c { done = c.done + 1; frames = [] }
+      → ReleaseStep c frame below answer after
 
 -- the step of the frame on top, in its phase
 abbrev pub FrameStep : ℕ → ℕ → Core → Frame → List Frame → Phase → Answer → Core → Type 0
 FrameStep n size c frame below reserving answer after = ReserveStep n size c frame below answer after
 FrameStep n size c frame below (looking noted) answer after = LookStep n c frame below noted answer after
 FrameStep n size c frame below (claiming noted page) answer after = ClaimStep n c frame below noted page answer after
-FrameStep n size c frame below (looking_next role noted page) answer after = NextStep n c frame below role noted page answer after
-FrameStep n size c frame below (marking role noted page next) answer after = MarkStep n c frame below role noted page next answer after
+FrameStep n size c frame below (looking_next role noted page) answer after =
+    NextStep n c frame below role noted page answer after
+FrameStep n size c frame below (marking role noted page next) answer after =
+    MarkStep n c frame below role noted page next answer after
 FrameStep n size c frame below (clearing noted page) answer after = ClearStep n c frame below noted page answer after
 FrameStep n size c frame below (opening noted page) answer after = OpenStep n c frame below noted page answer after
 FrameStep n size c frame below (reserved number) answer after = (answer ≡ reserved_as number) × (after ≡ c)
@@ -217,48 +365,102 @@ FrameStep n size c frame below releasing answer after = ReleaseStep c frame belo
 
 -- ---- the steps of the reader, phase by phase
 
+-- the reader goes on in this phase, with this hint
 abbrev pub reader_at : Core → ReaderPhase → ℕ → Core
-reader_at c phase hint = record c { reader = record { phase = phase; hint = hint; expected = c.reader.expected; taken = c.reader.taken } }
+reader_at c phase hint = record c { reader = record c.reader { phase = phase; hint = hint } }
 
--- A load of the link into the place of the hint.
+-- A load of the link into the position of the hint.
 pub data LoadStep (n : ℕ) (c : Core) (answer : Answer) (after : Core) : Type 0 where
-  loads_header : (page fill : ℕ) → link_into n c.links c.reader.hint ≡ header_link page fill → answer ≡ reading → after ≡ reader_at c (loading_done page fill) fill → LoadStep n c answer after
-  loads_update : (page lost : ℕ) → link_into n c.links c.reader.hint ≡ update_link page lost → answer ≡ moving (suc lost) → after ≡ reader_at c loading_link (suc lost) → LoadStep n c answer after
-  loads_owed : (page : ℕ) → link_into n c.links c.reader.hint ≡ normal_link page c.reader.hint → answer ≡ moving c.reader.hint → after ≡ reader_at c loading_link c.reader.hint → LoadStep n c answer after
-  loads_passed : (page fill least : ℕ) → link_into n c.links c.reader.hint ≡ normal_link page fill → c.reader.hint < fill → least + n ≡ suc fill → answer ≡ reading → after ≡ reader_at c loading_link least → LoadStep n c answer after
+  loads_header : (page fill : ℕ)
+      → link_into n c.links c.reader.hint ≡ header_link page fill
+      → answer ≡ reading
+      → after ≡ reader_at c (loading_done page fill) fill
+      → LoadStep n c answer after
+  loads_update : (page lost : ℕ)
+      → link_into n c.links c.reader.hint ≡ update_link page lost
+      → answer ≡ moving (suc lost)
+      → after ≡ reader_at c loading_link (suc lost)
+      → LoadStep n c answer after
+  loads_owed : (page : ℕ)
+      → link_into n c.links c.reader.hint ≡ normal_link page c.reader.hint
+      → answer ≡ moving c.reader.hint
+      → after ≡ reader_at c loading_link c.reader.hint
+      → LoadStep n c answer after
+  loads_passed : (page fill least : ℕ)
+      → link_into n c.links c.reader.hint ≡ normal_link page fill
+      → c.reader.hint < fill
+      → least + n ≡ suc fill
+      → answer ≡ reading
+      → after ≡ reader_at c loading_link least
+      → LoadStep n c answer after
 
 -- A load of the number of closed fills.
 pub data LoadDoneStep (c : Core) (page fill : ℕ) (answer : Answer) (after : Core) : Type 0 where
-  finds_none : c.done ≤ fill → answer ≡ empty c.done → after ≡ reader_at c loading_link c.reader.hint → LoadDoneStep c page fill answer after
-  finds_closed : fill < c.done → answer ≡ reading → after ≡ reader_at c (storing_link page fill) c.reader.hint → LoadDoneStep c page fill answer after
+  finds_none :
+      c.done ≤ fill
+      → answer ≡ empty c.done
+      → after ≡ reader_at c loading_link c.reader.hint
+      → LoadDoneStep c page fill answer after
+  finds_closed :
+      fill < c.done
+      → answer ≡ reading
+      → after ≡ reader_at c (storing_link page fill) c.reader.hint
+      → LoadDoneStep c page fill answer after
 
--- A store of the spare's link: it will lead to the fill behind the one that is taken.
+-- the spare's link as it is stored before a swap: it will lead to the fill behind the one that is taken
+abbrev pub next_header : ℕ → Core → ℕ → Link
+next_header n c fill = header_link (page_at n c.order (suc fill)) (suc fill)
+
+-- A store of the spare's link.
 pub record StoreStep (n : ℕ) (c : Core) (page fill : ℕ) (answer : Answer) (after : Core) : Type 0 where
   pub answer_is : answer ≡ reading
-  pub after_is : after ≡ record (reader_at c (swapping page fill) c.reader.hint) { spare_link = header_link (page_at n c.order (suc fill)) (suc fill) }
+  pub after_is : after
+      ≡ record (reader_at c (swapping page fill) c.reader.hint) { spare_link = next_header n c fill }
 
 -- what the reader takes with the page of a fill
-abbrev pub taken_from : Core → ℕ → ℕ → Taken
-taken_from c page fill = record { fill = fill; skipped = (held_by c page).first - c.reader.expected; held = held_by c page }
+abbrev pub taken_fill : Core → ℕ → ℕ → Taken
+taken_fill c page fill = record {
+  fill = fill;
+  skipped = (contents_of c page).first - c.reader.expected;
+  held = contents_of c page;
+}
 
--- The state in which the head was taken: the spare stands at its place, empty, and leads on; the page that
+-- the reader behind a take of this fill
+abbrev pub reader_after : Core → ℕ → ℕ → Reader
+reader_after c page fill = record {
+  phase = loading_link;
+  hint = suc fill;
+  expected = (contents_of c page).first + length (contents_of c page).records;
+  taken = c.reader.taken ++ taken_fill c page fill ∷ [];
+}
+
+-- The state in which the head was taken: the spare stands at its position, empty, and leads on; the page that
 -- was the head is the spare.
 abbrev pub after_swap : ℕ → Core → ℕ → ℕ → Core
 after_swap n c page fill = record c {
-  links = relinked n (relinked n c.links fill (normal_link c.spare (fill + n))) (suc fill) c.spare_link;
+  links = links_with n (links_with n c.links fill (normal_link c.spare (fill + n))) (suc fill) c.spare_link;
   order = slice_set c.order (fill % n) c.spare;
   spare = page;
   spare_link = link_into n c.links (suc fill);
   head = c.head + 1;
-  reader = record { phase = loading_link; hint = suc fill; expected = (held_by c page).first + length (held_by c page).records; taken = c.reader.taken ++ taken_from c page fill ∷ [] };
-  held = slice_set (slice_set c.held c.spare record { first = 0; records = [] }) page record { first = 0; records = [] };
+  reader = reader_after c page fill;
+  held = slice_set (slice_set c.held c.spare empty_page) page empty_page;
 }
 
 -- A compare and exchange of the link to the head from HEADER to NORMAL: the swap, done or not.
 pub data SwapStep (n : ℕ) (c : Core) (page fill : ℕ) (answer : Answer) (after : Core) : Type 0 where
-  swaps : link_into n c.links fill ≡ header_link page fill → answer ≡ swapped (taken_from c page fill) → after ≡ after_swap n c page fill → SwapStep n c page fill answer after
-  swap_fails : link_into n c.links fill ≢ header_link page fill → answer ≡ reading → after ≡ reader_at c loading_link (suc fill) → SwapStep n c page fill answer after
+  swaps :
+      link_into n c.links fill ≡ header_link page fill
+      → answer ≡ swapped (taken_fill c page fill)
+      → after ≡ after_swap n c page fill
+      → SwapStep n c page fill answer after
+  swap_fails :
+      link_into n c.links fill ≢ header_link page fill
+      → answer ≡ reading
+      → after ≡ reader_at c loading_link (suc fill)
+      → SwapStep n c page fill answer after
 
+-- the step of the reader, in its phase
 abbrev pub ReadStep : ℕ → Core → ReaderPhase → Answer → Core → Type 0
 ReadStep n c loading_link answer after = LoadStep n c answer after
 ReadStep n c (loading_done page fill) answer after = LoadDoneStep c page fill answer after
@@ -271,32 +473,99 @@ ReadStep n c (swapping page fill) answer after = SwapStep n c page fill answer a
 abbrev pub IsTooLong : ℕ → ℕ → Type 0
 IsTooLong size len = (size < len) ⊎ (size < encoded_len len 0 true)
 
+-- one frame more may stand
+abbrev pub HasRoom : Core → Type 0
+HasRoom c = length c.frames < MAX_FRAMES
+
 -- why a record frame isn't pushed, the first of these that holds
 pub data PushRefused (size : ℕ) (c : Core) (moment len : ℕ) : Refusal → Type 0 where
-  four_stand : 4 ≤ length c.frames → PushRefused size c moment len too_deep
-  has_no_room : length c.frames < 4 → IsTooLong size len → PushRefused size c moment len too_long
-  comes_late : length c.frames < 4 → (IsTooLong size len → ⊥) → 2 ^ 59 ≤ moment → PushRefused size c moment len late_moment
+  all_stand :
+      MAX_FRAMES ≤ length c.frames
+      → PushRefused size c moment len too_deep
+  has_no_room :
+      HasRoom c
+      → IsTooLong size len
+      → PushRefused size c moment len too_long
+  comes_late :
+      HasRoom c
+      → (IsTooLong size len → ⊥)
+      → MOMENT_LIMIT ≤ moment
+      → PushRefused size c moment len late_moment
 
-abbrev pub ended_answer : List Frame → Answer
-ended_answer [] = full
-ended_answer (next ∷ below) = pending
+-- a frame of this kind is pushed
+abbrev pub with_frame : Core → Kind → Core
+with_frame c kind = record c { frames = record { kind = kind; phase = reserving } ∷ c.frames }
 
--- One step of a ring of n places and pages of this size: the event, its answer, and the state after it.
+-- the answer to the end of a record above these frames
+abbrev pub end_answer : List Frame → Answer
+end_answer [] = full
+end_answer (next ∷ below) = pending
+
+-- One step of a ring of n positions and pages of this size: the event, its answer, and the state after it.
 pub data Step (n size : ℕ) (c : Core) (event : Event) (answer : Answer) (after : Core) : Type 0 where
-  push_step : (moment len : ℕ) → event ≡ pushes moment len → length c.frames < 4 → (IsTooLong size len → ⊥) → moment < 2 ^ 59 → answer ≡ pushed
-      → after ≡ with_action (record c { frames = record { kind = for_record moment len; phase = reserving } ∷ c.frames }) (push moment len)
+  push_step : (moment len : ℕ)
+      → event ≡ pushes moment len
+      → HasRoom c
+      → (IsTooLong size len → ⊥)
+      → moment < MOMENT_LIMIT
+      → answer ≡ pushed
+      → after ≡ with_action (with_frame c (for_record moment len)) (push moment len)
       → Step n size c event answer after
-  push_refused : (moment len : ℕ) (why : Refusal) → event ≡ pushes moment len → PushRefused size c moment len why → answer ≡ refused why → after ≡ c → Step n size c event answer after
-  close_step : event ≡ pushes_close → length c.frames < 4 → answer ≡ pushed → after ≡ with_action (record c { frames = record { kind = for_close; phase = reserving } ∷ c.frames }) push_close → Step n size c event answer after
-  close_refused : event ≡ pushes_close → 4 ≤ length c.frames → answer ≡ refused too_deep → after ≡ c → Step n size c event answer after
-  frame_step : (frame : Frame) (below : List Frame) → event ≡ steps → c.frames ≡ frame ∷ below → FrameStep n size c frame below frame.phase answer after → Step n size c event answer after
-  frame_lacks : event ≡ steps → c.frames ≡ [] → answer ≡ refused no_frame → after ≡ c → Step n size c event answer after
-  end_step : (payload : List ℕ) (frame : Frame) (below : List Frame) (number moment len : ℕ) → event ≡ ends payload → c.frames ≡ frame ∷ below → frame.phase ≡ reserved number → frame.kind ≡ for_record moment len
-      → slot_len (length payload) ≡ slot_len len → answer ≡ ended_answer below → after ≡ after_leave c frame below (Some payload)
+  push_refused : (moment len : ℕ) (why : Refusal)
+      → event ≡ pushes moment len
+      → PushRefused size c moment len why
+      → answer ≡ refused why
+      → after ≡ c
       → Step n size c event answer after
-  end_lacks : (payload : List ℕ) → event ≡ ends payload → c.frames ≡ [] → answer ≡ refused no_frame → after ≡ c → Step n size c event answer after
-  end_early : (payload : List ℕ) (frame : Frame) (below : List Frame) → event ≡ ends payload → c.frames ≡ frame ∷ below → number_in frame.phase ≡ None → answer ≡ refused not_reserved → after ≡ c → Step n size c event answer after
-  read_step : event ≡ reads → ReadStep n c c.reader.phase answer after → Step n size c event answer after
+  close_step :
+      event ≡ pushes_close
+      → HasRoom c
+      → answer ≡ pushed
+      → after ≡ with_action (with_frame c for_close) push_close
+      → Step n size c event answer after
+  close_refused :
+      event ≡ pushes_close
+      → MAX_FRAMES ≤ length c.frames
+      → answer ≡ refused too_deep
+      → after ≡ c
+      → Step n size c event answer after
+  frame_step : (frame : Frame) (below : List Frame)
+      → event ≡ steps
+      → c.frames ≡ frame ∷ below
+      → FrameStep n size c frame below frame.phase answer after
+      → Step n size c event answer after
+  frame_lacks :
+      event ≡ steps
+      → c.frames ≡ []
+      → answer ≡ refused no_frame
+      → after ≡ c
+      → Step n size c event answer after
+  end_step : (payload : List ℕ) (frame : Frame) (below : List Frame) (number moment len : ℕ)
+      → event ≡ ends payload
+      → c.frames ≡ frame ∷ below
+      → frame.phase ≡ reserved number
+      → frame.kind ≡ for_record moment len
+      → slot_len (length payload) ≡ slot_len len
+      → answer ≡ end_answer below
+      → after ≡ after_leave c frame below (Some payload)
+      → Step n size c event answer after
+  end_lacks : (payload : List ℕ)
+      → event ≡ ends payload
+      → c.frames ≡ []
+      → answer ≡ refused no_frame
+      → after ≡ c
+      → Step n size c event answer after
+  end_early : (payload : List ℕ) (frame : Frame) (below : List Frame)
+      → event ≡ ends payload
+      → c.frames ≡ frame ∷ below
+      → number_in frame.phase ≡ None
+      → answer ≡ refused not_reserved
+      → after ≡ c
+      → Step n size c event answer after
+  read_step :
+      event ≡ reads
+      → ReadStep n c c.reader.phase answer after
+      → Step n size c event answer after
 
 -- what was asked of the ring, and what it answered
 pub record Exchange : Type 0 where
@@ -306,4 +575,5 @@ pub record Exchange : Type 0 where
 -- The exchanges are steps, one after the other, and lead from one state to another.
 abbrev pub Run : ℕ → ℕ → Core → List Exchange → Core → Type 0
 Run n size before [] after = before ≡ after
-Run n size before (x ∷ exchanges) after = (between : Core) × Step n size before x.event x.answer between × Run n size between exchanges after
+Run n size before (x ∷ exchanges) after =
+    (between : Core) × Step n size before x.event x.answer between × Run n size between exchanges after

@@ -7,6 +7,6 @@ pub data IsSublist {A : Type 0} : List A → List A → Type 0 where
   kept : (x : A) {xs ys : List A} → IsSublist xs ys → IsSublist (x ∷ xs) (x ∷ ys)
   skipped : (y : A) {xs ys : List A} → IsSublist xs ys → IsSublist xs (y ∷ ys)
 
--- the first list is a front of the second
-abbrev pub IsFront : {A : Type 0} → List A → List A → Type 0
-IsFront {A} front whole = (rest : List A) × (whole ≡ front ++ rest)
+-- the second list begins with the first
+abbrev pub IsPrefix : {A : Type 0} → List A → List A → Type 0
+IsPrefix {A} front whole = (rest : List A) × (whole ≡ front ++ rest)

@@ -1,4 +1,4 @@
--- The window of a ring of n places: how many fills are taken or lost, closed, and begun, and what may
+-- The window of a ring of n positions: how many fills are taken or lost, closed, and begun, and what may
 -- happen to these counts. After kernel/trace/ring_buffer.c (rb_move_tail, rb_handle_head_page,
 -- rb_get_reader_page) and docs/FORMATS.md, "The ring".
 use Rattle.std.specs.Prelude.{◌≡◌, ℕ, ◌+◌, ◌<◌, ◌≤◌, List, [], ◌∷◌, ◌++◌, IsTrue}
@@ -29,8 +29,8 @@ window_after w released_one = record { head = w.head; done = w.done + 1; opened 
 window_after w took_one = record { head = w.head + 1; done = w.done; opened = w.opened }
 window_after w lost_one = record { head = w.head + 1; done = w.done; opened = w.opened }
 
--- When each may happen, behind this history: a fill is begun where a place is free; one is closed where
--- it isn't the tail and each push has its leave; the head is taken where it is closed, and lost only
+-- When each may happen, behind this history: a fill is begun where a position is free; one is closed
+-- where it isn't the tail and each push has its leave; the head is taken where it is closed, and lost only
 -- where it is closed and the ring is full.
 abbrev pub MayHappen : ℕ → List Action → Window → Happening → Type 0
 MayHappen n history w opened_one = w.opened < w.head + n
@@ -38,7 +38,8 @@ MayHappen n history w released_one = (w.done + 1 < w.opened) × IsTrue (is_settl
 MayHappen n history w took_one = w.head < w.done
 MayHappen n history w lost_one = (w.head < w.done) × (w.opened ≡ w.head + n)
 
-pub record WindowStep (n : ℕ) (history : List Action) (before : Window) (happening : Happening) (after : Window) : Type 0 where
+pub record WindowStep (n : ℕ) (history : List Action) (before : Window) (happening : Happening) (after : Window)
+    : Type 0 where
   pub may : MayHappen n history before happening
   pub after_is : after ≡ window_after before happening
 
@@ -57,7 +58,8 @@ actions_of (happens h ∷ deeds) = actions_of deeds
 abbrev pub WindowRunFrom : ℕ → List Action → Window → List Deed → Window → Type 0
 WindowRunFrom n history before [] after = before ≡ after
 WindowRunFrom n history before (acts a ∷ deeds) after = WindowRunFrom n (history ++ a ∷ []) before deeds after
-WindowRunFrom n history before (happens h ∷ deeds) after = MayHappen n history before h × WindowRunFrom n history (window_after before h) deeds after
+WindowRunFrom n history before (happens h ∷ deeds) after =
+    MayHappen n history before h × WindowRunFrom n history (window_after before h) deeds after
 
 -- the deeds of a ring from its start lead to this window
 abbrev pub WindowRun : ℕ → ℕ → List Deed → Window → Type 0

@@ -15,12 +15,6 @@ pub const MAX_SIZE: usize = 4080;
 /// The longest page image that is read, in bytes.
 pub const MAX_IMAGE: usize = 4096;
 
-/// The most CPUs; a CPU's number is below this.
-pub const MAX_CPUS: u32 = 64;
-
-/// The most collectors of a script.
-pub const MAX_COLLECTORS: usize = 16;
-
 /// The most frames that stand on the writer's stack of one ring at a time.
 pub const MAX_FRAMES: usize = 4;
 
@@ -32,6 +26,9 @@ pub const MOMENT_LIMIT: u64 = 576_460_752_303_423_488;
 
 /// The number of a ring's first fill.
 pub const START_FILL: u64 = 0;
+
+/// How many pages a link can name, 2^14: a page's number is below this.
+pub const LINK_PAGES: u64 = 16_384;
 
 /// How many fills a link can name, 2^48: their numbers are below this. A fill is opened only where the
 /// one `pages` after it can be named too, so no fill is opened behind `LINK_FILLS - 1 - pages`.

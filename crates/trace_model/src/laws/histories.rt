@@ -1,14 +1,14 @@
 //! Laws over histories of frames.
 ghost use Rattle.std.specs.Prelude.{List, All};
-ghost use Rattle.trace_model.specs.History.{Action, IsHistory, IsWritten, committed_records, reserved_records, settled_front};
+ghost use Rattle.trace_model.specs.History.{Action, IsHistory, IsWritten, committed_records, reserved_records, settled_prefix};
 ghost use Rattle.trace_model.specs.Record.{IsRecord};
-ghost use Rattle.trace_model.specs.Sublist.{IsFront};
+ghost use Rattle.trace_model.specs.Sublist.{IsPrefix};
 
 /// The committed records are the first of the reserved ones, so that a record has one number from its
-/// reservation on: its place among the committed is its place among the reserved.
-pub fn committed_is_a_front()
+/// reservation on: its index among the committed is its index among the reserved.
+pub fn committed_is_a_prefix()
     ensures { (history : List Action)
-        → IsFront (reserved_records (settled_front history)) (reserved_records history) }
+        → IsPrefix (reserved_records (settled_prefix history)) (reserved_records history) }
 {}
 
 /// Each committed record of a history fills whole words.
@@ -20,5 +20,5 @@ pub fn committed_records_are_records()
 /// as many bytes as its slot has.
 pub fn committed_records_are_written()
     ensures { (history : List Action) → IsHistory history
-        → All IsWritten (reserved_records (settled_front history)) }
+        → All IsWritten (reserved_records (settled_prefix history)) }
 {}

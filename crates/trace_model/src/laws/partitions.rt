@@ -8,17 +8,17 @@ ghost use Rattle.trace_model.specs.Collection.{Agree, Has, Misses};
 /// Each piece of a partition has a first number, which is how many records of the whole list stand in front
 /// of the piece's own; from that number on these are the records of the whole list.
 pub fn pieces_have_first_numbers()
-    ensures some { (records : List Record) (pieces : List Piece) (rest : List Record) (place : ℕ) (piece : Piece) →
-        IsPartition records pieces rest → slice_get pieces place ≡ Some piece →
-        (first : ℕ) × (first_of pieces place ≡ Some first) }
+    ensures some { (records : List Record) (pieces : List Piece) (rest : List Record) (index : ℕ) (piece : Piece) →
+        IsPartition records pieces rest → slice_get pieces index ≡ Some piece →
+        (first : ℕ) × (first_of pieces index ≡ Some first) }
     ensures counted { (records : List Record) (pieces : List Piece) (rest : List Record)
-        (place first : ℕ) (piece : Piece) →
-        IsPartition records pieces rest → slice_get pieces place ≡ Some piece →
-        ((first_of pieces place ≡ Some first) ↔ IsNumberedFrom records pieces rest place piece first) }
+        (index first : ℕ) (piece : Piece) →
+        IsPartition records pieces rest → slice_get pieces index ≡ Some piece →
+        ((first_of pieces index ≡ Some first) ↔ IsNumberedFrom records pieces rest index piece first) }
     ensures own_records { (records : List Record) (pieces : List Piece) (rest : List Record)
-        (place first i : ℕ) (piece : Piece) (r : Record) →
-        IsPartition records pieces rest → slice_get pieces place ≡ Some piece →
-        first_of pieces place ≡ Some first →
+        (index first i : ℕ) (piece : Piece) (r : Record) →
+        IsPartition records pieces rest → slice_get pieces index ≡ Some piece →
+        first_of pieces index ≡ Some first →
         slice_get piece.records i ≡ Some r → slice_get records (first + i) ≡ Some r }
 {}
 

@@ -3,11 +3,11 @@ use Rattle.trace_model.proofs.laws.partitions.pieces_have_first_numbers.Goals as
 
 pub returns : goal.returns
 returns c = record {
-  some = λ records pieces rest place piece parts at. let (first, is) = numbered_from records pieces rest place piece parts at in
-      (first, first_is_count records pieces rest place piece first at is);
-  counted = λ records pieces rest place first piece parts at. (
-    count_is_first records pieces rest place piece first parts at,
-    first_is_count records pieces rest place piece first at,
+  some = λ records pieces rest index piece partition at. let (first, is) = numbered_from records pieces rest index piece partition at in
+      (first, first_is_count records pieces rest index piece first at is);
+  counted = λ records pieces rest index first piece partition at. (
+    count_is_first records pieces rest index piece first partition at,
+    first_is_count records pieces rest index piece first at,
   );
-  own_records = λ records pieces rest place first i piece r. own_records records pieces rest place piece first i r;
+  own_records = λ records pieces rest index first i piece r. own_records records pieces rest index piece first i r;
 }

@@ -1,0 +1,209 @@
+-- The function that computes a step gives one from every state that a run reaches.
+use Rattle.std.proofs.Common.{◌≡◌, ℕ, suc, ◌+◌, ◌-◌, ◌%◌, ◌^◌, ◌<◌, ◌≤◌, Bool, true, false, if◌then◌else◌, ◌==◌, nat_lt, nat_le, List, [], ◌∷◌, length, get_or, Option, Some, None, refl, sym, ap, ◌∙◌, subst, mod-lt, mod-eq_of_lt, arith}
+use Rattle.std.proofs.lemmas.Bool.{ltb-false, leb-false, eqb-true, eqb-false}
+use mathlib.Core.Logic.{dite}
+use native.Mathlib.Decide.{ℕ_discrete}
+use Rattle.trace_model.specs.Words.{slot_len}
+use Rattle.trace_model.specs.History.{Reservation}
+use Rattle.trace_model.specs.Links.{Mark, normal, header, update, Link, normal_link, header_link, update_link}
+use Rattle.trace_model.specs.Frames.{Kind, for_record, for_close, Role, owner, helper, Phase, reserving, looking, claiming, looking_next, marking, clearing, opening, reserved, releasing, Frame}
+use Rattle.trace_model.specs.Ring.{ReaderPhase, loading_link, loading_done, storing_link, swapping, Core, link_into}
+use Rattle.trace_model.specs.Steps.{Event, pushes, pushes_close, steps, ends, reads, Answer, contents_of, tail_page, Step}
+use Rattle.link_marks.specs.KeptLinks.{PhaseKept, LinksKept}
+use Rattle.link_marks.specs.RingLaws.{MayAsk, EachEventIsAStep}
+use Rattle.link_marks.proofs.Positions.{at_position, link_turn}
+use Rattle.link_marks.proofs.LinkFills.{normal_tells, header_tells, update_tells, owned_by}
+use Rattle.link_marks.proofs.FrameChanges.{top_kept}
+use Rattle.link_marks.proofs.RingsKept.{ring_start, reached_kept}
+use Rattle.link_marks.proofs.StepFunction.{Outcome, same_link, needs_page, record_len, close_of, reserve_of, look_at, look_of, claim_of, next_at, next_of, mark_at, mark_of, clear_of, open_of, release_of, frame_of, load_at, read_of, too_long_for, push_of, close_push_of, steps_of, full_end, end_in, end_of, step_of}
+use Rattle.link_marks.proofs.StepFunctionSound.{Sound, step_sound, link_is, same_link_false}
+use Rattle.link_marks.proofs.StepsReady.{IsForRecord, PhaseReady, StackReady, Ready, start_ready, run_ready}
+
+abbrev pub Given : Option Outcome → Type 0
+Given None = ⊥
+Given (Some o) = Unit {0}
+
+given_if : (b : Bool) (x y : Option Outcome) → (b ≡ true → Given x) → (b ≡ false → Given y) → Given (if b then x else y)
+given_if true x y holds fails = holds refl
+given_if false x y holds fails = fails refl
+
+-- ---- the steps of a frame
+
+module _ (n size : ℕ) (c : Core) (frame : Frame) (below : List Frame) (k : LinksKept n c) (r : Ready n c) (top : c.frames ≡ frame ∷ below) where
+  needs_page_given : Given (needs_page n c frame below)
+  needs_page_given = given_if (c.opened == (c.done + n)) _ _ (λ e. tt) (λ e. given_if (nat_lt (c.opened + n) (2 ^ 48)) _ _ (λ s. tt) (λ s. tt))
+
+  close_given : (records : List Reservation) → Given (close_of n c frame below records)
+  close_given [] = tt
+  close_given (res ∷ records) = needs_page_given
+
+  reserve_given : (kind : Kind) → Given (reserve_of n size c frame below kind)
+  reserve_given (for_record moment len) = given_if (nat_le (record_len n c moment len) size) _ _ (λ e. tt) (λ e. needs_page_given)
+  reserve_given for_close = close_given (contents_of c (tail_page n c)).records
+
+  -- the position of the next fill is free; or the ring is full, and its position the head's
+  full : (noted : ℕ) → noted ≡ c.opened → (noted < c.head + n → ⊥) → noted ≡ c.head + n
+  full noted now out = let within = k.opened_le in dite (ℕ_discrete noted (c.head + n)) (λ e. e) (λ ne. absurd (out (omega arith)))
+
+  look_at_given : (noted : ℕ) (mark : Mark) → noted ≡ c.opened → (link_into n c.links noted).mark ≡ mark → Given (look_at n c frame below noted (link_into n c.links noted) mark)
+  look_at_given noted normal now is = let l = link_into n c.links noted in given_if (l.fill == noted) _ _ (λ e. tt) (λ e. eqb-false l.fill noted e (fill_is (link_is l normal l.page l.fill is refl refl)))
+    where
+      fill_is : link_into n c.links noted ≡ normal_link (link_into n c.links noted).page (link_into n c.links noted).fill → (link_into n c.links noted).fill ≡ noted
+      fill_is at = let some_pages = k.some_pages in let unread = k.head_le in let behind = k.done_lt in let within = k.opened_le in let l = link_into n c.links noted in
+          dite (ℕ_discrete noted (c.head + n))
+          (λ e. let here = sym (link_turn n c.links c.head) ∙ ap (link_into n c.links) (sym e) ∙ at in
+          let told = normal_tells n c.links c.order c.head c.frames c.head l.page l.fill (k.each c.head (omega arith) (omega arith)) here in
+          let more = r.room l.page (here ∙ ap (normal_link l.page) told.0) in absurd (omega arith))
+          (λ ne. (normal_tells n c.links c.order c.head c.frames noted l.page l.fill (k.each noted (omega arith) (omega arith)) at).0)
+  look_at_given noted header now is = let l = link_into n c.links noted in given_if ((l.fill + n) == noted) _ _ (λ e. tt) (λ e. eqb-false (l.fill + n) noted e (fill_is (link_is l header l.page l.fill is refl refl)))
+    where
+      fill_is : link_into n c.links noted ≡ header_link (link_into n c.links noted).page (link_into n c.links noted).fill → (link_into n c.links noted).fill + n ≡ noted
+      fill_is at = let some_pages = k.some_pages in let unread = k.head_le in let behind = k.done_lt in let within = k.opened_le in let l = link_into n c.links noted in
+          dite (ℕ_discrete noted (c.head + n))
+          (λ e. let here = sym (link_turn n c.links c.head) ∙ ap (link_into n c.links) (sym e) ∙ at in
+          let told = header_tells n c.links c.order c.head c.frames c.head l.page l.fill (k.each c.head (omega arith) (omega arith)) here in let it = told.0 in omega arith)
+          (λ ne. let told = header_tells n c.links c.order c.head c.frames noted l.page l.fill (k.each noted (omega arith) (omega arith)) at in let it = told.1 in absurd (omega arith))
+  look_at_given noted update now is = let l = link_into n c.links noted in given_if ((l.fill + n) == noted) _ _ (λ e. tt) (λ e. eqb-false (l.fill + n) noted e (fill_is (link_is l update l.page l.fill is refl refl)))
+    where
+      fill_is : link_into n c.links noted ≡ update_link (link_into n c.links noted).page (link_into n c.links noted).fill → (link_into n c.links noted).fill + n ≡ noted
+      fill_is at = let some_pages = k.some_pages in let unread = k.head_le in let behind = k.done_lt in let within = k.opened_le in let l = link_into n c.links noted in
+          dite (ℕ_discrete noted (c.head + n))
+          (λ e. let here = sym (link_turn n c.links c.head) ∙ ap (link_into n c.links) (sym e) ∙ at in
+          let told = update_tells n c.links c.order c.head c.frames c.head l.page l.fill (k.each c.head (omega arith) (omega arith)) here in
+          let (u, sum, low, open_yet, there) = owned_by n c k c.head told.2 in absurd (omega arith))
+          (λ ne. (update_tells n c.links c.order c.head c.frames noted l.page l.fill (k.each noted (omega arith) (omega arith)) at).0)
+
+  look_given : (noted : ℕ) → Given (look_of n c frame below noted)
+  look_given noted = given_if (noted == c.opened) _ _ (λ e. look_at_given noted (link_into n c.links noted).mark (eqb-true noted c.opened e) refl) (λ e. tt)
+
+  claim_given : (noted page : ℕ) → Given (claim_of n c frame below noted page)
+  claim_given noted page = given_if (noted == c.opened) _ _
+      (λ e. given_if (nat_le n noted) _ _ (λ turn. given_if (same_link (link_into n c.links noted) (header_link page (noted - n))) _ _ (λ at. tt) (λ at. tt)) (λ first. tt))
+      (λ e. tt)
+
+  next_at_given : (role : Role) (noted page : ℕ) (l : Link) → n ≤ noted → Given (next_at n c frame below role noted page l)
+  next_at_given role noted page l turn = given_if (nat_le n noted) _ _
+      (λ e. given_if (same_link l (normal_link l.page (suc (noted - n)))) _ _ (λ at. tt) (λ at. tt))
+      (λ e. let less = leb-false n noted e in omega arith)
+
+  next_given : (role : Role) (noted page : ℕ) → n ≤ noted → Given (next_of n c frame below role noted page)
+  next_given owner noted page turn = next_at_given owner noted page (link_into n c.links (suc (noted - n))) turn
+  next_given helper noted page turn = given_if (noted == c.opened) _ _ (λ e. next_at_given helper noted page (link_into n c.links (suc (noted - n))) turn) (λ e. tt)
+
+  mark_at_given : (role : Role) (noted page next : ℕ) → n ≤ noted → Given (mark_at n c frame below role noted page next)
+  mark_at_given role noted page next turn = given_if (nat_le n noted) _ _
+      (λ e. given_if (same_link (link_into n c.links (suc (noted - n))) (normal_link next (suc (noted - n)))) _ _ (λ at. tt) (λ at. tt))
+      (λ e. let less = leb-false n noted e in omega arith)
+
+  mark_given : (role : Role) (noted page next : ℕ) → n ≤ noted → Given (mark_of n c frame below role noted page next)
+  mark_given owner noted page next turn = mark_at_given owner noted page next turn
+  mark_given helper noted page next turn = given_if (noted == c.opened) _ _ (λ e. mark_at_given helper noted page next turn) (λ e. tt)
+
+  -- the UPDATE that the frame owns is still there
+  clear_given : (noted page : ℕ) → PhaseKept n c.links c.order c.head c.done c.opened (clearing noted page) → Given (clear_of n c frame below noted page)
+  clear_given noted page kept = let (lost, sum, low, open_yet, at) = kept.moves noted refl in let page_is = (kept.passed noted page refl).2 in
+      given_if (nat_le n noted) _ _
+      (λ e. given_if (same_link (link_into n c.links noted) (update_link page (noted - n))) _ _ (λ same. tt)
+      (λ differ. same_link_false (link_into n c.links noted) (update_link page (noted - n)) differ
+      (at ∙ ap (λ (p : ℕ). update_link p lost) (sym page_is) ∙ ap (update_link page) (let s : lost ≡ noted - n = omega arith in s))))
+      (λ e. let less = leb-false n noted e in omega arith)
+
+  open_given : (noted page : ℕ) → Given (open_of c frame below noted page)
+  open_given noted page = given_if (noted == c.opened) _ _ (λ e. tt) (λ e. tt)
+
+  release_given : (fs : List Frame) → fs ≡ [] → c.done + 1 < c.opened → Given (release_of c fs)
+  release_given [] alone more = given_if ((c.done + 2) == c.opened) _ _ (λ e. tt)
+      (λ e. given_if (nat_lt (c.done + 2) c.opened) _ _ (λ s. tt) (λ s. let less = ltb-false (c.done + 2) c.opened s in let ne = eqb-false (c.done + 2) c.opened e in ne (omega arith)))
+  release_given (next ∷ fs) alone more = let z = ap (λ (l : List Frame). length l) alone in absurd (omega arith)
+
+  frame_given : (phase : Phase) → PhaseKept n c.links c.order c.head c.done c.opened phase → PhaseReady n c.links c.head frame.kind below phase → Given (frame_of n size c frame below phase)
+  frame_given reserving kept ready = reserve_given frame.kind
+  frame_given (looking noted) kept ready = look_given noted
+  frame_given (claiming noted page) kept ready = claim_given noted page
+  frame_given (looking_next role noted page) kept ready = next_given role noted page ready
+  frame_given (marking role noted page next) kept ready = mark_given role noted page next ready
+  frame_given (clearing noted page) kept ready = clear_given noted page kept
+  frame_given (opening noted page) kept ready = open_given noted page
+  frame_given (reserved number) kept ready = tt
+  frame_given releasing kept ready = release_given below ready (kept.releases refl)
+
+-- ---- the steps of the reader
+
+module _ (n : ℕ) (c : Core) (k : LinksKept n c) where
+  load_given : (mark : Mark) → (link_into n c.links c.reader.hint).mark ≡ mark → Given (load_at n c (link_into n c.links c.reader.hint) mark)
+  load_given header is = tt
+  load_given update is = tt
+  load_given normal is = let l = link_into n c.links c.reader.hint in let (low, turn) = behind (link_is l normal l.page l.fill is refl refl) in
+      given_if (l.fill == c.reader.hint) _ _ (λ e. tt)
+      (λ e. given_if (nat_lt c.reader.hint l.fill) _ _
+      (λ more. given_if (nat_le n (suc l.fill)) _ _ (λ s. tt) (λ s. let less = leb-false n (suc l.fill) s in let ne = eqb-false l.fill c.reader.hint e in absurd (ne (turn (omega arith)))))
+      (λ s. let less = ltb-false c.reader.hint l.fill s in let ne = eqb-false l.fill c.reader.hint e in ne (omega arith)))
+    where
+      -- the fill is the hint, or a whole turn behind it
+      behind : link_into n c.links c.reader.hint ≡ normal_link (link_into n c.links c.reader.hint).page (link_into n c.links c.reader.hint).fill
+          → (c.reader.hint ≤ (link_into n c.links c.reader.hint).fill) × ((link_into n c.links c.reader.hint).fill < n → (link_into n c.links c.reader.hint).fill ≡ c.reader.hint)
+      behind at = let some_pages = k.some_pages in let hint = k.hint_le in let l = link_into n c.links c.reader.hint in
+          let (g, low, high, position) = at_position c.head n (c.reader.hint % n) (mod-lt c.reader.hint (omega arith)) in
+          let there = ap (λ (i : ℕ). get_or c.links i (normal_link 0 0)) position ∙ at in
+          let fill = (normal_tells n c.links c.order c.head c.frames g l.page l.fill (k.each g low high) there).0 in
+          (omega arith, λ first. fill ∙ sym (mod-eq_of_lt (let x : g < n = omega arith in x)) ∙ position ∙ mod-eq_of_lt (let x : c.reader.hint < n = omega arith in x))
+
+  read_given : (phase : ReaderPhase) → Given (read_of n c phase)
+  read_given loading_link = load_given (link_into n c.links c.reader.hint).mark refl
+  read_given (loading_done page fill) = given_if (nat_le c.done fill) _ _ (λ e. tt) (λ e. tt)
+  read_given (storing_link page fill) = tt
+  read_given (swapping page fill) = given_if (same_link (link_into n c.links fill) (header_link page fill)) _ _ (λ e. tt) (λ e. tt)
+
+-- ---- the whole
+
+push_given : (size : ℕ) (c : Core) (moment len : ℕ) → Given (push_of size c moment len)
+push_given size c moment len = given_if (nat_lt (length c.frames) 4) _ _
+    (λ few. given_if (too_long_for size len) _ _ (λ long. tt) (λ short. given_if (nat_lt moment (2 ^ 59)) _ _ (λ early. tt) (λ late. tt)))
+    (λ many. tt)
+
+close_push_given : (c : Core) → Given (close_push_of c)
+close_push_given c = given_if (nat_lt (length c.frames) 4) _ _ (λ few. tt) (λ many. tt)
+
+steps_given : (n size : ℕ) (c : Core) (frames : List Frame) → LinksKept n c → Ready n c → c.frames ≡ frames → Given (steps_of n size c frames)
+steps_given n size c [] k r none = tt
+steps_given n size c (frame ∷ below) k r top =
+    frame_given n size c frame below k r top frame.phase (top_kept n c frame below k top) (subst (StackReady n c.links c.head) top r.stack).0
+
+full_end_given : (c : Core) (frame : Frame) (below : List Frame) (payload : List ℕ) (kind : Kind) → IsForRecord kind → ((moment len : ℕ) → kind ≡ for_record moment len → slot_len (length payload) ≡ slot_len len) → Given (full_end c frame below payload kind)
+full_end_given c frame below payload (for_record moment len) is fits = given_if (slot_len (length payload) == slot_len len) _ _ (λ e. tt) (λ e. eqb-false (slot_len (length payload)) (slot_len len) e (fits moment len refl))
+full_end_given c frame below payload for_close is fits = absurd is
+
+end_in_given : (n : ℕ) (c : Core) (frame : Frame) (below : List Frame) (payload : List ℕ) (phase : Phase) → PhaseReady n c.links c.head frame.kind below phase → frame.phase ≡ phase
+    → ((number moment len : ℕ) → frame.phase ≡ reserved number → frame.kind ≡ for_record moment len → slot_len (length payload) ≡ slot_len len)
+    → Given (end_in c frame below payload phase)
+end_in_given n c frame below payload reserving r at fits = tt
+end_in_given n c frame below payload (looking noted) r at fits = tt
+end_in_given n c frame below payload (claiming noted page) r at fits = tt
+end_in_given n c frame below payload (looking_next role noted page) r at fits = tt
+end_in_given n c frame below payload (marking role noted page next) r at fits = tt
+end_in_given n c frame below payload (clearing noted page) r at fits = tt
+end_in_given n c frame below payload (opening noted page) r at fits = tt
+end_in_given n c frame below payload (reserved number) r at fits = full_end_given c frame below payload frame.kind r (λ moment len kind. fits number moment len at kind)
+end_in_given n c frame below payload releasing r at fits = tt
+
+end_given : (n : ℕ) (c : Core) (payload : List ℕ) (frames : List Frame) → Ready n c → c.frames ≡ frames → MayAsk c (ends payload) → Given (end_of c payload frames)
+end_given n c payload [] r none may = tt
+end_given n c payload (frame ∷ below) r top may =
+    end_in_given n c frame below payload frame.phase (subst (StackReady n c.links c.head) top r.stack).0 refl (λ number moment len at kind. may frame below number moment len top at kind)
+
+step_given : (n size : ℕ) (c : Core) (event : Event) → LinksKept n c → Ready n c → MayAsk c event → Given (step_of n size c event)
+step_given n size c (pushes moment len) k r may = push_given size c moment len
+step_given n size c pushes_close k r may = close_push_given c
+step_given n size c steps k r may = steps_given n size c c.frames k r refl
+step_given n size c (ends payload) k r may = end_given n c payload c.frames r refl may
+step_given n size c reads k r may = read_given n c k c.reader.phase
+
+is_step : (n size : ℕ) (c : Core) (event : Event) (o : Option Outcome) → Given o → Sound (Step n size c event) o → (answer : Answer) × (after : Core) × Step n size c event answer after
+is_step n size c event None given sound = absurd given
+is_step n size c event (Some o) given sound = (o.answer, o.after, sound)
+
+pub each_event_is_a_step : EachEventIsAStep
+each_event_is_a_step n size start c event r may =
+    let first = ring_start n start r.from r.may_start r.is_new in
+    let ready = run_ready n size r.from c r.exchanges first.links (start_ready n start r.from r.is_new) r.run in
+    is_step n size c event (step_of n size c event) (step_given n size c event (reached_kept n size start c r).links ready may) (step_sound n size c event)

@@ -1,0 +1,102 @@
+-- What is left of the committed records behind those that the reader took or the ring lost.
+use Rattle.std.proofs.Common.{◌≡◌, ℕ, zero, suc, ◌+◌, ◌-◌, ◌≤◌, List, [], ◌∷◌, ◌++◌, length, get_or, take, drop, map, flat_map, refl, sym, ap, ◌∙◌, subst, arith, append-nil, length-take-le, true}
+use Rattle.std.proofs.lemmas.List.{take-append-drop, map-append, drop-drop, length-map, length-drop, take_all}
+use Rattle.trace_model.specs.Record.{Record}
+use Rattle.trace_model.specs.History.{Reservation, writer_after, reserved_records, is_settled, settled_prefix, as_record, committed_records}
+use Rattle.trace_model.specs.Packing.{cut_from, opens_of}
+use Rattle.trace_model.specs.Partition.{IsPartition}
+use Rattle.trace_model.specs.Ring.{Core, first_of_fill}
+use Rattle.link_marks.specs.KeptContents.{IsRising}
+use Rattle.link_marks.specs.KeptHistory.{history_stack}
+use Rattle.link_marks.specs.KeptPartition.{pieces_of}
+use Rattle.link_marks.specs.RingKept.{IsRingKept}
+use Rattle.link_marks.specs.HistoryLaws.{records_behind, IsRest, RestIsUnread}
+use Rattle.link_marks.proofs.Committed.{committed_prefix, committed_len-settled}
+use Rattle.link_marks.proofs.PartitionSteps.{head_settled}
+use Rattle.link_marks.proofs.RingsKept.{reached_kept, taken_partition_at}
+
+-- ---- fills, joined
+
+-- all fills, joined, are the list behind the index where the first one begins
+joined_all : {A : Type 0} (from : ℕ) (cuts : List ℕ) (xs : List A) → IsRising from cuts (length xs) → flat_map (λ fill. fill) (cut_from from cuts xs) ≡ drop from xs
+joined_all from [] xs r = append-nil (drop from xs)
+joined_all {A} from (cut ∷ cuts) xs r =
+    ap (λ (l : List A). take (cut - from) (drop from xs) ++ l) (joined_all cut cuts xs r.1 ∙ ap (λ (m : ℕ). drop m xs) (let le = r.0 in let e : cut ≡ from + (cut - from) = omega arith in e) ∙ sym (drop-drop (cut - from) from xs))
+    ∙ take-append-drop (cut - from) (drop from xs)
+
+-- the fills from one on are what lies behind the index where that one begins
+joined_behind : {A : Type 0} (from : ℕ) (cuts : List ℕ) (xs : List A) (i : ℕ) → i ≤ length cuts → IsRising from cuts (length xs) → flat_map (λ fill. fill) (drop i (cut_from from cuts xs)) ≡ drop (get_or (from ∷ cuts) i 0) xs
+joined_behind from cuts xs zero low r = joined_all from cuts xs r
+joined_behind from [] xs (suc i) low r = absurd (omega arith)
+joined_behind from (cut ∷ cuts) xs (suc i) low r = joined_behind cut cuts xs i (omega arith) r.1
+
+-- ---- with no frame standing all is committed
+
+rests : (n start : ℕ) (c : Core) → IsRingKept n start c → c.frames ≡ [] → is_settled c.history ≡ true
+rests n start c r none =
+    let empty : (writer_after c.history).stack ≡ [] = r.history.stack ∙ ap history_stack none in
+    rw empty refl
+
+module _ (n start : ℕ) (c : Core) (r : IsRingKept n start c) where
+  abbrev xs : List Reservation
+  xs = reserved_records c.history
+
+  abbrev base : ℕ
+  base = length (reserved_records (settled_prefix c.history))
+
+  abbrev gone : ℕ
+  gone = first_of_fill c.history start c.head
+
+  gone_le : gone ≤ base
+  gone_le = head_settled n start c r.links r.contents r.closed r.partition
+
+  abbrev lost : List Record
+  lost = map as_record (take (gone - c.reader.expected) (drop c.reader.expected (take base xs)))
+
+  abbrev rest : List Record
+  rest = map as_record (drop gone (take base xs))
+
+  joined : lost ++ rest ≡ map as_record (drop c.reader.expected (take base xs))
+  joined =
+      let e = c.reader.expected in
+      let le = r.partition.expected_le in
+      let ys : List Reservation = drop e (take base xs) in
+      let same : drop gone (take base xs) ≡ drop (gone - e) ys = ap (λ (m : ℕ). drop m (take base xs)) (let s : gone ≡ e + (gone - e) = omega arith in s) ∙ sym (drop-drop (gone - e) e (take base xs)) in
+      sym (map-append as_record (take (gone - e) ys) (drop gone (take base xs)))
+      ∙ ap (λ (l : List Reservation). map as_record (take (gone - e) ys ++ l)) same
+      ∙ ap (map as_record) (take-append-drop (gone - e) ys)
+
+  counted : length (committed_records c.history) ≡ gone + length rest
+  counted =
+      let k = committed_prefix c.history in
+      let within = k.within in
+      let whole = ap (length {A = Record}) k.agrees in
+      let all = length-map (take base xs) as_record in
+      let front = length-take-le base xs within in
+      let left = length-map (drop gone (take base xs)) as_record in
+      let behind = length-drop gone (take base xs) in
+      let le = gone_le in
+      omega (arith, whole, all, front, left, behind, le)
+
+  all_committed : c.frames ≡ [] → take base xs ≡ xs
+  all_committed none = take_all base xs (committed_len-settled c.history (rests n start c r none))
+
+  unread : c.frames ≡ [] → rest ≡ map as_record (records_behind c.history (c.head - start))
+  unread none =
+      let begun = r.contents.begun in let le = r.links.head_le in let lt = r.links.done_lt in
+      ap (λ (l : List Reservation). map as_record (drop gone l)) (all_committed none)
+      ∙ ap (map as_record) (sym (joined_behind 0 (opens_of c.history) xs (c.head - start) (omega arith) r.contents.rising))
+
+  rest_of : (lost' rest' : List Record) × IsRest start c lost' rest'
+  rest_of = (
+    lost,
+    rest,
+    record {
+      partition = subst (IsPartition (committed_records c.history) (pieces_of c.reader.taken)) (sym joined) (taken_partition_at n start c r);
+      behind = counted;
+      at_rest = unread;
+    },
+  )
+
+pub rest_is_unread : RestIsUnread
+rest_is_unread n size start c r = rest_of n start c (reached_kept n size start c r)

@@ -1,0 +1,6 @@
+use Rattle.link_marks.proofs.AnswersRight.{crowded_right, worn_right}
+use Rattle.link_marks.proofs.RefusalsDue.{refusals_due}
+use Rattle.link_marks.proofs.laws.answers.refusals_are_right.Goals as goal
+
+pub returns : goal.returns
+returns c = record { crowded = crowded_right; worn = worn_right; due = refusals_due }

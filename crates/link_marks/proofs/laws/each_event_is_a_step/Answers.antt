@@ -1,5 +1,0 @@
-use Rattle.link_marks.proofs.ExamplesGiven.{each_event_is_a_step}
-use Rattle.link_marks.proofs.laws.each_event_is_a_step.Goals as goal
-
-pub returns : goal.returns
-returns c = record { steps = each_event_is_a_step }

@@ -1,0 +1,12 @@
+use Rattle.link_marks.proofs.ExamplesRun.{first_record_tried, nested_writer_tried, inner_reserves_first_tried, halted_head_move_tried, helpers_at_the_head_tried, late_swap_tried}
+use Rattle.link_marks.proofs.laws.examples.examples_are_runs.Goals as goal
+
+pub returns : goal.returns
+returns c = record {
+  first_record = first_record_tried;
+  nested_writer = nested_writer_tried;
+  inner_reserves_first = inner_reserves_first_tried;
+  halted_head_move = halted_head_move_tried;
+  helpers_at_the_head = helpers_at_the_head_tried;
+  late_swap = late_swap_tried;
+}

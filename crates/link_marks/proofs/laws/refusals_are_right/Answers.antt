@@ -1,6 +1,0 @@
-use Rattle.link_marks.proofs.Answered.{crowded_right, worn_right}
-use Rattle.link_marks.proofs.Refusals.{refusals_due}
-use Rattle.link_marks.proofs.laws.refusals_are_right.Goals as goal
-
-pub returns : goal.returns
-returns c = record { crowded = crowded_right; worn = worn_right; due = refusals_due }

@@ -1,0 +1,5 @@
+use Rattle.link_marks.proofs.OneNewRing.{new_ring_is_one}
+use Rattle.link_marks.proofs.laws.rings.new_ring_is_one.Goals as goal
+
+pub returns : goal.returns
+returns c = record { one = new_ring_is_one }

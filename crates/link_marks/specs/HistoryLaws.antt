@@ -1,0 +1,81 @@
+-- The laws of what a ring's frames did, and of the partition of its records, as statements: each is a clause
+-- of a function of src/laws/histories.rt.
+use Rattle.std.specs.Prelude.{◌≡◌, ◌≢◌, ℕ, ◌+◌, ◌-◌, ◌<◌, List, [], ◌++◌, length, map, take, drop, flat_map, Some, slice_get, slice_index_or}
+use Rattle.trace_model.specs.Record.{Record}
+use Rattle.trace_model.specs.History.{Action, IsHistory, Reservation, reserved_records, settled_prefix, as_record, committed_records}
+use Rattle.trace_model.specs.Packing.{fills_of, IsPacked}
+use Rattle.trace_model.specs.Partition.{IsPartition}
+use Rattle.trace_model.specs.Ring.{Taken, Core, first_of_fill, AreFillsOf}
+use Rattle.link_marks.specs.KeptPartition.{pieces_of, HaveFirsts}
+use Rattle.link_marks.specs.Reached.{IsReached}
+
+-- ---- histories
+
+-- what the frames did keeps the discipline of the stack: each action is one that the frames that stood allowed
+abbrev pub RunsAreHistories : Type 0
+RunsAreHistories = (n size start : ℕ) (c : Core) → IsReached n size start c → IsHistory c.history
+
+-- and it is packed in its pages: each fill has room in one, and a fill is begun only behind one that isn't
+-- empty, by a close frame or for a record that doesn't fit
+abbrev pub RunsArePacked : Type 0
+RunsArePacked = (n size start : ℕ) (c : Core) → IsReached n size start c → IsPacked c.history size
+
+-- in a packed history every fill but the last holds a record
+abbrev pub PackedFillsAreFull : Type 0
+PackedFillsAreFull = (history : List Action) (size k : ℕ)
+    → IsPacked history size
+    → k + 1 < length (fills_of history)
+    → slice_index_or (fills_of history) k [] ≢ []
+
+-- each of these fills holds a record
+abbrev pub HoldRecords : List Taken → Type 0
+HoldRecords taken = (k : ℕ) (t : Taken) → slice_get taken k ≡ Some t → t.held.records ≢ []
+
+-- so no page that the reader takes is empty
+abbrev pub TakenHoldRecords : Type 0
+TakenHoldRecords = (n size start : ℕ) (c : Core) → IsReached n size start c → HoldRecords c.reader.taken
+
+-- ---- the partition
+
+-- how many records of a history are committed
+abbrev pub committed_count : List Action → ℕ
+committed_count history = length (reserved_records (settled_prefix history))
+
+-- whatever the frames did, the committed records are the first ones that were reserved, as they are by now
+abbrev pub CommittedIsPrefix : Type 0
+CommittedIsPrefix = (history : List Action)
+    → map as_record (take (committed_count history) (reserved_records history)) ≡ committed_records history
+
+-- the fills that the reader took are, with the records that were lost between, the committed records up to a
+-- rest; and each has as its first number the count of all records in front of it
+abbrev pub TakenPartitionCommitted : Type 0
+TakenPartitionCommitted = (n size start : ℕ) (c : Core)
+    → IsReached n size start c
+    → ((rest : List Record) × IsPartition (committed_records c.history) (pieces_of c.reader.taken) rest)
+    × HaveFirsts c.reader.taken
+
+-- and each of these is a fill of what the frames did, whole and under that fill's number, which rise
+abbrev pub TakenAreFills : Type 0
+TakenAreFills = (n size start : ℕ) (c : Core)
+    → IsReached n size start c
+    → AreFillsOf start c.history c.reader.taken
+
+-- ---- the rest
+
+-- the records of the fills of a history but the first ones, joined
+abbrev pub records_behind : List Action → ℕ → List Reservation
+records_behind history fills = flat_map (λ fill. fill) (drop fills (fills_of history))
+
+-- Behind the pieces that the reader took stand the records of the fills that were lost since. Then comes the
+-- rest: what lies behind the last fill that was taken or lost, from the head's first number on. With no frame
+-- standing that is all of the fills from the head on, the unread ones and the tail.
+pub record IsRest (start : ℕ) (c : Core) (lost rest : List Record) : Type 0 where
+  pub partition : IsPartition (committed_records c.history) (pieces_of c.reader.taken) (lost ++ rest)
+  pub behind : length (committed_records c.history) ≡ first_of_fill c.history start c.head + length rest
+  pub at_rest : c.frames ≡ [] → rest ≡ map as_record (records_behind c.history (c.head - start))
+
+-- there is such a rest
+abbrev pub RestIsUnread : Type 0
+RestIsUnread = (n size start : ℕ) (c : Core)
+    → IsReached n size start c
+    → (lost rest : List Record) × IsRest start c lost rest

@@ -1,0 +1,123 @@
+-- The laws of a ring's window, as statements: each is a clause of a function of src/laws/windows.rt.
+use Rattle.std.specs.Prelude.{◌≡◌, ℕ, ◌+◌, ◌<◌, ◌≤◌, ◌⊎◌, List, [], ◌∷◌, ◌++◌, IsTrue, Contains}
+use Rattle.trace_model.specs.History.{is_settled, open_fill}
+use Rattle.trace_model.specs.Window.{Window, Deed, WindowRun, Happening, WindowStep, opened_one, released_one, took_one, lost_one}
+use Rattle.trace_model.specs.Ring.{Taken, Core, window_of}
+use Rattle.trace_model.specs.Steps.{Event, Answer, swapped, Step, Exchange, Run}
+use Rattle.trace_model.specs.Sublist.{IsPrefix}
+use Rattle.link_marks.specs.Reached.{IsReached}
+use Rattle.link_marks.specs.RingKept.{IsRingKept}
+use Rattle.link_marks.specs.ToldRuns.{fills_taken, fills_lost, IsToldBy}
+
+-- ---- steps
+
+-- A happening as the state shows it. Where a fill is begun, the history has one more open; where one is taken,
+-- it is the head, and the last page that the reader took; and else a happening changes neither.
+abbrev pub IsShown : Core → Core → Happening → Type 0
+IsShown c after opened_one = IsPrefix (c.history ++ open_fill ∷ []) after.history × (after.reader ≡ c.reader)
+IsShown c after released_one = (after.history ≡ c.history) × (after.reader ≡ c.reader)
+IsShown c after took_one =
+    (after.history ≡ c.history)
+    × (t : Taken)
+    × (t.fill ≡ c.head)
+    × (after.reader.taken ≡ c.reader.taken ++ t ∷ [])
+IsShown c after lost_one = (after.history ≡ c.history) × (after.reader ≡ c.reader)
+
+-- The happening takes the window of one state to that of another, where it may, and is shown there.
+pub record Happened (n : ℕ) (c : Core) (what : Happening) (after : Core) : Type 0 where
+  pub step : WindowStep n c.history (window_of c) what (window_of after)
+  pub shown : IsShown c after what
+
+-- the window and what was taken are as they were
+abbrev pub WindowStays : Core → Core → Type 0
+WindowStays c after = (window_of after ≡ window_of c) × (after.reader.taken ≡ c.reader.taken)
+
+-- every step leaves the window and what was taken as they were, or is one step of the window: a fill is begun
+-- where a position is free; or the oldest begun one is closed, where each push has its leave; or the head is
+-- taken, closed; or the head is lost, closed and in a full ring
+abbrev pub StepsMoveWindow : Type 0
+StepsMoveWindow = (n size start : ℕ) (c : Core) (event : Event) (answer : Answer) (after : Core)
+    → IsRingKept n start c
+    → Step n size c event answer after
+    → WindowStays c after ⊎ ((what : Happening) × Happened n c what after)
+
+-- and what happens is one: what is taken doesn't pass as lost, nor what is lost as taken
+abbrev pub OneHappening : Type 0
+OneHappening = (n : ℕ) (c after : Core) (what other : Happening)
+    → Happened n c what after
+    → Happened n c other after
+    → what ≡ other
+
+-- where the window stays, nothing happens
+abbrev pub NothingHappens : Type 0
+NothingHappens = (n : ℕ) (c after : Core) (what : Happening)
+    → window_of after ≡ window_of c
+    → Happened n c what after
+    → ⊥
+
+-- the head is taken, as the answer says
+abbrev pub HeadIsTaken : Core → Answer → Core → Type 0
+HeadIsTaken c answer after = (t : Taken) × (answer ≡ swapped t) × (t.fill ≡ c.head) × (after.head ≡ c.head + 1)
+
+-- the head is lost, in a full ring, and the reader knows nothing of it
+abbrev pub HeadIsLost : ℕ → Core → Core → Type 0
+HeadIsLost n c after = (c.opened ≡ c.head + n) × (after.head ≡ c.head + 1) × (after.reader ≡ c.reader)
+
+-- the head stays, is taken, or is lost in a full ring
+abbrev pub LossesNeedAFullRing : Type 0
+LossesNeedAFullRing = (n size start : ℕ) (c : Core) (event : Event) (answer : Answer) (after : Core)
+    → IsRingKept n start c
+    → Step n size c event answer after
+    → (after.head ≡ c.head) ⊎ (HeadIsTaken c answer after ⊎ HeadIsLost n c after)
+
+-- no fill is closed; or the oldest one is, where each push has its leave
+abbrev pub ClosesNeedNoFrame : Type 0
+ClosesNeedNoFrame = (n size start : ℕ) (c : Core) (event : Event) (answer : Answer) (after : Core)
+    → IsRingKept n start c
+    → Step n size c event answer after
+    → (after.done ≡ c.done) ⊎ (IsTrue (is_settled c.history) × (after.done ≡ c.done + 1))
+
+-- ---- runs
+
+-- every run of steps from a new ring is a run of its window: deeds, each allowed where it stands, tell what
+-- the frames did, where the window is now, and which fills the reader took
+abbrev pub RunsMoveWindow : Type 0
+RunsMoveWindow = (n size start : ℕ) (c : Core)
+    → IsReached n size start c
+    → (deeds : List Deed) × IsToldBy n start c deeds
+
+-- over a run the counts only rise: so what was once passed, closed or begun stays so
+abbrev pub CountsRise : Type 0
+CountsRise = (n size start : ℕ) (c after : Core) (exchanges : List Exchange)
+    → IsRingKept n start c
+    → Run n size c exchanges after
+    → (c.head ≤ after.head) × (c.done ≤ after.done) × (c.opened ≤ after.opened)
+
+-- each fill from the start to the head was taken or lost
+abbrev pub PassedAreTakenOrLost : Type 0
+PassedAreTakenOrLost = (n start : ℕ) (deeds : List Deed) (w : Window) (f : ℕ)
+    → WindowRun n start deeds w
+    → start ≤ f
+    → f < w.head
+    → Contains (fills_taken start deeds) f ⊎ Contains (fills_lost start deeds) f
+
+-- no fill is both taken and lost
+abbrev pub NoneIsTakenAndLost : Type 0
+NoneIsTakenAndLost = (start : ℕ) (deeds : List Deed) (f : ℕ)
+    → Contains (fills_taken start deeds) f
+    → Contains (fills_lost start deeds) f
+    → ⊥
+
+-- a fill that was taken had been closed
+abbrev pub TakenAreClosed : Type 0
+TakenAreClosed = (n start : ℕ) (deeds : List Deed) (w : Window) (f : ℕ)
+    → WindowRun n start deeds w
+    → Contains (fills_taken start deeds) f
+    → (start ≤ f) × (f < w.head) × (f < w.done)
+
+-- so had one that was lost; and a whole round of fills is begun behind it
+abbrev pub LostAreClosed : Type 0
+LostAreClosed = (n start : ℕ) (deeds : List Deed) (w : Window) (f : ℕ)
+    → WindowRun n start deeds w
+    → Contains (fills_lost start deeds) f
+    → (start ≤ f) × (f < w.head) × (f < w.done) × (f + n ≤ w.opened)

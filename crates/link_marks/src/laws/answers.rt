@@ -1,0 +1,18 @@
+//! Laws of a ring's answers: when a frame is refused, and what the reader is told.
+ghost use Rattle.link_marks.specs.AnswerLaws.{CrowdedIsRight, EmptyIsRight, MovingIsRight, RefusalsAreDue, SwappedIsRight, WornIsRight};
+
+/// A frame is refused for want of a page only where none is released, and for want of a fill's number only
+/// where the tail is the last fill that has one; and there a frame that needs a page is refused.
+pub fn refusals_are_right()
+    ensures crowded { CrowdedIsRight }
+    ensures worn { WornIsRight }
+    ensures due { RefusalsAreDue }
+{}
+
+/// The reader finds nothing only where nothing closed is unread; it is sent away only by a move of the head
+/// whose UPDATE stands; and it takes just the head, closed, and holds it as taken.
+pub fn reader_answers_are_right()
+    ensures none { EmptyIsRight }
+    ensures moves { MovingIsRight }
+    ensures takes { SwappedIsRight }
+{}

@@ -1,0 +1,23 @@
+//! Worked examples of a ring, and steps that are wrong.
+ghost use Rattle.link_marks.specs.Examples.{FirstRecord, HaltedHeadMove, HelpersAtTheHead, InnerReservesFirst, LateSwap, NestedWriter};
+ghost use Rattle.link_marks.specs.WrongSteps.{HelperClearsTheUpdate, InnerEndPublishes, LosesWhileAPositionIsFree, SwapIgnoresTheFill, TakesTheTail, TwoHeads};
+
+/// The worked examples are runs of steps from the new ring.
+pub fn examples_are_runs()
+    ensures first_record { FirstRecord }
+    ensures nested_writer { NestedWriter }
+    ensures inner_reserves_first { InnerReservesFirst }
+    ensures halted_head_move { HaltedHeadMove }
+    ensures helpers_at_the_head { HelpersAtTheHead }
+    ensures late_swap { LateSwap }
+{}
+
+/// Wrong steps make no rings, so none of them is a step.
+pub fn wrong_steps_are_refused()
+    ensures loses_while_a_position_is_free { LosesWhileAPositionIsFree }
+    ensures takes_the_tail { TakesTheTail }
+    ensures helper_clears_the_update { HelperClearsTheUpdate }
+    ensures two_heads { TwoHeads }
+    ensures swap_ignores_the_fill { SwapIgnoresTheFill }
+    ensures inner_end_publishes { InnerEndPublishes }
+{}

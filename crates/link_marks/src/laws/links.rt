@@ -1,0 +1,24 @@
+//! Laws of a ring's links: each stands once, one is the HEADER, and an UPDATE has an owner.
+ghost use Rattle.link_marks.specs.LinkLaws.{HeadersAreOwed, HeadersAreSetOnce, LinksStandOnce, OneHeader, OwnersClear, StepsRaiseLinks, UpdatesAreClaimed};
+
+/// Each step leaves a link or makes it a later one: so a link value stands once at its position, and a compare
+/// and exchange that comes late fails.
+pub fn links_stand_once()
+    ensures steps { StepsRaiseLinks }
+    ensures once { LinksStandOnce }
+{}
+
+/// One position has a HEADER at most, and it tells the head; of one move of the head at most one step sets it,
+/// over the NORMAL that waited for it, where none stands or with the swap that takes the one before.
+pub fn one_header()
+    ensures alone { OneHeader }
+    ensures owed { HeadersAreOwed }
+    ensures once { HeadersAreSetOnce }
+{}
+
+/// An UPDATE is set over the head's HEADER, in a full ring, by a frame that then owns it; only the frame that
+/// owns it clears it, and before that the next HEADER was set.
+pub fn owners_clear()
+    ensures claims { UpdatesAreClaimed }
+    ensures clears { OwnersClear }
+{}

@@ -1,0 +1,19 @@
+//! The limits, each by its value.
+ghost use Rattle.std.specs.Prelude.{◌≡◌, ◌^◌};
+ghost use Rattle.trace_model.specs.declared.limits.TheConstants.{LINK_FILLS, LINK_PAGES, MAX_FRAMES, MAX_IMAGE, MAX_INPUT, MAX_PAGES, MAX_SIZE, MIN_PAGES, MIN_SIZE, MOMENT_LIMIT, START_FILL};
+
+/// The limits have these values. All contracts and definitions name them, so that a limit that is changed
+/// is refused here alone.
+pub fn constants_are()
+    ensures min_pages { MIN_PAGES ≡ 2 }
+    ensures max_pages { MAX_PAGES ≡ 1024 }
+    ensures min_size { MIN_SIZE ≡ 32 }
+    ensures max_size { MAX_SIZE ≡ 4080 }
+    ensures max_image { MAX_IMAGE ≡ 4096 }
+    ensures max_frames { MAX_FRAMES ≡ 4 }
+    ensures max_input { MAX_INPUT ≡ 268435456 }
+    ensures moment_limit { MOMENT_LIMIT ≡ 2 ^ 59 }
+    ensures start_fill { START_FILL ≡ 0 }
+    ensures link_pages { LINK_PAGES ≡ 2 ^ 14 }
+    ensures link_fills { LINK_FILLS ≡ 2 ^ 48 }
+{}
