@@ -22,15 +22,15 @@ enum Fault {
 // ---- text
 
 const BAD: u16 = 0x100;
+const DIGITS: &[u8; 16] = b"0123456789abcdef";
 
 /// The value of each hexadecimal digit, shifted, or BAD.
 const fn digit_values(shift: u32) -> [u16; 256] {
     let mut table = [BAD; 256];
     let mut i = 0;
     while i < 16 {
-        let digit = b"0123456789abcdef"[i];
-        table[digit as usize] = (i as u16) << shift;
-        table[digit.to_ascii_uppercase() as usize] = (i as u16) << shift;
+        table[DIGITS[i] as usize] = (i as u16) << shift;
+        table[DIGITS[i].to_ascii_uppercase() as usize] = (i as u16) << shift;
         i += 1;
     }
     table
@@ -39,18 +39,17 @@ const fn digit_values(shift: u32) -> [u16; 256] {
 static HIGH: [u16; 256] = digit_values(4);
 static LOW: [u16; 256] = digit_values(0);
 
-const fn digit_pairs() -> [[u8; 2]; 256] {
-    let digits = b"0123456789abcdef";
-    let mut table = [[0; 2]; 256];
+const fn decimal_pairs() -> [[u8; 2]; 100] {
+    let mut table = [[0; 2]; 100];
     let mut i = 0;
-    while i < 256 {
-        table[i] = [digits[i / 16], digits[i % 16]];
+    while i < 100 {
+        table[i] = [b'0' + i as u8 / 10, b'0' + i as u8 % 10];
         i += 1;
     }
     table
 }
 
-static PAIRS: [[u8; 2]; 256] = digit_pairs();
+static PAIRS: [[u8; 2]; 100] = decimal_pairs();
 
 /// Where the byte stands first.
 fn place_of(text: &[u8], byte: u8) -> Option<usize> {
@@ -66,21 +65,20 @@ fn place_of(text: &[u8], byte: u8) -> Option<usize> {
 
 /// A decimal number of at most 20 digits below 2^64.
 fn number_of(text: &[u8]) -> Result<u64, Fault> {
-    if text.is_empty() || text.len() > 20 {
-        return Err(Fault::BadNumber);
+    let (front, last) = text.split_at(text.len().min(19));
+    let (mut value, mut bad) = (0u64, text.is_empty() || last.len() > 1);
+    for digit in front {
+        let digit = digit.wrapping_sub(b'0');
+        bad |= digit > 9;
+        value = value.wrapping_mul(10).wrapping_add(u64::from(digit));
     }
-    let mut value = 0u64;
-    for byte in text {
-        let digit = byte.wrapping_sub(b'0');
-        if digit > 9 {
-            return Err(Fault::BadNumber);
-        }
-        value = match value.checked_mul(10).and_then(|v| v.checked_add(u64::from(digit))) {
-            Some(value) => value,
-            None => return Err(Fault::BadNumber),
-        };
+    if let [digit] = last {
+        let digit = digit.wrapping_sub(b'0');
+        let whole = value.checked_mul(10).and_then(|v| v.checked_add(u64::from(digit)));
+        bad |= digit > 9 || whole.is_none();
+        value = whole.unwrap_or(0);
     }
-    Ok(value)
+    if bad { Err(Fault::BadNumber) } else { Ok(value) }
 }
 
 /// How many bytes a payload's field stands for, if its length is right.
@@ -92,40 +90,109 @@ fn payload_len(field: &[u8]) -> Result<usize, Fault> {
     }
 }
 
+/// Sixteen bytes of hexadecimal at a time, by the instructions that every x86-64 machine of the last decade has.
+#[cfg(all(target_arch = "x86_64", target_feature = "ssse3"))]
+mod wide {
+    use std::arch::x86_64::*;
+
+    /// The values of sixteen digits, and a mask of those that are digits.
+    #[inline(always)]
+    fn values(digits: __m128i) -> (__m128i, __m128i) {
+        unsafe {
+            let decimal = _mm_sub_epi8(digits, _mm_set1_epi8(b'0' as i8));
+            let letter = _mm_sub_epi8(_mm_or_si128(digits, _mm_set1_epi8(0x20)), _mm_set1_epi8(b'a' as i8));
+            let is_decimal = _mm_cmpeq_epi8(_mm_min_epu8(decimal, _mm_set1_epi8(9)), decimal);
+            let is_letter = _mm_cmpeq_epi8(_mm_min_epu8(letter, _mm_set1_epi8(5)), letter);
+            let high = _mm_and_si128(is_letter, _mm_add_epi8(letter, _mm_set1_epi8(10)));
+            let value = _mm_or_si128(_mm_and_si128(is_decimal, decimal), high);
+            (value, _mm_or_si128(is_decimal, is_letter))
+        }
+    }
+
+    /// The bytes of 32 digits, and whether all are digits.
+    #[inline(always)]
+    pub fn decode(digits: &[u8; 32], out: &mut [u8; 16]) -> bool {
+        unsafe {
+            let (first, is) = values(_mm_loadu_si128(digits.as_ptr().cast()));
+            let (second, are) = values(_mm_loadu_si128(digits[16..].as_ptr().cast()));
+            let weights = _mm_set1_epi16(0x0110);
+            let bytes = _mm_packus_epi16(_mm_maddubs_epi16(first, weights), _mm_maddubs_epi16(second, weights));
+            _mm_storeu_si128(out.as_mut_ptr().cast(), bytes);
+            _mm_movemask_epi8(_mm_and_si128(is, are)) == 0xffff
+        }
+    }
+
+    #[inline(always)]
+    pub fn encode(bytes: &[u8; 16], out: &mut [u8; 32]) {
+        unsafe {
+            let bytes = _mm_loadu_si128(bytes.as_ptr().cast());
+            let table = _mm_loadu_si128(super::DIGITS.as_ptr().cast());
+            let low = _mm_and_si128(bytes, _mm_set1_epi8(15));
+            let high = _mm_and_si128(_mm_srli_epi16::<4>(bytes), _mm_set1_epi8(15));
+            let (high, low) = (_mm_shuffle_epi8(table, high), _mm_shuffle_epi8(table, low));
+            _mm_storeu_si128(out.as_mut_ptr().cast(), _mm_unpacklo_epi8(high, low));
+            _mm_storeu_si128(out[16..].as_mut_ptr().cast(), _mm_unpackhi_epi8(high, low));
+        }
+    }
+}
+
 /// The bytes of the digits into `out`, which has half as many.
-fn decode_hex(digits: &[u8], out: &mut [u8]) -> Result<(), Fault> {
+fn decode_hex(mut digits: &[u8], mut out: &mut [u8]) -> Result<(), Fault> {
+    let mut bad = false;
+    #[cfg(all(target_arch = "x86_64", target_feature = "ssse3"))]
+    while let (Some((chunk, more)), true) = (digits.split_first_chunk(), out.len() >= 16) {
+        let (half, rest) = out.split_first_chunk_mut().unwrap();
+        bad |= !wide::decode(chunk, half);
+        (digits, out) = (more, rest);
+    }
     let mut all = 0;
     for (pair, byte) in digits.chunks_exact(2).zip(out) {
         let value = HIGH[pair[0] as usize] | LOW[pair[1] as usize];
         all |= value;
         *byte = value as u8;
     }
-    if all >= BAD { Err(Fault::BadHex) } else { Ok(()) }
+    if bad || all >= BAD { Err(Fault::BadHex) } else { Ok(()) }
 }
 
 fn check_hex(digits: &[u8]) -> Result<(), Fault> {
-    let all = digits.iter().fold(0, |all, d| all | LOW[*d as usize]);
+    let all = digits.iter().fold(0, |all, digit| all | LOW[*digit as usize]);
     if all >= BAD { Err(Fault::BadHex) } else { Ok(()) }
 }
 
 fn put_number(out: &mut Vec<u8>, mut number: u64) {
     let mut digits = [0u8; 20];
     let mut at = 20;
-    while number >= 10 {
-        at -= 1;
-        digits[at] = b'0' + (number % 10) as u8;
-        number /= 10;
+    while number >= 100 {
+        at -= 2;
+        digits[at..at + 2].copy_from_slice(&PAIRS[(number % 100) as usize]);
+        number /= 100;
     }
-    at -= 1;
-    digits[at] = b'0' + number as u8;
+    if number >= 10 {
+        at -= 2;
+        digits[at..at + 2].copy_from_slice(&PAIRS[number as usize]);
+    } else {
+        at -= 1;
+        digits[at] = b'0' + number as u8;
+    }
     out.extend_from_slice(&digits[at..]);
 }
 
-fn put_hex(out: &mut Vec<u8>, bytes: &[u8]) {
-    let start = out.len();
-    out.resize(start + 2 * bytes.len(), 0);
-    for (pair, byte) in out[start..].chunks_exact_mut(2).zip(bytes) {
-        pair.copy_from_slice(&PAIRS[*byte as usize]);
+fn put_hex(out: &mut Vec<u8>, mut bytes: &[u8]) {
+    out.reserve(2 * bytes.len());
+    #[cfg(all(target_arch = "x86_64", target_feature = "ssse3"))]
+    while let Some((chunk, more)) = bytes.split_first_chunk() {
+        let mut text = [0; 32];
+        wide::encode(chunk, &mut text);
+        out.extend_from_slice(&text);
+        bytes = more;
+    }
+    for part in bytes.chunks(16) {
+        let mut text = [0; 32];
+        for (pair, byte) in text.chunks_exact_mut(2).zip(part) {
+            pair[0] = DIGITS[usize::from(byte >> 4)];
+            pair[1] = DIGITS[usize::from(byte & 15)];
+        }
+        out.extend_from_slice(&text[..2 * part.len()]);
     }
 }
 
