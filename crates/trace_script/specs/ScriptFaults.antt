@@ -1,9 +1,9 @@
--- What the script's reader says of a fault, in the words of trace_model.
+-- What the script's reader says of a fault, in the words of text_model.
 use Rattle.std.specs.Prelude.{◌≡◌, ℕ, ⊤, List, ◌++◌, codes, Result, Ok, Err}
 use Rattle.hex.specs.declared.error.FromHexError.{FromHexError}
 use Rattle.hex.specs.declared.error.FromHexError.TheVariants.{OutOfMemory}
 use Rattle.text_model.specs.Script as model
-use Rattle.text_model.specs.Script.{Line, FirstScriptFault, GiveSettings, header_settings, counted_lines, bad_line, bad_number, bad_hex, out_of_range, fault_text}
+use Rattle.text_model.specs.Script.{Line, FirstScriptFault, GiveSettings, header_settings, significant_lines, bad_line, bad_number, bad_hex, out_of_range, fault_text}
 use Rattle.trace_script.specs.declared.fault.LineFault.{LineFault}
 use Rattle.trace_script.specs.declared.fault.LineFault.TheVariants as line
 use Rattle.trace_script.specs.declared.fault.ScriptFault.{ScriptFault}
@@ -23,9 +23,9 @@ fault_at number line.OutOfRange = script.OutOfRange number
 fault_at number line.NoMemory = script.NoMemory
 
 -- what was read of the line of this number
-abbrev pub read_at : {X : Type 0} → ℕ → Result X LineFault → Result X ScriptFault
-read_at number (Ok x) = Ok x
-read_at number (Err fault) = Err (fault_at number fault)
+abbrev pub reading_at : {X : Type 0} → ℕ → Result X LineFault → Result X ScriptFault
+reading_at number (Ok x) = Ok x
+reading_at number (Err fault) = Err (fault_at number fault)
 
 -- the reading of a line has this fault, unless memory ran out
 abbrev pub Fails : {X : Type 0} → LineFault → Result X model.LineFault → Type 0
@@ -61,11 +61,11 @@ IsFirstFault text (script.BadHex number) = FirstScriptFault text number bad_hex
 IsFirstFault text (script.OutOfRange number) = FirstScriptFault text number out_of_range
 IsFirstFault text script.NoMemory = ⊤
 
--- the first lines of the text that say something are the header of a script
+-- the first significant lines of the text are the header of a script
 pub record HasHeader (text : List ℕ) : Type 0 where
   pub header : List Line
   pub behind : List Line
-  pub cut : counted_lines text ≡ header ++ behind
+  pub cut : significant_lines text ≡ header ++ behind
   pub values : List ℕ
   pub settings : GiveSettings header header_settings values
 
