@@ -1,6 +1,7 @@
 -- What is put at the front of a buffer.
 use Rattle.std.specs.Prelude.{◌≡◌, ℕ, ◌+◌, ◌/◌, if◌then◌else◌, nat_le, List, ◌++◌, length, drop}
 use Rattle.trace_model.specs.Words.{le32, first_word}
+use Rattle.record_words.specs.declared.format.TheConstants.{SHORT_LIMIT}
 
 -- new is old with these bytes at its front, and the same behind them
 abbrev pub Puts : List ℕ → List ℕ → List ℕ → Type 0
@@ -8,8 +9,9 @@ Puts old new bytes = new ≡ bytes ++ drop (length bytes) old
 
 -- what stands in front of a payload of slot bytes
 abbrev pub data_header : ℕ → ℕ → List ℕ
-data_header delta slot = if nat_le slot 112 then first_word (slot / 4) delta else first_word 0 delta ++ le32 (slot + 4)
+data_header delta slot =
+    if nat_le slot SHORT_LIMIT then first_word (slot / 4) delta else first_word 0 delta ++ le32 (slot + 4)
 
 -- how many bytes that takes
 abbrev pub header_len : ℕ → ℕ
-header_len slot = if nat_le slot 112 then 4 else 8
+header_len slot = if nat_le slot SHORT_LIMIT then 4 else 8

@@ -4,10 +4,12 @@
 //! `docs/FORMATS.md`, "Record words".
 #![tactic(auto)]
 
+mod format;
 mod next;
 mod put;
 mod size;
 
+pub use format::MAX_PAYLOAD;
 pub use next::{Word, WordFault, next_word};
 pub use put::{Place, put_record};
 pub use size::size_of;

@@ -1,24 +1,12 @@
 //! One word of the data of a page, read.
-ghost use Rattle.std.specs.Prelude.{◌≡◌, ◌+◌, ◌-◌, ◌*◌, ◌≤◌, ◌<◌, ◌^◌, ◌⊎◌, ◌↔◌, length, drop, IsOk, IfOk, IfErr};
+ghost use Rattle.std.specs.Prelude.{◌≡◌, ◌+◌, ◌-◌, ◌*◌, ◌≤◌, ◌<◌, ◌⊎◌, ◌↔◌, length, drop, IsOk, IfOk, IfErr};
 ghost use Rattle.trace_model.specs.Reading.{from_le32};
 ghost use Rattle.trace_model.specs.Faults.{cut, bad_length, IsWordFault, HasWord, HasEnding, HasGoodLength, StatesLength, CountsWords, HasHighBits, number_behind, type_at_front, delta_at_front};
 ghost use Rattle.record_words.specs.Next.{IsRead, IsFaultAt};
 
+use crate::format::{EXTEND_FROM, LEAST_LENGTH, PADDING, TIME_EXTEND, TIME_STAMP};
 use crate::put::Place;
-use crate::size::EXTEND_FROM;
 use byteorder::{ByteOrder, LittleEndian};
-
-/// The type of padding.
-const PADDING: u32 = 29;
-
-/// The type of a time extend.
-const TIME_EXTEND: u32 = 30;
-
-/// The type of an absolute stamp.
-const TIME_STAMP: u32 = 31;
-
-/// The least length that a word can state, in bytes: that of the stated number itself.
-const LEAST_LENGTH: usize = 4;
 
 /// A word of the data of a page. `next` is the offset behind it, in bytes.
 #[derive(Clone, Copy, Debug, PartialEq, Eq)]
@@ -145,7 +133,7 @@ fn short_record(data: &[u8], at: usize, words: u32, delta: u32) -> Result<Word, 
 /// The padding at `at`, whose length stands behind its first four bytes.
 fn padding(data: &[u8], at: usize) -> Result<Word, WordFault>
     requires head { at + 4 ≤ length «data».now }
-    requires type_is { type_at_front (drop at «data».now) ≡ 29 }
+    requires type_is { type_at_front (drop at «data».now) ≡ PADDING }
     requires delta_is { 1 ≤ delta_at_front (drop at «data».now) }
     ensures read { IfOk result (λ w. IsRead «data».now at w) }
     ensures fault { IfErr result (λ f. IsFaultAt «data».now at f) }
@@ -158,7 +146,7 @@ fn padding(data: &[u8], at: usize) -> Result<Word, WordFault>
 fn time_at(data: &[u8], at: usize, low: u32) -> Result<u64, WordFault>
     requires head { at + 4 ≤ length «data».now }
     requires high { HasHighBits (drop at «data».now) }
-    ensures time { IfOk result (λ t. t ≡ number_behind (drop at «data».now) * 2 ^ 27 + low) }
+    ensures time { IfOk result (λ t. t ≡ number_behind (drop at «data».now) * EXTEND_FROM + low) }
     ensures whole { IfOk result (λ t. at + 8 ≤ length «data».now) }
     ensures fault { IfErr result (λ f. IsFaultAt «data».now at f) }
 {
@@ -169,7 +157,7 @@ fn time_at(data: &[u8], at: usize, low: u32) -> Result<u64, WordFault>
 /// The time extend at `at`, whose low 27 bits these are.
 fn extend(data: &[u8], at: usize, low: u32) -> Result<Word, WordFault>
     requires head { at + 4 ≤ length «data».now }
-    requires type_is { type_at_front (drop at «data».now) ≡ 30 }
+    requires type_is { type_at_front (drop at «data».now) ≡ TIME_EXTEND }
     requires low_is { low ≡ delta_at_front (drop at «data».now) }
     ensures read { IfOk result (λ w. IsRead «data».now at w) }
     ensures fault { IfErr result (λ f. IsFaultAt «data».now at f) }
@@ -184,7 +172,7 @@ fn extend(data: &[u8], at: usize, low: u32) -> Result<Word, WordFault>
 /// The absolute stamp at `at`, whose low 27 bits these are.
 fn stamp(data: &[u8], at: usize, low: u32) -> Result<Word, WordFault>
     requires head { at + 4 ≤ length «data».now }
-    requires type_is { type_at_front (drop at «data».now) ≡ 31 }
+    requires type_is { type_at_front (drop at «data».now) ≡ TIME_STAMP }
     requires low_is { low ≡ delta_at_front (drop at «data».now) }
     ensures read { IfOk result (λ w. IsRead «data».now at w) }
     ensures fault { IfErr result (λ f. IsFaultAt «data».now at f) }
@@ -215,8 +203,8 @@ fn word_at(data: &[u8], at: usize, first: u32) -> Result<Word, WordFault>
 /// place is told.
 ///
 /// The answer is `Cut` where the data ends within the word, and `BadLength` where the word states a
-/// length that none can have. Of a word with both faults, the length is the one that is named, unless
-/// it isn't all there.
+/// length that none can have. A word with both faults is `BadLength`, unless the data ends within its
+/// first four bytes or within the stated length itself.
 pub fn next_word(data: &[u8], at: usize) -> Result<Word, WordFault>
     requires { at < length «data».now }
     ensures ok { IsOk result ↔ (HasWord (drop at «data».now) ⊎ HasEnding (drop at «data».now)) }

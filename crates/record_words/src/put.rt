@@ -1,9 +1,11 @@
 //! A record written in place.
-ghost use Rattle.std.specs.Prelude.{◌≡◌, ◌+◌, ◌*◌, ◌/◌, ◌%◌, ◌≤◌, ◌<◌, ◌^◌, ◌⊎◌, ◌++◌, true, length, drop, replicate};
+ghost use Rattle.std.specs.Prelude.{◌≡◌, ◌+◌, ◌≤◌, ◌<◌, ◌⊎◌, true, length, replicate};
 ghost use Rattle.trace_model.specs.Words.{le32, first_word, slot_len, encoded_len, encoding, data_word, bytes_of_word, time_extend};
+ghost use Rattle.trace_model.specs.declared.limits.TheConstants.{MOMENT_LIMIT};
 ghost use Rattle.record_words.specs.Puts.{Puts, data_header, header_len};
 
-use crate::size::{EXTEND_FROM, SHORT_LIMIT, slot_len};
+use crate::format::{EXTEND_FROM, MAX_PAYLOAD, SHORT_LIMIT, TIME_EXTEND};
+use crate::size::slot_len;
 use byteorder::{ByteOrder, LittleEndian};
 
 /// Where a payload lies in the data of a page: its first byte and its length, in bytes.
@@ -13,18 +15,18 @@ pub struct Place {
     pub len: usize,
 }
 
-/// A 32-bit word of this type and time at the front.
+/// Puts a 32-bit word of this type and delta at the front.
 #[tactic(auto, unfolding(trace_model::specs::Words::le32))]
 fn put_word(out: &mut [u8], type_len: u32, delta: u32)
     requires type_fits { type_len < 32 }
-    requires time { delta < 2 ^ 27 }
+    requires delta_fits { delta < EXTEND_FROM }
     requires room { 4 ≤ length out.old }
     ensures { Puts out.old out.new (first_word type_len delta) }
 {
     LittleEndian::write_u32(out, type_len + 32 * delta);
 }
 
-/// The number at the front, the 32 bits behind a first word.
+/// Puts a 32-bit number at the front, which stands behind a first word.
 #[tactic(auto, unfolding(trace_model::specs::Words::le32))]
 fn put_number(out: &mut [u8], number: u32)
     requires { 4 ≤ length out.old }
@@ -33,20 +35,20 @@ fn put_number(out: &mut [u8], number: u32)
     LittleEndian::write_u32(out, number);
 }
 
-/// The time extend of this delta at the front, eight bytes.
+/// Puts the time extend of this delta at the front, eight bytes.
 fn put_extend(out: &mut [u8], delta: u64)
-    requires time { delta < 2 ^ 59 }
+    requires time { delta < MOMENT_LIMIT }
     requires room { 8 ≤ length out.old }
     ensures { Puts out.old out.new (bytes_of_word (time_extend delta)) }
 {
-    put_word(out, 30, (delta % EXTEND_FROM) as u32);
+    put_word(out, TIME_EXTEND, (delta % EXTEND_FROM) as u32);
     put_number(&mut out[4..], (delta / EXTEND_FROM) as u32);
 }
 
-/// What stands in front of a payload of `slot` bytes, at the front, and how many bytes that takes.
+/// Puts what stands in front of a payload of `slot` bytes at the front, and answers how many bytes that takes.
 fn put_header(out: &mut [u8], delta: u32, slot: usize) -> usize
-    requires time { delta < 2 ^ 27 }
-    requires limit { slot ≤ 2 ^ 30 + 4 }
+    requires delta_fits { delta < EXTEND_FROM }
+    requires limit { slot ≤ MAX_PAYLOAD }
     requires room { header_len slot ≤ length out.old }
     ensures put { Puts out.old out.new (data_header delta slot) }
     ensures len { result ≡ header_len slot }
@@ -61,10 +63,10 @@ fn put_header(out: &mut [u8], delta: u32, slot: usize) -> usize
     }
 }
 
-/// A data word with a zeroed payload of `slot` bytes at the front. The answer is the payload's place.
+/// Puts a data word with a zeroed payload of `slot` bytes at the front, and answers the payload's place.
 fn put_data(out: &mut [u8], delta: u32, slot: usize) -> Place
-    requires time { delta < 2 ^ 27 }
-    requires limit { slot ≤ 2 ^ 30 + 4 }
+    requires delta_fits { delta < EXTEND_FROM }
+    requires limit { slot ≤ MAX_PAYLOAD }
     requires room { header_len slot + slot ≤ length out.old }
     ensures put { Puts out.old out.new (bytes_of_word (data_word delta (replicate slot 0))) }
     ensures len { result.len ≡ slot }
@@ -75,13 +77,15 @@ fn put_data(out: &mut [u8], delta: u32, slot: usize) -> Place
     Place { start, len: slot }
 }
 
-/// Writes the words of a record and a zeroed payload at the front of `out`, and answers where the
-/// payload lies: `len` bytes, rounded up to whole words and at least one. All behind the record stays as it was.
+/// Writes the words of a record and a zeroed payload at the front of `out`, where it must fit, and answers
+/// where the payload lies: `len` bytes, rounded up to whole words and at least one word. All bytes behind
+/// the record stay as they were.
 ///
-/// `delta` is the time since the record before it on the page; the first record of a page has none.
+/// `delta` is the time since the record before it on the page. The first record of a page has none: its
+/// `delta` is ignored.
 pub fn put_record(out: &mut [u8], delta: u64, first: bool, len: usize) -> Place
-    requires length { len ≤ 2 ^ 30 }
-    requires time { (first ≡ true) ⊎ (delta < 2 ^ 59) }
+    requires length { len ≤ MAX_PAYLOAD }
+    requires time { (first ≡ true) ⊎ (delta < MOMENT_LIMIT) }
     requires room { encoded_len len delta first ≤ length out.old }
     ensures put { Puts out.old out.new (encoding delta first (replicate (slot_len len) 0)) }
     ensures len { result.len ≡ slot_len len }

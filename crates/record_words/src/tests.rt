@@ -26,7 +26,7 @@ struct Row {
 }
 
 impl Row {
-    /// The byte that must stand at this place of the buffer.
+    /// The byte that must stand at this offset of the buffer.
     fn byte_at(&self, i: usize) -> u8 {
         let start = self.head.len();
         if i < start {
@@ -41,8 +41,8 @@ impl Row {
     }
 }
 
-/// Writes the records of a table, and looks at each byte of the buffer.
-fn are_written(rt: &impl Abort, table: &[Row]) {
+/// Writes the records of a table, and compares each byte of the buffer.
+fn write_and_compare(rt: &impl Abort, table: &[Row]) {
     for row in table {
         assert!(rt; row.len <= ROOM);
         assert!(rt; row.first || row.delta < MOMENT_LIMIT);
@@ -63,7 +63,7 @@ fn are_written(rt: &impl Abort, table: &[Row]) {
 
 #[test]
 fn delta_in_the_word(rt: HostRuntime) {
-    are_written(
+    write_and_compare(
         &rt,
         &[Row {
             delta: 5,
@@ -78,7 +78,7 @@ fn delta_in_the_word(rt: HostRuntime) {
 
 #[test]
 fn length_forms(rt: HostRuntime) {
-    are_written(
+    write_and_compare(
         &rt,
         &[
             Row {
@@ -103,7 +103,7 @@ fn length_forms(rt: HostRuntime) {
 
 #[test]
 fn time_extend(rt: HostRuntime) {
-    are_written(
+    write_and_compare(
         &rt,
         &[
             Row {
@@ -128,7 +128,7 @@ fn time_extend(rt: HostRuntime) {
 
 #[test]
 fn empty_payload(rt: HostRuntime) {
-    are_written(
+    write_and_compare(
         &rt,
         &[Row {
             delta: 0,
@@ -141,7 +141,7 @@ fn empty_payload(rt: HostRuntime) {
     );
 }
 
-/// A place in the data of a page, and what must be read there.
+/// An offset in the data of a page, and what must be read there.
 #[derive(Drop)]
 struct Read {
     data: &'static [u8],
@@ -160,7 +160,7 @@ const STAMPED: &[u8] =
 const EXTENDED: &[u8] =
     b"\x01\x00\x00\x00\xaa\xbb\xcc\xdd\x7e\x00\x00\x00\x01\x00\x00\x00\x01\x00\x00\x00\x11\x22\x33\x44";
 
-/// What is read of a record with this delta and place.
+/// What is read of a record with this delta, whose payload lies between these offsets.
 fn record(delta: u64, start: usize, next: usize) -> Result<Word, WordFault>
     requires { start ≤ next }
 {
@@ -175,7 +175,7 @@ fn record(delta: u64, start: usize, next: usize) -> Result<Word, WordFault>
 }
 
 #[test]
-fn words_of_a_page(rt: HostRuntime) {
+fn each_word_reads_as_what_stands_there(rt: HostRuntime) {
     let table = [
         Read {
             data: ENDED,
