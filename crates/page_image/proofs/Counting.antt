@@ -61,7 +61,7 @@ read-data bytes time words reached w next moment is here holds fits moment_is =
     (moment_is ∙ ap (λ (m : ℕ). m + delta_of w) is.moment_is ∙ sym (moment_after-push time words w (IsData-not_stamp w holds)))
     (omega (arith, length-append (records_of time words) (record { moment = moment_after time words + delta_of w; bytes = payload_of w } ∷ [])))
 
--- ---- a word that was passed
+-- ---- a word that was stepped over
 
 pub passed-data : (bytes : List ℕ) (time : ℕ) (words : List Word) (reached : Reached) (delta : ℕ) (place : Place) (next moment : ℕ) → HasRead bytes time words reached → DataAt bytes reached.at delta place next → moment < 2 ^ 64
     → moment ≡ reached.moment + delta → HasPassed bytes time words (record { payload = Some place; behind = record { at = next; moment = moment; count = reached.count + 1 } })
@@ -168,7 +168,7 @@ few_more bytes at next count w here few = let stop = here.next_is in let size = 
 
 -- ---- copies of the records
 
--- the copies of the records so far, with those of the word that was passed
+-- the copies of the records so far, with those of the word that was stepped over
 pub copied-push : (bytes : List ℕ) (time : ℕ) (words : List Word) (passed : Passed) (before after : List Record) → (is : HasPassed bytes time words passed) → before ≡ records_of time words → after ≡ before ++ records_at_place bytes passed.behind.moment passed.payload
     → after ≡ records_of time (words ++ is.word ∷ [])
 copied-push bytes time words passed before after is same more =

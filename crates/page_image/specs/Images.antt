@@ -15,6 +15,7 @@ use Rattle.page_image.specs.declared.image.ImageFault.TheVariants.{TooShort, Bad
 use Rattle.page_image.specs.declared.image.Outline.{Outline}
 use Rattle.page_image.specs.declared.image.header.Commit.{Commit as CommitTold}
 use Rattle.page_image.specs.declared.image.header.Header.{Header}
+use Rattle.page_image.specs.declared.image.header.TheConstants.{HEADER, NUMBER, STORED}
 use Rattle.page_image.specs.Contents.{Contents}
 
 -- what the answer tells of missed events
@@ -25,7 +26,7 @@ missed_of (Count events) = counted events
 
 -- the bytes behind the header
 abbrev pub behind_header : List ℕ → List ℕ
-behind_header bytes = drop 16 bytes
+behind_header bytes = drop HEADER bytes
 
 -- the data of the size that is stated, and what stands behind it
 abbrev pub data_in : List ℕ → ℕ → List ℕ
@@ -37,7 +38,14 @@ behind_data bytes size = drop size (behind_header bytes)
 -- The page in an image: as large as the bytes behind the header, its data of the stated size, its records
 -- counted; its first number and its fill are 0, since an image doesn't tell them.
 abbrev pub page_in : List ℕ → ℕ → ℕ → Contents
-page_in bytes time size = record { time = time; first = 0; count = length (records_in time (data_in bytes size)); fill = 0; size = length bytes - 16; bytes = data_in bytes size }
+page_in bytes time size = record {
+  time = time;
+  first = 0;
+  count = length (records_in time (data_in bytes size));
+  fill = 0;
+  size = length bytes - HEADER;
+  bytes = data_in bytes size;
+}
 
 -- the fault of a word, and the fault of an image, by their causes
 abbrev pub word_fault : Cause → ℕ → WordFault
@@ -47,7 +55,8 @@ word_fault time_overflow at = TimeOverflow at
 
 -- the image has a reading
 abbrev pub IsReadable : List ℕ → Type 0
-IsReadable bytes = (time size : ℕ) × (missed : Missed) × (records : List Record) × DecodesImage bytes time size missed records
+IsReadable bytes =
+    (time size : ℕ) × (missed : Missed) × (records : List Record) × DecodesImage bytes time size missed records
 
 -- What an answer without a page says: the first fault, or that memory was refused for a page that reads.
 abbrev pub IsImageFault : List ℕ → ImageFault → Type 0
@@ -61,31 +70,43 @@ IsImageFault bytes NoMemory = IsReadable bytes
 
 -- the commit word as it is read, with these bits above it
 abbrev pub commit_with : CommitTold → ℕ → Commit
-commit_with told ignored = record { size = told.size; is_stored = told.is_stored; is_missed = told.is_missed; ignored = ignored }
+commit_with told ignored = record {
+  size = told.size;
+  is_stored = told.is_stored;
+  is_missed = told.is_missed;
+  ignored = ignored;
+}
 
 -- the number is this commit word, whatever its bits 32 to 63
 pub record IsCommitWord (word : ℕ) (told : CommitTold) : Type 0 where
   pub ignored : ℕ
   pub word_is : commit_word (commit_with told ignored) ≡ word
-  pub size_fits : told.size < 2 ^ 30
+  pub size_fits : told.size < STORED
   pub ignored_fits : ignored < 2 ^ 32
 
 -- the image has the parts that this header tells
 pub record HasPartsOf (bytes : List ℕ) (header : Header) : Type 0 where
   pub ignored : ℕ
-  pub parts : HasParts bytes header.time (commit_with header.commit ignored) (data_in bytes header.commit.size) (behind_data bytes header.commit.size)
+  pub parts :
+      HasParts bytes header.time (commit_with header.commit ignored)
+      (data_in bytes header.commit.size)
+      (behind_data bytes header.commit.size)
 
 -- a count is stated, and there is no room for it
 pub record LacksCount (told : CommitTold) (behind : List ℕ) : Type 0 where
   pub missed : told.is_missed ≡ true
   pub stored : told.is_stored ≡ true
-  pub no_room : length behind < 8
+  pub no_room : length behind < NUMBER
 
 -- the image reads, and this is told of it
 pub record IsOutlined (bytes : List ℕ) (outline : Outline) : Type 0 where
-  pub reads : DecodesImage bytes outline.time outline.size (missed_of outline.missed) (records_in outline.time (data_in bytes outline.size))
-  pub data_reads : Decodes (data_in bytes outline.size) outline.time (records_in outline.time (data_in bytes outline.size))
+  pub reads :
+      DecodesImage bytes outline.time outline.size (missed_of outline.missed)
+      (records_in outline.time (data_in bytes outline.size))
+  pub data_reads :
+      Decodes (data_in bytes outline.size) outline.time
+      (records_in outline.time (data_in bytes outline.size))
   pub counted : outline.count ≡ length (records_in outline.time (data_in bytes outline.size))
   pub few : 4 * outline.count ≤ outline.size
-  pub there : 16 + outline.size ≤ length bytes
+  pub there : HEADER + outline.size ≤ length bytes
   pub limit : length bytes ≤ MAX_IMAGE

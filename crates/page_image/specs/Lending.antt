@@ -21,6 +21,19 @@ pub record PayloadWritten (page : Contents) (start : ℕ) (part : List ℕ) : Ty
   pub bytes : (with_payload page start part).bytes ≡ overwritten page.bytes start part
   pub page_reads : IsPage page → IsPage (with_payload page start part)
   pub open_stays : EndsInRecord page.bytes → EndsInRecord (with_payload page start part).bytes
-  pub places_stay : (number at len : ℕ) → IsPlaceOf page.bytes number at len → IsPlaceOf (with_payload page start part).bytes number at len
-  pub one_record : IsPage page → (number : ℕ) → IsPlaceOf page.bytes number start (length part) → IsReplacedAt number (records_of_page page) (records_of_page (with_payload page start part)) (bytes_at start (length part) page.bytes) part
-  pub last_record : IsPage page → start + length part ≡ length page.bytes → (front : List Record) (r : Record) → records_of_page page ≡ front ++ r ∷ [] → records_of_page (with_payload page start part) ≡ front ++ record { moment = r.moment; bytes = part } ∷ []
+  pub places_stay :
+      (number at len : ℕ)
+      → IsPlaceOf page.bytes number at len
+      → IsPlaceOf (with_payload page start part).bytes number at len
+  pub one_record :
+      IsPage page
+      → (number : ℕ)
+      → IsPlaceOf page.bytes number start (length part)
+      → IsReplacedAt number (records_of_page page) (records_of_page (with_payload page start part))
+      (bytes_at start (length part) page.bytes) part
+  pub last_record :
+      IsPage page
+      → start + length part ≡ length page.bytes
+      → (front : List Record) (r : Record)
+      → records_of_page page ≡ front ++ r ∷ []
+      → records_of_page (with_payload page start part) ≡ front ++ record { moment = r.moment; bytes = part } ∷ []

@@ -1,4 +1,4 @@
--- A walk over the words of a page's data: how far they are read, and what a word tells that was passed.
+-- A walk over the words of a page's data: how far they are read, and what is told of a word stepped over.
 use Rattle.std.specs.Prelude.{◌≡◌, ℕ, List, [], ◌∷◌, ◌++◌, length, drop, Option, Some, None}
 use Rattle.std.specs.List.{AllByRecursion}
 use Rattle.trace_model.specs.Record.{Record}
@@ -8,8 +8,8 @@ use Rattle.record_words.specs.declared.put.Place.{Place}
 use Rattle.page_image.specs.declared.walk.Reached.{Reached}
 use Rattle.page_image.specs.declared.walk.Passed.{Passed}
 
--- these words are read: they are the data up to the offset, their times fit, and the reached tells the moment
--- behind them and the number of their records
+-- These words are read: they are the data up to the offset, their times fit, and the moment behind them and the
+-- number of their records are told.
 pub record HasRead (bytes : List ℕ) (time : ℕ) (words : List Word) (reached : Reached) : Type 0 where
   pub whole : bytes ≡ joined words ++ drop reached.at bytes
   pub each : AllByRecursion IsWord words
@@ -21,9 +21,10 @@ pub record HasRead (bytes : List ℕ) (time : ℕ) (words : List Word) (reached 
 -- the record with the payload in this place, if there is one
 abbrev pub records_at_place : List ℕ → ℕ → Option Place → List Record
 records_at_place bytes moment None = []
-records_at_place bytes moment (Some place) = record { moment = moment; bytes = bytes_at place.start place.len bytes } ∷ []
+records_at_place bytes moment (Some place) =
+    record { moment = moment; bytes = bytes_at place.start place.len bytes } ∷ []
 
--- behind the words that were read one more was passed, and its record, if it holds one, is told
+-- behind the words that were read one more was stepped over, and its record, if it holds one, is told
 pub record HasPassed (bytes : List ℕ) (time : ℕ) (words : List Word) (passed : Passed) : Type 0 where
   pub word : Word
   pub read : HasRead bytes time (words ++ word ∷ []) passed.behind

@@ -4,11 +4,11 @@ ghost use Rattle.page_image.specs.Copies.{copies_of};
 ghost use Rattle.page_image.specs.Walk.{records_at_place};
 
 use crate::page::Page;
-use crate::walk::{Passed, pass_word, start};
+use crate::walk::{Passed, start, step_over_word};
 use std::alloc::Global;
 use trace_model::NoMemory;
 
-/// Adds a copy of the record of a word that was passed, if it holds one.
+/// Adds a copy of the record of a word that was stepped over, if it is a record's.
 fn add_copy(
     records: &mut Vec<(u64, Vec<u8>)>,
     data: &[u8],
@@ -16,7 +16,8 @@ fn add_copy(
     alloc: Global,
 ) -> Result<(), NoMemory>
     requires { IfSome passed.payload (λ place. place.start + place.len ≤ length «data».now) }
-    ensures { OnOk result (copies_of records.new.items ≡ copies_of records.old.items ++ records_at_place «data».now passed.behind.moment passed.payload) }
+    ensures { OnOk result (copies_of records.new.items
+        ≡ copies_of records.old.items ++ records_at_place «data».now passed.behind.moment passed.payload) }
 {
     if let Some(place) = passed.payload {
         let payload = Vec::from_slice(alloc, &data[place.start..place.start + place.len])?;
@@ -28,7 +29,7 @@ fn add_copy(
 impl Page {
     ghost use Rattle.page_image.specs.Contents.{IsPage, records_of_page};
 
-    /// The moments and payloads of the records, in order; a payload with the zeros that fill its slot. Where
+    /// Copies of the records' moments and payloads, in order. A payload has the zeros that fill its slot. Where
     /// memory is refused, the answer is `NoMemory`.
     pub fn copied(&self, alloc: Global) -> Result<Vec<(u64, Vec<u8>)>, NoMemory>
         ensures { IfOk result (λ v. IsPage self.now → copies_of v.items ≡ records_of_page self.now) }
@@ -37,7 +38,7 @@ impl Page {
         let mut records = Vec::new(alloc);
         let mut reached = start(self.time());
         while reached.at < data.len() {
-            let Ok(found) = pass_word(data, reached) else {
+            let Ok(found) = step_over_word(data, reached) else {
                 return Ok(records);
             };
             let Some(passed) = found else {

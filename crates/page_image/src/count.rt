@@ -2,7 +2,7 @@
 ghost use Rattle.std.specs.Prelude.{◌*◌, ◌≤◌, IfOk, IfErr, length};
 ghost use Rattle.page_image.specs.Counting.{IsCounted, IsFirstFault};
 
-use crate::walk::{pass_word, start};
+use crate::walk::{start, step_over_word};
 use record_words::WordFault;
 
 /// How many records the data of a page with this time holds, or its first fault.
@@ -13,7 +13,7 @@ pub(crate) fn count_records(data: &[u8], time: u64) -> Result<u64, WordFault>
 {
     let mut reached = start(time);
     while reached.at < data.len() {
-        let Some(passed) = pass_word(data, reached)? else {
+        let Some(passed) = step_over_word(data, reached)? else {
             return Ok(reached.count);
         };
         reached = passed.behind;

@@ -2,11 +2,11 @@
 //!
 //! An image is a page as the kernel hands it out: a header of 16 bytes and the data behind it, told in
 //! `docs/FORMATS.md`, "Page image".
-ghost use Rattle.std.specs.Prelude.{◌≡◌, ℕ, ◌≤◌, ◌*◌, ◌+◌, ◌↔◌, List, length, take, drop, IfOk, IfErr};
+ghost use Rattle.std.specs.Prelude.{◌≡◌, ℕ, ◌↔◌, IfOk, IfErr};
 ghost use Rattle.trace_model.specs.Faults.{Cause};
 ghost use Rattle.trace_model.specs.Image.{DecodesImage, FirstImageFault, too_short, bad_size, bad_count, bad_word};
 ghost use Rattle.page_image.specs.Contents.{IsPage, records_of_page};
-ghost use Rattle.page_image.specs.Images.{missed_of, page_in, word_fault, IsReadable, IsImageFault, IsOutlined, behind_header};
+ghost use Rattle.page_image.specs.Images.{missed_of, page_in, word_fault, IsReadable, IsImageFault, IsOutlined};
 ghost use Rattle.page_image.specs.declared.image.ImageFault.TheVariants.{Word as WordIs, NoMemory as MemoryIs};
 
 mod header;

@@ -27,13 +27,22 @@ impl Model for Page {
 
     ghost Value = { Contents };
 
-    ghost view = { λ p. record { time = p.time; first = p.first.0; count = p.count; fill = p.fill.0; size = length p.body.items; bytes = take p.end p.body.items } };
+    ghost view = { λ p. record {
+      time = p.time;
+      first = p.first.0;
+      count = p.count;
+      fill = p.fill.0;
+      size = length p.body.items;
+      bytes = take p.end p.body.items;
+    } };
 
-    ghost invariant = { λ p. (p.end ≤ length p.body.items) × (length p.body.items ≤ MAX_SIZE) × (4 * p.count ≤ p.end) };
+    ghost invariant = { λ p. (p.end ≤ length p.body.items)
+        × (length p.body.items ≤ MAX_SIZE)
+        × (4 * p.count ≤ p.end) };
 }
 
 impl Page {
-    ghost use Rattle.std.specs.Prelude.{◌≡◌, ◌+◌, ◌-◌, ◌≤◌, ◌<◌, ◌^◌, [], ◌∷◌, ◌++◌, length, replicate, if◌then◌else◌, IfSome, slice_range, ℕ, List};
+    ghost use Rattle.std.specs.Prelude.{◌≡◌, ◌+◌, ◌-◌, ◌≤◌, ◌<◌, [], ◌∷◌, ◌++◌, length, replicate, if◌then◌else◌, IfSome, slice_range, ℕ, List};
     ghost use Rattle.std.specs.Borrow.{sem};
     ghost use Rattle.page_image.specs.Lending.{LendsPayload, PayloadWritten};
     ghost use Rattle.trace_model.specs.Words.{encoded_len, encoding, slot_len};
@@ -41,11 +50,19 @@ impl Page {
     ghost use Rattle.trace_model.specs.Order.{moment_of_last};
     ghost use Rattle.trace_model.specs.Overwriting.{IsPlaceOf};
     ghost use Rattle.page_image.specs.Contents.{records_of_page, is_blank, IsPage};
+    ghost use Rattle.trace_model.specs.declared.limits.TheConstants.{MOMENT_LIMIT};
 
     /// A page without a record, its time 0, in this body.
     pub fn fresh(body: Body, first: RecordNo, fill: FillNo) -> Page
         ensures page { IsPage result }
-        ensures blank { result ≡ record { time = 0; first = first.0; count = 0; fill = fill.0; size = length body; bytes = [] } }
+        ensures blank { result ≡ record {
+          time = 0;
+          first = first.0;
+          count = 0;
+          fill = fill.0;
+          size = length body;
+          bytes = [];
+        } }
     {
         Page {
             body: body.into_bytes(),
@@ -57,17 +74,22 @@ impl Page {
         }
     }
 
-    /// Adds a record of this moment with a zeroed payload of `len` bytes, rounded up to whole words, behind the
-    /// others, and answers where its payload lies. `prev` is the moment of the last record, if there is one.
+    /// Adds a record of this moment with a zeroed payload behind the others, where it must fit, and answers where
+    /// its payload lies: `len` bytes, rounded up to whole words and at least one word. `prev` is the moment of the
+    /// last record, if there is one, and not above `moment`.
     pub fn put(&mut self, prev: u64, moment: u64, len: usize) -> Place
-        requires room { length self.old.bytes + encoded_len len (moment - prev) (is_blank self.old.bytes) ≤ self.old.size }
+        requires room { length self.old.bytes + encoded_len len (moment - prev) (is_blank self.old.bytes)
+            ≤ self.old.size }
         requires order { prev ≤ moment }
-        requires moment { moment < 2 ^ 59 }
+        requires moment { moment < MOMENT_LIMIT }
         requires last { IfSome (moment_of_last (records_of_page self.old)) (λ last. last ≡ prev) }
         requires open { EndsInRecord self.old.bytes }
         ensures page { IsPage self.old → IsPage self.new }
-        ensures records { IsPage self.old → records_of_page self.new ≡ records_of_page self.old ++ record { moment = moment; bytes = replicate (slot_len len) 0 } ∷ [] }
-        ensures bytes { self.new.bytes ≡ self.old.bytes ++ encoding (moment - prev) (is_blank self.old.bytes) (replicate (slot_len len) 0) }
+        ensures records { IsPage self.old
+            → records_of_page self.new
+            ≡ records_of_page self.old ++ record { moment = moment; bytes = replicate (slot_len len) 0 } ∷ [] }
+        ensures bytes { self.new.bytes
+            ≡ self.old.bytes ++ encoding (moment - prev) (is_blank self.old.bytes) (replicate (slot_len len) 0) }
         ensures time { self.new.time ≡ (if is_blank self.old.bytes then moment else self.old.time) }
         ensures count { self.new.count ≡ self.old.count + 1 }
         ensures first { self.new.first ≡ self.old.first }
@@ -77,7 +99,8 @@ impl Page {
         ensures place { IsPlaceIn self.new.bytes result.start result.len }
         ensures number { IsPage self.old
             → IsPlaceOf self.new.bytes self.old.count result.start result.len }
-        ensures places_stay { (number start len : ℕ) → IsPlaceOf self.old.bytes number start len
+        ensures places_stay { (number start len : ℕ)
+            → IsPlaceOf self.old.bytes number start len
             → IsPlaceOf self.new.bytes number start len }
         ensures end { result.start + result.len ≡ length self.new.bytes }
         ensures len { result.len ≡ slot_len len }

@@ -1,5 +1,5 @@
 //! Which places of a page are payloads.
-ghost use Rattle.std.specs.Prelude.{◌≡◌, ℕ, List, IsTrue, ◌↔◌};
+ghost use Rattle.std.specs.Prelude.{ℕ, List, IsTrue, ◌↔◌};
 ghost use Rattle.trace_model.specs.Record.{Record};
 ghost use Rattle.trace_model.specs.Words.{Decodes};
 ghost use Rattle.trace_model.specs.Reading.{IsPlaceIn};

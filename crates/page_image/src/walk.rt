@@ -1,4 +1,4 @@
-//! The words of a page's data, passed one by one from the front, with the time.
+//! The words of a page's data, stepped over one by one from the front, with the time.
 ghost use Rattle.std.specs.Prelude.{◌≡◌, ℕ, ◌+◌, ◌*◌, ◌≤◌, ◌<◌, ◌^◌, List, IfOk, IfErr, IfSome, MatchOption, length};
 ghost use Rattle.trace_model.specs.Words.{Word as OneWord, Decodes, records_of};
 ghost use Rattle.page_image.specs.Counting.{IsFirstFault};
@@ -6,7 +6,8 @@ ghost use Rattle.page_image.specs.Walk.{HasRead, HasPassed};
 
 use record_words::{Place, Word, WordFault, next_word};
 
-/// How far the words are read: up to this offset in bytes, with the moment there and the number of records.
+/// How far the words are read: up to this offset in bytes, with the moment there and how many records stand in
+/// front of it.
 #[derive(Clone, Copy)]
 pub(crate) struct Reached {
     pub(crate) at: usize,
@@ -14,14 +15,14 @@ pub(crate) struct Reached {
     pub(crate) count: u64,
 }
 
-/// A word that was passed: where its payload lies, if it is a record's, and how far the words are read then.
+/// A word that was stepped over: where its payload lies, if it is a record's, and how far the words are read then.
 #[derive(Clone, Copy)]
 pub(crate) struct Passed {
     pub(crate) payload: Option<Place>,
     pub(crate) behind: Reached,
 }
 
-/// In front of the first word of a page with this time.
+/// Where a walk begins: in front of the first word of a page with this time.
 pub(crate) fn start(time: u64) -> Reached
     ensures at { result.at ≡ 0 }
     ensures moment { result.moment ≡ time }
@@ -34,8 +35,8 @@ pub(crate) fn start(time: u64) -> Reached
     }
 }
 
-/// The moment that the word at `at` moves the time to.
-fn moved(moment: u64, delta: u64, at: usize) -> Result<u64, WordFault>
+/// The moment to which the word at `at` moves the time.
+fn later_moment(moment: u64, delta: u64, at: usize) -> Result<u64, WordFault>
     ensures ok { IfOk result (λ later. later ≡ moment + delta) }
     ensures fits { IfOk result (λ later. moment + delta < 2 ^ 64) }
     ensures fault { IfErr result (λ f. f ≡ WordFault.TimeOverflow at) }
@@ -44,18 +45,21 @@ fn moved(moment: u64, delta: u64, at: usize) -> Result<u64, WordFault>
     moment.checked_add(delta).ok_or(WordFault::TimeOverflow(at))
 }
 
-/// Passes one word more. There is none where an ending padding stands.
-pub(crate) fn pass_word(data: &[u8], reached: Reached) -> Result<Option<Passed>, WordFault>
+/// Steps over one word more. At an ending padding there is none.
+pub(crate) fn step_over_word(data: &[u8], reached: Reached) -> Result<Option<Passed>, WordFault>
     requires inside { reached.at < length «data».now }
     requires few { 4 * reached.count ≤ reached.at }
     ensures forward { IfOk result (λ found. IfSome found (λ passed. reached.at < passed.behind.at)) }
     ensures within { IfOk result (λ found. IfSome found (λ passed. passed.behind.at ≤ length «data».now)) }
     ensures few { IfOk result (λ found. IfSome found (λ passed. 4 * passed.behind.count ≤ passed.behind.at)) }
-    ensures payload { IfOk result (λ found. IfSome found (λ passed. IfSome passed.payload (λ place. place.start + place.len ≤ length «data».now))) }
-    ensures read { (time : ℕ) (words : List OneWord) → HasRead «data».now time words reached
+    ensures payload { IfOk result (λ found. IfSome found (λ passed. IfSome passed.payload
+        (λ place. place.start + place.len ≤ length «data».now))) }
+    ensures read { (time : ℕ) (words : List OneWord)
+        → HasRead «data».now time words reached
         → IfOk result (λ found. MatchOption found (Decodes «data».now time (records_of time words))
         (HasPassed «data».now time words)) }
-    ensures fault { (time : ℕ) (words : List OneWord) → HasRead «data».now time words reached
+    ensures fault { (time : ℕ) (words : List OneWord)
+        → HasRead «data».now time words reached
         → IfErr result (λ f. IsFirstFault «data».now time f) }
 {
     let from = reached.at;
@@ -63,13 +67,13 @@ pub(crate) fn pass_word(data: &[u8], reached: Reached) -> Result<Option<Passed>,
         Word::Data { delta, place, next } => (
             Some(place),
             next,
-            moved(reached.moment, delta, from)?,
+            later_moment(reached.moment, delta, from)?,
             reached.count + 1,
         ),
         Word::Extend { delta, next } => (
             None,
             next,
-            moved(reached.moment, delta, from)?,
+            later_moment(reached.moment, delta, from)?,
             reached.count,
         ),
         Word::Stamp { time: stamp, next } => (None, next, stamp, reached.count),

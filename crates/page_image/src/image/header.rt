@@ -1,5 +1,5 @@
 //! What stands in front of the data of an image, and the count behind it.
-ghost use Rattle.std.specs.Prelude.{◌≡◌, ℕ, ◌+◌, ◌*◌, ◌≤◌, ◌<◌, length, drop, IfOk, IfErr};
+ghost use Rattle.std.specs.Prelude.{◌≡◌, ℕ, ◌+◌, ◌≤◌, ◌<◌, length, drop, IfOk, IfErr};
 ghost use Rattle.trace_model.specs.Image.{from_le64, TellsMissed};
 ghost use Rattle.page_image.specs.Images.{missed_of, commit_with, IsCommitWord, HasPartsOf, LacksCount, IsImageFault};
 
@@ -13,7 +13,7 @@ pub(crate) const HEADER: usize = 16;
 /// How many bytes a number of the header takes, and the count of missed events.
 const NUMBER: usize = 8;
 
-/// The first value that doesn't fit bits 0 to 29 of a commit word. It is bit 30: a count is stored.
+/// Bit 30 of a commit word: a count of missed events is stored. The bits below it are the size of the data.
 const STORED: u64 = 1 << 30;
 
 /// Bit 31 of a commit word: events were missed.
@@ -41,7 +41,7 @@ pub(crate) struct Header {
 /// The number in the eight bytes at `at`.
 #[tactic(auto, unfolding(trace_model::specs::Image::from_le64))]
 fn number_at(bytes: &[u8], at: usize) -> u64
-    requires { at + 8 ≤ length bytes.now }
+    requires { at + NUMBER ≤ length bytes.now }
     ensures { result ≡ from_le64 (drop at bytes.now) }
 {
     LittleEndian::read_u64(&bytes[at..])
@@ -61,7 +61,7 @@ fn commit_of(word: u64) -> Commit
 /// Reads the header of an image that isn't too long and has the size that it states.
 pub(crate) fn read_header(bytes: &[u8]) -> Result<Header, ImageFault>
     ensures ok { IfOk result (λ header. HasPartsOf bytes.now header) }
-    ensures there { IfOk result (λ header. 16 + header.commit.size ≤ length bytes.now) }
+    ensures there { IfOk result (λ header. HEADER + header.commit.size ≤ length bytes.now) }
     ensures fault { IfErr result (λ f. IsImageFault bytes.now f) }
 {
     if bytes.len() < HEADER {

@@ -5,8 +5,8 @@ use trace_model::{FillNo, RecordNo};
 impl Page {
     ghost use Rattle.std.specs.Prelude.{◌≡◌, length};
 
-    /// The time from which the moments of the records are counted: in a page filled by `put` the first record's moment, and 0
-    /// before there is one.
+    /// The time from which the moments of the records are counted. In a page filled by `put` it is the first
+    /// record's moment, and 0 before there is one.
     pub fn time(&self) -> u64
         ensures { result ≡ self.now.time }
     {

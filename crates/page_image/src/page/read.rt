@@ -6,13 +6,20 @@ impl Page {
     ghost use Rattle.std.specs.Prelude.{◌≡◌, ◌*◌, ◌≤◌, length, take};
     ghost use Rattle.trace_model.specs.declared.limits.TheConstants.{MAX_SIZE};
 
-    /// The page of this time whose data is the first `end` bytes of the body, with so many records, under
-    /// number 0 and fill 0.
+    /// The page of this time whose data is the first `end` bytes of the body, with `count` records. Its first
+    /// number and its fill are 0.
     pub(crate) fn of_bytes(body: Vec<u8>, time: u64, end: usize, count: u64) -> Page
         requires end { end ≤ length body.items }
         requires limit { length body.items ≤ MAX_SIZE }
         requires few { 4 * count ≤ end }
-        ensures { result ≡ record { time = time; first = 0; count = count; fill = 0; size = length body.items; bytes = take end body.items } }
+        ensures { result ≡ record {
+          time = time;
+          first = 0;
+          count = count;
+          fill = 0;
+          size = length body.items;
+          bytes = take end body.items;
+        } }
     {
         Page {
             body,

@@ -10,15 +10,19 @@ impl Page {
     ghost use Rattle.trace_model.specs.Image.{DecodesImage, image_of, missed_told};
     ghost use Rattle.page_image.specs.Contents.{IsPage, records_of_page};
 
-    /// The page as an image, of 16 bytes more than the page's size. `missed` is the number of events that
-    /// were missed in front of the page: none, as long as pages don't count them.
+    /// The page as an image: a header of 16 bytes, the data, and zeros up to the page's size. `missed` is the number
+    /// of events that were missed in front of the page. For now it must be 0, since pages don't count them.
     pub fn write_image(&self, alloc: Global, missed: u64) -> Result<Vec<u8>, NoMemory>
         requires { missed ≡ 0 }
-        ensures image { IfOk result (λ image. image.items ≡ image_of self.now.time self.now.bytes missed self.now.size) }
-        ensures size { IfOk result (λ image. length image.items ≡ 16 + self.now.size) }
+        ensures image { IfOk result (λ image.
+            image.items ≡ image_of self.now.time self.now.bytes missed self.now.size) }
+        ensures size { IfOk result (λ image. length image.items ≡ HEADER + self.now.size) }
         ensures limit { IfOk result (λ image. length image.items ≤ MAX_IMAGE) }
-        ensures zeros { IfOk result (λ image. drop (16 + length self.now.bytes) image.items ≡ replicate (self.now.size - length self.now.bytes) 0) }
-        ensures reads { IfOk result (λ image. IsPage self.now → DecodesImage image.items self.now.time (length self.now.bytes) (missed_told self.now.bytes missed self.now.size) (records_of_page self.now)) }
+        ensures zeros { IfOk result (λ image. drop (HEADER + length self.now.bytes) image.items
+            ≡ replicate (self.now.size - length self.now.bytes) 0) }
+        ensures reads { IfOk result (λ image. IsPage self.now
+            → DecodesImage image.items self.now.time (length self.now.bytes)
+            (missed_told self.now.bytes missed self.now.size) (records_of_page self.now)) }
     {
         let size = HEADER + self.body.len();
         let mut image = Vec::with_capacity(alloc, size)?;
