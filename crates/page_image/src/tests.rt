@@ -1,4 +1,4 @@
-//! Records put into pages, with their bytes written out; places; copies.
+//! Records put into pages, with their bytes written out; places of payloads; copies of records.
 ghost use Rattle.std.specs.Prelude.{◌≡◌, ◌≤◌, length, IfOk, IfSome};
 ghost use Rattle.trace_model.specs.Reading.{EndsInRecord};
 ghost use Rattle.trace_model.specs.Order.{moment_of_last};
@@ -84,7 +84,7 @@ struct Row {
 }
 
 impl Row {
-    /// The byte that must stand at this place of the data.
+    /// The byte that must stand at this offset of the data.
     fn byte_at(&self, i: usize) -> u8 {
         let start = self.head.len();
         let payload = match self.records.last() {
@@ -101,8 +101,8 @@ impl Row {
     }
 }
 
-/// Puts the records of a table into pages, and looks at each byte of their data.
-fn are_put(rt: &impl Abort, alloc: Global, table: &[Row]) -> Result<(), NoMemory> {
+/// Puts the records of a table into pages, and compares each byte of their data.
+fn put_and_compare(rt: &impl Abort, alloc: Global, table: &[Row]) -> Result<(), NoMemory> {
     for row in table {
         let page = page_of(rt, alloc, row.records)?;
         let data = page.data();
@@ -130,7 +130,7 @@ fn delta_in_the_word(rt: HostRuntime) -> Result<(), Fail> {
         head: b"\x01\x00\x00\x00\xaa\xbb\xcc\xdd\xa1\x00\x00\x00",
         size: 16,
     }];
-    Ok(are_put(&rt, rt.alloc(), &table)?)
+    Ok(put_and_compare(&rt, rt.alloc(), &table)?)
 }
 
 #[test]
@@ -153,7 +153,7 @@ fn length_forms(rt: HostRuntime) -> Result<(), Fail> {
             size: 124,
         },
     ];
-    Ok(are_put(&rt, rt.alloc(), &table)?)
+    Ok(put_and_compare(&rt, rt.alloc(), &table)?)
 }
 
 /// A record, and one that comes 2^27 + 3 later.
@@ -185,7 +185,7 @@ fn time_extend(rt: HostRuntime) -> Result<(), Fail> {
             size: 8,
         },
     ];
-    Ok(are_put(&rt, rt.alloc(), &table)?)
+    Ok(put_and_compare(&rt, rt.alloc(), &table)?)
 }
 
 #[test]
@@ -198,11 +198,11 @@ fn empty_payload(rt: HostRuntime) -> Result<(), Fail> {
         head: b"\x01\x00\x00\x00",
         size: 8,
     }];
-    Ok(are_put(&rt, rt.alloc(), &table)?)
+    Ok(put_and_compare(&rt, rt.alloc(), &table)?)
 }
 
 #[test]
-fn places_of_payloads(rt: HostRuntime) -> Result<(), Fail> {
+fn only_whole_payloads_are_places(rt: HostRuntime) -> Result<(), Fail> {
     let page = page_of(&rt, rt.alloc(), FAR_APART)?;
     for (start, len) in [(4, 4), (20, 8)] {
         assert!(rt;
@@ -253,7 +253,7 @@ fn records_are_copied(rt: HostRuntime) -> Result<(), Fail> {
 }
 
 #[test]
-fn page_tells_of_itself(rt: HostRuntime) -> Result<(), Fail> {
+fn a_page_tells_of_itself(rt: HostRuntime) -> Result<(), Fail> {
     let page = page_of(&rt, rt.alloc(), FAR_APART)?;
     assert_eq!(rt; page.time(), 3);
     assert_eq!(rt; page.end(), 28);

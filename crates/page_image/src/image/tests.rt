@@ -1,6 +1,7 @@
-//! Images read and written, with their bytes written out.
+//! Images read and written, with their bytes written out: the header on one line, what stands behind it on the next.
 ghost use Rattle.std.specs.Prelude.{◌≡◌};
 
+use crate::image::HEADER;
 use crate::{Body, Image, ImageFault, Missed, Page, read_image};
 use record_words::WordFault;
 use std::alloc::Global;
@@ -31,8 +32,8 @@ struct Row {
     answer: Result<Told, ImageFault>,
 }
 
-/// Looks at all that an image tells.
-fn is_told(rt: &impl Abort, alloc: Global, image: &Image, told: Told) -> Result<(), NoMemory> {
+/// Compares all that an image tells.
+fn compare(rt: &impl Abort, alloc: Global, image: &Image, told: Told) -> Result<(), NoMemory> {
     assert_eq!(rt; image.time, told.time);
     assert_eq!(rt; image.size, told.size);
     assert_eq!(rt; image.missed, told.missed);
@@ -51,13 +52,13 @@ fn is_told(rt: &impl Abort, alloc: Global, image: &Image, told: Told) -> Result<
     Ok(())
 }
 
-/// Reads the images of a table.
-fn are_read(rt: &impl Abort, alloc: Global, table: &[Row]) -> Result<(), NoMemory> {
+/// Reads the images of a table, and compares what they tell.
+fn read_and_compare(rt: &impl Abort, alloc: Global, table: &[Row]) -> Result<(), NoMemory> {
     for row in table {
         match (read_image(alloc, row.image), row.answer) {
             (Ok(image), Ok(told)) => {
-                assert_eq!(rt; image.page.size() + 16, row.image.len());
-                is_told(rt, alloc, &image, told)?;
+                assert_eq!(rt; image.page.size() + HEADER, row.image.len());
+                compare(rt, alloc, &image, told)?;
             }
             (Err(fault), Err(expected)) => assert_eq!(rt; fault, expected),
             _ => assert!(rt; false, "read or refused"),
@@ -70,7 +71,8 @@ fn are_read(rt: &impl Abort, alloc: Global, table: &[Row]) -> Result<(), NoMemor
 fn hand_made_images(rt: HostRuntime) -> Result<(), Fail> {
     let table = [
         Row {
-            image: b"\x07\0\0\0\0\0\0\0\x10\0\0\0\xff\xff\xff\xff\x01\0\0\0\xaa\xbb\xcc\xdd\x1d\0\0\0\xff\xff\xff\xff",
+            image: b"\x07\0\0\0\0\0\0\0\x10\0\0\0\xff\xff\xff\xff\
+                \x01\0\0\0\xaa\xbb\xcc\xdd\x1d\0\0\0\xff\xff\xff\xff",
             answer: Ok(Told {
                 time: 7,
                 size: 16,
@@ -82,7 +84,8 @@ fn hand_made_images(rt: HostRuntime) -> Result<(), Fail> {
             }),
         },
         Row {
-            image: b"\x07\0\0\0\0\0\0\0\x08\0\0\x80\xff\xff\xff\xff\x01\0\0\0\xaa\xbb\xcc\xdd",
+            image: b"\x07\0\0\0\0\0\0\0\x08\0\0\x80\xff\xff\xff\xff\
+                \x01\0\0\0\xaa\xbb\xcc\xdd",
             answer: Ok(Told {
                 time: 7,
                 size: 8,
@@ -94,7 +97,8 @@ fn hand_made_images(rt: HostRuntime) -> Result<(), Fail> {
             }),
         },
         Row {
-            image: b"\x07\0\0\0\0\0\0\0\x08\0\0\0\0\0\0\0\x02\0\0\0\xaa\xbb\xcc\xdd",
+            image: b"\x07\0\0\0\0\0\0\0\x08\0\0\0\0\0\0\0\
+                \x02\0\0\0\xaa\xbb\xcc\xdd",
             answer: Err(ImageFault::Word(WordFault::Cut(0))),
         },
         Row {
@@ -102,15 +106,18 @@ fn hand_made_images(rt: HostRuntime) -> Result<(), Fail> {
             answer: Err(ImageFault::TooShort),
         },
         Row {
-            image: b"\x07\0\0\0\0\0\0\0\x08\0\0\xc0\0\0\0\0\x01\0\0\0\xaa\xbb\xcc\xdd",
+            image: b"\x07\0\0\0\0\0\0\0\x08\0\0\xc0\0\0\0\0\
+                \x01\0\0\0\xaa\xbb\xcc\xdd",
             answer: Err(ImageFault::BadCount),
         },
         Row {
-            image: b"\x07\0\0\0\0\0\0\0\x0c\0\0\0\0\0\0\0\x01\0\0\0\xaa\xbb\xcc\xdd",
+            image: b"\x07\0\0\0\0\0\0\0\x0c\0\0\0\0\0\0\0\
+                \x01\0\0\0\xaa\xbb\xcc\xdd",
             answer: Err(ImageFault::BadSize),
         },
         Row {
-            image: b"\0\0\0\0\0\0\0\0\x18\0\0\0\0\0\0\0\x3d\0\0\0\x04\0\0\0\xbf\0\0\0\x02\0\0\0\x21\0\0\0\xaa\xbb\xcc\xdd",
+            image: b"\0\0\0\0\0\0\0\0\x18\0\0\0\0\0\0\0\
+                \x3d\0\0\0\x04\0\0\0\xbf\0\0\0\x02\0\0\0\x21\0\0\0\xaa\xbb\xcc\xdd",
             answer: Ok(Told {
                 time: 0,
                 size: 24,
@@ -122,14 +129,15 @@ fn hand_made_images(rt: HostRuntime) -> Result<(), Fail> {
             }),
         },
     ];
-    Ok(are_read(&rt, rt.alloc(), &table)?)
+    Ok(read_and_compare(&rt, rt.alloc(), &table)?)
 }
 
 #[test]
 fn image_readings(rt: HostRuntime) -> Result<(), Fail> {
     let table = [
         Row {
-            image: b"\x03\0\0\0\0\0\0\0\x08\0\0\0\0\0\0\0\0\0\0\0\x04\0\0\0",
+            image: b"\x03\0\0\0\0\0\0\0\x08\0\0\0\0\0\0\0\
+                \0\0\0\0\x04\0\0\0",
             answer: Ok(Told {
                 time: 3,
                 size: 8,
@@ -141,15 +149,18 @@ fn image_readings(rt: HostRuntime) -> Result<(), Fail> {
             }),
         },
         Row {
-            image: b"\x03\0\0\0\0\0\0\0\x08\0\0\0\0\0\0\0\0\0\0\0\x06\0\0\0",
+            image: b"\x03\0\0\0\0\0\0\0\x08\0\0\0\0\0\0\0\
+                \0\0\0\0\x06\0\0\0",
             answer: Err(ImageFault::Word(WordFault::BadLength(0))),
         },
         Row {
-            image: b"\xff\xff\xff\xff\xff\xff\xff\xff\x08\0\0\0\0\0\0\0\x21\0\0\0\xaa\xbb\xcc\xdd",
+            image: b"\xff\xff\xff\xff\xff\xff\xff\xff\x08\0\0\0\0\0\0\0\
+                \x21\0\0\0\xaa\xbb\xcc\xdd",
             answer: Err(ImageFault::Word(WordFault::TimeOverflow(0))),
         },
         Row {
-            image: b"\x0a\0\0\0\0\0\0\0\x18\0\0\0\0\0\0\0\x01\0\0\0\xaa\xbb\xcc\xdd\x7e\0\0\0\x01\0\0\0\x01\0\0\0\x11\x22\x33\x44",
+            image: b"\x0a\0\0\0\0\0\0\0\x18\0\0\0\0\0\0\0\
+                \x01\0\0\0\xaa\xbb\xcc\xdd\x7e\0\0\0\x01\0\0\0\x01\0\0\0\x11\x22\x33\x44",
             answer: Ok(Told {
                 time: 10,
                 size: 24,
@@ -167,11 +178,12 @@ fn image_readings(rt: HostRuntime) -> Result<(), Fail> {
             }),
         },
         Row {
-            image: b"\x0a\0\0\0\0\0\0\0\x09\0\0\0\0\0\0\0\x01\0\0\0\xaa\xbb\xcc\xdd\x01",
+            image: b"\x0a\0\0\0\0\0\0\0\x09\0\0\0\0\0\0\0\
+                \x01\0\0\0\xaa\xbb\xcc\xdd\x01",
             answer: Err(ImageFault::Word(WordFault::Cut(8))),
         },
     ];
-    are_read(&rt, rt.alloc(), &table)?;
+    read_and_compare(&rt, rt.alloc(), &table)?;
     let long = vec![in rt.alloc(); 0; MAX_IMAGE + 1]?;
     assert!(rt; matches!(read_image(rt.alloc(), &long), Err(ImageFault::BadSize)));
     let longest = vec![in rt.alloc(); 0; MAX_IMAGE]?;
@@ -187,7 +199,9 @@ fn missed_count_in_an_image(rt: HostRuntime) -> Result<(), Fail> {
     }];
     let table = [
         Row {
-            image: b"\x02\0\0\0\0\0\0\0\x20\0\0\x80\0\0\0\0\x07\0\0\0\x02\x02\x02\x02\x02\x02\x02\x02\x02\x02\x02\x02\x02\x02\x02\x02\x02\x02\x02\x02\x02\x02\x02\x02\x02\x02\x02\x02\0\0\0\0",
+            image: b"\x02\0\0\0\0\0\0\0\x20\0\0\x80\0\0\0\0\
+                \x07\0\0\0\x02\x02\x02\x02\x02\x02\x02\x02\x02\x02\x02\x02\x02\x02\x02\x02\
+                \x02\x02\x02\x02\x02\x02\x02\x02\x02\x02\x02\x02\0\0\0\0",
             answer: Ok(Told {
                 time: 2,
                 size: 32,
@@ -196,7 +210,9 @@ fn missed_count_in_an_image(rt: HostRuntime) -> Result<(), Fail> {
             }),
         },
         Row {
-            image: b"\x02\0\0\0\0\0\0\0\x20\0\0\xc0\0\0\0\0\x07\0\0\0\x02\x02\x02\x02\x02\x02\x02\x02\x02\x02\x02\x02\x02\x02\x02\x02\x02\x02\x02\x02\x02\x02\x02\x02\x02\x02\x02\x02\x01\0\0\0\0\0\0\0",
+            image: b"\x02\0\0\0\0\0\0\0\x20\0\0\xc0\0\0\0\0\
+                \x07\0\0\0\x02\x02\x02\x02\x02\x02\x02\x02\x02\x02\x02\x02\x02\x02\x02\x02\
+                \x02\x02\x02\x02\x02\x02\x02\x02\x02\x02\x02\x02\x01\0\0\0\0\0\0\0",
             answer: Ok(Told {
                 time: 2,
                 size: 32,
@@ -205,7 +221,9 @@ fn missed_count_in_an_image(rt: HostRuntime) -> Result<(), Fail> {
             }),
         },
         Row {
-            image: b"\x02\0\0\0\0\0\0\0\x20\0\0\x40\0\0\0\0\x07\0\0\0\x02\x02\x02\x02\x02\x02\x02\x02\x02\x02\x02\x02\x02\x02\x02\x02\x02\x02\x02\x02\x02\x02\x02\x02\x02\x02\x02\x02",
+            image: b"\x02\0\0\0\0\0\0\0\x20\0\0\x40\0\0\0\0\
+                \x07\0\0\0\x02\x02\x02\x02\x02\x02\x02\x02\x02\x02\x02\x02\x02\x02\x02\x02\
+                \x02\x02\x02\x02\x02\x02\x02\x02\x02\x02\x02\x02",
             answer: Ok(Told {
                 time: 2,
                 size: 32,
@@ -214,7 +232,7 @@ fn missed_count_in_an_image(rt: HostRuntime) -> Result<(), Fail> {
             }),
         },
     ];
-    Ok(are_read(&rt, rt.alloc(), &table)?)
+    Ok(read_and_compare(&rt, rt.alloc(), &table)?)
 }
 
 /// A page of one record, of moment 100 and the bytes 1 to 4.
@@ -245,15 +263,15 @@ fn first_record(rt: HostRuntime) -> Result<(), Fail> {
         }],
     };
     match read_image(rt.alloc(), &image) {
-        Ok(read) => is_told(&rt, rt.alloc(), &read, told)?,
+        Ok(read) => compare(&rt, rt.alloc(), &read, told)?,
         Err(fault) => assert!(rt; false, "{fault:?}"),
     }
     Ok(())
 }
 
-/// High bits of a commit word, missed flags and bytes behind the records aren't written again.
+/// High bits of a commit word, missed flags and bytes behind the records are none of it.
 #[test]
-fn written_again(rt: HostRuntime) -> Result<(), Fail> {
+fn what_a_page_holds_is_all_that_is_written(rt: HostRuntime) -> Result<(), Fail> {
     let given =
         b"\x07\0\0\0\0\0\0\0\x08\0\0\x80\xff\xff\xff\xff\x01\0\0\0\xaa\xbb\xcc\xdd\x55\x55\x55\x55";
     match read_image(rt.alloc(), given) {
