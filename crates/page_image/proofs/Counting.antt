@@ -128,16 +128,6 @@ counted-whole bytes time words reached is reads =
 some_behind : (bytes : List ℕ) (at : ℕ) → at < length bytes → drop at bytes ≢ []
 some_behind bytes at inside e = (let none = ap length e in omega (arith, length-drop at bytes))
 
-fault_here : (bytes : List ℕ) (time : ℕ) (words : List Word) (reached : Reached) (named : ℕ) (cause : Cause) → HasRead bytes time words reached → reached.at < length bytes → FaultyAt bytes reached.at named cause → FirstFault bytes time cause named
-fault_here bytes time words reached named cause is inside faulty =
-    subst (λ (n : ℕ). FirstFault bytes time cause n) (sym (faulty.offset ∙ is.at_is))
-    (FirstFault-from_word bytes time words (drop reached.at bytes) cause is.whole is.each is.in_time (some_behind bytes reached.at inside) faulty.fault)
-
-pub faulty-first : (bytes : List ℕ) (time : ℕ) (words : List Word) (reached : Reached) (f : WordFault) → HasRead bytes time words reached → reached.at < length bytes → IsFaultAt bytes reached.at f → IsFirstFault bytes time f
-faulty-first bytes time words reached (Cut named) is inside faulty = fault_here bytes time words reached named cut is inside faulty
-faulty-first bytes time words reached (BadLength named) is inside faulty = fault_here bytes time words reached named bad_length is inside faulty
-faulty-first bytes time words reached (TimeOverflow named) is inside faulty = absurd faulty
-
 -- a word that moves the time too far
 pub overflow-first : (bytes : List ℕ) (time : ℕ) (words : List Word) (reached : Reached) (w : Word) (next : ℕ) (f : WordFault) → HasRead bytes time words reached → reached.at < length bytes → StandsAt bytes reached.at next w
     → MovesTime w → is_stamp w ≡ false → f ≡ TimeOverflow reached.at → 2 ^ 64 ≤ reached.moment + delta_of w → IsFirstFault bytes time f
