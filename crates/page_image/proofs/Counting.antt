@@ -5,15 +5,15 @@ use Rattle.std.proofs.lemmas.List.Concat.{flat_map-append}
 use Rattle.trace_model.specs.Record.{Record}
 use Rattle.trace_model.specs.Words.{Word, padding, time_extend, time_stamp, bytes_of_word, joined, delta_of, is_stamp, moment_after, records_of, records_at, MovesTime, IsEnding, Decodes, short_data, long_data}
 use Rattle.trace_model.specs.Reading.{IsData, payload_of, records_in}
-use Rattle.trace_model.specs.Faults.{Cause, cut, bad_length, time_overflow}
+use Rattle.trace_model.specs.Faults.{cut, bad_length, time_overflow}
 use Rattle.trace_model.specs.FirstFault.{FirstFault}
 use Rattle.trace_model.proofs.Lengths.{bytes_of_word_ge}
 use Rattle.trace_model.proofs.Unique.{records_in-Decodes}
 use Rattle.trace_model.proofs.Appended.{FitsTime-nil, FitsTime-push, each-append, moment_after-push, moment_after-stamp, IsData-not_stamp, records_at-data, records_of-push, records_of-push_data}
-use Rattle.trace_model.proofs.FirstFaults.{FirstFault-from_word, Decodes-FirstFault}
+use Rattle.trace_model.proofs.FirstFaults.{Decodes-FirstFault}
 use Rattle.record_words.specs.declared.next.WordFault.{WordFault}
 use Rattle.record_words.specs.declared.next.WordFault.TheVariants.{Cut, BadLength, TimeOverflow}
-use Rattle.record_words.specs.Next.{StandsAt, DataAt, PaddingAt, EndingAt, FaultyAt, IsFaultAt}
+use Rattle.record_words.specs.Next.{StandsAt, DataAt, PaddingAt, EndingAt}
 use Rattle.record_words.specs.declared.put.Place.{Place}
 use Rattle.page_image.specs.declared.walk.Reached.{Reached}
 use Rattle.page_image.specs.declared.walk.Passed.{Passed}
