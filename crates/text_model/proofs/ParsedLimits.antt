@@ -11,20 +11,20 @@ use Rattle.std.proofs.lemmas.List.Elements.{All-from_recursion}
 use Rattle.std.proofs.lemmas.Result.{IfOk-at_ok}
 use Rattle.std.proofs.lemmas.Slice.Eq.{bytes_eq-Decides}
 use Rattle.text_model.specs.Text.{fields_of, is_well_spaced, is_decimal, is_hex, bytes_of_pairs, hex_bytes, no_bytes_text}
-use Rattle.text_model.specs.Script.{Command, Script, LineFault, bad_line, bad_number, bad_hex, out_of_range, ◌>>=◌, number_in, payload_in, number_below, names_cpu, cpu_in, write_in, close_in, take_in, deliver_in, command_of, command_in, Setting, allowed_for, value_given, value_of, value_in, Line, header_settings, GiveSettings, SpellCommands, SpellScript, counted_lines, ParsesScript}
+use Rattle.text_model.specs.Script.{Command, Script, LineFault, bad_line, bad_number, bad_hex, out_of_range, ◌>>=◌, number_in, payload_in, number_below, names_cpu, cpu_in, write_in, close_in, take_in, deliver_in, command_of, command_in, Setting, allowed_for, value_given, value_of, value_in, Line, header_settings, GiveSettings, SpellCommands, SpellScript, significant_lines, ParsesScript}
 use Rattle.text_model.specs.ScriptLimits.{IsCommandWithin, IsWithinLimits}
 
 -- ---- answers
 
 -- a value that is answered only where a test holds
-tested : {A : Type 0} (P : A → Type 0) (test : Bool) (r : Result A LineFault) (fault : LineFault) → (test ≡ true → IfOk r P) → IfOk (cond test r (Err fault)) P
-tested P true r fault h = h refl
-tested P false r fault h = tt
+tested-within : {A : Type 0} (P : A → Type 0) (test : Bool) (r : Result A LineFault) (fault : LineFault) → (test ≡ true → IfOk r P) → IfOk (cond test r (Err fault)) P
+tested-within P true r fault h = h refl
+tested-within P false r fault h = tt
 
 -- one answer after the other
-then : {A B : Type 0} (P : A → Type 0) (Q : B → Type 0) (r : Result A LineFault) (f : A → Result B LineFault) → IfOk r P → ((x : A) → P x → IfOk (f x) Q) → IfOk (r >>= f) Q
-then P Q (Ok x) f h g = g x h
-then P Q (Err e) f h g = tt
+then-within : {A B : Type 0} (P : A → Type 0) (Q : B → Type 0) (r : Result A LineFault) (f : A → Result B LineFault) → IfOk r P → ((x : A) → P x → IfOk (f x) Q) → IfOk (r >>= f) Q
+then-within P Q (Ok x) f h g = g x h
+then-within P Q (Err e) f h g = tt
 
 -- ---- numbers and bytes
 
@@ -33,15 +33,15 @@ Is64Bit n = n < 2 ^ 64
 
 number_in-within : (field : List ℕ) → IfOk (number_in field) Is64Bit
 unfolding number_in is_decimal Is64Bit
-number_in-within field = tested Is64Bit (is_decimal field) (Ok (digits_value 10 field)) bad_number (λ h. ltb-true (digits_value 10 field) (2 ^ 64) (and_parts _ _ h).1)
+number_in-within field = tested-within Is64Bit (is_decimal field) (Ok (digits_value 10 field)) bad_number (λ h. ltb-true (digits_value 10 field) (2 ^ 64) (and_parts _ _ h).1)
 
 number_below-within : (limit : ℕ) (field : List ℕ) → IfOk (number_below limit field) (λ n. n < limit)
 unfolding number_below
-number_below-within limit field = then Is64Bit (λ n. n < limit) (number_in field) _ (number_in-within field) (λ n small. tested (λ n. n < limit) (ltb n limit) (Ok n) out_of_range (λ h. ltb-true n limit h))
+number_below-within limit field = then-within Is64Bit (λ n. n < limit) (number_in field) _ (number_in-within field) (λ n small. tested-within (λ n. n < limit) (ltb n limit) (Ok n) out_of_range (λ h. ltb-true n limit h))
 
 cpu_in-within : (cpus : ℕ) (field : List ℕ) → IfOk (cpu_in cpus field) (λ cpu. cpu < cpus)
 unfolding cpu_in
-cpu_in-within cpus field = tested (λ cpu. cpu < cpus) (names_cpu field) _ bad_line (λ h. number_below-within cpus _)
+cpu_in-within cpus field = tested-within (λ cpu. cpu < cpus) (names_cpu field) _ bad_line (λ h. number_below-within cpus _)
 
 AreBytes : List ℕ → Type 0
 AreBytes bytes = All (λ b. b < 256) bytes
@@ -67,7 +67,7 @@ no_bytes-within text is = subst (λ (t : List ℕ). AllByRecursion (λ b. b < 25
 
 payload_in-within : (field : List ℕ) → IfOk (payload_in field) AreBytes
 unfolding payload_in is_hex AreBytes
-payload_in-within field = tested AreBytes (is_hex field) (Ok (hex_bytes field)) bad_hex (λ h. All-from_recursion (λ b. b < 256) (hex_bytes field) (elim (or_cases (bytes_eq field no_bytes_text) _ h) [
+payload_in-within field = tested-within AreBytes (is_hex field) (Ok (hex_bytes field)) bad_hex (λ h. All-from_recursion (λ b. b < 256) (hex_bytes field) (elim (or_cases (bytes_eq field no_bytes_text) _ h) [
   | inl none ↦ no_bytes-within field (is_same field no_bytes_text none)
   | inr pairs ↦ pairs-within field (and_parts _ _ pairs).1
 ]))
@@ -77,26 +77,26 @@ payload_in-within field = tested AreBytes (is_hex field) (Ok (hex_bytes field)) 
 write_in-within : (cpus collectors : ℕ) (cpu_field moment_field payload_field : List ℕ) → IfOk (write_in cpus cpu_field moment_field payload_field) (IsCommandWithin cpus collectors)
 unfolding write_in Is64Bit AreBytes
 write_in-within cpus collectors cpu_field moment_field payload_field =
-    then (λ cpu. cpu < cpus) (IsCommandWithin cpus collectors) (cpu_in cpus cpu_field) _ (cpu_in-within cpus cpu_field) (λ cpu here.
-    then Is64Bit (IsCommandWithin cpus collectors) (number_in moment_field) _ (number_in-within moment_field) (λ moment small.
-    then AreBytes (IsCommandWithin cpus collectors) (payload_in payload_field) _ (payload_in-within payload_field) (λ payload bytes. (here, small, bytes))))
+    then-within (λ cpu. cpu < cpus) (IsCommandWithin cpus collectors) (cpu_in cpus cpu_field) _ (cpu_in-within cpus cpu_field) (λ cpu here.
+    then-within Is64Bit (IsCommandWithin cpus collectors) (number_in moment_field) _ (number_in-within moment_field) (λ moment small.
+    then-within AreBytes (IsCommandWithin cpus collectors) (payload_in payload_field) _ (payload_in-within payload_field) (λ payload bytes. (here, small, bytes))))
 
 close_in-within : (cpus collectors : ℕ) (cpu_field : List ℕ) → IfOk (close_in cpus cpu_field) (IsCommandWithin cpus collectors)
 unfolding close_in
 close_in-within cpus collectors cpu_field =
-    then (λ cpu. cpu < cpus) (IsCommandWithin cpus collectors) (cpu_in cpus cpu_field) _ (cpu_in-within cpus cpu_field) (λ cpu here. here)
+    then-within (λ cpu. cpu < cpus) (IsCommandWithin cpus collectors) (cpu_in cpus cpu_field) _ (cpu_in-within cpus cpu_field) (λ cpu here. here)
 
 take_in-within : (cpus collectors : ℕ) (cpu_field : List ℕ) → IfOk (take_in cpus cpu_field) (IsCommandWithin cpus collectors)
 unfolding take_in
 take_in-within cpus collectors cpu_field =
-    then (λ cpu. cpu < cpus) (IsCommandWithin cpus collectors) (cpu_in cpus cpu_field) _ (cpu_in-within cpus cpu_field) (λ cpu here. here)
+    then-within (λ cpu. cpu < cpus) (IsCommandWithin cpus collectors) (cpu_in cpus cpu_field) _ (cpu_in-within cpus cpu_field) (λ cpu here. here)
 
 deliver_in-within : (cpus collectors : ℕ) (collector_field cpu_field fill_field : List ℕ) → IfOk (deliver_in cpus collectors collector_field cpu_field fill_field) (IsCommandWithin cpus collectors)
 unfolding deliver_in Is64Bit
 deliver_in-within cpus collectors collector_field cpu_field fill_field =
-    then (λ collector. collector < collectors) (IsCommandWithin cpus collectors) (number_below collectors collector_field) _ (number_below-within collectors collector_field) (λ collector known.
-    then (λ cpu. cpu < cpus) (IsCommandWithin cpus collectors) (cpu_in cpus cpu_field) _ (cpu_in-within cpus cpu_field) (λ cpu here.
-    then Is64Bit (IsCommandWithin cpus collectors) (number_in fill_field) _ (number_in-within fill_field) (λ fill small. (known, here, small))))
+    then-within (λ collector. collector < collectors) (IsCommandWithin cpus collectors) (number_below collectors collector_field) _ (number_below-within collectors collector_field) (λ collector known.
+    then-within (λ cpu. cpu < cpus) (IsCommandWithin cpus collectors) (cpu_in cpus cpu_field) _ (cpu_in-within cpus cpu_field) (λ cpu here.
+    then-within Is64Bit (IsCommandWithin cpus collectors) (number_in fill_field) _ (number_in-within fill_field) (λ fill small. (known, here, small))))
 
 -- where both answers are within, so is the one that the tests choose
 one_of : {A : Type 0} (P : A → Type 0) (first second : Bool) (r s : Result A LineFault) (fault : LineFault) → IfOk r P → IfOk s P → IfOk (cond first r (cond second s (Err fault))) P
@@ -118,7 +118,7 @@ command_of-within cpus collectors (first ∷ second ∷ third ∷ fourth ∷ fif
 command_in-within : (cpus collectors : ℕ) (line : List ℕ) → IfOk (command_in cpus collectors line) (IsCommandWithin cpus collectors)
 unfolding command_in
 command_in-within cpus collectors line =
-    tested (IsCommandWithin cpus collectors) (is_well_spaced (fields_of line)) _ bad_line (λ h. command_of-within cpus collectors (fields_of line))
+    tested-within (IsCommandWithin cpus collectors) (is_well_spaced (fields_of line)) _ bad_line (λ h. command_of-within cpus collectors (fields_of line))
 
 commands-within : (cpus collectors : ℕ) (lines : List Line) (commands : List (ℕ × Command)) → SpellCommands cpus collectors lines commands → AllByRecursion (λ line. IsCommandWithin cpus collectors line.1) commands
 commands-within cpus collectors [] [] h = tt
@@ -131,20 +131,20 @@ commands-within cpus collectors (line ∷ lines) [] h = absurd h
 
 -- a value that the setting may have
 record IsAllowed (s : Setting) (n : ℕ) : Type 0 where
-  least : s.least ≤ n
-  most : n ≤ s.most
+  min : s.min ≤ n
+  max : n ≤ s.max
   step : n % s.step ≡ 0
 
 allowed_for-within : (s : Setting) (n : ℕ) → IfOk (allowed_for s n) (IsAllowed s)
-allowed_for-within s n = tested (IsAllowed s) _ (Ok n) out_of_range (λ h.
+allowed_for-within s n = tested-within (IsAllowed s) _ (Ok n) out_of_range (λ h.
     let parts = and_parts _ _ h in
     let bounds = and_parts _ _ parts.0 in
-    record { least = leb-true s.least n bounds.0; most = leb-true n s.most bounds.1; step = eqb-true (n % s.step) 0 parts.1 })
+    record { min = leb-true s.min n bounds.0; max = leb-true n s.max bounds.1; step = eqb-true (n % s.step) 0 parts.1 })
 
 value_given-within : (s : Setting) (word number : List ℕ) → IfOk (value_given s word number) (IsAllowed s)
 unfolding value_given
-value_given-within s word number = tested (IsAllowed s) (bytes_eq word s.word) _ bad_line (λ h.
-    then Is64Bit (IsAllowed s) (number_in number) (allowed_for s) (number_in-within number) (λ n small. allowed_for-within s n))
+value_given-within s word number = tested-within (IsAllowed s) (bytes_eq word s.word) _ bad_line (λ h.
+    then-within Is64Bit (IsAllowed s) (number_in number) (allowed_for s) (number_in-within number) (λ n small. allowed_for-within s n))
 
 value_of-within : (s : Setting) (fields : List (List ℕ)) → IfOk (value_of s fields) (IsAllowed s)
 unfolding value_of
@@ -155,7 +155,7 @@ value_of-within s (word ∷ number ∷ more ∷ fields) = tt
 
 value_in-within : (s : Setting) (line : List ℕ) → IfOk (value_in s line) (IsAllowed s)
 unfolding value_in
-value_in-within s line = tested (IsAllowed s) (is_well_spaced (fields_of line)) _ bad_line (λ h. value_of-within s (fields_of line))
+value_in-within s line = tested-within (IsAllowed s) (is_well_spaced (fields_of line)) _ bad_line (λ h. value_of-within s (fields_of line))
 
 AreAllowed : List Setting → List ℕ → Type 0
 AreAllowed [] values = Unit {0}
@@ -179,17 +179,17 @@ SpellScript-within lines script h =
     let cpus = values.1.1.0 in
     let collectors = values.1.1.1.0 in
     record {
-      least_pages = pages.least;
-      most_pages = pages.most;
-      least_size = size.least;
-      most_size = size.most;
-      whole_words = size.step;
-      least_cpus = cpus.least;
-      most_cpus = cpus.most;
-      least_collectors = collectors.least;
-      most_collectors = collectors.most;
+      min_pages = pages.min;
+      max_pages = pages.max;
+      min_size = size.min;
+      max_size = size.max;
+      size_step = size.step;
+      min_cpus = cpus.min;
+      max_cpus = cpus.max;
+      min_collectors = collectors.min;
+      max_collectors = collectors.max;
       each_command = All-from_recursion (λ line. IsCommandWithin script.cpus script.collectors line.1) script.commands (commands-within script.cpus script.collectors h.behind script.commands h.commands);
     }
 
 pub ParsesScript-within : (text : List ℕ) (script : Script) → ParsesScript text script → IsWithinLimits script
-ParsesScript-within text script h = SpellScript-within (counted_lines text) script h
+ParsesScript-within text script h = SpellScript-within (significant_lines text) script h

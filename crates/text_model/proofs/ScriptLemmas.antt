@@ -2,7 +2,7 @@
 use Rattle.std.proofs.Common.{◌≡◌, ℕ, ◌⊎◌, List, [], ◌∷◌, ◌++◌, length, get_or, suc, arith, Result, Ok, Err, refl, sym, ◌∙◌, ap, subst, inl, inr, append_assoc}
 use Rattle.std.proofs.lemmas.List.{append-nil}
 use Rattle.text_model.specs.Script.{Command, Script, LineFault, bad_line, ◌>>=◌, Line, Setting, value_in, command_in, header_settings, GiveSettings, SpellCommands, SpellScript, IsFaultySetting, IsMissingSetting, IsFaultyCommand}
-use Rattle.text_model.specs.ScriptReading.{located, setting_from, settings_from, commands_from, script_from}
+use Rattle.text_model.specs.ScriptReading.{numbered_reading, setting_from, settings_from, commands_from, script_from}
 
 -- ---- one step after the other
 -- what is read, or the first line at fault
@@ -43,7 +43,7 @@ AreRead settings lines x = (header : List Line) × (lines ≡ header ++ x.1) × 
 
 -- one setting, of the line whose reading is r, and then the others
 abbrev setting_then : ℕ → Setting → List Setting → Line → List Line → Result ℕ LineFault → Read Settings
-setting_then end s settings line lines r = (located line.0 r >>= λ value. let found : Read (ℕ × List Line) = Ok (value, lines) in found)
+setting_then end s settings line lines r = (numbered_reading line.0 r >>= λ value. let found : Read (ℕ × List Line) = Ok (value, lines) in found)
     >>= λ first. settings_from end settings first.1 >>= value_onto first.0
 
 settings_from_line : (end : ℕ) (s : Setting) (settings : List Setting) (line : Line) (lines : List Line)
@@ -110,7 +110,7 @@ later_setting end s settings line lines v e is (inl f) = inl record {
   given = s ∷ f.given;
   setting = f.setting;
   others = f.others;
-  place = ap (λ (ss : List Setting). s ∷ ss) f.place;
+  order = ap (λ (ss : List Setting). s ∷ ss) f.order;
   values = v ∷ f.values;
   fits = (is, f.fits);
   fails = f.fails;
@@ -120,7 +120,7 @@ later_setting end s settings line lines v e is (inr f) = inr (
     given = s ∷ f.0.given;
     setting = f.0.setting;
     others = f.0.others;
-    place = ap (λ (ss : List Setting). s ∷ ss) f.0.place;
+    order = ap (λ (ss : List Setting). s ∷ ss) f.0.order;
     values = v ∷ f.0.values;
     fits = (is, f.0.fits);
   },
@@ -145,7 +145,7 @@ settings_err_at end s settings line lines e (Err f) again is h =
       given = [];
       setting = s;
       others = settings;
-      place = refl;
+      order = refl;
       values = [];
       fits = tt;
       fails = is;
@@ -156,7 +156,7 @@ pub settings_err : (end : ℕ) (settings : List Setting) (lines : List Line) (e 
 unfolding settings_from setting_from
 settings_err end [] lines e h = absurd (ok_is_no_err ([], lines) e h)
 settings_err end (s ∷ settings) [] e h =
-    inr (record { given = []; setting = s; others = settings; place = refl; values = []; fits = tt }, cc)
+    inr (record { given = []; setting = s; others = settings; order = refl; values = []; fits = tt }, cc)
 settings_err end (s ∷ settings) (line ∷ lines) e h =
     settings_err_at end s settings line lines e (value_in s line.1) (settings_err end settings lines) refl h
 
@@ -166,7 +166,7 @@ pub faulty_setting_read : (end : ℕ) (settings : List Setting) (lines : List Li
 faulty_setting_read end settings lines number fault f =
     let here = settings_from_line end f.setting f.others (number, f.line) f.behind
     ∙ ap (setting_then end f.setting f.others (number, f.line) f.behind) f.fails in
-    ap (λ (ss : List Setting). settings_from end ss lines) f.place
+    ap (λ (ss : List Setting). settings_from end ss lines) f.order
     ∙ ap (λ (ls : List Line). settings_from end (f.given ++ f.setting ∷ f.others) ls) f.cut
     ∙ settings_given end f.front f.given f.values (f.setting ∷ f.others) ((number, f.line) ∷ f.behind) f.fits
     ∙ ap (λ (r : Read Settings). r >>= values_onto f.values) here
@@ -177,7 +177,7 @@ nothing_read end s settings = refl
 
 pub missing_setting_read : (end : ℕ) (settings : List Setting) (lines : List Line) → IsMissingSetting settings lines → settings_from end settings lines ≡ Err (end, bad_line)
 missing_setting_read end settings lines f =
-    ap (λ (ss : List Setting). settings_from end ss lines) f.place
+    ap (λ (ss : List Setting). settings_from end ss lines) f.order
     ∙ ap (λ (ls : List Line). settings_from end (f.given ++ f.setting ∷ f.others) ls) (sym (append-nil lines))
     ∙ settings_given end lines f.given f.values (f.setting ∷ f.others) [] f.fits
     ∙ ap (λ (r : Read Settings). r >>= values_onto f.values) (nothing_read end f.setting f.others)
@@ -188,7 +188,7 @@ commands_onto front commands = Ok (front ++ commands)
 
 -- the command of the line whose reading is r, and then the others
 abbrev command_then : ℕ → ℕ → Line → List Line → Result Command LineFault → Read Commands
-command_then cpus collectors line lines r = located line.0 r >>= λ command. commands_from cpus collectors lines >>= λ commands. Ok ((line.0, command) ∷ commands)
+command_then cpus collectors line lines r = numbered_reading line.0 r >>= λ command. commands_from cpus collectors lines >>= λ commands. Ok ((line.0, command) ∷ commands)
 
 commands_from_line : (cpus collectors : ℕ) (line : Line) (lines : List Line)
     → commands_from cpus collectors (line ∷ lines) ≡ command_then cpus collectors line lines (command_in cpus collectors line.1)

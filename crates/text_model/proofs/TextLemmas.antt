@@ -1,7 +1,7 @@
 -- Numbers and bytes, written as text, read back.
-use Rattle.std.proofs.Common.{◌≡◌, ℕ, ◌+◌, ◌*◌, ◌/◌, ◌%◌, ◌^◌, ◌<◌, ◌≤◌, suc, true, not, ◌==◌, ltb, List, [], ◌∷◌, length, Result, Ok, EachIndex, slice_index, refl, ◌∙◌, ap, arith, decimal, flat_map}
+use Rattle.std.proofs.Common.{◌≡◌, ℕ, ◌+◌, ◌*◌, ◌/◌, ◌%◌, ◌^◌, ◌<◌, ◌≤◌, true, not, ◌==◌, ltb, List, [], ◌∷◌, length, Result, Ok, refl, ◌∙◌, ap, arith, decimal, flat_map}
 use Rattle.std.specs.Char.{digit_value, digit_char, is_digit}
-use Rattle.std.specs.List.{list_all}
+use Rattle.std.specs.List.{list_all, AllByRecursion}
 use Rattle.std.specs.Str.{all_ascii_digits}
 use Rattle.std.specs.Str.Parse.{digits_value}
 use Rattle.std.proofs.lemmas.Bool.{lt-ltb, ltb-true, le-leb, eq-eqb, ne_eqb, and_from, and_parts, or_right, not_from_false, cond-true}
@@ -44,33 +44,28 @@ is_digit-digit_char d small =
     let value = digit_value-digit_char d (omega arith) in
     lt-ltb (digit_value (digit_char d)) 16 (omega arith)
 
-each_byte : (b : ℕ) (bytes : List ℕ) → EachIndex (b ∷ bytes) (λ k. slice_index (b ∷ bytes) k < 256) → (b < 256) × EachIndex bytes (λ k. slice_index bytes k < 256)
-each_byte b bytes h = (h 0 (omega arith), λ k below. h (suc k) (omega arith))
-
-list_all-pairs_of : (bytes : List ℕ) → EachIndex bytes (λ k. slice_index bytes k < 256) → list_all (λ c. is_digit c 16) (pairs_of bytes) ≡ true
+list_all-pairs_of : (bytes : List ℕ) → AllByRecursion (λ byte. byte < 256) bytes → list_all (λ c. is_digit c 16) (pairs_of bytes) ≡ true
 list_all-pairs_of [] h = refl
 list_all-pairs_of (b ∷ bytes) h =
-    let each = each_byte b bytes h in
-    let small : b < 256 = each.0 in
-    and_from _ _ (is_digit-digit_char (b / 16) (omega arith)) (and_from _ _ (is_digit-digit_char (b % 16) (omega arith)) (list_all-pairs_of bytes each.1))
+    let small : b < 256 = h.0 in
+    and_from _ _ (is_digit-digit_char (b / 16) (omega arith)) (and_from _ _ (is_digit-digit_char (b % 16) (omega arith)) (list_all-pairs_of bytes h.1))
 
-bytes_of_pairs-pairs_of : (bytes : List ℕ) → EachIndex bytes (λ k. slice_index bytes k < 256) → bytes_of_pairs (pairs_of bytes) ≡ bytes
+bytes_of_pairs-pairs_of : (bytes : List ℕ) → AllByRecursion (λ byte. byte < 256) bytes → bytes_of_pairs (pairs_of bytes) ≡ bytes
 bytes_of_pairs-pairs_of [] h = refl
 bytes_of_pairs-pairs_of (b ∷ bytes) h =
-    let each = each_byte b bytes h in
-    let small : b < 256 = each.0 in
+    let small : b < 256 = h.0 in
     let high = digit_value-digit_char (b / 16) (omega arith) in
     let low = digit_value-digit_char (b % 16) (omega arith) in
     let byte : 16 * digit_value (digit_char (b / 16)) + digit_value (digit_char (b % 16)) ≡ b = omega (arith, high, low) in
-    ap (λ (c : ℕ). c ∷ bytes_of_pairs (pairs_of bytes)) byte ∙ ap (λ (bs : List ℕ). b ∷ bs) (bytes_of_pairs-pairs_of bytes each.1)
+    ap (λ (c : ℕ). c ∷ bytes_of_pairs (pairs_of bytes)) byte ∙ ap (λ (bs : List ℕ). b ∷ bs) (bytes_of_pairs-pairs_of bytes h.1)
 
-is_hex-pairs_of : (bytes : List ℕ) → EachIndex bytes (λ k. slice_index bytes k < 256) → 0 < length bytes → is_hex (pairs_of bytes) ≡ true
+is_hex-pairs_of : (bytes : List ℕ) → AllByRecursion (λ byte. byte < 256) bytes → 0 < length bytes → is_hex (pairs_of bytes) ≡ true
 unfolding is_hex
 is_hex-pairs_of bytes h some =
     let len = length-pairs_of bytes in
     or_right _ _ (and_from _ _ (and_from _ _ (lt-ltb 0 (length (pairs_of bytes)) (omega arith)) (eq-eqb (length (pairs_of bytes) % 2) 0 (omega arith))) (list_all-pairs_of bytes h))
 
-pub payload_in-hex_text : (bytes : List ℕ) → EachIndex bytes (λ k. slice_index bytes k < 256) → payload_in (hex_text bytes) ≡ Ok bytes
+pub payload_in-hex_text : (bytes : List ℕ) → AllByRecursion (λ byte. byte < 256) bytes → payload_in (hex_text bytes) ≡ Ok bytes
 unfolding payload_in is_hex
 payload_in-hex_text [] h = refl
 payload_in-hex_text (b ∷ bytes) h =
@@ -95,7 +90,7 @@ hex_digits_free c (d ∷ text) low h =
     and_from _ _ (hex_digit_is_no c d low parts.0) (hex_digits_free c text low parts.1)
 
 -- a byte below the digits and other than `-` is in no text of bytes
-pub hex_text_free : (c : ℕ) (bytes : List ℕ) → c < 45 → EachIndex bytes (λ k. slice_index bytes k < 256) → list_all (λ d. not (d == c)) (hex_text bytes) ≡ true
+pub hex_text_free : (c : ℕ) (bytes : List ℕ) → c < 45 → AllByRecursion (λ byte. byte < 256) bytes → list_all (λ d. not (d == c)) (hex_text bytes) ≡ true
 hex_text_free c [] low h = and_from _ _ (not_from_false (45 == c) (ne_eqb 45 c (λ same. omega arith))) refl
 hex_text_free c (b ∷ bytes) low h = hex_digits_free c (pairs_of (b ∷ bytes)) (omega arith) (list_all-pairs_of (b ∷ bytes) h)
 

@@ -6,7 +6,7 @@ use Rattle.std.specs.Str.{all_ascii_digits}
 use Rattle.std.specs.Str.Parse.{digits_value}
 use Rattle.text_model.specs.Text.{lines_of, fields_of, is_well_spaced, is_decimal, is_hex, hex_bytes}
 use Rattle.trace_model.specs.declared.limits.TheConstants.{MIN_PAGES, MAX_PAGES, MIN_SIZE, MAX_SIZE}
-use Rattle.text_model.specs.declared.script_limits.TheConstants.{MAX_SCRIPT_CPUS, MAX_SCRIPT_COLLECTORS}
+use Rattle.text_model.specs.declared.script_limits.TheConstants.{SIZE_STEP, MIN_SCRIPT_CPUS, MAX_SCRIPT_CPUS, MIN_SCRIPT_COLLECTORS, MAX_SCRIPT_COLLECTORS}
 
 -- What a line of a script asks for. write: a record of this moment and payload. close: leave the
 -- tail page. take_page: the reader takes a page. deliver: the collector gets this fill of the CPU.
@@ -24,8 +24,8 @@ pub record Script : Type 0 where
   pub collectors : ℕ
   pub commands : List (ℕ × Command)
 
--- What is wrong with a line. bad_line: its spaces, its place in the header, its word, how many fields
--- it has, or a field that is to name a CPU and doesn't. bad_number, bad_hex: a field that is no
+-- What is wrong with a line. bad_line: its spaces, its word, that another line of the header is due, how
+-- many fields it has, or a field that is to name a CPU and doesn't. bad_number, bad_hex: a field that is no
 -- number, or no bytes. out_of_range: a number outside its limits.
 pub data LineFault : Type 0 where
   bad_line : LineFault
@@ -103,10 +103,22 @@ command_of cpus collectors _ = Err bad_line
 
 -- The same by the commands: what fields spell each.
 abbrev pub SpellsCommand : ℕ → ℕ → Command → List (List ℕ) → Type 0
-SpellsCommand cpus collectors (write cpu moment payload) fields = (x : List ℕ) × (t : List ℕ) × (hex : List ℕ) × (fields ≡ x ∷ codes "w" ∷ t ∷ hex ∷ []) × (cpu_in cpus x ≡ Ok cpu) × (number_in t ≡ Ok moment) × (payload_in hex ≡ Ok payload)
-SpellsCommand cpus collectors (close cpu) fields = (x : List ℕ) × (fields ≡ x ∷ codes "c" ∷ []) × (cpu_in cpus x ≡ Ok cpu)
-SpellsCommand cpus collectors (take_page cpu) fields = (x : List ℕ) × (fields ≡ x ∷ codes "t" ∷ []) × (cpu_in cpus x ≡ Ok cpu)
-SpellsCommand cpus collectors (deliver collector cpu fill) fields = (k : List ℕ) × (x : List ℕ) × (f : List ℕ) × (fields ≡ codes "d" ∷ k ∷ x ∷ f ∷ []) × (number_below collectors k ≡ Ok collector) × (cpu_in cpus x ≡ Ok cpu) × (number_in f ≡ Ok fill)
+SpellsCommand cpus collectors (write cpu moment payload) fields =
+    (x : List ℕ) × (t : List ℕ) × (hex : List ℕ)
+    × (fields ≡ x ∷ codes "w" ∷ t ∷ hex ∷ [])
+    × (cpu_in cpus x ≡ Ok cpu)
+    × (number_in t ≡ Ok moment)
+    × (payload_in hex ≡ Ok payload)
+SpellsCommand cpus collectors (close cpu) fields =
+    (x : List ℕ) × (fields ≡ x ∷ codes "c" ∷ []) × (cpu_in cpus x ≡ Ok cpu)
+SpellsCommand cpus collectors (take_page cpu) fields =
+    (x : List ℕ) × (fields ≡ x ∷ codes "t" ∷ []) × (cpu_in cpus x ≡ Ok cpu)
+SpellsCommand cpus collectors (deliver collector cpu fill) fields =
+    (k : List ℕ) × (x : List ℕ) × (f : List ℕ)
+    × (fields ≡ codes "d" ∷ k ∷ x ∷ f ∷ [])
+    × (number_below collectors k ≡ Ok collector)
+    × (cpu_in cpus x ≡ Ok cpu)
+    × (number_in f ≡ Ok fill)
 
 -- the command that a line spells: its spaces are looked at first
 unfoldable pub command_in : ℕ → ℕ → List ℕ → Result Command LineFault
@@ -116,25 +128,30 @@ command_in cpus collectors line =
 -- a line of the header: its word, and the values that it may have, multiples of a step
 pub record Setting : Type 0 where
   pub word : List ℕ
-  pub least : ℕ
-  pub most : ℕ
+  pub min : ℕ
+  pub max : ℕ
   pub step : ℕ
 
 -- the pages of a ring
 abbrev pub pages_setting : Setting
-pages_setting = record { word = codes "pages"; least = MIN_PAGES; most = MAX_PAGES; step = 1 }
+pages_setting = record { word = codes "pages"; min = MIN_PAGES; max = MAX_PAGES; step = 1 }
 
 -- the data size of a page, in bytes
 abbrev pub size_setting : Setting
-size_setting = record { word = codes "size"; least = MIN_SIZE; most = MAX_SIZE; step = 4 }
+size_setting = record { word = codes "size"; min = MIN_SIZE; max = MAX_SIZE; step = SIZE_STEP }
 
 -- how many CPUs there are
 abbrev pub cpus_setting : Setting
-cpus_setting = record { word = codes "cpus"; least = 1; most = MAX_SCRIPT_CPUS; step = 1 }
+cpus_setting = record { word = codes "cpus"; min = MIN_SCRIPT_CPUS; max = MAX_SCRIPT_CPUS; step = 1 }
 
 -- how many collectors there are
 abbrev pub collectors_setting : Setting
-collectors_setting = record { word = codes "collectors"; least = 1; most = MAX_SCRIPT_COLLECTORS; step = 1 }
+collectors_setting = record {
+  word = codes "collectors";
+  min = MIN_SCRIPT_COLLECTORS;
+  max = MAX_SCRIPT_COLLECTORS;
+  step = 1;
+}
 
 -- the lines of a header, in their order
 abbrev pub header_settings : List Setting
@@ -142,7 +159,7 @@ header_settings = pages_setting ∷ size_setting ∷ cpus_setting ∷ collectors
 
 -- a value that this setting may have
 abbrev pub allowed_for : Setting → ℕ → Result ℕ LineFault
-allowed_for s n = if nat_le s.least n && nat_le n s.most && (n % s.step == 0) then Ok n else Err out_of_range
+allowed_for s n = if nat_le s.min n && nat_le n s.max && (n % s.step == 0) then Ok n else Err out_of_range
 
 -- the value that a word and a number give to this setting
 unfoldable pub value_given : Setting → List ℕ → List ℕ → Result ℕ LineFault
@@ -158,17 +175,17 @@ unfoldable pub value_in : Setting → List ℕ → Result ℕ LineFault
 value_in s line = if is_well_spaced (fields_of line) then value_of s (fields_of line) else Err bad_line
 
 -- a line that says something: it is neither empty nor begins with `#`
-abbrev pub is_counted : List ℕ → Bool
-is_counted [] = false
-is_counted (b ∷ line) = not (b == 35)
+abbrev pub is_significant : List ℕ → Bool
+is_significant [] = false
+is_significant (b ∷ line) = not (b == 35)
 
 -- a line with its number
 abbrev pub Line : Type 0
 Line = ℕ × List ℕ
 
--- the lines of a text that say something, numbered by their place among all its lines from 1
-abbrev pub counted_lines : List ℕ → List Line
-counted_lines text = filter (λ line. is_counted line.1) (enumerate_from 1 (lines_of text))
+-- the lines of a text that say something, each with its number among all lines of the text, from 1
+abbrev pub significant_lines : List ℕ → List Line
+significant_lines text = filter (λ line. is_significant line.1) (enumerate_from 1 (lines_of text))
 
 -- these lines give these settings these values, one by one
 abbrev pub GiveSettings : List Line → List Setting → List ℕ → Type 0
@@ -181,7 +198,9 @@ GiveSettings _ _ _ = ⊥
 abbrev pub SpellCommands : ℕ → ℕ → List Line → List (ℕ × Command) → Type 0
 SpellCommands cpus collectors [] [] = ⊤
 SpellCommands cpus collectors (line ∷ lines) (command ∷ commands) =
-    (command_in cpus collectors line.1 ≡ Ok command.1) × (line.0 ≡ command.0) × SpellCommands cpus collectors lines commands
+    (command_in cpus collectors line.1 ≡ Ok command.1)
+    × (line.0 ≡ command.0)
+    × SpellCommands cpus collectors lines commands
 SpellCommands cpus collectors _ _ = ⊥
 
 -- Lines that say something spell a script: a header, and then a command a line.
@@ -195,7 +214,7 @@ pub record SpellScript (lines : List Line) (script : Script) : Type 0 where
 
 -- The text spells this script.
 abbrev pub ParsesScript : List ℕ → Script → Type 0
-ParsesScript text script = SpellScript (counted_lines text) script
+ParsesScript text script = SpellScript (significant_lines text) script
 
 -- Of these settings, the lines in front of this one give the first, and this one not the next.
 pub record IsFaultySetting (settings : List Setting) (lines : List Line) (number : ℕ) (fault : LineFault) : Type 0 where
@@ -206,7 +225,7 @@ pub record IsFaultySetting (settings : List Setting) (lines : List Line) (number
   pub given : List Setting
   pub setting : Setting
   pub others : List Setting
-  pub place : settings ≡ given ++ setting ∷ others
+  pub order : settings ≡ given ++ setting ∷ others
   pub values : List ℕ
   pub fits : GiveSettings front given values
   pub fails : value_in setting line ≡ Err fault
@@ -216,7 +235,7 @@ pub record IsMissingSetting (settings : List Setting) (lines : List Line) : Type
   pub given : List Setting
   pub setting : Setting
   pub others : List Setting
-  pub place : settings ≡ given ++ setting ∷ others
+  pub order : settings ≡ given ++ setting ∷ others
   pub values : List ℕ
   pub fits : GiveSettings lines given values
 
@@ -234,9 +253,11 @@ pub record IsFaultyCommand (lines : List Line) (number : ℕ) (fault : LineFault
 -- it. Where lines of the header are missing, it is the line behind the last one.
 abbrev pub FirstScriptFault : List ℕ → ℕ → LineFault → Type 0
 FirstScriptFault text number fault =
-    IsFaultySetting header_settings (counted_lines text) number fault
-    ⊎ (IsMissingSetting header_settings (counted_lines text) × (number ≡ length (lines_of text) + 1) × (fault ≡ bad_line))
-    ⊎ IsFaultyCommand (counted_lines text) number fault
+    IsFaultySetting header_settings (significant_lines text) number fault
+    ⊎ (IsMissingSetting header_settings (significant_lines text)
+    × (number ≡ length (lines_of text) + 1)
+    × (fault ≡ bad_line))
+    ⊎ IsFaultyCommand (significant_lines text) number fault
 
 -- the name of a fault
 abbrev pub fault_name : LineFault → List ℕ

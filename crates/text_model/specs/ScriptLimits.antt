@@ -1,7 +1,7 @@
 -- The limits that every script keeps that a text spells. docs/FORMATS.md, "Script".
 use Rattle.std.specs.Prelude.{◌≡◌, ℕ, ◌%◌, ◌^◌, ◌<◌, ◌≤◌, All}
 use Rattle.trace_model.specs.declared.limits.TheConstants.{MIN_PAGES, MAX_PAGES, MIN_SIZE, MAX_SIZE}
-use Rattle.text_model.specs.declared.script_limits.TheConstants.{MAX_SCRIPT_CPUS, MAX_SCRIPT_COLLECTORS}
+use Rattle.text_model.specs.declared.script_limits.TheConstants.{SIZE_STEP, MIN_SCRIPT_CPUS, MAX_SCRIPT_CPUS, MIN_SCRIPT_COLLECTORS, MAX_SCRIPT_COLLECTORS}
 use Rattle.text_model.specs.Script.{Command, write, close, take_page, deliver, Script}
 
 -- Of so many CPUs and collectors, the command names some that are there. Its moment and its fill fit
@@ -16,13 +16,13 @@ IsCommandWithin cpus collectors (deliver collector cpu fill) =
 
 -- the values of the header, and each command, are within their limits
 pub record IsWithinLimits (script : Script) : Type 0 where
-  pub least_pages : MIN_PAGES ≤ script.pages
-  pub most_pages : script.pages ≤ MAX_PAGES
-  pub least_size : MIN_SIZE ≤ script.size
-  pub most_size : script.size ≤ MAX_SIZE
-  pub whole_words : script.size % 4 ≡ 0
-  pub least_cpus : 1 ≤ script.cpus
-  pub most_cpus : script.cpus ≤ MAX_SCRIPT_CPUS
-  pub least_collectors : 1 ≤ script.collectors
-  pub most_collectors : script.collectors ≤ MAX_SCRIPT_COLLECTORS
+  pub min_pages : MIN_PAGES ≤ script.pages
+  pub max_pages : script.pages ≤ MAX_PAGES
+  pub min_size : MIN_SIZE ≤ script.size
+  pub max_size : script.size ≤ MAX_SIZE
+  pub size_step : script.size % SIZE_STEP ≡ 0
+  pub min_cpus : MIN_SCRIPT_CPUS ≤ script.cpus
+  pub max_cpus : script.cpus ≤ MAX_SCRIPT_CPUS
+  pub min_collectors : MIN_SCRIPT_COLLECTORS ≤ script.collectors
+  pub max_collectors : script.collectors ≤ MAX_SCRIPT_COLLECTORS
   pub each_command : All (λ line. IsCommandWithin script.cpus script.collectors line.1) script.commands

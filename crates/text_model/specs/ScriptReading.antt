@@ -3,27 +3,27 @@
 use Rattle.std.specs.Prelude.{ℕ, ◌+◌, List, [], ◌∷◌, length, slice_index, filter, Result, Ok, Err}
 use Rattle.std.specs.List.{enumerate_from}
 use Rattle.text_model.specs.Text.{lines_of}
-use Rattle.text_model.specs.Script.{Command, Script, LineFault, bad_line, ◌>>=◌, Line, Setting, is_counted, value_in, command_in, header_settings}
+use Rattle.text_model.specs.Script.{Command, Script, LineFault, bad_line, ◌>>=◌, Line, Setting, is_significant, value_in, command_in, header_settings}
 
 -- the lines of a text that say something, where this many lines stand in front of it
-unfoldable pub counted_behind : ℕ → List ℕ → List Line
-counted_behind passed text = filter (λ line. is_counted line.1) (enumerate_from (passed + 1) (lines_of text))
+unfoldable pub significant_lines_after : ℕ → List ℕ → List Line
+significant_lines_after passed text = filter (λ line. is_significant line.1) (enumerate_from (passed + 1) (lines_of text))
 
 -- the number of the line behind the last one of a text, where this many lines stand in front of it
-unfoldable pub end_behind : ℕ → List ℕ → ℕ
-end_behind passed text = passed + length (lines_of text) + 1
+unfoldable pub end_line_after : ℕ → List ℕ → ℕ
+end_line_after passed text = passed + length (lines_of text) + 1
 
 -- a fault, with the number of its line
-abbrev pub located : {X : Type 0} → ℕ → Result X LineFault → Result X (ℕ × LineFault)
-located number (Ok x) = Ok x
-located number (Err fault) = Err (number, fault)
+abbrev pub numbered_reading : {X : Type 0} → ℕ → Result X LineFault → Result X (ℕ × LineFault)
+numbered_reading number (Ok x) = Ok x
+numbered_reading number (Err fault) = Err (number, fault)
 
 -- the value that the first line gives to a setting, and the lines behind it; where there is none, the
 -- line of the number end is missing
 unfoldable pub setting_from : ℕ → Setting → List Line → Result (ℕ × List Line) (ℕ × LineFault)
 setting_from end s [] = Err (end, bad_line)
 setting_from end s (line ∷ lines) = do
-  value ← located line.0 (value_in s line.1)
+  value ← numbered_reading line.0 (value_in s line.1)
   Ok (value, lines)
 
 -- the values that the first lines give to these settings, and the lines behind them
@@ -38,7 +38,7 @@ settings_from end (s ∷ settings) lines = do
 unfoldable pub commands_from : ℕ → ℕ → List Line → Result (List (ℕ × Command)) (ℕ × LineFault)
 commands_from cpus collectors [] = Ok []
 commands_from cpus collectors (line ∷ lines) = do
-  command ← located line.0 (command_in cpus collectors line.1)
+  command ← numbered_reading line.0 (command_in cpus collectors line.1)
   commands ← commands_from cpus collectors lines
   Ok ((line.0, command) ∷ commands)
 
@@ -57,4 +57,4 @@ script_from end lines = do
 
 -- the script that a text spells, or the number of its first line at fault and what is wrong with it
 abbrev pub script_in : List ℕ → Result Script (ℕ × LineFault)
-script_in text = script_from (end_behind 0 text) (counted_behind 0 text)
+script_in text = script_from (end_line_after 0 text) (significant_lines_after 0 text)

@@ -1,9 +1,9 @@
 -- How a script is written, line by line without comments: the laws read it back.
 -- After docs/FORMATS.md, "Script".
-use Rattle.std.specs.Prelude.{◌≡◌, ℕ, ◌^◌, ◌<◌, List, [], ◌∷◌, ◌++◌, map, flat_map, codes, decimal, EachIndex, slice_index, Ok}
-use Rattle.std.specs.List.{join_with_byte, enumerate_from, AllByRecursion}
+use Rattle.std.specs.Prelude.{ℕ, List, [], ◌∷◌, ◌++◌, map, flat_map, codes, decimal}
+use Rattle.std.specs.List.{join_with_byte}
 use Rattle.text_model.specs.Text.{hex_text}
-use Rattle.text_model.specs.Script.{Command, write, close, take_page, deliver, Script, Setting, pages_setting, size_setting, cpus_setting, collectors_setting, allowed_for}
+use Rattle.text_model.specs.Script.{Command, write, close, take_page, deliver, Script, Setting, pages_setting, size_setting, cpus_setting, collectors_setting}
 
 -- fields with one space between them
 abbrev pub line_of : List (List ℕ) → List ℕ
@@ -13,6 +13,7 @@ line_of fields = join_with_byte 32 fields
 abbrev pub text_of : List (List ℕ) → List ℕ
 text_of lines = flat_map (λ line. line ++ 10 ∷ []) lines
 
+-- a CPU's name
 abbrev pub cpu_text : ℕ → List ℕ
 cpu_text cpu = 99 ∷ decimal cpu
 
@@ -23,32 +24,18 @@ command_fields (close cpu) = cpu_text cpu ∷ codes "c" ∷ []
 command_fields (take_page cpu) = cpu_text cpu ∷ codes "t" ∷ []
 command_fields (deliver collector cpu fill) = codes "d" ∷ decimal collector ∷ cpu_text cpu ∷ decimal fill ∷ []
 
+-- the line of a command
 abbrev pub command_text : Command → List ℕ
 command_text command = line_of (command_fields command)
 
+-- the line of a setting
 abbrev pub setting_text : Setting → ℕ → List ℕ
 setting_text s value = line_of (s.word ∷ decimal value ∷ [])
 
+-- the text of a script: the header, and then a line for each command
 abbrev pub script_text : Script → List ℕ
 script_text script = text_of (setting_text pages_setting script.pages
     ∷ setting_text size_setting script.size
     ∷ setting_text cpus_setting script.cpus
     ∷ setting_text collectors_setting script.collectors
     ∷ map (λ numbered. command_text numbered.1) script.commands)
-
--- the CPU and the collector are some of these, numbers fit 64 bits, and a payload is bytes
-abbrev pub IsCommandFor : ℕ → ℕ → Command → Type 0
-IsCommandFor cpus collectors (write cpu moment payload) = (cpu < cpus) × (moment < 2 ^ 64) × EachIndex payload (λ k. slice_index payload k < 256)
-IsCommandFor cpus collectors (close cpu) = cpu < cpus
-IsCommandFor cpus collectors (take_page cpu) = cpu < cpus
-IsCommandFor cpus collectors (deliver collector cpu fill) = (collector < collectors) × (cpu < cpus) × (fill < 2 ^ 64)
-
--- a script within its limits, whose commands stand in the lines behind the four of the header
-pub record IsWritable (script : Script) : Type 0 where
-  pub pages : allowed_for pages_setting script.pages ≡ Ok script.pages
-  pub size : allowed_for size_setting script.size ≡ Ok script.size
-  pub cpus : allowed_for cpus_setting script.cpus ≡ Ok script.cpus
-  pub collectors : allowed_for collectors_setting script.collectors ≡ Ok script.collectors
-  pub commands : List Command
-  pub numbers : script.commands ≡ enumerate_from 5 commands
-  pub each : AllByRecursion (IsCommandFor script.cpus script.collectors) commands

@@ -5,12 +5,13 @@ use Rattle.std.specs.Char.{digit_value, digit_char, is_digit}
 use Rattle.std.specs.List.{slice_split, list_all}
 use Rattle.std.specs.Str.{all_ascii_digits}
 use Rattle.std.specs.Str.Parse.{digits_value}
+use Rattle.text_model.specs.declared.script_limits.TheConstants.{MAX_NUMBER_DIGITS}
 
--- the parts of a text without the empty one behind a last line feed
+-- the lines of a text without the empty one behind a last line feed
 abbrev pub without_empty_end : List (List ℕ) → List (List ℕ)
 without_empty_end [] = []
-without_empty_end (part ∷ []) = if length part == 0 then [] else part ∷ []
-without_empty_end (part ∷ next ∷ parts) = part ∷ without_empty_end (next ∷ parts)
+without_empty_end (line ∷ []) = if length line == 0 then [] else line ∷ []
+without_empty_end (line ∷ next ∷ lines) = line ∷ without_empty_end (next ∷ lines)
 
 -- The lines of a text: what stands between its line feeds, which are byte 10. The last line feed may
 -- lack, and begins no line. A carriage return is a byte of its line.
@@ -26,10 +27,13 @@ fields_of line = slice_split (λ b. b == 32) line
 abbrev pub is_well_spaced : List (List ℕ) → Bool
 is_well_spaced fields = list_all (λ field. nat_lt 0 (length field)) fields
 
--- a decimal number that fits 64 bits, in at most 20 digits; it may begin with zeros
+-- a decimal number that fits 64 bits, in one digit at least and not too many; it may begin with zeros
 unfoldable pub is_decimal : List ℕ → Bool
 is_decimal text =
-    nat_lt 0 (length text) && nat_le (length text) 20 && all_ascii_digits text && nat_lt (digits_value 10 text) (2 ^ 64)
+    nat_lt 0 (length text)
+    && nat_le (length text) MAX_NUMBER_DIGITS
+    && all_ascii_digits text
+    && nat_lt (digits_value 10 text) (2 ^ 64)
 
 -- the bytes that pairs of hexadecimal digits spell, in lower or upper case, the high digit first
 abbrev pub bytes_of_pairs : List ℕ → List ℕ

@@ -7,4 +7,7 @@
 pub mod laws;
 pub mod script_limits;
 
-pub use script_limits::{MAX_SCRIPT_COLLECTORS, MAX_SCRIPT_CPUS};
+pub use script_limits::{
+    MAX_NUMBER_DIGITS, MAX_SCRIPT_COLLECTORS, MAX_SCRIPT_CPUS, MIN_SCRIPT_COLLECTORS, MIN_SCRIPT_CPUS,
+    SIZE_STEP,
+};

@@ -6,7 +6,7 @@ use Rattle.std.proofs.lemmas.List.{append-nil, map-append}
 use Rattle.text_model.specs.Text.{fields_of, is_well_spaced}
 use Rattle.text_model.specs.Script as model
 use Rattle.text_model.specs.Script.{Command, LineFault, Line, Setting, ParsesScript, bad_line, bad_number, bad_hex, out_of_range, ◌>>=◌, value_given, value_of, value_in, command_of, command_in}
-use Rattle.text_model.specs.ScriptReading.{located, counted_behind, setting_from, settings_from, commands_from, script_in}
+use Rattle.text_model.specs.ScriptReading.{numbered_reading, significant_lines_after, setting_from, settings_from, commands_from, script_in}
 use Rattle.text_model.proofs.ScriptLemmas.{settings_ok}
 use Rattle.text_model.proofs.ScriptReads.{script_reads, fault_reads}
 use Rattle.trace_script.specs.declared.script.ScriptLine.{ScriptLine}
@@ -16,7 +16,7 @@ use Rattle.trace_script.specs.declared.fault.ScriptFault as script
 use Rattle.trace_script.specs.declared.fault.ScriptFault.TheVariants as scripts
 use Rattle.trace_script.specs.declared.fields.Fields.{Fields}
 use Rattle.trace_script.specs.declared.fields.Fields.TheVariants.{Two, Four, Other}
-use Rattle.trace_script.specs.ScriptFaults.{Fails, Gives, FailsAt, GivesAt, HasHeader, IsFirstFault, fault_at, read_at}
+use Rattle.trace_script.specs.ScriptFaults.{Fails, Gives, FailsAt, GivesAt, HasHeader, IsFirstFault, fault_at, reading_at}
 use Rattle.trace_script.specs.ScriptFields.{AreFields}
 use Rattle.trace_script.specs.ScriptTypes.{shown_line}
 
@@ -78,26 +78,26 @@ no_value_without_two s text (Four a b d e) fields h = no_value_from_four s text 
 no_value_without_two s text Other fields h = no_value_from_other s text fields
 
 -- ---- a line's reading, with its number
-fails_located : {X : Type 0} (number : ℕ) (fault : line.LineFault) (read : Result X LineFault) → Fails fault read → FailsAt (fault_at number fault) (located number read)
-fails_located number faults.BadLine read h = ap (located number) h
-fails_located number faults.BadNumber read h = ap (located number) h
-fails_located number faults.BadHex read h = ap (located number) h
-fails_located number faults.OutOfRange read h = ap (located number) h
-fails_located number faults.NoMemory read h = tt
+fails_numbered : {X : Type 0} (number : ℕ) (fault : line.LineFault) (read : Result X LineFault) → Fails fault read → FailsAt (fault_at number fault) (numbered_reading number read)
+fails_numbered number faults.BadLine read h = ap (numbered_reading number) h
+fails_numbered number faults.BadNumber read h = ap (numbered_reading number) h
+fails_numbered number faults.BadHex read h = ap (numbered_reading number) h
+fails_numbered number faults.OutOfRange read h = ap (numbered_reading number) h
+fails_numbered number faults.NoMemory read h = tt
 
-gives_located : {X Y : Type 0} (view : X → Y) (number : ℕ) (r : Result X line.LineFault) (read : Result Y LineFault) → Gives view r read → GivesAt view (read_at number r) (located number read)
-gives_located view number (Ok x) read h = ap (located number) h
-gives_located view number (Err fault) read h = fails_located number fault read h
+gives_numbered : {X Y : Type 0} (view : X → Y) (number : ℕ) (r : Result X line.LineFault) (read : Result Y LineFault) → Gives view r read → GivesAt view (reading_at number r) (numbered_reading number read)
+gives_numbered view number (Ok x) read h = ap (numbered_reading number) h
+gives_numbered view number (Err fault) read h = fails_numbered number fault read h
 
 -- the same of what the code made of it
-pub gives_read : {X Y : Type 0} (view : X → Y) (number : ℕ) (q : Result X line.LineFault) (r : Result X script.ScriptFault) (read : Result Y LineFault) → Gives view q read → r ≡ read_at number q
-    → GivesAt view r (located number read)
+pub gives_read : {X Y : Type 0} (view : X → Y) (number : ℕ) (q : Result X line.LineFault) (r : Result X script.ScriptFault) (read : Result Y LineFault) → Gives view q read → r ≡ reading_at number q
+    → GivesAt view r (numbered_reading number read)
 gives_read {X} view number q r read h is =
-    subst (λ (r : Result X script.ScriptFault). GivesAt view r (located number read)) (sym is) (gives_located view number q read h)
+    subst (λ (r : Result X script.ScriptFault). GivesAt view r (numbered_reading number read)) (sym is) (gives_numbered view number q read h)
 
 -- ---- one setting
 setting_from_line : (end : ℕ) (s : Setting) (left : List Line) (number : ℕ) (text : List ℕ) (rest : List Line) → left ≡ (number, text) ∷ rest
-    → setting_from end s left ≡ (located number (value_in s text) >>= λ value. setting_and value rest)
+    → setting_from end s left ≡ (numbered_reading number (value_in s text) >>= λ value. setting_and value rest)
 unfolding setting_from
 setting_from_line end s left number text rest h = ap (setting_from end s) h
 
@@ -106,10 +106,10 @@ setting_and_gives view (Ok x) read rest h = ap (λ (read : Read ℕ). read >>= �
 setting_and_gives view (Err fault) read rest h = fails_then fault read (λ value. setting_and value rest) h
 
 pub setting_read : {X : Type 0} (view : X → ℕ) (end : ℕ) (s : Setting) (left : List Line) (number : ℕ) (text : List ℕ) (rest : List Line) (q : Result X line.LineFault) (r : Result X script.ScriptFault)
-    → left ≡ (number, text) ∷ rest → Gives view q (value_in s text) → r ≡ read_at number q → GivesAt (λ x. (view x, rest)) r (setting_from end s left)
+    → left ≡ (number, text) ∷ rest → Gives view q (value_in s text) → r ≡ reading_at number q → GivesAt (λ x. (view x, rest)) r (setting_from end s left)
 setting_read {X} view end s left number text rest q r h gives is =
-    let here = setting_and_gives view (read_at number q) (located number (value_in s text)) rest (gives_located view number q (value_in s text) gives) in
-    let turned = subst (λ (read : Read (ℕ × List Line)). GivesAt (λ x. (view x, rest)) (read_at number q) read) (sym (setting_from_line end s left number text rest h)) here in
+    let here = setting_and_gives view (reading_at number q) (numbered_reading number (value_in s text)) rest (gives_numbered view number q (value_in s text) gives) in
+    let turned = subst (λ (read : Read (ℕ × List Line)). GivesAt (λ x. (view x, rest)) (reading_at number q) read) (sym (setting_from_line end s left number text rest h)) here in
     subst (λ (r : Result X script.ScriptFault). GivesAt (λ x. (view x, rest)) r (setting_from end s left)) (sym is) turned
 
 pub setting_missing : (end : ℕ) (s : Setting) (left : List Line) (number : ℕ) → left ≡ [] → end ≡ number → setting_from end s left ≡ Err (number, bad_line)
@@ -160,15 +160,15 @@ abbrev rest_then : ℕ → ℕ → ℕ → List Line → Command → Read Comman
 rest_then cpus collectors number rest command = commands_from cpus collectors rest >>= λ commands. Ok ((number, command) ∷ commands)
 
 commands_from_line : (cpus collectors : ℕ) (left : List Line) (number : ℕ) (text : List ℕ) (rest : List Line) → left ≡ (number, text) ∷ rest
-    → commands_from cpus collectors left ≡ (located number (command_in cpus collectors text) >>= rest_then cpus collectors number rest)
+    → commands_from cpus collectors left ≡ (numbered_reading number (command_in cpus collectors text) >>= rest_then cpus collectors number rest)
 unfolding commands_from
 commands_from_line cpus collectors left number text rest h = ap (commands_from cpus collectors) h
 
 pub commands_fail : (cpus collectors : ℕ) (all left : List Line) (number : ℕ) (text : List ℕ) (rest : List Line) (front : Commands) (fault : script.ScriptFault)
     → commands_from cpus collectors all ≡ (commands_from cpus collectors left >>= commands_onto front) → left ≡ (number, text) ∷ rest
-    → FailsAt fault (located number (command_in cpus collectors text)) → FailsAt fault (commands_from cpus collectors all)
+    → FailsAt fault (numbered_reading number (command_in cpus collectors text)) → FailsAt fault (commands_from cpus collectors all)
 commands_fail cpus collectors all left number text rest front fault so_far h fails =
-    let here = fails_then fault (located number (command_in cpus collectors text)) (rest_then cpus collectors number rest) fails in
+    let here = fails_then fault (numbered_reading number (command_in cpus collectors text)) (rest_then cpus collectors number rest) fails in
     let there = subst (λ (read : Read Commands). FailsAt fault read) (sym (commands_from_line cpus collectors left number text rest h)) here in
     subst (λ (read : Read Commands). FailsAt fault read) (sym so_far) (fails_then fault (commands_from cpus collectors left) (commands_onto front) there)
 
@@ -179,7 +179,7 @@ onto_push front command (Err e) = refl
 
 pub commands_turn : (cpus collectors : ℕ) (all left : List Line) (number : ℕ) (text : List ℕ) (rest : List Line) (front after : Commands) (command : Command)
     → commands_from cpus collectors all ≡ (commands_from cpus collectors left >>= commands_onto front) → left ≡ (number, text) ∷ rest
-    → located number (command_in cpus collectors text) ≡ Ok command → after ≡ front ++ (number, command) ∷ []
+    → numbered_reading number (command_in cpus collectors text) ≡ Ok command → after ≡ front ++ (number, command) ∷ []
     → commands_from cpus collectors all ≡ (commands_from cpus collectors rest >>= commands_onto after)
 commands_turn cpus collectors all left number text rest front after command so_far h is more =
     so_far
@@ -202,18 +202,18 @@ shown_push lines after x h = ap (λ (ls : List ScriptLine). map shown_line ls) h
 
 -- ---- the whole script
 -- the settings that are read stand in the first lines
-header_of : (text : List ℕ) (end : ℕ) (x : List ℕ × List Line) → settings_from end model.header_settings (counted_behind 0 text) ≡ Ok x → HasHeader text
-unfolding counted_behind
+header_of : (text : List ℕ) (end : ℕ) (x : List ℕ × List Line) → settings_from end model.header_settings (significant_lines_after 0 text) ≡ Ok x → HasHeader text
+unfolding significant_lines_after
 header_of text end x h =
-    let there = settings_ok end model.header_settings (counted_behind 0 text) x h in
+    let there = settings_ok end model.header_settings (significant_lines_after 0 text) x h in
     record { header = there.0; behind = x.1; cut = there.1; values = x.0; settings = there.2 }
 
 -- the same of the reader's lines, of which none is passed
 pub header_there : (text : List ℕ) (end passed : ℕ) (rest : List ℕ) (x : List ℕ × List Line) → passed ≡ 0 → rest ≡ text
-    → settings_from end model.header_settings (counted_behind passed rest) ≡ Ok x → HasHeader text
+    → settings_from end model.header_settings (significant_lines_after passed rest) ≡ Ok x → HasHeader text
 header_there text end passed rest x none whole h =
-    header_of text end x (subst (λ (t : List ℕ). settings_from end model.header_settings (counted_behind 0 t) ≡ Ok x) whole
-    (subst (λ (n : ℕ). settings_from end model.header_settings (counted_behind n rest) ≡ Ok x) none h))
+    header_of text end x (subst (λ (t : List ℕ). settings_from end model.header_settings (significant_lines_after 0 t) ≡ Ok x) whole
+    (subst (λ (n : ℕ). settings_from end model.header_settings (significant_lines_after n rest) ≡ Ok x) none h))
 
 fault_of_reading : (text : List ℕ) (fault : script.ScriptFault) → FailsAt fault (script_in text) → IsFirstFault text fault
 fault_of_reading text (scripts.BadLine n) h = (fault_reads text n bad_line).1 h

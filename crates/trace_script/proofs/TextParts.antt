@@ -6,8 +6,8 @@ use Rattle.std.proofs.lemmas.Bool.{ltb-true, ltb-false, cases_Bool, cond-true, c
 use Rattle.std.proofs.lemmas.List.{take_rest}
 use Rattle.std.proofs.lemmas.List.Splits.{slice_split_first, slice_split-cons_yes, slice_split-cons_no}
 use Rattle.text_model.specs.Text.{lines_of, without_empty_end}
-use Rattle.text_model.specs.Script.{Line, is_counted}
-use Rattle.text_model.specs.ScriptReading.{counted_behind, end_behind}
+use Rattle.text_model.specs.Script.{Line, is_significant}
+use Rattle.text_model.specs.ScriptReading.{significant_lines_after, end_line_after}
 
 same_some : (m n : ℕ) → Some m ≡ Some n → m ≡ n
 same_some m n h = cc
@@ -98,58 +98,58 @@ next_line text line None r none is empty some parts whole =
     ∙ ap (λ (b : Bor (List ℕ)). line ∷ lines_of b.now) (sym is)
 
 -- ---- numbered lines that say something
-counted_line : (passed : ℕ) (text line rest : List ℕ) → lines_of text ≡ line ∷ lines_of rest → is_counted line ≡ true
-    → counted_behind passed text ≡ (passed + 1, line) ∷ counted_behind (passed + 1) rest
-unfolding counted_behind
-counted_line passed text line rest h says =
-    ap (λ (lines : List (List ℕ)). filter (λ (x : Line). is_counted x.1) (enumerate_from (passed + 1) lines)) h
-    ∙ cond-true (is_counted line) _ _ says
+significant_line : (passed : ℕ) (text line rest : List ℕ) → lines_of text ≡ line ∷ lines_of rest → is_significant line ≡ true
+    → significant_lines_after passed text ≡ (passed + 1, line) ∷ significant_lines_after (passed + 1) rest
+unfolding significant_lines_after
+significant_line passed text line rest h says =
+    ap (λ (lines : List (List ℕ)). filter (λ (x : Line). is_significant x.1) (enumerate_from (passed + 1) lines)) h
+    ∙ cond-true (is_significant line) _ _ says
 
-uncounted_line : (passed : ℕ) (text line rest : List ℕ) → lines_of text ≡ line ∷ lines_of rest → is_counted line ≡ false
-    → counted_behind passed text ≡ counted_behind (passed + 1) rest
-unfolding counted_behind
-uncounted_line passed text line rest h silent =
-    ap (λ (lines : List (List ℕ)). filter (λ (x : Line). is_counted x.1) (enumerate_from (passed + 1) lines)) h
-    ∙ cond-false (is_counted line) _ _ silent
+skipped_line : (passed : ℕ) (text line rest : List ℕ) → lines_of text ≡ line ∷ lines_of rest → is_significant line ≡ false
+    → significant_lines_after passed text ≡ significant_lines_after (passed + 1) rest
+unfolding significant_lines_after
+skipped_line passed text line rest h silent =
+    ap (λ (lines : List (List ℕ)). filter (λ (x : Line). is_significant x.1) (enumerate_from (passed + 1) lines)) h
+    ∙ cond-false (is_significant line) _ _ silent
 
-pub counted_none : (passed : ℕ) (text : List ℕ) → lines_of text ≡ [] → counted_behind passed text ≡ []
-unfolding counted_behind
-counted_none passed text h = ap (λ (lines : List (List ℕ)). filter (λ (x : Line). is_counted x.1) (enumerate_from (passed + 1) lines)) h
+pub no_significant_lines : (passed : ℕ) (text : List ℕ) → lines_of text ≡ [] → significant_lines_after passed text ≡ []
+unfolding significant_lines_after
+no_significant_lines passed text h = ap (λ (lines : List (List ℕ)). filter (λ (x : Line). is_significant x.1) (enumerate_from (passed + 1) lines)) h
 
 -- the end stays where it is from line to line
-end_behind_line : (passed : ℕ) (text line rest : List ℕ) → lines_of text ≡ line ∷ lines_of rest → end_behind passed text ≡ end_behind (passed + 1) rest
-unfolding end_behind
-end_behind_line passed text line rest h = omega (arith, ap (λ (lines : List (List ℕ)). length lines) h)
+end_line_after_line : (passed : ℕ) (text line rest : List ℕ) → lines_of text ≡ line ∷ lines_of rest → end_line_after passed text ≡ end_line_after (passed + 1) rest
+unfolding end_line_after
+end_line_after_line passed text line rest h = omega (arith, ap (λ (lines : List (List ℕ)). length lines) h)
 
-end_behind_all : (passed : ℕ) (text : List ℕ) → lines_of text ≡ [] → end_behind passed text ≡ passed + 1
-unfolding end_behind
-end_behind_all passed text h = omega (arith, ap (λ (lines : List (List ℕ)). length lines) h)
+end_line_after_all : (passed : ℕ) (text : List ℕ) → lines_of text ≡ [] → end_line_after passed text ≡ passed + 1
+unfolding end_line_after
+end_line_after_all passed text h = omega (arith, ap (λ (lines : List (List ℕ)). length lines) h)
 
 -- ---- one turn over the lines, in the code's words
 -- how many lines stand in front after one more, and that line's number
 abbrev IsNext : ℕ → ℕ → ℕ → Type 0
 IsNext passed number after = (number ≡ passed + 1) × (after ≡ passed + 1)
 
-pub counted_turn : (passed number after : ℕ) (text line rest : List ℕ) (all : List Line) → lines_of text ≡ line ∷ lines_of rest → IsNext passed number after
-    → is_counted line ≡ true → counted_behind passed text ≡ all → all ≡ (number, line) ∷ counted_behind after rest
-counted_turn passed number after text line rest all cut next says left =
-    sym left ∙ counted_line passed text line rest cut says
-    ∙ ap (λ (n : ℕ). (n, line) ∷ counted_behind (passed + 1) rest) (sym next.0)
-    ∙ ap (λ (n : ℕ). (number, line) ∷ counted_behind n rest) (sym next.1)
+pub significant_turn : (passed number after : ℕ) (text line rest : List ℕ) (all : List Line) → lines_of text ≡ line ∷ lines_of rest → IsNext passed number after
+    → is_significant line ≡ true → significant_lines_after passed text ≡ all → all ≡ (number, line) ∷ significant_lines_after after rest
+significant_turn passed number after text line rest all cut next says left =
+    sym left ∙ significant_line passed text line rest cut says
+    ∙ ap (λ (n : ℕ). (n, line) ∷ significant_lines_after (passed + 1) rest) (sym next.0)
+    ∙ ap (λ (n : ℕ). (number, line) ∷ significant_lines_after n rest) (sym next.1)
 
-pub uncounted_turn : (passed number after : ℕ) (text line rest : List ℕ) (all : List Line) → lines_of text ≡ line ∷ lines_of rest → IsNext passed number after
-    → is_counted line ≡ false → counted_behind passed text ≡ all → counted_behind after rest ≡ all
-uncounted_turn passed number after text line rest all cut next silent left =
-    ap (λ (n : ℕ). counted_behind n rest) next.1 ∙ sym (uncounted_line passed text line rest cut silent) ∙ left
+pub skipped_turn : (passed number after : ℕ) (text line rest : List ℕ) (all : List Line) → lines_of text ≡ line ∷ lines_of rest → IsNext passed number after
+    → is_significant line ≡ false → significant_lines_after passed text ≡ all → significant_lines_after after rest ≡ all
+skipped_turn passed number after text line rest all cut next silent left =
+    ap (λ (n : ℕ). significant_lines_after n rest) next.1 ∙ sym (skipped_line passed text line rest cut silent) ∙ left
 
 pub end_turn : (passed number after : ℕ) (text line rest : List ℕ) (end : ℕ) → lines_of text ≡ line ∷ lines_of rest → IsNext passed number after
-    → end_behind passed text ≡ end → end_behind after rest ≡ end
+    → end_line_after passed text ≡ end → end_line_after after rest ≡ end
 end_turn passed number after text line rest end cut next same =
-    ap (λ (n : ℕ). end_behind n rest) next.1 ∙ sym (end_behind_line passed text line rest cut) ∙ same
+    ap (λ (n : ℕ). end_line_after n rest) next.1 ∙ sym (end_line_after_line passed text line rest cut) ∙ same
 
-pub last_turn : (passed after : ℕ) (text rest : List ℕ) → lines_of text ≡ [] → (after ≡ passed) × (rest ≡ text) → end_behind after rest ≡ after + 1
+pub last_turn : (passed after : ℕ) (text rest : List ℕ) → lines_of text ≡ [] → (after ≡ passed) × (rest ≡ text) → end_line_after after rest ≡ after + 1
 last_turn passed after text rest none same =
-    ap (λ (r : List ℕ). end_behind after r) same.1
-    ∙ ap (λ (n : ℕ). end_behind n text) same.0
-    ∙ end_behind_all passed text none
+    ap (λ (r : List ℕ). end_line_after after r) same.1
+    ∙ ap (λ (n : ℕ). end_line_after n text) same.0
+    ∙ end_line_after_all passed text none
     ∙ ap (λ (n : ℕ). n + 1) (sym same.0)

@@ -3,7 +3,7 @@ use Rattle.std.specs.Prelude.{◌≡◌, ℕ, ⊤, List, ◌++◌, codes, Result
 use Rattle.hex.specs.declared.error.FromHexError.{FromHexError}
 use Rattle.hex.specs.declared.error.FromHexError.TheVariants.{OutOfMemory}
 use Rattle.text_model.specs.Script as model
-use Rattle.text_model.specs.Script.{Line, FirstScriptFault, GiveSettings, header_settings, counted_lines, bad_line, bad_number, bad_hex, out_of_range, fault_text}
+use Rattle.text_model.specs.Script.{Line, FirstScriptFault, GiveSettings, header_settings, significant_lines, bad_line, bad_number, bad_hex, out_of_range, fault_text}
 use Rattle.trace_script.specs.declared.fault.LineFault.{LineFault}
 use Rattle.trace_script.specs.declared.fault.LineFault.TheVariants as line
 use Rattle.trace_script.specs.declared.fault.ScriptFault.{ScriptFault}
@@ -23,9 +23,9 @@ fault_at number line.OutOfRange = script.OutOfRange number
 fault_at number line.NoMemory = script.NoMemory
 
 -- what was read of the line of this number
-abbrev pub read_at : {X : Type 0} → ℕ → Result X LineFault → Result X ScriptFault
-read_at number (Ok x) = Ok x
-read_at number (Err fault) = Err (fault_at number fault)
+abbrev pub reading_at : {X : Type 0} → ℕ → Result X LineFault → Result X ScriptFault
+reading_at number (Ok x) = Ok x
+reading_at number (Err fault) = Err (fault_at number fault)
 
 -- the reading of a line has this fault, unless memory ran out
 abbrev pub Fails : {X : Type 0} → LineFault → Result X model.LineFault → Type 0
@@ -65,7 +65,7 @@ IsFirstFault text script.NoMemory = ⊤
 pub record HasHeader (text : List ℕ) : Type 0 where
   pub header : List Line
   pub behind : List Line
-  pub cut : counted_lines text ≡ header ++ behind
+  pub cut : significant_lines text ≡ header ++ behind
   pub values : List ℕ
   pub settings : GiveSettings header header_settings values
 

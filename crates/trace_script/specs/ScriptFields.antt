@@ -7,5 +7,6 @@ use Rattle.trace_script.specs.declared.fields.Fields.TheVariants.{Two, Four, Oth
 -- these are the fields, and none is empty; or one is empty, or they are neither two nor four
 abbrev pub AreFields : Fields → List (List ℕ) → Type 0
 AreFields (Two first second) fields = (fields ≡ first.now ∷ second.now ∷ []) × IsTrue (is_well_spaced fields)
-AreFields (Four first second third fourth) fields = (fields ≡ first.now ∷ second.now ∷ third.now ∷ fourth.now ∷ []) × IsTrue (is_well_spaced fields)
+AreFields (Four first second third fourth) fields =
+    (fields ≡ first.now ∷ second.now ∷ third.now ∷ fourth.now ∷ []) × IsTrue (is_well_spaced fields)
 AreFields Other fields = (is_well_spaced fields ≡ false) ⊎ ((length fields ≢ 2) × (length fields ≢ 4))

@@ -111,7 +111,7 @@ fn deliver_in(
 
 /// The command of two fields.
 #[tactic(auto, unfolding(text_model::specs::Script::command_of))]
-fn of_two(cpus: u32, collectors: usize, first: &[u8], second: &[u8]) -> Result<Command, LineFault>
+fn command_of_two(cpus: u32, collectors: usize, first: &[u8], second: &[u8]) -> Result<Command, LineFault>
     ensures gives { Gives shown_command result
         (command_of cpus collectors (first.now ∷ second.now ∷ [])) }
     ensures never_out_of_memory { result ≢ Err LineFault.NoMemory }
@@ -127,7 +127,7 @@ fn of_two(cpus: u32, collectors: usize, first: &[u8], second: &[u8]) -> Result<C
 
 /// The command of four fields.
 #[tactic(auto, unfolding(text_model::specs::Script::command_of))]
-fn of_four(
+fn command_of_four(
     alloc: Global,
     cpus: u32,
     collectors: usize,
@@ -158,9 +158,9 @@ pub fn command_in(
     ensures { Gives shown_command result (command_in cpus collectors line.now) }
 {
     match fields_of(line) {
-        Fields::Two(first, second) => of_two(cpus, collectors, first, second),
+        Fields::Two(first, second) => command_of_two(cpus, collectors, first, second),
         Fields::Four(first, second, third, fourth) => {
-            of_four(alloc, cpus, collectors, first, second, third, fourth)
+            command_of_four(alloc, cpus, collectors, first, second, third, fourth)
         }
         Fields::Other => Err(LineFault::BadLine),
     }

@@ -1,42 +1,31 @@
 //! What is wrong with a script.
-ghost use Rattle.std.specs.Prelude.{◌≡◌, Some};
+ghost use Rattle.std.specs.Prelude.{◌≡◌};
 ghost use Rattle.trace_script.specs.declared.fault.ScriptFault.TheVariants.{NoMemory as no_memory};
-ghost use Rattle.trace_script.specs.ScriptFaults.{fault_at, read_at, script_fault_text};
+ghost use Rattle.trace_script.specs.ScriptFaults.{fault_at, reading_at};
 
 use std::alloc::AllocFailed;
-use std::fmt;
+use thiserror::Error;
 
 /// Why a text is no script. The number is that of the first line at fault, from 1.
-#[derive(Clone, Copy, Debug, PartialEq, Eq)]
+#[derive(Clone, Copy, Debug, PartialEq, Eq, Error)]
 pub enum ScriptFault {
-    /// No line of a script stands there, by its spaces, its word, its place or how many fields it
-    /// has; or the header has no such line, and the text ends in front of it.
+    /// A line is no line of a script, by its spaces, its word or how many fields it has; or another
+    /// line of the header is due; or the text ends within the header, and the line behind it is told.
+    #[error("line {0}: BadLine")]
     BadLine(u64),
     /// A field is no decimal number of 1 to 20 digits below 2^64.
+    #[error("line {0}: BadNumber")]
     BadNumber(u64),
     /// A payload is no even number of hexadecimal digits, two at least, and not `-`.
+    #[error("line {0}: BadHex")]
     BadHex(u64),
     /// A number is outside its limits.
+    #[error("line {0}: OutOfRange")]
     OutOfRange(u64),
     /// Memory was refused.
+    #[error("memory")]
     NoMemory,
 }
-
-impl fmt::Display for ScriptFault {
-    ghost output = { λ fault. Some (script_fault_text fault) };
-
-    fn fmt<W: fmt::Write>(&self, f: &mut fmt::Formatter<W>) -> fmt::Result {
-        match self {
-            ScriptFault::BadLine(line) => write!(f, "line {line}: BadLine"),
-            ScriptFault::BadNumber(line) => write!(f, "line {line}: BadNumber"),
-            ScriptFault::BadHex(line) => write!(f, "line {line}: BadHex"),
-            ScriptFault::OutOfRange(line) => write!(f, "line {line}: OutOfRange"),
-            ScriptFault::NoMemory => write!(f, "memory"),
-        }
-    }
-}
-
-impl std::error::Error for ScriptFault {}
 
 impl<T: Drop> From<AllocFailed<T>> for ScriptFault {
     ghost from_gives = { λ _ fault. fault ≡ no_memory };
@@ -72,8 +61,8 @@ impl LineFault {
 }
 
 /// What was read of the line of this number.
-pub fn at_line<T>(line: u64, read: Result<T, LineFault>) -> Result<T, ScriptFault>
-    ensures { result ≡ read_at line read }
+pub fn reading_at<T>(line: u64, read: Result<T, LineFault>) -> Result<T, ScriptFault>
+    ensures { result ≡ reading_at line read }
 {
     match read {
         Ok(value) => Ok(value),

@@ -15,7 +15,7 @@ pub enum Fields<'a> {
 }
 
 /// Two fields, where none is empty.
-fn two<'a>(first: &'a [u8], second: &'a [u8]) -> Fields<'a>
+fn two_fields<'a>(first: &'a [u8], second: &'a [u8]) -> Fields<'a>
     ensures { AreFields result (first.now ∷ second.now ∷ []) }
 {
     if first.is_empty() || second.is_empty() {
@@ -25,7 +25,7 @@ fn two<'a>(first: &'a [u8], second: &'a [u8]) -> Fields<'a>
 }
 
 /// Four fields, where none is empty.
-fn four<'a>(first: &'a [u8], second: &'a [u8], third: &'a [u8], fourth: &'a [u8]) -> Fields<'a>
+fn four_fields<'a>(first: &'a [u8], second: &'a [u8], third: &'a [u8], fourth: &'a [u8]) -> Fields<'a>
     ensures { AreFields result (first.now ∷ second.now ∷ third.now ∷ fourth.now ∷ []) }
 {
     if first.is_empty() || second.is_empty() || third.is_empty() || fourth.is_empty() {
@@ -44,7 +44,7 @@ pub fn fields_of(line: &[u8]) -> Fields<'_>
     };
     let (second, rest) = cut_at(rest, b' ');
     let Some(rest) = rest else {
-        return two(first, second);
+        return two_fields(first, second);
     };
     let (third, rest) = cut_at(rest, b' ');
     let Some(rest) = rest else {
@@ -54,5 +54,5 @@ pub fn fields_of(line: &[u8]) -> Fields<'_>
     if rest.is_some() {
         return Fields::Other;
     }
-    four(first, second, third, fourth)
+    four_fields(first, second, third, fourth)
 }

@@ -5,6 +5,7 @@
 
 mod command;
 mod fault;
+mod fault_line;
 mod fields;
 mod header;
 mod lines;
@@ -14,6 +15,7 @@ mod values;
 
 pub use command::Command;
 pub use fault::ScriptFault;
+pub use fault_line::put_fault;
 pub use read::read_script;
 pub use script::{Script, ScriptLine};
 

@@ -2,11 +2,11 @@
 ghost use Rattle.std.specs.Prelude.{◌≡◌, ◌+◌, ◌-◌, ◌^◌, ◌<◌, ◌≤◌, ◌==◌, ⊤, [], ◌∷◌, length, position, MatchOption};
 ghost use Rattle.std.specs.List.{slice_split};
 ghost use Rattle.text_model.specs.Text.{lines_of};
-ghost use Rattle.text_model.specs.Script.{is_counted};
-ghost use Rattle.text_model.specs.ScriptReading.{counted_behind, end_behind};
+ghost use Rattle.text_model.specs.Script.{is_significant};
+ghost use Rattle.text_model.specs.ScriptReading.{significant_lines_after, end_line_after};
 
-/// The place of the first separator, if there is one.
-fn place_of(bytes: &[u8], separator: u8) -> Option<usize>
+/// The index of the first separator, if there is one.
+fn index_of(bytes: &[u8], separator: u8) -> Option<usize>
     ensures { result ≡ position (λ b. b == separator) bytes.now }
 {
     bytes.iter().position(|b| *b == separator)
@@ -21,7 +21,7 @@ pub fn cut_at(bytes: &[u8], separator: u8) -> (&[u8], Option<&[u8]>)
     ensures whole { MatchOption result.1 (result.0.now ≡ bytes.now) (λ rest. ⊤) }
     ensures len { MatchOption result.1 ⊤ (λ rest. length rest.now < length bytes.now) }
 {
-    match place_of(bytes, separator) {
+    match index_of(bytes, separator) {
         Some(at) => (&bytes[..at], Some(&bytes[at + 1..])),
         None => (bytes, None),
     }
@@ -30,7 +30,7 @@ pub fn cut_at(bytes: &[u8], separator: u8) -> (&[u8], Option<&[u8]>)
 /// A line of a text, without its line feed.
 #[derive(Clone, Copy)]
 pub struct Line<'a> {
-    /// Its place among all lines of the text, from 1.
+    /// Its number among all lines of the text, from 1.
     pub number: u64,
     pub text: &'a [u8],
 }
@@ -46,8 +46,8 @@ pub struct Lines<'a> {
 }
 
 /// Whether the line says something: it is neither empty nor begins with `#`.
-fn is_counted(line: &[u8]) -> bool
-    ensures { result ≡ is_counted line.now }
+fn is_significant(line: &[u8]) -> bool
+    ensures { result ≡ is_significant line.now }
 {
     match line {
         [] => false,
@@ -90,20 +90,20 @@ impl<'a> Lines<'a> {
     }
 
     /// The next line that says something.
-    pub fn next_counted(&mut self) -> Option<Line<'a>>
+    pub fn next_significant(&mut self) -> Option<Line<'a>>
         ensures left { MatchOption result
-            (counted_behind self.old.passed self.old.rest.now ≡ [])
-            (λ line. counted_behind self.old.passed self.old.rest.now
-            ≡ (line.number, line.text.now) ∷ counted_behind self.new.passed self.new.rest.now) }
-        ensures end { end_behind self.new.passed self.new.rest.now
-            ≡ end_behind self.old.passed self.old.rest.now }
+            (significant_lines_after self.old.passed self.old.rest.now ≡ [])
+            (λ line. significant_lines_after self.old.passed self.old.rest.now
+            ≡ (line.number, line.text.now) ∷ significant_lines_after self.new.passed self.new.rest.now) }
+        ensures end { end_line_after self.new.passed self.new.rest.now
+            ≡ end_line_after self.old.passed self.old.rest.now }
         ensures passed { MatchOption result
-            (end_behind self.new.passed self.new.rest.now ≡ self.new.passed + 1) (λ line. ⊤) }
+            (end_line_after self.new.passed self.new.rest.now ≡ self.new.passed + 1) (λ line. ⊤) }
         ensures shorter { MatchOption result ⊤ (λ line.
             length self.new.rest.now < length self.old.rest.now) }
     {
         while let Some(line) = self.next_line() {
-            if is_counted(line.text) {
+            if is_significant(line.text) {
                 return Some(line);
             }
         }

@@ -1,12 +1,12 @@
 //! The reader of a script's text: line by line, in one pass.
 ghost use Rattle.std.specs.Prelude.{◌≡◌, IfOk, IfErr, map};
 ghost use Rattle.text_model.specs.Script.{ParsesScript, command_in};
-ghost use Rattle.text_model.specs.ScriptReading.{located, counted_behind, commands_from, script_in};
+ghost use Rattle.text_model.specs.ScriptReading.{numbered_reading, significant_lines_after, commands_from, script_in};
 ghost use Rattle.trace_script.specs.ScriptFaults.{GivesAt, HasHeader, IsFirstFault};
 ghost use Rattle.trace_script.specs.ScriptTypes.{shown_command, shown_line, script_of};
 
 use crate::command::{Command, command_in};
-use crate::fault::{ScriptFault, at_line};
+use crate::fault::{ScriptFault, reading_at};
 use crate::header::read_header;
 use crate::lines::{Line, Lines};
 use crate::script::{Script, ScriptLine};
@@ -20,10 +20,10 @@ fn command_at(
     line: Line,
 ) -> Result<Command, ScriptFault>
     ensures { GivesAt shown_command result
-        (located line.entry.number (command_in cpus collectors line.entry.text.now)) }
+        (numbered_reading line.entry.number (command_in cpus collectors line.entry.text.now)) }
 {
     let command = command_in(alloc, cpus, collectors, line.text);
-    at_line(line.number, command)
+    reading_at(line.number, command)
 }
 
 /// The commands of the lines that are left.
@@ -34,10 +34,10 @@ fn read_commands(
     lines: &mut Lines,
 ) -> Result<Vec<ScriptLine>, ScriptFault>
     ensures { GivesAt (λ commands. map shown_line commands.items) result
-        (commands_from cpus collectors (counted_behind lines.old.passed lines.old.rest.now)) }
+        (commands_from cpus collectors (significant_lines_after lines.old.passed lines.old.rest.now)) }
 {
     let mut commands = Vec::new(alloc);
-    while let Some(line) = lines.next_counted() {
+    while let Some(line) = lines.next_significant() {
         let command = command_at(alloc, cpus, collectors, line)?;
         commands.push(ScriptLine {
             number: line.number,

@@ -5,7 +5,7 @@ use crate::command::Command;
 /// A command of a script.
 #[derive(Debug, PartialEq, Eq, Drop)]
 pub struct ScriptLine {
-    /// The place of its line among all lines of the text, from 1.
+    /// The number of its line among all lines of the text, from 1.
     pub number: u64,
     pub command: Command,
 }

@@ -9,10 +9,8 @@ ghost use Rattle.trace_script.specs.ScriptFaults.{Gives, hex_fault};
 use crate::fault::LineFault;
 use hex::FromHexError;
 use std::alloc::Global;
+use text_model::MAX_NUMBER_DIGITS;
 use trace_model::CpuId;
-
-/// The most digits of a number.
-const MOST_DIGITS: usize = 20;
 
 /// The number whose last digit is this, behind the digits of another; None where the byte is no
 /// digit, or the number doesn't fit 64 bits.
@@ -31,7 +29,7 @@ pub fn number_of(field: &[u8]) -> Result<u64, LineFault>
     ensures gives { Gives (λ n. n) result (number_in field.now) }
     ensures never_out_of_memory { result ≢ Err LineFault.NoMemory }
 {
-    if field.is_empty() || field.len() > MOST_DIGITS {
+    if field.is_empty() || field.len() > MAX_NUMBER_DIGITS {
         return Err(LineFault::BadNumber);
     }
     let mut number = 0;

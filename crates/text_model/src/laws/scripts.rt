@@ -1,8 +1,9 @@
 //! Laws over script texts.
-ghost use Rattle.std.specs.Prelude.{◌≡◌, ℕ, ◌^◌, ◌≤◌, ◌⊎◌, ◌↔◌, List, Ok, Err};
-ghost use Rattle.text_model.specs.Script.{Command, Script, LineFault, ParsesScript, FirstScriptFault, command_of, command_in, SpellsCommand};
-ghost use Rattle.text_model.specs.ScriptLimits.{IsWithinLimits};
-ghost use Rattle.text_model.specs.ScriptWriting.{command_text, script_text, IsCommandFor, IsWritable};
+ghost use Rattle.std.specs.Prelude.{◌≡◌, ℕ, ◌+◌, ◌^◌, ◌≤◌, ◌⊎◌, ◌↔◌, List, length, Ok, Err};
+ghost use Rattle.std.specs.List.{enumerate_from};
+ghost use Rattle.text_model.specs.Script.{Command, Script, LineFault, ParsesScript, FirstScriptFault, command_of, command_in, header_settings, SpellsCommand};
+ghost use Rattle.text_model.specs.ScriptLimits.{IsCommandWithin, IsWithinLimits};
+ghost use Rattle.text_model.specs.ScriptWriting.{command_text, script_text};
 ghost use Rattle.text_model.specs.ScriptReading.{script_in};
 
 /// The plain reader answers the script that a text spells, and no other.
@@ -49,11 +50,14 @@ pub fn command_is_spelled()
 /// A command's line reads back as the command.
 pub fn command_reads_back()
     ensures { (cpus collectors : ℕ) (command : Command) → cpus ≤ 2 ^ 64 → collectors ≤ 2 ^ 64 →
-        IsCommandFor cpus collectors command →
+        IsCommandWithin cpus collectors command →
         command_in cpus collectors (command_text command) ≡ Ok command }
 {}
 
-/// A script within its limits has a text, which reads back as the script.
+/// A script within its limits, whose commands stand in the lines right behind the header, has a text,
+/// which reads back as the script.
 pub fn script_reads_back()
-    ensures { (script : Script) → IsWritable script → ParsesScript (script_text script) script }
+    ensures { (script : Script) (commands : List Command) → IsWithinLimits script →
+        script.commands ≡ enumerate_from (length header_settings + 1) commands →
+        ParsesScript (script_text script) script }
 {}

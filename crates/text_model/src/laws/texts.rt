@@ -1,5 +1,5 @@
 //! Laws over numbers and bytes as text.
-ghost use Rattle.std.specs.Prelude.{◌≡◌, ℕ, ◌^◌, ◌<◌, List, Ok, EachIndex, slice_index, decimal};
+ghost use Rattle.std.specs.Prelude.{◌≡◌, ℕ, ◌^◌, ◌<◌, List, Ok, All, decimal};
 ghost use Rattle.text_model.specs.Text.{hex_text};
 ghost use Rattle.text_model.specs.Script.{number_in, payload_in};
 
@@ -10,6 +10,6 @@ pub fn number_reads_back()
 
 /// The hexadecimal text of bytes reads back as the bytes.
 pub fn payload_reads_back()
-    ensures { (bytes : List ℕ) → EachIndex bytes (λ k. slice_index bytes k < 256) →
+    ensures { (bytes : List ℕ) → All (λ byte. byte < 256) bytes →
         payload_in (hex_text bytes) ≡ Ok bytes }
 {}

@@ -9,4 +9,4 @@ returns-in_default-clause-gives c =
 
 pub returns-clause-gives : goal.returns-clause-gives
 returns-clause-gives c =
-    setting_read (λ v. v) _ (setting_of c.args.setting) _ c.in-Some.line.number c.in-Some.line.text.now _ c.value_in-value.result _ c.in-Some.ensures.left c.value_in-value.ensures.gives c.at_line.ensures
+    setting_read (λ v. v) _ (setting_of c.args.setting) _ c.in-Some.line.number c.in-Some.line.text.now _ c.value_in-value.result _ c.in-Some.ensures.left c.value_in-value.ensures.gives c.reading_at.ensures
