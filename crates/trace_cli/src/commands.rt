@@ -20,7 +20,7 @@ use trace_run::replay::replay;
 use command_io::status::{DONE, END_FAILED, NO_MEMORY, REFUSED};
 use std::alloc::Global;
 use trace_model::{CpuId, MAX_INPUT, NoMemory};
-use trace_script::{Script, ScriptFault, read_script};
+use trace_script::{Script, ScriptFault, put_fault, read_script};
 
 /// The printing of a script's replay: the log, if it is asked for, and what it leaves.
 fn replayed(alloc: Global, script: &Script, log: bool) -> Result<Vec<u8>, NoMemory>
@@ -42,8 +42,8 @@ fn replayed(alloc: Global, script: &Script, log: bool) -> Result<Vec<u8>, NoMemo
 fn fault_line(alloc: Global, fault: ScriptFault) -> Result<Vec<u8>, NoMemory>
     ensures { IfOk result (λ line. line.items ≡ script_fault_text fault ++ 10 ∷ []) }
 {
-    let mut line = fault.to_string(alloc)?.into_bytes();
-    line.push(b'\n')?;
+    let mut line = Vec::new(alloc);
+    put_fault(&mut line, fault)?;
     Ok(line)
 }
 
