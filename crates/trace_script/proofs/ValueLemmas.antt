@@ -1,8 +1,7 @@
 -- What a field spells, from the front.
-use Rattle.std.proofs.Common.{◌≡◌, ◌≢◌, ◌==◌, ℕ, ◌+◌, ◌-◌, ◌*◌, ◌^◌, ◌<◌, ◌≤◌, ◌⊎◌, Bool, true, false, ◌&&◌, List, [], ◌∷◌, length, get_or, take, Result, Ok, Err, refl, sym, ◌∙◌, ap, subst, inl, inr, arith}
+use Rattle.std.proofs.Common.{◌≡◌, ◌≢◌, ◌==◌, ℕ, ◌+◌, ◌-◌, ◌*◌, ◌^◌, ◌<◌, ◌≤◌, ◌⊎◌, true, false, List, [], ◌∷◌, length, get_or, take, Result, Ok, Err, refl, sym, ◌∙◌, ap, subst, inl, inr, arith}
 use Rattle.std.specs.Char.{is_ascii_digit, digit_value}
 use Rattle.std.specs.Int.{IsInRange}
-use Rattle.std.specs.List.{list_all}
 use Rattle.std.specs.Str.{all_ascii_digits}
 use Rattle.std.specs.Str.Parse.{digits_value}
 use Rattle.std.proofs.lemmas.Bool.{ltb-true, leb-true, lt-ltb, le-leb, and_from, and_parts, cond-true, cond-false, eqb-false, false_from_ne_true}
@@ -84,8 +83,3 @@ number_ends field i number some few whole digits value small =
     number_whole field number (omega arith) few
     (subst (λ (ds : List ℕ). all_ascii_digits ds ≡ true) all digits)
     (value ∙ ap (λ (ds : List ℕ). digits_value 10 ds) all) small
-
--- ---- CPUs
-pub digits_by_list_all : (bytes : List ℕ) → list_all is_ascii_digit bytes ≡ all_ascii_digits bytes
-digits_by_list_all [] = refl
-digits_by_list_all (b ∷ bytes) = ap (λ (r : Bool). is_ascii_digit b && r) (digits_by_list_all bytes)

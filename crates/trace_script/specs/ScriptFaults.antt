@@ -1,4 +1,4 @@
--- What the script's reader says of a fault, in the words of trace_model.
+-- What the script's reader says of a fault, in the words of text_model.
 use Rattle.std.specs.Prelude.{◌≡◌, ℕ, ⊤, List, ◌++◌, codes, Result, Ok, Err}
 use Rattle.hex.specs.declared.error.FromHexError.{FromHexError}
 use Rattle.hex.specs.declared.error.FromHexError.TheVariants.{OutOfMemory}

@@ -1,4 +1,4 @@
--- The script's Rust types, in the words of trace_model.
+-- The script's Rust types, in the words of text_model.
 use Rattle.std.specs.Prelude.{ℕ, List, [], ◌∷◌, map}
 use Rattle.text_model.specs.Script as model
 use Rattle.text_model.specs.Script.{pages_setting, size_setting, cpus_setting, collectors_setting, write, close, take_page, deliver}

@@ -111,7 +111,12 @@ fn deliver_in(
 
 /// The command of two fields.
 #[tactic(auto, unfolding(text_model::specs::Script::command_of))]
-fn command_of_two(cpus: u32, collectors: usize, first: &[u8], second: &[u8]) -> Result<Command, LineFault>
+fn command_of_two(
+    cpus: u32,
+    collectors: usize,
+    first: &[u8],
+    second: &[u8],
+) -> Result<Command, LineFault>
     ensures gives { Gives shown_command result
         (command_of cpus collectors (first.now ∷ second.now ∷ [])) }
     ensures never_out_of_memory { result ≢ Err LineFault.NoMemory }

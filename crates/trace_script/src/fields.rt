@@ -25,7 +25,12 @@ fn two_fields<'a>(first: &'a [u8], second: &'a [u8]) -> Fields<'a>
 }
 
 /// Four fields, where none is empty.
-fn four_fields<'a>(first: &'a [u8], second: &'a [u8], third: &'a [u8], fourth: &'a [u8]) -> Fields<'a>
+fn four_fields<'a>(
+    first: &'a [u8],
+    second: &'a [u8],
+    third: &'a [u8],
+    fourth: &'a [u8],
+) -> Fields<'a>
     ensures { AreFields result (first.now ∷ second.now ∷ third.now ∷ fourth.now ∷ []) }
 {
     if first.is_empty() || second.is_empty() || third.is_empty() || fourth.is_empty() {
