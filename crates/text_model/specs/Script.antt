@@ -51,10 +51,14 @@ payload_in field = if is_hex field then Ok (hex_bytes field) else Err bad_hex
 unfoldable pub number_below : ℕ → List ℕ → Result ℕ LineFault
 number_below limit field = number_in field >>= λ n. if nat_lt n limit then Ok n else Err out_of_range
 
--- `c` and one digit or more, and nothing else
+-- the letter that begins a CPU's name
+abbrev pub cpu_letter : ℕ
+cpu_letter = 99
+
+-- the letter and one digit or more, and nothing else
 abbrev pub names_cpu : List ℕ → Bool
 names_cpu [] = false
-names_cpu (letter ∷ digits) = (letter == 99) && nat_lt 0 (length digits) && all_ascii_digits digits
+names_cpu (letter ∷ digits) = (letter == cpu_letter) && nat_lt 0 (length digits) && all_ascii_digits digits
 
 -- the CPU that a field names, of so many CPUs
 unfoldable pub cpu_in : ℕ → List ℕ → Result ℕ LineFault
@@ -174,16 +178,20 @@ value_of s _ = Err bad_line
 unfoldable pub value_in : Setting → List ℕ → Result ℕ LineFault
 value_in s line = if is_well_spaced (fields_of line) then value_of s (fields_of line) else Err bad_line
 
--- a line that says something: it is neither empty nor begins with `#`
+-- the byte that begins a comment, `#`
+abbrev pub comment_mark : ℕ
+comment_mark = 35
+
+-- a significant line: it is neither empty nor a comment
 abbrev pub is_significant : List ℕ → Bool
 is_significant [] = false
-is_significant (b ∷ line) = not (b == 35)
+is_significant (b ∷ line) = not (b == comment_mark)
 
 -- a line with its number
 abbrev pub Line : Type 0
 Line = ℕ × List ℕ
 
--- the lines of a text that say something, each with its number among all lines of the text, from 1
+-- the significant lines of a text, each with its number among all lines of the text, from 1
 abbrev pub significant_lines : List ℕ → List Line
 significant_lines text = filter (λ line. is_significant line.1) (enumerate_from 1 (lines_of text))
 
@@ -203,7 +211,7 @@ SpellCommands cpus collectors (line ∷ lines) (command ∷ commands) =
     × SpellCommands cpus collectors lines commands
 SpellCommands cpus collectors _ _ = ⊥
 
--- Lines that say something spell a script: a header, and then a command a line.
+-- Significant lines spell a script: a header, and then a command a line.
 pub record SpellScript (lines : List Line) (script : Script) : Type 0 where
   pub header : List Line
   pub behind : List Line

@@ -5,7 +5,7 @@ use Rattle.std.specs.List.{enumerate_from}
 use Rattle.text_model.specs.Text.{lines_of}
 use Rattle.text_model.specs.Script.{Command, Script, LineFault, bad_line, ◌>>=◌, Line, Setting, is_significant, value_in, command_in, header_settings}
 
--- the lines of a text that say something, where this many lines stand in front of it
+-- the significant lines of a text, where this many lines stand in front of it
 unfoldable pub significant_lines_after : ℕ → List ℕ → List Line
 significant_lines_after passed text = filter (λ line. is_significant line.1) (enumerate_from (passed + 1) (lines_of text))
 

@@ -2,20 +2,20 @@
 -- After docs/FORMATS.md, "Script".
 use Rattle.std.specs.Prelude.{ℕ, List, [], ◌∷◌, ◌++◌, map, flat_map, codes, decimal}
 use Rattle.std.specs.List.{join_with_byte}
-use Rattle.text_model.specs.Text.{hex_text}
-use Rattle.text_model.specs.Script.{Command, write, close, take_page, deliver, Script, Setting, pages_setting, size_setting, cpus_setting, collectors_setting}
+use Rattle.text_model.specs.Text.{line_feed, space, hex_text}
+use Rattle.text_model.specs.Script.{Command, write, close, take_page, deliver, Script, Setting, pages_setting, size_setting, cpus_setting, collectors_setting, cpu_letter}
 
 -- fields with one space between them
 abbrev pub line_of : List (List ℕ) → List ℕ
-line_of fields = join_with_byte 32 fields
+line_of fields = join_with_byte space fields
 
 -- lines, each with its line feed
 abbrev pub text_of : List (List ℕ) → List ℕ
-text_of lines = flat_map (λ line. line ++ 10 ∷ []) lines
+text_of lines = flat_map (λ line. line ++ line_feed ∷ []) lines
 
 -- a CPU's name
 abbrev pub cpu_text : ℕ → List ℕ
-cpu_text cpu = 99 ∷ decimal cpu
+cpu_text cpu = cpu_letter ∷ decimal cpu
 
 -- the fields of a command
 abbrev pub command_fields : Command → List (List ℕ)

@@ -7,21 +7,28 @@ use Rattle.std.specs.Str.{all_ascii_digits}
 use Rattle.std.specs.Str.Parse.{digits_value}
 use Rattle.text_model.specs.declared.script_limits.TheConstants.{MAX_NUMBER_DIGITS}
 
+-- the byte that ends a line
+abbrev pub line_feed : ℕ
+line_feed = 10
+
+-- the byte that stands between two fields
+abbrev pub space : ℕ
+space = 32
+
 -- the lines of a text without the empty one behind a last line feed
 abbrev pub without_empty_end : List (List ℕ) → List (List ℕ)
 without_empty_end [] = []
 without_empty_end (line ∷ []) = if length line == 0 then [] else line ∷ []
 without_empty_end (line ∷ next ∷ lines) = line ∷ without_empty_end (next ∷ lines)
 
--- The lines of a text: what stands between its line feeds, which are byte 10. The last line feed may
--- lack, and begins no line. A carriage return is a byte of its line.
+-- The lines of a text: what stands between its line feeds. The last line feed may lack, and begins no
+-- line. A carriage return is a byte of its line.
 abbrev pub lines_of : List ℕ → List (List ℕ)
-lines_of text = without_empty_end (slice_split (λ b. b == 10) text)
+lines_of text = without_empty_end (slice_split (λ b. b == line_feed) text)
 
--- The fields of a line: what stands between its spaces, which are byte 32. A space too many leaves an
--- empty field.
+-- The fields of a line: what stands between its spaces. A space too many leaves an empty field.
 abbrev pub fields_of : List ℕ → List (List ℕ)
-fields_of line = slice_split (λ b. b == 32) line
+fields_of line = slice_split (λ b. b == space) line
 
 -- exactly one space stands between two fields, and none at either end: no field is empty
 abbrev pub is_well_spaced : List (List ℕ) → Bool

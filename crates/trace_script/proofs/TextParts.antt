@@ -97,7 +97,7 @@ next_line text line None r none is empty some parts whole =
     ∙ ap (λ (l : List ℕ). line ∷ lines_of l) (sym empty)
     ∙ ap (λ (b : Bor (List ℕ)). line ∷ lines_of b.now) (sym is)
 
--- ---- numbered lines that say something
+-- ---- significant lines, numbered
 significant_line : (passed : ℕ) (text line rest : List ℕ) → lines_of text ≡ line ∷ lines_of rest → is_significant line ≡ true
     → significant_lines_after passed text ≡ (passed + 1, line) ∷ significant_lines_after (passed + 1) rest
 unfolding significant_lines_after

@@ -61,7 +61,7 @@ IsFirstFault text (script.BadHex number) = FirstScriptFault text number bad_hex
 IsFirstFault text (script.OutOfRange number) = FirstScriptFault text number out_of_range
 IsFirstFault text script.NoMemory = ⊤
 
--- the first lines of the text that say something are the header of a script
+-- the first significant lines of the text are the header of a script
 pub record HasHeader (text : List ℕ) : Type 0 where
   pub header : List Line
   pub behind : List Line

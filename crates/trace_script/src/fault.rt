@@ -9,8 +9,9 @@ use thiserror::Error;
 /// Why a text is no script. The number is that of the first line at fault, from 1.
 #[derive(Clone, Copy, Debug, PartialEq, Eq, Error)]
 pub enum ScriptFault {
-    /// A line is no line of a script, by its spaces, its word or how many fields it has; or another
-    /// line of the header is due; or the text ends within the header, and the line behind it is told.
+    /// The line has a space too many, a word that there isn't, a wrong number of fields, or a field that
+    /// is to name a CPU and doesn't; or another line of the header is due there. Where the text ends
+    /// before its header does, this is the line behind its last one.
     #[error("line {0}: BadLine")]
     BadLine(u64),
     /// A field is no decimal number of 1 to 20 digits below 2^64.

@@ -14,7 +14,7 @@ use text_model::{
 };
 use trace_model::{MAX_PAGES, MAX_SIZE, MIN_PAGES, MIN_SIZE};
 
-/// What the header of a script says.
+/// The values of a script's header.
 #[derive(Clone, Copy, Debug, PartialEq, Eq)]
 pub struct Header {
     /// The pages of a ring, its spare aside.
@@ -130,7 +130,7 @@ fn value_in(setting: Setting, line: &[u8]) -> Result<u64, LineFault>
     }
 }
 
-/// The value of a setting, from the next line that says something.
+/// The value of a setting, from the next significant line.
 fn read_setting(lines: &mut Lines, setting: Setting) -> Result<u64, ScriptFault>
     ensures gives { GivesAt
         (λ value. (value, significant_lines_after lines.new.passed lines.new.rest.now)) result
@@ -148,7 +148,7 @@ fn read_setting(lines: &mut Lines, setting: Setting) -> Result<u64, ScriptFault>
     reading_at(line.number, value)
 }
 
-/// The header, from the next lines that say something.
+/// The header, from the next significant lines.
 #[tactic(auto, unfolding(text_model::specs::ScriptReading::settings_from))]
 pub fn read_header(lines: &mut Lines) -> Result<Header, ScriptFault>
     ensures gives { GivesAt

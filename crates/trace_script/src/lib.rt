@@ -1,4 +1,4 @@
-//! The script text: what a script is, and its reader.
+//! The script text: what a script is, its reader, and the line that tells its first fault.
 //!
 //! A script is lines of fields, which `docs/FORMATS.md`, "Script", describes.
 #![tactic(auto)]

@@ -45,7 +45,7 @@ pub struct Lines<'a> {
     ghost bounded: { passed + length rest.now < 2 ^ 63 },
 }
 
-/// Whether the line says something: it is neither empty nor begins with `#`.
+/// Whether the line is significant: it is neither empty nor begins with `#`.
 fn is_significant(line: &[u8]) -> bool
     ensures { result ≡ is_significant line.now }
 {
@@ -89,7 +89,7 @@ impl<'a> Lines<'a> {
         })
     }
 
-    /// The next line that says something.
+    /// The next significant line.
     pub fn next_significant(&mut self) -> Option<Line<'a>>
         ensures left { MatchOption result
             (significant_lines_after self.old.passed self.old.rest.now ≡ [])

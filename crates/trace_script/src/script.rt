@@ -1,4 +1,4 @@
-//! What a script is.
+//! A script as a value.
 
 use crate::command::Command;
 
