@@ -1,9 +1,10 @@
 -- What each answer of a ring says of its state.
-use Rattle.std.proofs.Common.{◌≡◌, ℕ, suc, ◌+◌, ◌%◌, ◌^◌, ◌<◌, ◌≤◌, List, [], ◌∷◌, ◌++◌, get_or, refl, sym, ap, ◌∙◌, subst, mod-lt, arith}
+use Rattle.std.proofs.Common.{◌≡◌, ℕ, suc, ◌+◌, ◌%◌, ◌<◌, ◌≤◌, List, [], ◌∷◌, ◌++◌, get_or, refl, sym, ap, ◌∙◌, subst, mod-lt, arith}
 use Rattle.std.specs.Prelude.{◌==◌}
 use Rattle.std.proofs.lemmas.Bool.{cond_both}
 use mathlib.Core.Logic.{dite}
 use native.Mathlib.Decide.{dec_le}
+use Rattle.trace_model.specs.declared.limits.TheConstants.{LINK_FILLS}
 use Rattle.trace_model.specs.Frames.{Kind, for_record, for_close, Phase, reserving, looking, claiming, looking_next, marking, clearing, opening, reserved, releasing, Frame, Refusal, too_deep, too_long, late_moment, crowded, worn, no_frame, not_reserved}
 use Rattle.trace_model.specs.Links.{Link, normal_link, update_link}
 use Rattle.trace_model.specs.Ring.{link_into, page_at, ReaderPhase, loading_link, loading_done, storing_link, swapping, Taken, Core}
@@ -23,7 +24,7 @@ Refused n c too_deep = Unit {0}
 Refused n c too_long = Unit {0}
 Refused n c late_moment = Unit {0}
 Refused n c crowded = c.opened ≡ c.done + n
-Refused n c worn = (2 ^ 48 ≤ c.opened + n) × (c.opened ≡ c.done + n → ⊥)
+Refused n c worn = (LINK_FILLS ≤ c.opened + n) × (c.opened ≡ c.done + n → ⊥)
 Refused n c no_frame = Unit {0}
 Refused n c not_reserved = Unit {0}
 
@@ -125,7 +126,7 @@ refusal_true n size c event answer after step = step_true n size c (λ d. Unit {
 pub crowded_right : (n size : ℕ) (c : Core) (event : Event) (after : Core) → Step n size c event (refused crowded) after → c.opened ≡ c.done + n
 crowded_right n size c event after step = refusal_true n size c event (refused crowded) after step
 
-pub worn_right : (n size start : ℕ) (c : Core) (event : Event) (after : Core) → IsRingKept n start c → Step n size c event (refused worn) after → (c.opened + n ≡ 2 ^ 48) × (c.opened ≡ c.done + n → ⊥)
+pub worn_right : (n size start : ℕ) (c : Core) (event : Event) (after : Core) → IsRingKept n start c → Step n size c event (refused worn) after → (c.opened + n ≡ LINK_FILLS) × (c.opened ≡ c.done + n → ⊥)
 worn_right n size start c event after r step = let (last, some) = refusal_true n size c event (refused worn) after step in let fits = r.links.fits in (omega arith, some)
 
 -- the HEADER is owed by a move that stands

@@ -1,9 +1,10 @@
 -- What a frame knows in its phase: how it comes to know it, and that it stays so where links are set.
-use Rattle.std.proofs.Common.{◌≡◌, ◌≢◌, ℕ, suc, ◌+◌, ◌%◌, ◌^◌, ◌<◌, ◌≤◌, List, [], ◌∷◌, length, get_or, set, Option, Some, None, refl, sym, ap, ◌∙◌, subst, inl, inr, arith}
+use Rattle.std.proofs.Common.{◌≡◌, ◌≢◌, ℕ, suc, ◌+◌, ◌%◌, ◌<◌, ◌≤◌, List, [], ◌∷◌, length, get_or, set, Option, Some, None, refl, sym, ap, ◌∙◌, subst, inl, inr, arith}
 use Rattle.std.specs.Prelude.{unwrap_or}
 use Rattle.std.proofs.lemmas.List.{get_or-set_other}
 use mathlib.Core.Logic.{dite}
 use native.Mathlib.Decide.{ℕ_discrete}
+use Rattle.trace_model.specs.declared.limits.TheConstants.{LINK_FILLS}
 use Rattle.trace_model.specs.Links.{normal, header, update, Link, normal_link, header_link, update_link}
 use Rattle.trace_model.specs.Frames.{Role, owner, helper, Phase, reserving, looking, claiming, looking_next, marking, clearing, opening, reserved, releasing, Frame, noted_fill, owned_update}
 use Rattle.trace_model.specs.Ring.{link_into, links_with, page_at, ReaderPhase, loading_link, loading_done, storing_link, swapping}
@@ -47,7 +48,7 @@ after_set n links g f old new l was differ at = dite (ℕ_discrete (f % n) (g % 
 -- ---- what a frame knows, phase by phase
 
 abbrev pub Noted : ℕ → ℕ → ℕ → ℕ → Type 0
-Noted n done opened o = (done < o) × (o ≤ opened) × (o < done + n) × (o + n < 2 ^ 48)
+Noted n done opened o = (done < o) × (o ≤ opened) × (o < done + n) × (o + n < LINK_FILLS)
 
 abbrev pub Passed : ℕ → List ℕ → ℕ → ℕ → ℕ → ℕ → Type 0
 Passed n order head done o page = (done < o) × (o < head + n) × (page ≡ page_at n order o)

@@ -1,7 +1,8 @@
 -- A new ring has what every step keeps.
-use Rattle.std.proofs.Common.{◌≡◌, ℕ, ◌+◌, ◌%◌, ◌^◌, ◌<◌, ◌≤◌, List, sym, ap, ◌∙◌, subst, mod-lt, arith}
+use Rattle.std.proofs.Common.{◌≡◌, ℕ, ◌+◌, ◌%◌, ◌<◌, ◌≤◌, List, sym, ap, ◌∙◌, subst, mod-lt, arith}
 use mathlib.Core.Logic.{dite}
 use native.Mathlib.Decide.{ℕ_discrete}
+use Rattle.trace_model.specs.declared.limits.TheConstants.{LINK_FILLS}
 use Rattle.trace_model.specs.Links.{normal_link, header_link}
 use Rattle.trace_model.specs.Ring.{Core, IsStart, link_into, page_at, Reader, AreApart}
 use Rattle.trace_model.specs.History.{Action, writer_after, IsHistory}
@@ -27,7 +28,7 @@ module _ (n start : ℕ) (c : Core) (s : IsStart n start c) (some : 2 ≤ n) whe
     spare_differs = λ i below same. let is = s.order i below in omega arith;
   }
 
-  pub start_kept : start + 1 + n ≤ 2 ^ 48 → LinksKept n c
+  pub start_kept : start + 1 + n ≤ LINK_FILLS → LinksKept n c
   start_kept fits = let head = s.head in let done = s.done in let opened = s.opened in record {
     some_pages = some;
     positions = s.positions;

@@ -1,5 +1,6 @@
 -- A frame that needs a page and gets none is refused.
-use Rattle.std.proofs.Common.{◌≡◌, ℕ, ◌+◌, ◌^◌, ◌≤◌, List, [], ◌∷◌, refl, sym, ap, ◌∙◌, subst, arith}
+use Rattle.std.proofs.Common.{◌≡◌, ℕ, ◌+◌, ◌≤◌, List, [], ◌∷◌, refl, sym, ap, ◌∙◌, subst, arith}
+use Rattle.trace_model.specs.declared.limits.TheConstants.{LINK_FILLS}
 use Rattle.trace_model.specs.Packing.{FitsBehind}
 use Rattle.trace_model.specs.Frames.{Phase, reserving, Frame, crowded, worn}
 use Rattle.trace_model.specs.Ring.{Core}
@@ -7,7 +8,7 @@ use Rattle.trace_model.specs.Steps.{Event, pushes, pushes_close, steps, ends, re
 use Rattle.link_marks.specs.AnswerLaws.{IsInNeed}
 
 abbrev pub Due : ℕ → Core → Answer → Type 0
-Due n c answer = (c.opened ≡ c.done + n → answer ≡ refused crowded) × ((c.opened ≡ c.done + n → ⊥) → 2 ^ 48 ≤ c.opened + n → answer ≡ refused worn)
+Due n c answer = (c.opened ≡ c.done + n → answer ≡ refused crowded) × ((c.opened ≡ c.done + n → ⊥) → LINK_FILLS ≤ c.opened + n → answer ≡ refused worn)
 
 due_reserve : (n size : ℕ) (c : Core) (frame : Frame) (below : List Frame) (answer : Answer) (after : Core) → NeedsPage n size c frame.kind → ReserveStep n size c frame below answer after → Due n c answer
 due_reserve n size c frame below answer after need (reserves moment len r kind r_is fits a is) =

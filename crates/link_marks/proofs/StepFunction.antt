@@ -1,5 +1,6 @@
 -- One step of a ring as a function: what it answers and leaves, or nothing where no step is made.
-use Rattle.std.proofs.Common.{ℕ, suc, ◌+◌, ◌-◌, ◌^◌, Bool, true, false, if◌then◌else◌, ◌==◌, nat_lt, nat_le, List, [], ◌∷◌, ◌++◌, length, Option, Some, None}
+use Rattle.std.proofs.Common.{ℕ, suc, ◌+◌, ◌-◌, Bool, true, false, if◌then◌else◌, ◌==◌, nat_lt, nat_le, List, [], ◌∷◌, ◌++◌, length, Option, Some, None}
+use Rattle.trace_model.specs.declared.limits.TheConstants.{MAX_FRAMES, MOMENT_LIMIT, LINK_FILLS}
 use Rattle.trace_model.specs.Words.{encoded_len, slot_len}
 use Rattle.trace_model.specs.History.{Reservation, push, push_close, reserve, reservation_for, reserved_records}
 use Rattle.trace_model.specs.Packing.{fill_len}
@@ -42,7 +43,7 @@ goes_on c frame below phase = gives going (in_phase c frame below phase)
 abbrev pub needs_page : ℕ → Core → Frame → List Frame → Option Outcome
 needs_page n c frame below =
     if c.opened == (c.done + n) then gives (refused crowded) (after_leave c frame below None)
-    else (if nat_lt (c.opened + n) (2 ^ 48) then goes_on c frame below (looking c.opened) else gives (refused worn) (after_leave c frame below None))
+    else (if nat_lt (c.opened + n) LINK_FILLS then goes_on c frame below (looking c.opened) else gives (refused worn) (after_leave c frame below None))
 
 abbrev pub record_len : ℕ → Core → ℕ → ℕ → ℕ
 record_len n c moment len = fill_len ((contents_of c (tail_page n c)).records ++ reservation_for moment len (reserved_records c.history) ∷ [])
@@ -141,13 +142,13 @@ too_long_for size len = if nat_lt size len then true else nat_lt size (encoded_l
 
 abbrev pub push_of : ℕ → Core → (moment len : ℕ) → Option Outcome
 push_of size c moment len =
-    if nat_lt (length c.frames) 4 then (if too_long_for size len then gives (refused too_long) c else (if nat_lt moment (2 ^ 59)
+    if nat_lt (length c.frames) MAX_FRAMES then (if too_long_for size len then gives (refused too_long) c else (if nat_lt moment MOMENT_LIMIT
     then gives pushed (with_action (record c { frames = record { kind = for_record moment len; phase = reserving } ∷ c.frames }) (push moment len))
     else gives (refused late_moment) c)) else gives (refused too_deep) c
 
 abbrev pub close_push_of : Core → Option Outcome
 close_push_of c =
-    if nat_lt (length c.frames) 4 then gives pushed (with_action (record c { frames = record { kind = for_close; phase = reserving } ∷ c.frames }) push_close) else gives (refused too_deep) c
+    if nat_lt (length c.frames) MAX_FRAMES then gives pushed (with_action (record c { frames = record { kind = for_close; phase = reserving } ∷ c.frames }) push_close) else gives (refused too_deep) c
 
 abbrev pub steps_of : ℕ → ℕ → Core → List Frame → Option Outcome
 steps_of n size c [] = gives (refused no_frame) c

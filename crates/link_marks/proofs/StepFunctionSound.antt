@@ -1,6 +1,7 @@
 -- What the function computes is a step, and what it computes of a list of events is a run.
-use Rattle.std.proofs.Common.{◌≡◌, ◌≢◌, ℕ, suc, ◌+◌, ◌-◌, ◌^◌, inl, inr, ⊎_elim, Bool, true, false, if◌then◌else◌, ◌==◌, nat_lt, nat_le, List, [], ◌∷◌, length, map, Option, Some, None, refl, sym, ap, ◌∙◌, subst, arith}
+use Rattle.std.proofs.Common.{◌≡◌, ◌≢◌, ℕ, suc, ◌+◌, ◌-◌, inl, inr, ⊎_elim, Bool, true, false, if◌then◌else◌, ◌==◌, nat_lt, nat_le, List, [], ◌∷◌, length, map, Option, Some, None, refl, sym, ap, ◌∙◌, subst, arith}
 use Rattle.std.proofs.lemmas.Bool.{ltb-true, ltb-false, leb-true, leb-false, eqb-true, eqb-false, eq-eqb, both_ways}
+use Rattle.trace_model.specs.declared.limits.TheConstants.{MAX_FRAMES, MOMENT_LIMIT, LINK_FILLS}
 use Rattle.trace_model.specs.Words.{encoded_len, slot_len}
 use Rattle.trace_model.specs.History.{Reservation, reservation_for, reserved_records}
 use Rattle.trace_model.specs.Links.{Mark, normal, header, update, Link, normal_link, header_link, update_link}
@@ -75,9 +76,9 @@ module _ (n size : ℕ) (c : Core) (frame : Frame) (below : List Frame) where
   needs_page_sound : NeedsPage n size c frame.kind → Sound (ReserveStep n size c frame below) (needs_page n c frame below)
   needs_page_sound needs = by_if (ReserveStep n size c frame below) (c.opened == (c.done + n)) _ _
       (λ e. is_crowded needs (eqb-true c.opened (c.done + n) e) refl refl)
-      (λ e. by_if (ReserveStep n size c frame below) (nat_lt (c.opened + n) (2 ^ 48)) _ _
-      (λ s. notes needs (eqb-false c.opened (c.done + n) e) (ltb-true (c.opened + n) (2 ^ 48) s) refl refl)
-      (λ s. is_worn needs (eqb-false c.opened (c.done + n) e) (ltb-false (c.opened + n) (2 ^ 48) s) refl refl))
+      (λ e. by_if (ReserveStep n size c frame below) (nat_lt (c.opened + n) LINK_FILLS) _ _
+      (λ s. notes needs (eqb-false c.opened (c.done + n) e) (ltb-true (c.opened + n) LINK_FILLS s) refl refl)
+      (λ s. is_worn needs (eqb-false c.opened (c.done + n) e) (ltb-false (c.opened + n) LINK_FILLS s) refl refl))
 
   close_sound : frame.kind ≡ for_close → (records : List Reservation) → (contents_of c (tail_page n c)).records ≡ records → Sound (ReserveStep n size c frame below) (close_of n c frame below records)
   close_sound e [] is = finds_nothing e is refl refl
@@ -210,18 +211,18 @@ too_long_false size len e long = by_len (nat_lt size len) refl e
     by_len false is t = let room = ltb-false size len is in let fits = ltb-false size (encoded_len len 0 true) t in ⊎_elim (λ a. let x = a in omega arith) (λ b. let x = b in omega arith) long
 
 push_sound : (n size : ℕ) (c : Core) (moment len : ℕ) → Sound (Step n size c (pushes moment len)) (push_of size c moment len)
-push_sound n size c moment len = let P = Step n size c (pushes moment len) in by_if P (nat_lt (length c.frames) 4) _ _
-    (λ room. let few = ltb-true (length c.frames) 4 room in by_if P (too_long_for size len) _ _
+push_sound n size c moment len = let P = Step n size c (pushes moment len) in by_if P (nat_lt (length c.frames) MAX_FRAMES) _ _
+    (λ room. let few = ltb-true (length c.frames) MAX_FRAMES room in by_if P (too_long_for size len) _ _
     (λ long. push_refused moment len too_long refl (has_no_room few (too_long_true size len long)) refl refl)
-    (λ short. by_if P (nat_lt moment (2 ^ 59)) _ _
-    (λ early. push_step moment len refl few (too_long_false size len short) (ltb-true moment (2 ^ 59) early) refl refl)
-    (λ late. push_refused moment len late_moment refl (comes_late few (too_long_false size len short) (ltb-false moment (2 ^ 59) late)) refl refl)))
-    (λ many. push_refused moment len too_deep refl (all_stand (ltb-false (length c.frames) 4 many)) refl refl)
+    (λ short. by_if P (nat_lt moment MOMENT_LIMIT) _ _
+    (λ early. push_step moment len refl few (too_long_false size len short) (ltb-true moment MOMENT_LIMIT early) refl refl)
+    (λ late. push_refused moment len late_moment refl (comes_late few (too_long_false size len short) (ltb-false moment MOMENT_LIMIT late)) refl refl)))
+    (λ many. push_refused moment len too_deep refl (all_stand (ltb-false (length c.frames) MAX_FRAMES many)) refl refl)
 
 close_push_sound : (n size : ℕ) (c : Core) → Sound (Step n size c pushes_close) (close_push_of c)
-close_push_sound n size c = by_if (Step n size c pushes_close) (nat_lt (length c.frames) 4) _ _
-    (λ room. close_step refl (ltb-true (length c.frames) 4 room) refl refl)
-    (λ many. close_refused refl (ltb-false (length c.frames) 4 many) refl refl)
+close_push_sound n size c = by_if (Step n size c pushes_close) (nat_lt (length c.frames) MAX_FRAMES) _ _
+    (λ room. close_step refl (ltb-true (length c.frames) MAX_FRAMES room) refl refl)
+    (λ many. close_refused refl (ltb-false (length c.frames) MAX_FRAMES many) refl refl)
 
 steps_sound : (n size : ℕ) (c : Core) (frames : List Frame) → c.frames ≡ frames → Sound (Step n size c steps) (steps_of n size c frames)
 steps_sound n size c [] none = frame_lacks refl none refl refl

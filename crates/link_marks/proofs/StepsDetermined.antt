@@ -1,6 +1,7 @@
 -- Every step is the one that the function computes: so an event has one answer and one state after it.
-use Rattle.std.proofs.Common.{◌≡◌, ◌≢◌, ℕ, suc, ◌+◌, ◌-◌, ◌^◌, ⊎_elim, Bool, true, false, if◌then◌else◌, ◌==◌, nat_lt, nat_le, List, [], ◌∷◌, ◌++◌, length, Option, Some, None, refl, sym, ap, ◌∙◌, subst, arith}
+use Rattle.std.proofs.Common.{◌≡◌, ◌≢◌, ℕ, suc, ◌+◌, ◌-◌, ⊎_elim, Bool, true, false, if◌then◌else◌, ◌==◌, nat_lt, nat_le, List, [], ◌∷◌, ◌++◌, length, Option, Some, None, refl, sym, ap, ◌∙◌, subst, arith}
 use Rattle.std.proofs.lemmas.Bool.{ltb-false, leb-true, lt-ltb, le-ltb, le-leb, lt-leb, eq-eqb, ne_eqb}
+use Rattle.trace_model.specs.declared.limits.TheConstants.{MAX_FRAMES, MOMENT_LIMIT, LINK_FILLS}
 use Rattle.trace_model.specs.Words.{encoded_len, slot_len}
 use Rattle.trace_model.specs.History.{Reservation, reserve, reserved_records}
 use Rattle.trace_model.specs.Packing.{FitsBehind}
@@ -58,10 +59,10 @@ module _ (n size : ℕ) (c : Core) (frame : Frame) (below : List Frame) (answer 
   reserve_is (is_crowded needs full a is) = needs_is frame.kind needs ∙ if_yes (c.opened == (c.done + n)) _ _ (eq-eqb c.opened (c.done + n) full) ∙ here _ answer _ after a is
   reserve_is (is_worn needs room last a is) =
       needs_is frame.kind needs ∙ if_no (c.opened == (c.done + n)) _ _ (ne_eqb c.opened (c.done + n) room)
-      ∙ if_no (nat_lt (c.opened + n) (2 ^ 48)) _ _ (le-ltb (c.opened + n) (2 ^ 48) last) ∙ here _ answer _ after a is
+      ∙ if_no (nat_lt (c.opened + n) LINK_FILLS) _ _ (le-ltb (c.opened + n) LINK_FILLS last) ∙ here _ answer _ after a is
   reserve_is (notes needs room small a is) =
       needs_is frame.kind needs ∙ if_no (c.opened == (c.done + n)) _ _ (ne_eqb c.opened (c.done + n) room)
-      ∙ if_yes (nat_lt (c.opened + n) (2 ^ 48)) _ _ (lt-ltb (c.opened + n) (2 ^ 48) small) ∙ here _ answer _ after a is
+      ∙ if_yes (nat_lt (c.opened + n) LINK_FILLS) _ _ (lt-ltb (c.opened + n) LINK_FILLS small) ∙ here _ answer _ after a is
 
   anew_is : (noted : ℕ) → BeginsAnew c frame below noted answer after → Is (anew c frame below) answer after
   anew_is noted step = here _ answer _ after step.answer_is step.after_is
@@ -204,10 +205,10 @@ too_long_no : (size len : ℕ) → (IsTooLong size len → ⊥) → too_long_for
 too_long_no size len short = not_true (too_long_for size len) (λ e. short (too_long_true size len e))
 
 refused_is : (size : ℕ) (c : Core) (moment len : ℕ) (why : Refusal) → PushRefused size c moment len why → push_of size c moment len ≡ gives (refused why) c
-refused_is size c moment len why (all_stand many) = if_no (nat_lt (length c.frames) 4) _ _ (le-ltb (length c.frames) 4 many)
-refused_is size c moment len why (has_no_room few long) = if_yes (nat_lt (length c.frames) 4) _ _ (lt-ltb (length c.frames) 4 few) ∙ if_yes (too_long_for size len) _ _ (too_long_yes size len long)
+refused_is size c moment len why (all_stand many) = if_no (nat_lt (length c.frames) MAX_FRAMES) _ _ (le-ltb (length c.frames) MAX_FRAMES many)
+refused_is size c moment len why (has_no_room few long) = if_yes (nat_lt (length c.frames) MAX_FRAMES) _ _ (lt-ltb (length c.frames) MAX_FRAMES few) ∙ if_yes (too_long_for size len) _ _ (too_long_yes size len long)
 refused_is size c moment len why (comes_late few short late) =
-    if_yes (nat_lt (length c.frames) 4) _ _ (lt-ltb (length c.frames) 4 few) ∙ if_no (too_long_for size len) _ _ (too_long_no size len short) ∙ if_no (nat_lt moment (2 ^ 59)) _ _ (le-ltb moment (2 ^ 59) late)
+    if_yes (nat_lt (length c.frames) MAX_FRAMES) _ _ (lt-ltb (length c.frames) MAX_FRAMES few) ∙ if_no (too_long_for size len) _ _ (too_long_no size len short) ∙ if_no (nat_lt moment MOMENT_LIMIT) _ _ (le-ltb moment MOMENT_LIMIT late)
 
 early_is : (c : Core) (frame : Frame) (below : List Frame) (payload : List ℕ) (phase : Phase) → number_in phase ≡ None → end_in c frame below payload phase ≡ gives (refused not_reserved) c
 early_is c frame below payload reserving e = refl
@@ -222,11 +223,11 @@ early_is c frame below payload releasing e = refl
 
 step_is : (n size : ℕ) (c : Core) (event : Event) (answer : Answer) (after : Core) → Step n size c event answer after → Is (step_of n size c event) answer after
 step_is n size c event answer after (push_step moment len e few short early a is) =
-    ap (step_of n size c) e ∙ if_yes (nat_lt (length c.frames) 4) _ _ (lt-ltb (length c.frames) 4 few) ∙ if_no (too_long_for size len) _ _ (too_long_no size len short)
-    ∙ if_yes (nat_lt moment (2 ^ 59)) _ _ (lt-ltb moment (2 ^ 59) early) ∙ here _ answer _ after a is
+    ap (step_of n size c) e ∙ if_yes (nat_lt (length c.frames) MAX_FRAMES) _ _ (lt-ltb (length c.frames) MAX_FRAMES few) ∙ if_no (too_long_for size len) _ _ (too_long_no size len short)
+    ∙ if_yes (nat_lt moment MOMENT_LIMIT) _ _ (lt-ltb moment MOMENT_LIMIT early) ∙ here _ answer _ after a is
 step_is n size c event answer after (push_refused moment len why e refusal a is) = ap (step_of n size c) e ∙ refused_is size c moment len why refusal ∙ here _ answer _ after a is
-step_is n size c event answer after (close_step e few a is) = ap (step_of n size c) e ∙ if_yes (nat_lt (length c.frames) 4) _ _ (lt-ltb (length c.frames) 4 few) ∙ here _ answer _ after a is
-step_is n size c event answer after (close_refused e many a is) = ap (step_of n size c) e ∙ if_no (nat_lt (length c.frames) 4) _ _ (le-ltb (length c.frames) 4 many) ∙ here _ answer _ after a is
+step_is n size c event answer after (close_step e few a is) = ap (step_of n size c) e ∙ if_yes (nat_lt (length c.frames) MAX_FRAMES) _ _ (lt-ltb (length c.frames) MAX_FRAMES few) ∙ here _ answer _ after a is
+step_is n size c event answer after (close_refused e many a is) = ap (step_of n size c) e ∙ if_no (nat_lt (length c.frames) MAX_FRAMES) _ _ (le-ltb (length c.frames) MAX_FRAMES many) ∙ here _ answer _ after a is
 step_is n size c event answer after (frame_step frame below e top step) = ap (step_of n size c) e ∙ ap (steps_of n size c) top ∙ frame_is n size c frame below answer after frame.phase step
 step_is n size c event answer after (frame_lacks e none a is) = ap (step_of n size c) e ∙ ap (steps_of n size c) none ∙ here _ answer _ after a is
 step_is n size c event answer after (end_step payload frame below number moment len e top at kind size_is a is) =

@@ -1,8 +1,9 @@
 -- The function that computes a step gives one from every state that a run reaches.
-use Rattle.std.proofs.Common.{◌≡◌, ℕ, suc, ◌+◌, ◌-◌, ◌%◌, ◌^◌, ◌<◌, ◌≤◌, Bool, true, false, if◌then◌else◌, ◌==◌, nat_lt, nat_le, List, [], ◌∷◌, length, get_or, Option, Some, None, refl, sym, ap, ◌∙◌, subst, mod-lt, mod-eq_of_lt, arith}
+use Rattle.std.proofs.Common.{◌≡◌, ℕ, suc, ◌+◌, ◌-◌, ◌%◌, ◌<◌, ◌≤◌, Bool, true, false, if◌then◌else◌, ◌==◌, nat_lt, nat_le, List, [], ◌∷◌, length, get_or, Option, Some, None, refl, sym, ap, ◌∙◌, subst, mod-lt, mod-eq_of_lt, arith}
 use Rattle.std.proofs.lemmas.Bool.{ltb-false, leb-false, eqb-true, eqb-false}
 use mathlib.Core.Logic.{dite}
 use native.Mathlib.Decide.{ℕ_discrete}
+use Rattle.trace_model.specs.declared.limits.TheConstants.{MAX_FRAMES, MOMENT_LIMIT, LINK_FILLS}
 use Rattle.trace_model.specs.Words.{slot_len}
 use Rattle.trace_model.specs.History.{Reservation}
 use Rattle.trace_model.specs.Links.{Mark, normal, header, update, Link, normal_link, header_link, update_link}
@@ -31,7 +32,7 @@ given_if false x y holds fails = fails refl
 
 module _ (n size : ℕ) (c : Core) (frame : Frame) (below : List Frame) (k : LinksKept n c) (r : Ready n c) (top : c.frames ≡ frame ∷ below) where
   needs_page_given : Given (needs_page n c frame below)
-  needs_page_given = given_if (c.opened == (c.done + n)) _ _ (λ e. tt) (λ e. given_if (nat_lt (c.opened + n) (2 ^ 48)) _ _ (λ s. tt) (λ s. tt))
+  needs_page_given = given_if (c.opened == (c.done + n)) _ _ (λ e. tt) (λ e. given_if (nat_lt (c.opened + n) LINK_FILLS) _ _ (λ s. tt) (λ s. tt))
 
   close_given : (records : List Reservation) → Given (close_of n c frame below records)
   close_given [] = tt
@@ -157,12 +158,12 @@ module _ (n : ℕ) (c : Core) (k : LinksKept n c) where
 -- ---- the whole
 
 push_given : (size : ℕ) (c : Core) (moment len : ℕ) → Given (push_of size c moment len)
-push_given size c moment len = given_if (nat_lt (length c.frames) 4) _ _
-    (λ few. given_if (too_long_for size len) _ _ (λ long. tt) (λ short. given_if (nat_lt moment (2 ^ 59)) _ _ (λ early. tt) (λ late. tt)))
+push_given size c moment len = given_if (nat_lt (length c.frames) MAX_FRAMES) _ _
+    (λ few. given_if (too_long_for size len) _ _ (λ long. tt) (λ short. given_if (nat_lt moment MOMENT_LIMIT) _ _ (λ early. tt) (λ late. tt)))
     (λ many. tt)
 
 close_push_given : (c : Core) → Given (close_push_of c)
-close_push_given c = given_if (nat_lt (length c.frames) 4) _ _ (λ few. tt) (λ many. tt)
+close_push_given c = given_if (nat_lt (length c.frames) MAX_FRAMES) _ _ (λ few. tt) (λ many. tt)
 
 steps_given : (n size : ℕ) (c : Core) (frames : List Frame) → LinksKept n c → Ready n c → c.frames ≡ frames → Given (steps_of n size c frames)
 steps_given n size c [] k r none = tt

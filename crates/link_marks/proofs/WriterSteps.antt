@@ -1,7 +1,8 @@
 -- Each step of a frame keeps what is known of links, counts, frames and the reader.
-use Rattle.std.proofs.Common.{◌≡◌, ◌≢◌, ℕ, suc, ◌+◌, ◌^◌, ◌<◌, List, ◌∷◌, Some, None, sym, ap, ◌∙◌, subst, inl, inr, ⊎_elim, arith, length-set}
+use Rattle.std.proofs.Common.{◌≡◌, ◌≢◌, ℕ, suc, ◌+◌, ◌<◌, List, ◌∷◌, Some, None, sym, ap, ◌∙◌, subst, inl, inr, ⊎_elim, arith, length-set}
 use mathlib.Core.Logic.{dite}
 use native.Mathlib.Decide.{ℕ_discrete}
+use Rattle.trace_model.specs.declared.limits.TheConstants.{LINK_FILLS}
 use Rattle.trace_model.specs.Links.{Link, normal_link, header_link, update_link}
 use Rattle.trace_model.specs.Frames.{owner, Phase, looking_next, opening, Frame, owned_update}
 use Rattle.trace_model.specs.Ring.{Core, link_into, links_with, page_at}
@@ -166,7 +167,7 @@ opened_phase n links order head done opened phase k = record {
   releases = λ is. let more = k.releases is in omega arith;
 }
 
-pub begun_kept : (n : ℕ) (c : Core) (page : ℕ) → LinksKept n c → c.opened < c.head + n → c.opened + n < 2 ^ 48 → LinksKept n (with_new_tail c page)
+pub begun_kept : (n : ℕ) (c : Core) (page : ℕ) → LinksKept n c → c.opened < c.head + n → c.opened + n < LINK_FILLS → LinksKept n (with_new_tail c page)
 begun_kept n c page k room small = record {
   some_pages = k.some_pages;
   positions = k.positions;

@@ -1,6 +1,7 @@
 -- The wrong steps make no rings.
-use Rattle.std.proofs.Common.{◌≡◌, ℕ, suc, ◌+◌, ◌^◌, ◌<◌, ◌≤◌, List, [], length, map, Option, Some, refl, ap, ⊎_elim, arith}
+use Rattle.std.proofs.Common.{◌≡◌, ℕ, suc, ◌+◌, ◌<◌, ◌≤◌, List, [], length, map, Option, Some, refl, ap, ⊎_elim, arith}
 use Rattle.std.specs.List.{slice_get}
+use Rattle.trace_model.specs.declared.limits.TheConstants.{LINK_FILLS}
 use Rattle.trace_model.specs.Record.{Record}
 use Rattle.trace_model.specs.Links.{Link, normal_link, update_link, mark_code}
 use Rattle.trace_model.specs.Ring.{Taken, Core, link_into, page_at, IsStart, IsRing, IsBehindHead, told, moved, IsAtHead, marked, owed}
@@ -14,7 +15,7 @@ use Rattle.link_marks.proofs.StepFunctionSound.{event_in, answer_in, Gives, run_
 use Rattle.link_marks.proofs.ExamplesRun.{two_pages, four_pages, two_start, four_start, last_from}
 
 -- where the state is no ring, no step makes it
-refused : (n size : ℕ) (start : Core) (exchanges : List Exchange) (wrong : Core → Core) → 2 ≤ n → 0 + 1 + n ≤ 2 ^ 48 → IsStart n 0 start
+refused : (n size : ℕ) (start : Core) (exchanges : List Exchange) (wrong : Core → Core) → 2 ≤ n → 0 + 1 + n ≤ LINK_FILLS → IsStart n 0 start
     → Gives (run_of n size start (map event_in exchanges)) (map answer_in exchanges) (last_from n size start exchanges)
     → (IsRing n 0 (wrong (last_from n size start exchanges)) → ⊥)
     → IsWrongStep n size exchanges wrong
