@@ -15,7 +15,7 @@ either_way : (b : Bool) → (b ≡ true) ⊎ (b ≡ false)
 either_way true = inl refl
 either_way false = inr refl
 
--- ---- the settled front of one more action
+-- ---- the settled prefix of one more action
 
 within_append : (m : ℕ) (h rest : List Action) → m ≤ length h → settled_prefix_within m (h ++ rest) ≡ settled_prefix_within m h
 within_append zero h rest low = refl
@@ -36,7 +36,7 @@ settled_stack h t = by_stack (writer_after h).stack refl
     by_stack [] e = e
     by_stack (f ∷ s) e = absurd (let bad = rw e at t in cc)
 
--- ---- the front that is committed
+-- ---- the prefix that is committed
 
 -- the number of a frame's record
 abbrev pub number_with : Frame → Option ℕ

@@ -115,7 +115,7 @@ length-records_with_payload (Some k) (Some p) [] = refl
 length-records_with_payload (Some zero) (Some p) (x ∷ xs) = refl
 length-records_with_payload (Some (suc k)) (Some p) (x ∷ xs) = ap suc (length-records_with_payload (Some k) (Some p) xs)
 
--- the part of the records from a index on, or none of it, that an end changes
+-- the records from an index on, or none of it, that an end changes
 abbrev finished_from : ℕ → ℕ → List ℕ → List Reservation → List Reservation
 finished_from from k p xs = if nat_lt k from then xs else records_with_payload (Some (k - from)) (Some p) xs
 

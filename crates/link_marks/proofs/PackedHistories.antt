@@ -170,7 +170,7 @@ not_nil : (front behind : List Action) (x : Action) → [] ≡ front ++ x ∷ be
 not_nil [] behind x e = cc
 not_nil (y ∷ front) behind x e = cc
 
--- a index in a list with one element more is the last one, or stands in the list
+-- an index in a list with one element more is the last one, or stands in the list
 snoc_index : (h front behind : List Action) (a x : Action) → h ++ a ∷ [] ≡ front ++ x ∷ behind → ((h ≡ front) × (a ≡ x)) ⊎ ((rest : List Action) × (h ≡ front ++ x ∷ rest))
 snoc_index [] [] behind a x e = inl (refl, first_is a x [] behind e)
 snoc_index [] (y ∷ front) behind a x e = absurd (not_nil front behind x (rest_is a y [] (front ++ x ∷ behind) e))

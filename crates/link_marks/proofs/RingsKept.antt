@@ -136,8 +136,8 @@ module _ (n start : ℕ) (c : Core) (r : IsRingKept n start c) where
     ready = ready c.reader.phase r.links.reader;
   }
 
--- The fills that the reader took, and the records lost between, part the committed records up to the number
--- that the reader expects; behind that is the rest.
+-- The fills that the reader took, and the records lost between, are a partition of the committed records up to
+-- the number that the reader expects; behind that is the rest.
 pub taken_partition_at : (n start : ℕ) (c : Core) → IsRingKept n start c → IsPartition (committed_records c.history) (pieces_of c.reader.taken) (map as_record (drop c.reader.expected (take (length (reserved_records (settled_prefix c.history))) (reserved_records c.history))))
 taken_partition_at n start c r =
     let e : ℕ = c.reader.expected in

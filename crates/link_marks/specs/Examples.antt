@@ -46,16 +46,16 @@ abbrev pub at : ℕ → List ℕ → Record
 at moment bytes = record { moment = moment; bytes = bytes }
 
 -- records whose payloads fill their slots, as a page holds them
-abbrev pub held_as : List Record → List Reservation
-held_as records = map (λ r. record { moment = r.moment; len = length r.bytes; bytes = Some r.bytes }) records
+abbrev pub held_records : List Record → List Reservation
+held_records records = map (λ r. record { moment = r.moment; len = length r.bytes; bytes = Some r.bytes }) records
 
 -- a take's answer: the fill, the number of its first record, how many were missed in front of it, and its
 -- records
-abbrev pub took : (fill first missed : ℕ) → List Record → Answer
-took fill first missed records = swapped record {
+abbrev pub taken_as : (fill first missed : ℕ) → List Record → Answer
+taken_as fill first missed records = swapped record {
   fill = fill;
   skipped = missed;
-  held = record { first = first; records = held_as records };
+  held = record { first = first; records = held_records records };
 }
 
 -- ---- events that stand for one line of a script
@@ -108,7 +108,7 @@ abbrev pub first_record : List Exchange
 first_record =
     writing 100 (1 ∷ 2 ∷ 3 ∷ 4 ∷ []) 0
     ++ closing going ++ stepping (gone ∷ [])
-    ++ take_of (took 0 0 0 (at 100 (1 ∷ 2 ∷ 3 ∷ 4 ∷ []) ∷ []))
+    ++ take_of (taken_as 0 0 0 (at 100 (1 ∷ 2 ∷ 3 ∷ 4 ∷ []) ∷ []))
 
 abbrev pub FirstRecord : Type 0
 FirstRecord = IsExample 2 32 first_record (at 100 (1 ∷ 2 ∷ 3 ∷ 4 ∷ []) ∷ [])
@@ -122,7 +122,7 @@ nested_writer =
     ++ closing gone
     ++ taking (reading ∷ empty 0 ∷ [])
     ++ ending (four 170) full ++ stepping (gone ∷ [])
-    ++ take_of (took 0 0 0 (at 10 (four 170) ∷ at 20 (four 187) ∷ []))
+    ++ take_of (taken_as 0 0 0 (at 10 (four 170) ∷ at 20 (four 187) ∷ []))
 
 abbrev pub NestedWriter : Type 0
 NestedWriter = IsExample 2 32 nested_writer (at 10 (four 170) ∷ at 20 (four 187) ∷ [])
@@ -135,7 +135,7 @@ inner_reserves_first =
     ++ pushing 20 4 ++ stepping (reserved_as 0 ∷ []) ++ ending (four 187) pending
     ++ stepping (reserved_as 1 ∷ []) ++ ending (four 170) full
     ++ closing going ++ stepping (gone ∷ [])
-    ++ take_of (took 0 0 0 (at 20 (four 187) ∷ at 20 (four 170) ∷ []))
+    ++ take_of (taken_as 0 0 0 (at 20 (four 187) ∷ at 20 (four 170) ∷ []))
 
 abbrev pub InnerReservesFirst : Type 0
 InnerReservesFirst = IsExample 2 32 inner_reserves_first (at 20 (four 187) ∷ at 20 (four 170) ∷ [])
@@ -152,7 +152,7 @@ halted_head_move =
     ++ stepping (going ∷ going ∷ [])
     ++ taking (reading ∷ empty 1 ∷ [])
     ++ stepping (going ∷ going ∷ reserved_as 2 ∷ []) ++ ending (all 3) full ++ stepping (gone ∷ [])
-    ++ take_of (took 1 1 1 (at 2 (all 2) ∷ []))
+    ++ take_of (taken_as 1 1 1 (at 2 (all 2) ∷ []))
 
 abbrev pub HaltedHeadMove : Type 0
 HaltedHeadMove = IsExample 2 32 halted_head_move (at 1 (all 1) ∷ at 2 (all 2) ∷ at 3 (all 3) ∷ [])
@@ -171,9 +171,9 @@ helpers_at_the_head =
     ++ stepping (going ∷ going ∷ going ∷ [])
     ++ stepping (after_going 7 (reserved_as 6)) ++ ending (all 5) full
     ++ stepping (going ∷ going ∷ gone ∷ [])
-    ++ taking (reading ∷ reading ∷ reading ∷ []) ++ take_of (took 3 3 3 (at 4 (all 4) ∷ []))
-    ++ take_of (took 4 4 0 (at 6 (all 6) ∷ []))
-    ++ take_of (took 5 5 0 (at 7 (all 7) ∷ []))
+    ++ taking (reading ∷ reading ∷ reading ∷ []) ++ take_of (taken_as 3 3 3 (at 4 (all 4) ∷ []))
+    ++ take_of (taken_as 4 4 0 (at 6 (all 6) ∷ []))
+    ++ take_of (taken_as 5 5 0 (at 7 (all 7) ∷ []))
     ++ taking (reading ∷ empty 6 ∷ [])
 
 abbrev pub HelpersAtTheHead : Type 0
@@ -190,7 +190,7 @@ late_swap =
     ++ taking (reading ∷ [])
     ++ writing_over_head 3 (all 3) 2 ++ writing_over_head 4 (all 4) 3
     ++ taking (reading ∷ reading ∷ reading ∷ []) ++ taking (reading ∷ [])
-    ++ take_of (took 2 2 2 (at 3 (all 3) ∷ []))
+    ++ take_of (taken_as 2 2 2 (at 3 (all 3) ∷ []))
 
 abbrev pub LateSwap : Type 0
 LateSwap = IsExample 2 32 late_swap (at 1 (all 1) ∷ at 2 (all 2) ∷ at 3 (all 3) ∷ at 4 (all 4) ∷ [])

@@ -1,4 +1,4 @@
--- The records reserved in a settled front of a history are a front of all that it reserves.
+-- The records reserved in a settled prefix of a history are a prefix of all that it reserves.
 use Rattle.std.proofs.Common.{◌≡◌, ◌⊎◌, inl, inr, ⊎_elim, ℕ, zero, suc, ◌≤◌, Bool, true, false, cond, List, [], ◌∷◌, ◌++◌, length, take, drop, fold, Option, Some, None, refl, sym, ap, ◌∙◌, arith, append_assoc, append-nil, take-append-drop, length-append}
 use Rattle.trace_model.specs.History.{Action, push, push_close, open_fill, reserve, leave, Reservation, Frame, record_frame, close_frame, WriterState, reservation_for, records_with_payload, after_reserve, records_after_leave, after_action, writer_after, reserved_records, is_settled, settled_prefix_within, settled_prefix}
 use Rattle.trace_model.specs.Sublist.{IsPrefix}
@@ -94,17 +94,17 @@ cond_either : {A : Type 0} (P : A → Type 0) (b : Bool) (x y : A) → (b ≡ tr
 cond_either P true x y first second = first refl
 cond_either P false x y first second = second
 
--- a settled front of the history
-pub record IsSettledFront (history front : List Action) : Type 0 where
+-- a settled prefix of the history
+pub record IsSettledPrefix (history front : List Action) : Type 0 where
   pub settled : is_settled front ≡ true
   pub is_prefix : IsPrefix front history
 
-pub settled_within : (n : ℕ) (history : List Action) → IsSettledFront history (settled_prefix_within n history)
+pub settled_within : (n : ℕ) (history : List Action) → IsSettledPrefix history (settled_prefix_within n history)
 settled_within zero history = record { settled = refl; is_prefix = (history, refl) }
 settled_within (suc n) history =
-    cond_either (IsSettledFront history) (is_settled (take (suc n) history)) (take (suc n) history) (settled_prefix_within n history) (λ h. record { settled = h; is_prefix = (drop (suc n) history, sym (take-append-drop (suc n) history)) }) (settled_within n history)
+    cond_either (IsSettledPrefix history) (is_settled (take (suc n) history)) (take (suc n) history) (settled_prefix_within n history) (λ h. record { settled = h; is_prefix = (drop (suc n) history, sym (take-append-drop (suc n) history)) }) (settled_within n history)
 
--- the records of the settled front are a front of the history's
+-- the records of the settled prefix are a prefix of the history's
 pub settled_records_prefix : (history : List Action) → IsPrefix (reserved_records (settled_prefix history)) (reserved_records history)
 settled_records_prefix history =
     let front = settled_within (length history) history in
