@@ -1,12 +1,13 @@
--- When an end of a command has failed. Its `failed` is true from the first failure on.
-use Rattle.std.specs.Prelude.{ℕ, Bool, true, ◌&&◌, if◌then◌else◌, ◌==◌, nat_lt, Result, Ok, Err}
+-- What a failed read or write is. An end is asked for nothing more once one has failed, so whether it has
+-- failed is whether its last call did.
+use Rattle.std.specs.Prelude.{ℕ, Bool, true, false, ◌&&◌, ◌==◌, nat_lt, Result, Ok, Err}
 
 -- a read fails by an `Err`
-abbrev pub failed_after_read : {E : Type 0} → Bool → Result ℕ E → Bool
-failed_after_read before (Ok n) = before
-failed_after_read before (Err e) = true
+abbrev pub read_fails : {E : Type 0} → Result ℕ E → Bool
+read_fails (Ok n) = false
+read_fails (Err e) = true
 
 -- a write fails by an `Err`, and by taking none of one or more bytes, `len` of them
-abbrev pub failed_after_write : {E : Type 0} → Bool → Result ℕ E → ℕ → Bool
-failed_after_write before (Ok n) len = if n == 0 && nat_lt 0 len then true else before
-failed_after_write before (Err e) len = true
+abbrev pub write_fails : {E : Type 0} → Result ℕ E → ℕ → Bool
+write_fails (Ok n) len = n == 0 && nat_lt 0 len
+write_fails (Err e) len = true

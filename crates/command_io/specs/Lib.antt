@@ -1,4 +1,4 @@
-pub mod Failing
 pub mod Ends
-pub mod Answer
-pub mod Told
+pub mod Failing
+pub mod Output
+pub mod CommandRun

@@ -1,11 +1,13 @@
 //! The two ends of a command: what it reads from and what it writes to.
 //!
-//! They are std's `read` and `write` under contracts that also say whether an end has failed, so that
-//! a command can answer for a read or a write that went wrong.
-ghost use Rattle.std.specs.Prelude.{◌≡◌, ℕ, Bool, false, List, length, Option};
+//! They are std's `read` and `write` under contracts that also say whether an end has failed. A read or
+//! a write is asked for only of an end that has not failed, so whatever is proved over these ends stops
+//! at the first failure: after a failed read nothing more is read, after a failed write nothing more is
+//! written.
+ghost use Rattle.std.specs.Prelude.{◌≡◌, ℕ, Bool, true, false, List, length, Option, IsTrue, ◌↔◌};
 ghost use Rattle.std.specs.Io.{ReadsAtMost, WritesAtMost};
 ghost use Rattle.std.specs.Io.KnownBytes.{ReadConsumes, WriteAppends};
-ghost use Rattle.command_io.specs.Failing.{failed_after_read, failed_after_write};
+ghost use Rattle.command_io.specs.Failing.{read_fails, write_fails};
 
 use std::io;
 use std::io::{Read, Write};
@@ -18,11 +20,12 @@ pub trait Source {
     ghost failed: { Self → Bool };
 
     /// Reads some bytes into the front of `buf` and answers how many: 0 at the end, or for an
-    /// empty `buf`.
+    /// empty `buf`. Behind a read that failed there is no other.
     fn read(&mut self, buf: &mut [u8]) -> io::Result<usize>
+        requires { failed self.old ≡ false }
         ensures bound { ReadsAtMost result buf.new }
         ensures bytes { ReadConsumes (remaining self.old) (remaining self.new) result buf.new }
-        ensures fails { failed self.new ≡ failed_after_read (failed self.old) result };
+        ensures fails { failed self.new ≡ read_fails result };
 }
 
 /// What a command writes to.
@@ -33,11 +36,12 @@ pub trait Sink {
     ghost failed: { Self → Bool };
 
     /// Takes some bytes from the front of `buf` and answers how many. Taking none of one or more
-    /// bytes is a failure, as an `Err` is.
+    /// bytes is a failure, as an `Err` is. Behind a write that failed there is no other.
     fn write(&mut self, buf: &[u8]) -> io::Result<usize>
+        requires { failed self.old ≡ false }
         ensures bound { WritesAtMost result buf.now }
         ensures bytes { WriteAppends (contents self.old) (contents self.new) result buf.now }
-        ensures fails { failed self.new ≡ failed_after_write (failed self.old) result (length buf.now) };
+        ensures fails { failed self.new ≡ write_fails result (length buf.now) };
 }
 
 /// An end of std as an end of a command, with a note whether it has failed.
@@ -59,6 +63,13 @@ impl<T> Std<T> {
             inner,
             failed: false,
         }
+    }
+
+    /// Whether a read or a write of it has failed.
+    pub fn has_failed(&self) -> bool
+        ensures { IsTrue result ↔ (has_failed self.now ≡ true) }
+    {
+        self.failed
     }
 }
 

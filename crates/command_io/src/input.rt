@@ -1,13 +1,13 @@
 //! Reads all of a source, up to a limit.
 ghost use Rattle.std.specs.Prelude.{◌≡◌, ◌≢◌, ◌↔◌, ◌+◌, ◌<◌, ◌≤◌, ◌++◌, false, true, vec_len, length, IfOk, IfErr, OnOk, OnErr, Err};
-ghost use Rattle.command_io.specs.Told.{ReadsAll, TakesAtMost, TakesMoreThan};
+ghost use Rattle.command_io.specs.CommandRun.{ReadsAll, TakesAtMost, TakesMoreThan};
 
 use crate::ends::Source;
 use std::alloc::Global;
 use trace_model::MAX_INPUT;
 
 /// How many bytes are asked for at a time.
-const PIECE: usize = 65536;
+const CHUNK: usize = 65536;
 
 /// Why there is no input.
 #[derive(Clone, Copy, Debug, PartialEq, Eq)]
@@ -20,39 +20,41 @@ pub enum InputFault {
     NoMemory,
 }
 
-// Room for one piece.
-fn new_piece(alloc: Global) -> Result<Vec<u8>, InputFault>
-    ensures room { IfOk result (λ piece. vec_len piece ≡ PIECE) }
+// Room for one chunk.
+fn new_chunk(alloc: Global) -> Result<Vec<u8>, InputFault>
+    ensures room { IfOk result (λ chunk. vec_len chunk ≡ CHUNK) }
     ensures refused { IfErr result (λ fault. fault ≡ InputFault.NoMemory) }
 {
-    match vec![in alloc; 0u8; PIECE] {
-        Ok(piece) => Ok(piece),
+    match vec![in alloc; 0u8; CHUNK] {
+        Ok(chunk) => Ok(chunk),
         Err(_) => Err(InputFault::NoMemory),
     }
 }
 
 // Adds what was read to the text, which stays within the limit.
-fn add_piece(text: &mut Vec<u8>, piece: &[u8]) -> Result<(), InputFault>
+fn add_chunk(text: &mut Vec<u8>, chunk: &[u8]) -> Result<(), InputFault>
     requires { vec_len text.old ≤ MAX_INPUT }
-    ensures added { OnOk result (text.new.items ≡ text.old.items ++ piece.now) }
+    ensures added { OnOk result (text.new.items ≡ text.old.items ++ chunk.now) }
     ensures limited { vec_len text.new ≤ MAX_INPUT }
-    ensures too_long { (result ≡ Err InputFault.TooLong) ↔ (MAX_INPUT < vec_len text.old + length piece.now) }
+    ensures too_long { (result ≡ Err InputFault.TooLong)
+        ↔ (MAX_INPUT < vec_len text.old + length chunk.now) }
     ensures kept { OnErr result (text.new.items ≡ text.old.items) }
     ensures no_read { IfErr result (λ fault. fault ≢ InputFault.Read) }
 {
-    if piece.len() > MAX_INPUT - text.len() {
+    if chunk.len() > MAX_INPUT - text.len() {
         return Err(InputFault::TooLong);
     }
-    match text.extend_from_slice(piece) {
+    match text.extend_from_slice(chunk) {
         Ok(()) => Ok(()),
         Err(_) => Err(InputFault::NoMemory),
     }
 }
 
-/// All that the reader gives, at most [`MAX_INPUT`] bytes. Reading stops at the first fault.
+/// All that the reader gives, at most [`MAX_INPUT`] bytes. Nothing more is read behind the first fault.
 pub fn read_all<R: Source>(alloc: Global, reader: &mut R) -> Result<Vec<u8>, InputFault>
     requires { R.failed reader.old ≡ false }
-    ensures whole { IfOk result (λ text. ReadsAll (R.remaining reader.old) (R.remaining reader.new) text.items) }
+    ensures whole { IfOk result (λ text.
+        ReadsAll (R.remaining reader.old) (R.remaining reader.new) text.items) }
     ensures limited { IfOk result (λ text. vec_len text ≤ MAX_INPUT) }
     ensures read_fault { (R.failed reader.new ≡ true) ↔ (result ≡ Err InputFault.Read) }
     ensures too_long { result ≡ Err InputFault.TooLong
@@ -60,12 +62,12 @@ pub fn read_all<R: Source>(alloc: Global, reader: &mut R) -> Result<Vec<u8>, Inp
     ensures no_memory { result ≡ Err InputFault.NoMemory
         → TakesAtMost MAX_INPUT (R.remaining reader.old) (R.remaining reader.new) }
 {
-    let mut piece = new_piece(alloc)?;
+    let mut chunk = new_chunk(alloc)?;
     let mut text = Vec::new(alloc);
     loop {
-        match reader.read(piece.as_mut_slice()) {
+        match reader.read(chunk.as_mut_slice()) {
             Ok(0) => return Ok(text),
-            Ok(count) => add_piece(&mut text, &piece[..count])?,
+            Ok(count) => add_chunk(&mut text, &chunk[..count])?,
             Err(_) => return Err(InputFault::Read),
         }
     }

@@ -1,10 +1,16 @@
-//! What a command of a program does with its two ends: it reads all of its source, answers to that
-//! text as a whole, and tells its sink the answer, with an exit status.
+//! What a command of a program does with its two ends: it reads all of its source, makes its output of
+//! that text as a whole, and writes it to its sink, with an exit status.
 #![tactic(auto)]
 
-pub mod answer;
-pub mod command;
-pub mod ends;
-pub mod input;
-pub mod output;
-pub mod status;
+mod command;
+mod ends;
+mod input;
+pub mod laws;
+mod output;
+mod status;
+
+pub use command::{Command, MEMORY_LINE, print_memory_line, run_command};
+pub use ends::{Sink, Source, Std};
+pub use input::{InputFault, read_all};
+pub use output::{Output, OutputFault, write_all};
+pub use status::{DONE, END_FAILED, NO_MEMORY, REFUSED, USAGE};

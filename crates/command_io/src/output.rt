@@ -1,27 +1,61 @@
-//! Writes all of a text to a sink.
+//! What a command prints, and the writing of it.
 ghost use Rattle.std.specs.Prelude.{◌≡◌, ◌↔◌, false, true, OnOk, OnErr, IsErr};
 ghost use Rattle.std.specs.Io.KnownBytes.{Appends};
-ghost use Rattle.command_io.specs.Told.{AppendsPart};
+ghost use Rattle.command_io.specs.CommandRun.{AppendsPrefix};
+ghost use Rattle.command_io.specs.Output.{bytes_of, status_of};
 
 use crate::ends::Sink;
+use crate::status::{DONE, REFUSED};
+
+/// The bytes that a command prints, by how it ends.
+#[derive(Debug, Drop)]
+pub enum Output {
+    /// The work is done; the exit status is 0.
+    Done(Vec<u8>),
+    /// The input is refused, and the bytes are the fault's line; the exit status is 1.
+    Refused(Vec<u8>),
+}
+
+impl Output {
+    /// What is printed.
+    pub fn bytes(&self) -> &[u8]
+        ensures { result.now ≡ bytes_of self.now }
+    {
+        match self {
+            Output::Done(bytes) => bytes.as_slice(),
+            Output::Refused(line) => line.as_slice(),
+        }
+    }
+
+    /// The exit status, 0 or 1.
+    pub fn status(&self) -> u8
+        ensures { result ≡ status_of self.now }
+    {
+        match self {
+            Output::Done(_) => DONE,
+            Output::Refused(_) => REFUSED,
+        }
+    }
+}
 
 /// A write failed.
 #[derive(Clone, Copy, Debug, PartialEq, Eq)]
-pub struct WriteFault;
+pub struct OutputFault;
 
-/// Writes the whole text, in order. After a fault a beginning of it is written, and not all.
-pub fn write_all<W: Sink>(writer: &mut W, text: &[u8]) -> Result<(), WriteFault>
+/// Writes the whole text, in order. After a fault a beginning of it is written, and not all; nothing
+/// more is written behind the first fault.
+pub fn write_all<W: Sink>(writer: &mut W, text: &[u8]) -> Result<(), OutputFault>
     requires { W.failed writer.old ≡ false }
     ensures all { OnOk result (Appends (W.contents writer.old) (W.contents writer.new) text.now) }
-    ensures part { OnErr result (AppendsPart (W.contents writer.old) (W.contents writer.new) text.now) }
+    ensures prefix { OnErr result (AppendsPrefix (W.contents writer.old) (W.contents writer.new) text.now) }
     ensures fault { (W.failed writer.new ≡ true) ↔ IsErr result }
 {
-    let mut told = 0;
-    while told < text.len() {
-        match writer.write(&text[told..]) {
-            Ok(0) => return Err(WriteFault),
-            Ok(count) => told += count,
-            Err(_) => return Err(WriteFault),
+    let mut written = 0;
+    while written < text.len() {
+        match writer.write(&text[written..]) {
+            Ok(0) => return Err(OutputFault),
+            Ok(count) => written += count,
+            Err(_) => return Err(OutputFault),
         }
     }
     Ok(())

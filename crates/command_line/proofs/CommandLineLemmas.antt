@@ -8,10 +8,10 @@ use Rattle.clap.specs.declared.parser.matches.ArgMatches.TheViews.{out-ArgMatche
 use Rattle.clap.specs.declared.parser.matches.Found.{Found}
 use Rattle.clap.proofs.OnLiterals.{clap_on_literals}
 use Rattle.clap.proofs.WalkLemmas.{one_text-rows}
-use Rattle.command_line.specs.CommandLine.{AnswersWords, IsTaken, command_line, flag_text, log_text, name_of, names_command}
-use Rattle.command_line.specs.declared.parse.Call.{Call}
-use Rattle.command_line.specs.declared.parse.Call.TheVariants.{Replay}
-use Rattle.command_line.specs.declared.parse.CallFault.TheVariants.{Usage}
+use Rattle.command_line.specs.CommandLine.{IsCallOf, IsAccepted, command_line, flag_text, log_text, name_of, names_command}
+use Rattle.command_line.specs.declared.call.Call.{Call}
+use Rattle.command_line.specs.declared.call.Call.TheVariants.{Replay}
+use Rattle.command_line.specs.declared.call.CallFault.TheVariants.{Usage}
 
 -- the matches of the command line have the name of the command that the words name
 pub name_of_matches : (app : App) (words : List Text) (m : ArgMatches) → app ≡ command_line → HasMatchesOf app words m → subcommand_name_of m ≡ names_command words
@@ -40,27 +40,27 @@ unfolding clap_on_literals
 command_line_is_free = refl
 
 -- what is made of the matches is an answer to the words
-pub answers_matched : (words : List Text) (m : ArgMatches) (call : Option Call) → HasMatchesOf command_line words m → IsTaken words
+pub call_of_matches-words : (words : List Text) (m : ArgMatches) (call : Option Call) → HasMatchesOf command_line words m → IsAccepted words
     → IfSome call (λ x. subcommand_name_of m ≡ Some (name_of x))
     → (call ≡ None → (subcommand_name_of m ≢ Some (codes "replay")) × (subcommand_name_of m ≢ Some (codes "dump")))
     → (flag_text (subcommand_rows_of m) ≡ Some (codes "true") → call ≢ Some (Replay false))
     → (flag_text (subcommand_rows_of m) ≡ Some (codes "false") → call ≢ Some (Replay true))
-    → AnswersWords words (ok_or call Usage)
-answers_matched words m None has taken named none log no_log =
+    → IsCallOf words (ok_or call Usage)
+call_of_matches-words words m None has accepted named none log no_log =
     let name = name_of_matches command_line words m refl has in
     record {
-      taken = λ x is. taken;
+      accepted = λ x is. accepted;
       named = λ x is. absurd (cc);
       log = λ _ is. cc;
       no_log = λ _ is. cc;
       no_replay = λ _ _ is. (none refl).0 (name ∙ is);
       no_dump = λ _ _ is. (none refl).1 (name ∙ is);
     }
-answers_matched words m (Some x) has taken named none log no_log =
+call_of_matches-words words m (Some x) has accepted named none log no_log =
     let name = name_of_matches command_line words m refl has in
     let flag = flag_of_matches command_line words m refl has in
     record {
-      taken = λ y is. taken;
+      accepted = λ y is. accepted;
       named = λ y is. sym name ∙ named ∙ (let same : x ≡ y = cc in ap (λ (call : Call). Some (name_of call)) same);
       log = λ asked is. log (flag ∙ asked) (let same : x ≡ Replay false = cc in ap Some same);
       no_log = λ unasked is. no_log (flag ∙ unasked) (let same : x ≡ Replay true = cc in ap Some same);

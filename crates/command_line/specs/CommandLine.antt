@@ -4,10 +4,10 @@ use Rattle.clap.specs.Words.{App, Row, Rule, Text, fault_of, new_app, new_rule, 
 use Rattle.clap.specs.declared.builder.action.ArgAction.TheVariants.{SetTrue}
 use Rattle.clap.specs.declared.error.ErrorKind.{ErrorKind}
 use Rattle.clap.specs.declared.error.ErrorKind.TheVariants.{OutOfMemory}
-use Rattle.command_line.specs.declared.parse.Call.{Call}
-use Rattle.command_line.specs.declared.parse.Call.TheVariants.{Replay, Dump}
-use Rattle.command_line.specs.declared.parse.CallFault.{CallFault}
-use Rattle.command_line.specs.declared.parse.CallFault.TheVariants.{Usage, NoMemory}
+use Rattle.command_line.specs.declared.call.Call.{Call}
+use Rattle.command_line.specs.declared.call.Call.TheVariants.{Replay, Dump}
+use Rattle.command_line.specs.declared.call.CallFault.{CallFault}
+use Rattle.command_line.specs.declared.call.CallFault.TheVariants.{Usage, NoMemory}
 
 -- the flag `--log`
 abbrev pub log_rule : Rule
@@ -15,11 +15,14 @@ log_rule = record (new_rule (codes "log")) { long = Some (codes "log"); action =
 
 -- the program's two commands: `replay`, which takes `--log`, and `dump`
 abbrev pub command_line : App
-command_line = with_subcommand (with_subcommand (new_app (codes "tracering")) (with_rule (new_app (codes "replay")) log_rule).top) (new_app (codes "dump")).top
+command_line =
+    let replay = with_rule (new_app (codes "replay")) log_rule in
+    let dump = new_app (codes "dump") in
+    with_subcommand (with_subcommand (new_app (codes "tracering")) replay.top) dump.top
 
--- the parse takes the words
-abbrev pub IsTaken : List Text → Type 0
-IsTaken words = fault_of command_line words ≡ []
+-- the parse accepts the words
+abbrev pub IsAccepted : List Text → Type 0
+IsAccepted words = fault_of command_line words ≡ []
 
 -- the command that the words name
 unfoldable pub names_command : List Text → Option Text
@@ -38,17 +41,17 @@ abbrev pub name_of : Call → Text
 name_of (Replay log) = codes "replay"
 name_of Dump = codes "dump"
 
--- What the program makes of its words: the command and the flag that the parse finds, where it takes the
+-- What the program makes of its words: the command and the flag that the parse finds, where it accepts the
 -- words; else, or where it finds no command, the usage line. Memory is refused at any of them.
-pub record AnswersWords (words : List Text) (result : Result Call CallFault) : Type 0 where
-  pub taken : (call : Call) → result ≡ Ok call → IsTaken words
+pub record IsCallOf (words : List Text) (result : Result Call CallFault) : Type 0 where
+  pub accepted : (call : Call) → result ≡ Ok call → IsAccepted words
   pub named : (call : Call) → result ≡ Ok call → names_command words ≡ Some (name_of call)
   pub log : log_text words ≡ Some (codes "true") → result ≢ Ok (Replay false)
   pub no_log : log_text words ≡ Some (codes "false") → result ≢ Ok (Replay true)
-  pub no_replay : result ≡ Err Usage → IsTaken words → names_command words ≢ Some (codes "replay")
-  pub no_dump : result ≡ Err Usage → IsTaken words → names_command words ≢ Some (codes "dump")
+  pub no_replay : result ≡ Err Usage → IsAccepted words → names_command words ≢ Some (codes "replay")
+  pub no_dump : result ≡ Err Usage → IsAccepted words → names_command words ≢ Some (codes "dump")
 
--- the parse fails for want of memory or at the words
+-- the parse fails because memory was refused, or at the words
 abbrev pub fault_of_kind : ErrorKind → CallFault
 fault_of_kind OutOfMemory = NoMemory
 fault_of_kind _ = Usage

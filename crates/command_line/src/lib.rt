@@ -1,6 +1,8 @@
 //! The program's command line.
 #![tactic(auto)]
 
-pub mod parse;
+mod call;
+mod parse;
 
-pub use parse::{Call, CallFault, call_of};
+pub use call::{Call, CallFault};
+pub use parse::call_of;

@@ -1,50 +1,12 @@
-//! The program's command line.
+//! The parse of the program's command line.
 ghost use Rattle.std.specs.Prelude.{◌≡◌, ◌≢◌, ◌⊎◌, ℕ, List, ◌∷◌, [], map, codes, Some, None, Ok, Err, IfOk, IfSome, true, false};
-ghost use Rattle.clap.specs.Words.{app_of, kind_of, subcommand_name_of, subcommand_rows_of};
-ghost use Rattle.command_line.specs.CommandLine.{AnswersWords, command_line, fault_of_kind, flag_text, name_of};
-ghost use Rattle.command_line.specs.declared.parse.CallFault.TheVariants.{NoMemory};
+ghost use Rattle.clap.specs.Words.{app_of, subcommand_name_of, subcommand_rows_of};
+ghost use Rattle.command_line.specs.CommandLine.{IsCallOf, command_line, flag_text, name_of};
 
-use clap::error::ErrorKind;
-use clap::{Arg, ArgAction, ArgMatches, Command, Error};
+use crate::call::{Call, CallFault};
+use clap::{Arg, ArgAction, ArgMatches, Command};
 use std::alloc::{AllocError, Global};
 use std::convert::AsStr;
-
-/// What the command line asks for.
-#[derive(Clone, Copy, Debug, PartialEq, Eq)]
-pub enum Call {
-    /// `tracering replay`, with the log where `--log` is given.
-    Replay { log: bool },
-    /// `tracering dump`.
-    Dump,
-}
-
-/// Why the command line asks for nothing.
-#[derive(Clone, Copy, Debug, PartialEq, Eq)]
-pub enum CallFault {
-    /// The parse refuses the words, or they call for help, or they name no command.
-    Usage,
-    /// Memory was refused.
-    NoMemory,
-}
-
-impl From<AllocError> for CallFault {
-    ghost from_gives = { λ _ fault. fault ≡ NoMemory };
-
-    fn from(_refused: AllocError) -> CallFault {
-        CallFault::NoMemory
-    }
-}
-
-impl From<Error> for CallFault {
-    ghost from_gives = { λ error fault. fault ≡ fault_of_kind (kind_of error) };
-
-    fn from(error: Error) -> CallFault {
-        match error.kind() {
-            ErrorKind::OutOfMemory => CallFault::NoMemory,
-            _ => CallFault::Usage,
-        }
-    }
-}
 
 /// The program's two commands, of which `replay` takes `--log`.
 fn program<'a>(alloc: Global) -> Result<Command<'a>, AllocError>
@@ -59,8 +21,8 @@ fn program<'a>(alloc: Global) -> Result<Command<'a>, AllocError>
     first.subcommand(dump)
 }
 
-/// The command that was matched, if one was.
-fn matched(matches: &ArgMatches) -> Option<Call>
+/// The call that these matches make, if they make one.
+fn call_of_matches(matches: &ArgMatches) -> Option<Call>
     ensures named { IfSome result (λ call. subcommand_name_of matches.now ≡ Some (name_of call)) }
     ensures none { result ≡ None → (subcommand_name_of matches.now ≢ Some (codes "replay"))
         × (subcommand_name_of matches.now ≢ Some (codes "dump")) }
@@ -76,18 +38,18 @@ fn matched(matches: &ArgMatches) -> Option<Call>
     matches.subcommand_matches("dump").map(|_| Call::Dump)
 }
 
-/// What the parse makes of the words.
-fn parsed<S: AsStr>(alloc: Global, words: &[S]) -> Result<Call, CallFault>
-    ensures { AnswersWords (map S.text words.now) result }
+/// The parse of the words.
+fn parse_words<S: AsStr>(alloc: Global, words: &[S]) -> Result<Call, CallFault>
+    ensures { IsCallOf (map S.text words.now) result }
 {
     let matches = program(alloc)?.try_get_matches_from(words)?;
-    matched(&matches).ok_or(CallFault::Usage)
+    call_of_matches(&matches).ok_or(CallFault::Usage)
 }
 
 /// What these words ask for. The first is the program's own name, whatever it is.
 pub fn call_of<S: AsStr>(alloc: Global, words: &[S]) -> Result<Call, CallFault>
-    // Memory aside, the answer is the parse's.
-    ensures parsed { AnswersWords (map S.text words.now) result }
+    // Memory aside, it is what the parse of the words finds.
+    ensures call { IsCallOf (map S.text words.now) result }
 
     // Such as the words of the program, its command and the flag.
     ensures replay { (first : List ℕ) → map S.text words.now ≡ first ∷ codes "replay" ∷ []
@@ -101,5 +63,5 @@ pub fn call_of<S: AsStr>(alloc: Global, words: &[S]) -> Result<Call, CallFault>
         → map S.text words.now ≡ first ∷ codes "dump" ∷ codes "--log" ∷ []
         → (result ≡ Err CallFault.Usage) ⊎ (result ≡ Err CallFault.NoMemory) }
 {
-    parsed(alloc, words)
+    parse_words(alloc, words)
 }

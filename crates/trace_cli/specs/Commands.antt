@@ -1,4 +1,4 @@
--- What the commands of the program answer to a text.
+-- What the commands of the program print for a text, with which exit status.
 use Rattle.std.specs.Prelude.{◌≡◌, ℕ, Bool, ◌⊎◌, List}
 use Rattle.trace_model.specs.Record.{Record}
 use Rattle.text_model.specs.Script.{Script, ParsesScript, LineFault, FirstScriptFault}
@@ -26,7 +26,7 @@ pub record PrintsFault (text bytes : List ℕ) (status : ℕ) : Type 0 where
   pub printed : bytes ≡ printed_fault number fault
   pub refused : status ≡ REFUSED
 
--- What `replay` answers to a text. A text spells a script or has a first fault, and never both.
+-- What `replay` gives for a text. A text spells a script or has a first fault, and never both.
 abbrev pub ReplayGives : Bool → List ℕ → List ℕ → ℕ → Type 0
 ReplayGives asked text bytes status = PrintsReplay asked text bytes status ⊎ PrintsFault text bytes status
 
@@ -47,6 +47,6 @@ pub record PrintsImageFault (text bytes : List ℕ) (status : ℕ) : Type 0 wher
   pub printed : bytes ≡ printed_image_fault cause
   pub refused : status ≡ REFUSED
 
--- What `dump` answers to a text. A text has one reading as an image or a first fault, and never both.
+-- What `dump` gives for a text. A text has one reading as an image or a first fault, and never both.
 abbrev pub DumpGives : List ℕ → List ℕ → ℕ → Type 0
 DumpGives text bytes status = PrintsImage text bytes status ⊎ PrintsImageFault text bytes status

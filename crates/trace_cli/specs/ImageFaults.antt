@@ -1,4 +1,4 @@
--- How the faults of an image's reader are told, in the words of trace_model.
+-- What is printed of the faults of an image's reader, in the words of trace_model.
 use Rattle.std.specs.Prelude.{ℕ, List, []}
 use Rattle.trace_model.specs.Faults.{cut, bad_length, time_overflow}
 use Rattle.trace_model.specs.Image.{too_short, bad_size, bad_count, bad_word}
@@ -14,10 +14,11 @@ word_fault_text (Cut at) = image_fault_text (bad_word cut at)
 word_fault_text (BadLength at) = image_fault_text (bad_word bad_length at)
 word_fault_text (TimeOverflow at) = image_fault_text (bad_word time_overflow at)
 
--- How a fault is told, what stands around it aside. Want of memory is no fault of the image, and isn't told so.
-abbrev pub told_image_fault : ImageFault → List ℕ
-told_image_fault TooShort = image_fault_text too_short
-told_image_fault BadSize = image_fault_text bad_size
-told_image_fault BadCount = image_fault_text bad_count
-told_image_fault (Word fault) = word_fault_text fault
-told_image_fault NoMemory = []
+-- The text of a fault, what stands around it in its line aside. That memory was refused is no fault of the
+-- image, and has no such text.
+abbrev pub reader_fault_text : ImageFault → List ℕ
+reader_fault_text TooShort = image_fault_text too_short
+reader_fault_text BadSize = image_fault_text bad_size
+reader_fault_text BadCount = image_fault_text bad_count
+reader_fault_text (Word fault) = word_fault_text fault
+reader_fault_text NoMemory = []

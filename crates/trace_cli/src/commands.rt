@@ -1,29 +1,25 @@
-//! The commands of the program: a text in, its answer out.
-ghost use Rattle.std.specs.Prelude.{◌≡◌, ℕ, ◌⊎◌, ◌∷◌, ◌++◌, [], List, false, true, IfOk};
-ghost use Rattle.std.specs.Io.KnownBytes.{Appends, Keeps};
+//! The command `replay`: a script in, the printing of its replay out.
+ghost use Rattle.std.specs.Prelude.{◌≡◌, ℕ, ◌∷◌, ◌++◌, [], List, false, IfOk};
 ghost use Rattle.trace_model.specs.Record.{Record};
 ghost use Rattle.text_model.specs.ScriptLimits.{IsWithinLimits};
 ghost use Rattle.text_model.specs.Log.{LogLine, IsLoggedReplay};
 ghost use Rattle.text_model.specs.Printing.{printed_replay};
-ghost use Rattle.command_io.specs.Answer.{bytes_of, status_of};
+ghost use Rattle.command_io.specs.CommandRun.{IsCommandRun};
+ghost use Rattle.command_io.specs.Output.{bytes_of, status_of};
 ghost use Rattle.trace_cli.specs.Commands.{ReplayGives};
 ghost use Rattle.trace_script.specs.ScriptFaults.{script_fault_text};
 ghost use Rattle.trace_script.specs.ScriptTypes.{script_of};
-ghost use Rattle.command_io.specs.Told.{TakesAtMost, TakesMoreThan, TellsAnswer, TellsPart};
 
-use command_io::answer::Answer;
-use command_io::command::{Answers, MEMORY_LINE, answer_to};
-use command_io::ends::{Sink, Source};
 use crate::log_printer::put_log;
 use crate::printer::put_collector;
-use trace_run::replay::replay;
-use command_io::status::{DONE, END_FAILED, NO_MEMORY, REFUSED};
+use command_io::{Command, Output, Sink, Source, run_command};
 use std::alloc::Global;
-use trace_model::{CpuId, MAX_INPUT, NoMemory};
+use trace_model::{CpuId, NoMemory};
+use trace_run::replay::replay;
 use trace_script::{Script, ScriptFault, put_fault, read_script};
 
 /// The printing of a script's replay: the log, if it is asked for, and what it leaves.
-fn replayed(alloc: Global, script: &Script, log: bool) -> Result<Vec<u8>, NoMemory>
+fn print_replay(alloc: Global, script: &Script, log: bool) -> Result<Vec<u8>, NoMemory>
     requires { IsWithinLimits (script_of script.now) }
     ensures { IfOk result (λ text. (lines : List LogLine) × (collected : List (ℕ × Record))
         × IsLoggedReplay (script_of script.now) lines collected
@@ -47,28 +43,28 @@ fn fault_line(alloc: Global, fault: ScriptFault) -> Result<Vec<u8>, NoMemory>
     Ok(line)
 }
 
-/// What the command answers to a script, with the log if it is asked for.
+/// The command `replay`, with the log if it is asked for.
 #[derive(Drop)]
-struct ReplayAnswers {
+struct ReplayCommand {
     log: bool,
 }
 
-impl Answers for ReplayAnswers {
-    ghost gives = { λ answers. ReplayGives answers.log };
+impl Command for ReplayCommand {
+    ghost gives = { λ command. ReplayGives command.log };
 
-    fn answer(&self, alloc: Global, text: &[u8]) -> Result<Answer, NoMemory> {
-        replay_answer(alloc, text, self.log)
+    fn output(&self, alloc: Global, text: &[u8]) -> Result<Output, NoMemory> {
+        replay_output(alloc, text, self.log)
     }
 }
 
 /// What is printed for a script, with the exit status.
-fn replay_answer(alloc: Global, text: &[u8], log: bool) -> Result<Answer, NoMemory>
-    ensures { IfOk result (λ a. ReplayGives log text.now (bytes_of a) (status_of a)) }
+fn replay_output(alloc: Global, text: &[u8], log: bool) -> Result<Output, NoMemory>
+    ensures { IfOk result (λ output. ReplayGives log text.now (bytes_of output) (status_of output)) }
 {
     match read_script(alloc, text) {
-        Ok(script) => Ok(Answer::Done(replayed(alloc, &script, log)?)),
+        Ok(script) => Ok(Output::Done(print_replay(alloc, &script, log)?)),
         Err(ScriptFault::NoMemory) => Err(NoMemory),
-        Err(fault) => Ok(Answer::Refused(fault_line(alloc, fault)?)),
+        Err(fault) => Ok(Output::Refused(fault_line(alloc, fault)?)),
     }
 }
 
@@ -78,25 +74,9 @@ fn replay_answer(alloc: Global, text: &[u8], log: bool) -> Result<Answer, NoMemo
 pub fn replay_to<R: Source, W: Sink>(alloc: Global, reader: &mut R, writer: &mut W, log: bool) -> u8
     requires sound_reader { R.failed reader.old ≡ false }
     requires sound_writer { W.failed writer.old ≡ false }
-    ensures status { (result ≡ DONE) ⊎ (result ≡ REFUSED) ⊎ (result ≡ NO_MEMORY) ⊎ (result ≡ END_FAILED) }
-    ensures answered { (result ≡ DONE) ⊎ (result ≡ REFUSED)
-        → TellsAnswer (ReplayGives log) (R.remaining reader.old) (R.remaining reader.new)
-        (W.contents writer.old) (W.contents writer.new) result }
-    ensures memory { result ≡ NO_MEMORY
-        → Appends (W.contents writer.old) (W.contents writer.new) MEMORY_LINE
-        × TakesAtMost MAX_INPUT (R.remaining reader.old) (R.remaining reader.new) }
-
-    // Status 4 has one of three causes, and the first two always give it.
-    ensures read_fault { R.failed reader.new ≡ true
-        → (result ≡ END_FAILED) × Keeps (W.contents writer.old) (W.contents writer.new) }
-    ensures write_fault { W.failed writer.new ≡ true
-        → (result ≡ END_FAILED)
-        × TellsPart (ReplayGives log) (R.remaining reader.old) (R.remaining reader.new)
-        (W.contents writer.old) (W.contents writer.new) }
-    ensures failed { result ≡ END_FAILED
-        → (R.failed reader.new ≡ true) ⊎ (W.failed writer.new ≡ true)
-        ⊎ (TakesMoreThan MAX_INPUT (R.remaining reader.old) (R.remaining reader.new)
-        × Keeps (W.contents writer.old) (W.contents writer.new)) }
+    ensures { IsCommandRun (ReplayGives log)
+        (R.remaining reader.old) (R.remaining reader.new) (W.contents writer.old) (W.contents writer.new)
+        (R.failed reader.new) (W.failed writer.new) result }
 {
-    answer_to(&ReplayAnswers { log }, alloc, reader, writer)
+    run_command(&ReplayCommand { log }, alloc, reader, writer)
 }

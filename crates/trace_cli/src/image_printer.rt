@@ -5,7 +5,7 @@ ghost use Rattle.text_model.specs.Printing.{missed_text, printed_image, printed_
 ghost use Rattle.page_image.specs.Contents.{IsPage, records_of_page};
 ghost use Rattle.page_image.specs.Copies.{copies_of, copy_of};
 ghost use Rattle.page_image.specs.Images.{missed_of};
-ghost use Rattle.trace_cli.specs.ImageFaults.{told_image_fault, word_fault_text};
+ghost use Rattle.trace_cli.specs.ImageFaults.{reader_fault_text, word_fault_text};
 
 use crate::printer::{put_number, put_payload};
 use page_image::{Image, ImageFault, Missed};
@@ -13,7 +13,7 @@ use record_words::WordFault;
 use std::alloc::Global;
 use trace_model::NoMemory;
 
-// On an error these may leave a part of what they put, in a text that the caller drops.
+// On an error these may leave a beginning of what they put, in a text that the caller drops.
 
 fn put_missed(out: &mut Vec<u8>, missed: Missed) -> Result<(), NoMemory>
     ensures { OnOk result (out.new.items ≡ out.old.items ++ missed_text (missed_of missed)) }
@@ -50,7 +50,8 @@ fn put_copies(out: &mut Vec<u8>, copies: &[(u64, Vec<u8>)]) -> Result<(), NoMemo
 /// The text of this image: its head line, and a line for each record.
 pub fn print_image(alloc: Global, image: &Image) -> Result<Vec<u8>, NoMemory>
     requires { IsPage image.now.page }
-    ensures { IfOk result (λ text. text.items ≡ printed_image image.now.time image.now.size (missed_of image.now.missed) (records_of_page image.now.page)) }
+    ensures { IfOk result (λ text. text.items ≡ printed_image image.now.time image.now.size
+        (missed_of image.now.missed) (records_of_page image.now.page)) }
 {
     let copies = image.page.copied(alloc)?;
     let mut text = Vec::from_slice(alloc, b"page ")?;
@@ -85,9 +86,9 @@ fn put_word_fault(out: &mut Vec<u8>, fault: WordFault) -> Result<(), NoMemory>
     Ok(())
 }
 
-/// What is wrong with an image. Want of memory isn't, and gives `NoMemory`.
+/// What is wrong with an image. That memory was refused isn't, and gives `NoMemory`.
 fn put_image_fault(out: &mut Vec<u8>, fault: ImageFault) -> Result<(), NoMemory>
-    ensures told { OnOk result (out.new.items ≡ out.old.items ++ told_image_fault fault) }
+    ensures text { OnOk result (out.new.items ≡ out.old.items ++ reader_fault_text fault) }
     ensures no_memory { OnOk result (fault ≢ ImageFault.NoMemory) }
 {
     match fault {
@@ -100,9 +101,10 @@ fn put_image_fault(out: &mut Vec<u8>, fault: ImageFault) -> Result<(), NoMemory>
     Ok(())
 }
 
-/// The line that tells an image's fault. Want of memory has none, and gives `NoMemory`.
+/// The line that tells an image's fault. There is none for refused memory, which gives `NoMemory`.
 pub fn print_image_fault(alloc: Global, fault: ImageFault) -> Result<Vec<u8>, NoMemory>
-    ensures told { IfOk result (λ line. line.items ≡ codes "image: " ++ told_image_fault fault ++ 10 ∷ []) }
+    ensures text { IfOk result (λ line.
+        line.items ≡ codes "image: " ++ reader_fault_text fault ++ 10 ∷ []) }
     ensures no_memory { IfOk result (λ line. fault ≢ ImageFault.NoMemory) }
 {
     let mut line = Vec::from_slice(alloc, b"image: ")?;

@@ -2,18 +2,20 @@
 //! prints page images.
 #![tactic(auto)]
 
-pub mod commands;
-pub mod dump;
-pub mod image_printer;
-pub mod log_printer;
-pub mod printer;
+mod commands;
+mod dump;
+mod image_printer;
+mod laws;
+mod log_printer;
+mod messages;
+mod printer;
 
-use command_io::command::tell_no_memory;
-use crate::commands::replay_to;
-use crate::dump::dump_to;
-use command_io::ends::Std;
-use command_io::status::USAGE;
-use command_line::parse::{Call, CallFault, call_of};
+use crate::messages::{USAGE_LINE, end_message};
+pub use command_io::{Sink, Source, Std};
+use command_io::{END_FAILED, USAGE, print_memory_line};
+use command_line::{Call, CallFault, call_of};
+pub use commands::replay_to;
+pub use dump::dump_to;
 use std::alloc::{AllocError, Global};
 use std::io::ErrorKind;
 use std::process::ExitCode;
@@ -41,12 +43,17 @@ fn main(rt: HostRuntime) -> ExitCode {
     let status = match given_call(&rt) {
         Ok(Call::Replay { log }) => replay_to(rt.alloc(), &mut input, &mut output, log),
         Ok(Call::Dump) => dump_to(rt.alloc(), &mut input, &mut output),
-        Err(CallFault::NoMemory) => tell_no_memory(&mut output),
-        Err(CallFault::Usage) => {
-            let _ = eprintln!(rt; "usage: tracering replay [--log] | dump");
-            USAGE
-        }
+        Err(CallFault::NoMemory) => print_memory_line(&mut output),
+        Err(CallFault::Usage) => USAGE,
     };
+    let message = match status {
+        USAGE => Some(USAGE_LINE),
+        END_FAILED => Some(end_message(&input, &output)),
+        _ => None,
+    };
+    if let Some(line) = message {
+        let _ = eprintln!(rt; "{line}");
+    }
     ExitCode::from(status)
 }
 

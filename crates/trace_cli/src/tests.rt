@@ -1,33 +1,57 @@
 //! Commands over ends in memory that fail, that never end, or that move one byte a call; and command
 //! lines.
+
+// The text of these lines, each with its end.
+macro_rules! lines {
+    ($($line:literal),*) => { concat!($($line, "\n"),*) };
+}
+
 mod images;
 mod replays;
 mod worked;
 
-use command_io::answer::Answer;
-use command_io::command::{Answers, answer_to};
 use crate::commands::replay_to;
-use command_io::ends::{Sink, Source, Std};
-use command_line::parse::{Call, CallFault, call_of};
+use crate::messages::{INPUT_TOO_LONG, READ_FAILED, WRITE_FAILED, end_message};
+use command_io::{Command, DONE, END_FAILED, NO_MEMORY, Output, REFUSED, Std, run_command};
+use command_line::{Call, CallFault, call_of};
 use std::alloc::Global;
 use std::io;
 use std::io::{ErrorKind, Read, Write};
+use std::process::Abort;
 use std::test::Fail;
 use trace_model::NoMemory;
 
-// An end that moves one byte a call and fails at the call with this number, from 0.
+// An end that moves one byte a call and fails at the call with this number, from 0, and at each behind.
 #[derive(Drop)]
 struct FailsAt<T> {
     inner: T,
     calls_left: usize,
+    failures: usize,
+}
+
+impl<T> FailsAt<T> {
+    fn new(inner: T, call: usize) -> FailsAt<T> {
+        FailsAt {
+            inner,
+            calls_left: call,
+            failures: 0,
+        }
+    }
+
+    // Counts this call, and fails if none was left.
+    fn count_call(&mut self) -> io::Result<()> {
+        if self.calls_left == 0 {
+            self.failures = self.failures.saturating_add(1);
+            return Err(io::Error::from(ErrorKind::Other));
+        }
+        self.calls_left -= 1;
+        Ok(())
+    }
 }
 
 impl<T: Read> Read for FailsAt<T> {
     fn read(&mut self, buf: &mut [u8]) -> io::Result<usize> {
-        if self.calls_left == 0 {
-            return Err(io::Error::from(ErrorKind::Other));
-        }
-        self.calls_left -= 1;
+        self.count_call()?;
         let room = buf.len().min(1);
         self.inner.read(&mut buf[..room])
     }
@@ -35,10 +59,7 @@ impl<T: Read> Read for FailsAt<T> {
 
 impl<T: Write> Write for FailsAt<T> {
     fn write(&mut self, buf: &[u8]) -> io::Result<usize> {
-        if self.calls_left == 0 {
-            return Err(io::Error::from(ErrorKind::Other));
-        }
-        self.calls_left -= 1;
+        self.count_call()?;
         let room = buf.len().min(1);
         self.inner.write(&buf[..room])
     }
@@ -72,114 +93,136 @@ impl Write for Closed {
     }
 }
 
-// Answers the text itself.
+// Prints the text itself.
 struct Echo;
 
-impl Answers for Echo {
+impl Command for Echo {
     ghost use Rattle.std.specs.Prelude.{◌≡◌, ℕ};
 
     ghost gives = { λ _ text bytes status. (bytes ≡ text) × (status ≡ 0) };
 
-    fn answer(&self, alloc: Global, text: &[u8]) -> Result<Answer, NoMemory> {
+    fn output(&self, alloc: Global, text: &[u8]) -> Result<Output, NoMemory> {
         match Vec::from_slice(alloc, text) {
-            Ok(bytes) => Ok(Answer::Done(bytes)),
+            Ok(bytes) => Ok(Output::Done(bytes)),
             Err(_) => Err(NoMemory),
         }
     }
 }
 
-// Has no memory for an answer.
+// Has no memory for an output.
 struct Full;
 
-impl Answers for Full {
+impl Command for Full {
     ghost gives = { λ _ text bytes status. ⊥ };
 
-    fn answer(&self, _alloc: Global, _text: &[u8]) -> Result<Answer, NoMemory> {
+    fn output(&self, _alloc: Global, _text: &[u8]) -> Result<Output, NoMemory> {
         Err(NoMemory)
     }
 }
 
-const LINE: &str = "line 1: BadLine\n";
+const FAULTY_SCRIPT: &str = "nothing\n";
 
-#[test]
-fn failing_ends(rt: HostRuntime) -> Result<(), Fail> {
+const FAULT_LINE: &str = "line 1: BadLine\n";
+
+// A read of the script fails: nothing is read behind it, and nothing written.
+fn compare_failing_reader(rt: &(impl Abort + AllocGlobal), call: usize) {
     let alloc = rt.alloc();
-    let script = b"nothing\n";
+    let mut text = Vec::new(alloc);
+    let mut failing = FailsAt::new(FAULTY_SCRIPT.as_bytes(), call);
+    let mut reader = Std::new(&mut failing);
+    let mut writer = Std::new(&mut text);
+    let status = replay_to(alloc, &mut reader, &mut writer, false);
     // Eight bytes and the end take nine reads.
-    for call in 0..12 {
-        let mut text = Vec::new(alloc);
-        let mut reader = Std::new(FailsAt {
-            inner: script.as_slice(),
-            calls_left: call,
-        });
-        let status = replay_to(alloc, &mut reader, &mut Std::new(&mut text), false);
-        let (want_status, want) = if call < 9 { (4, "") } else { (1, LINE) };
-        assert_eq!(rt; status, want_status, "read {call}");
-        assert_eq!(rt; text.as_slice(), want.as_bytes(), "read {call}");
-    }
+    let (want, wanted, failures) = if call < 9 {
+        assert_eq!(rt; end_message(&reader, &writer), READ_FAILED);
+        (END_FAILED, "", 1)
+    } else {
+        (REFUSED, FAULT_LINE, 0)
+    };
+    assert_eq!(rt; status, want, "read {call}");
+    assert_eq!(rt; text.as_slice(), wanted.as_bytes(), "read {call}");
+    assert_eq!(rt; failing.failures, failures, "read {call}");
+}
+
+// A write of the fault's line fails: nothing is written behind it.
+fn compare_failing_writer(rt: &(impl Abort + AllocGlobal), call: usize) {
+    let alloc = rt.alloc();
+    let mut text = Vec::new(alloc);
+    let mut failing = FailsAt::new(&mut text, call);
+    let mut reader = Std::new(FAULTY_SCRIPT.as_bytes());
+    let mut writer = Std::new(&mut failing);
+    let status = replay_to(alloc, &mut reader, &mut writer, true);
     // The line's sixteen bytes take sixteen writes.
-    for call in 0..20 {
-        let mut text = Vec::new(alloc);
-        let mut writer = Std::new(FailsAt {
-            inner: &mut text,
-            calls_left: call,
-        });
-        let status = replay_to(alloc, &mut Std::new(script.as_slice()), &mut writer, true);
-        let (want_status, told) = if call < 16 { (4, call) } else { (1, 16) };
-        assert_eq!(rt; status, want_status, "write {call}");
-        assert_eq!(rt; text.as_slice(), &LINE.as_bytes()[..told], "write {call}");
-    }
-    let closed = replay_to(
-        alloc,
-        &mut Std::new(script.as_slice()),
-        &mut Std::new(Closed),
-        false,
+    let (want, written, failures) = if call < 16 {
+        assert_eq!(rt; end_message(&reader, &writer), WRITE_FAILED);
+        (END_FAILED, call, 1)
+    } else {
+        (REFUSED, 16, 0)
+    };
+    assert_eq!(rt; status, want, "write {call}");
+    assert_eq!(rt; failing.failures, failures, "write {call}");
+    assert_eq!(rt;
+        text.as_slice(),
+        &FAULT_LINE.as_bytes()[..written],
+        "write {call}"
     );
-    assert_eq!(rt; closed, 4);
-    Ok(())
 }
 
 #[test]
-fn endless_input(rt: HostRuntime) {
+fn failing_ends(rt: HostRuntime) {
+    let alloc = rt.alloc();
+    for call in 0..12 {
+        compare_failing_reader(&rt, call);
+    }
+    for call in 0..20 {
+        compare_failing_writer(&rt, call);
+    }
+    let mut reader = Std::new(FAULTY_SCRIPT.as_bytes());
+    let mut writer = Std::new(Closed);
+    let closed = replay_to(alloc, &mut reader, &mut writer, false);
+    assert_eq!(rt; closed, END_FAILED);
+    assert_eq!(rt; end_message(&reader, &writer), WRITE_FAILED);
+}
+
+#[test]
+fn an_endless_input_is_too_long(rt: HostRuntime) {
     let alloc = rt.alloc();
     let mut text = Vec::new(alloc);
-    let status = replay_to(
-        alloc,
-        &mut Std::new(Endless),
-        &mut Std::new(&mut text),
-        true,
-    );
-    assert_eq!(rt; status, 4);
+    let mut reader = Std::new(Endless);
+    let mut writer = Std::new(&mut text);
+    let status = replay_to(alloc, &mut reader, &mut writer, true);
+    assert_eq!(rt; status, END_FAILED);
+    assert_eq!(rt; end_message(&reader, &writer), INPUT_TOO_LONG);
     assert_eq!(rt; text.len(), 0);
 }
 
 #[test]
-fn long_texts(rt: HostRuntime) -> Result<(), Fail> {
+fn long_texts_are_read_and_written_whole(rt: HostRuntime) -> Result<(), Fail> {
     let alloc = rt.alloc();
     // About what is asked for at a time, which is 65,536 bytes.
     for len in [0, 1, 65535, 65536, 65537, 200000] {
         let input = vec![in alloc; 7u8; len]?;
         let mut text = Vec::new(alloc);
         let mut reader = Std::new(input.as_slice());
-        let status = answer_to(&Echo, alloc, &mut reader, &mut Std::new(&mut text));
-        assert_eq!(rt; status, 0, "{len} bytes");
+        let status = run_command(&Echo, alloc, &mut reader, &mut Std::new(&mut text));
+        assert_eq!(rt; status, DONE, "{len} bytes");
         assert!(rt; text == input, "{len} bytes");
     }
     Ok(())
 }
 
 #[test]
-fn no_memory_for_an_answer(rt: HostRuntime) {
+fn a_command_out_of_memory_prints_its_line_alone(rt: HostRuntime) {
     let alloc = rt.alloc();
     let mut text = Vec::new(alloc);
-    let mut reader = Std::new(b"nothing\n".as_slice());
-    let status = answer_to(&Full, alloc, &mut reader, &mut Std::new(&mut text));
-    assert_eq!(rt; status, 3);
+    let mut reader = Std::new(FAULTY_SCRIPT.as_bytes());
+    let status = run_command(&Full, alloc, &mut reader, &mut Std::new(&mut text));
+    assert_eq!(rt; status, NO_MEMORY);
     assert_eq!(rt; text.as_slice(), b"memory\n".as_slice());
 }
 
 #[test]
-fn command_lines(rt: HostRuntime) -> Result<(), Fail> {
+fn the_two_commands_and_no_other_words_are_accepted(rt: HostRuntime) -> Result<(), Fail> {
     let alloc = rt.alloc();
     let bare = Call::Replay { log: false };
     let logged = Call::Replay { log: true };

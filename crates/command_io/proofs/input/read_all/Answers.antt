@@ -7,11 +7,11 @@ use Rattle.std.proofs.KnownBytes.{Consumes-trans}
 use Rattle.command_io.specs.declared.input.InputFault.TheVariants.{TooLong, NoMemory}
 use Rattle.command_io.proofs.input.read_all.Goals as goal
 
--- what was read before and the piece that went past the limit
-pub returns-in_err-add_piece-in-Ok-clause-too_long : goal.returns-in_err-add_piece-in-Ok-clause-too_long
-returns-in_err-add_piece-in-Ok-clause-too_long g c = λ refused.
-    let told : c.add_piece.result ≡ Err TooLong = grind (arith, common_steps) in
-    let over = c.add_piece.ensures.too_long.0 told in
+-- what was read before and the chunk that went past the limit
+pub returns-in_err-add_chunk-in-Ok-clause-too_long : goal.returns-in_err-add_chunk-in-Ok-clause-too_long
+returns-in_err-add_chunk-in-Ok-clause-too_long g c = λ refused.
+    let told : c.add_chunk.result ≡ Err TooLong = grind (arith, common_steps) in
+    let over = c.add_chunk.ensures.too_long.0 told in
     let same : take c.in-Ok.count c.deref.result.now ≡ take c.in-Ok.count c.read.new.buf = grind (arith, common_steps) in
     let len = c.loop-text.text.ok.0 in
     record {
@@ -20,13 +20,13 @@ returns-in_err-add_piece-in-Ok-clause-too_long g c = λ refused.
       more = simp length-append (omega arith);
     }
 
--- what was read before and the piece for which there was no room
-pub returns-in_err-add_piece-in-Ok-clause-no_memory : goal.returns-in_err-add_piece-in-Ok-clause-no_memory
-returns-in_err-add_piece-in-Ok-clause-no_memory g c = λ refused.
-    let told : c.add_piece.result ≡ Err NoMemory = grind (arith, common_steps) in
+-- what was read before and the chunk for which there was no room
+pub returns-in_err-add_chunk-in-Ok-clause-no_memory : goal.returns-in_err-add_chunk-in-Ok-clause-no_memory
+returns-in_err-add_chunk-in-Ok-clause-no_memory g c = λ refused.
+    let told : c.add_chunk.result ≡ Err NoMemory = grind (arith, common_steps) in
     let len = c.loop-text.text.ok.0 in
     let within : vec_len c.loop-text.text + length (take c.in-Ok.count c.deref.result.now) ≤ MAX_INPUT = ⊎_elim
-    (λ over. absurd (let long : c.add_piece.result ≡ Err TooLong = c.add_piece.ensures.too_long.1 over in cc))
+    (λ over. absurd (let long : c.add_chunk.result ≡ Err TooLong = c.add_chunk.ensures.too_long.1 over in cc))
     (λ fits. fits)
     (cases_lt MAX_INPUT (vec_len c.loop-text.text + length (take c.in-Ok.count c.deref.result.now))) in
     let same : take c.in-Ok.count c.deref.result.now ≡ take c.in-Ok.count c.read.new.buf = grind (arith, common_steps) in

@@ -1,7 +1,7 @@
 use Rattle.std.proofs.Common.{codes, refl}
-use Rattle.trace_cli.proofs.ImageFaultLemmas.{overflow_told}
+use Rattle.trace_cli.proofs.ImageFaultLemmas.{overflow_text}
 use Rattle.trace_cli.proofs.image_printer.put_word_fault.Goals as goal
 
 pub returns-in_ok-put_placed-in-TimeOverflow : goal.returns-in_ok-put_placed-in-TimeOverflow
 returns-in_ok-put_placed-in-TimeOverflow c =
-    overflow_told c.args.fault c.in-TimeOverflow.at (codes "TimeOverflow") c.args.out.now.items c.put_placed-in-TimeOverflow.new.out.items c.in-TimeOverflow.is refl c.in_ok-put_placed-in-TimeOverflow.ensures
+    overflow_text c.args.fault c.in-TimeOverflow.at (codes "TimeOverflow") c.args.out.now.items c.put_placed-in-TimeOverflow.new.out.items c.in-TimeOverflow.is refl c.in_ok-put_placed-in-TimeOverflow.ensures

@@ -1,7 +1,7 @@
 use Rattle.std.proofs.Common.{sym, ◌∙◌, rules}
 use Rattle.clap.specs.Words.{found_of, subcommand_rows_of}
 use Rattle.command_line.proofs.CommandLineLemmas.{flag_found}
-use Rattle.command_line.proofs.parse.matched.Goals as goal
+use Rattle.command_line.proofs.parse.call_of_matches.Goals as goal
 
 pub returns-in-Some-clause-log : goal.returns-in-Some-clause-log
 returns-in-Some-clause-log c = λ flag wrong.

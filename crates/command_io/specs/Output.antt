@@ -1,0 +1,13 @@
+-- What is printed of a command's output, and the exit status that goes with it.
+use Rattle.std.specs.Prelude.{ℕ, List}
+use Rattle.command_io.specs.declared.output.Output.{Output}
+use Rattle.command_io.specs.declared.output.Output.TheVariants.{Done, Refused}
+use Rattle.command_io.specs.declared.status.TheConstants.{DONE, REFUSED}
+
+abbrev pub bytes_of : Output → List ℕ
+bytes_of (Done bytes) = bytes.items
+bytes_of (Refused line) = line.items
+
+abbrev pub status_of : Output → ℕ
+status_of (Done bytes) = DONE
+status_of (Refused line) = REFUSED
