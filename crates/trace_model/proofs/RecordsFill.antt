@@ -37,12 +37,12 @@ push-whole : (records : List Reservation) (r : Reservation) → AllByRecursion I
 push-whole [] r h one = (one, tt)
 push-whole (x ∷ records) r h one = (h.0, push-whole records r h.1 one)
 
-reserved_for-whole : (moment len : ℕ) (records : List Reservation) → IsWhole (reservation_for moment len records)
+reservation_for-whole : (moment len : ℕ) (records : List Reservation) → IsWhole (reservation_for moment len records)
 unfolding FillsWords
-reserved_for-whole moment len records = record { len = slot_len-mod len; bytes = tt }
+reservation_for-whole moment len records = record { len = slot_len-mod len; bytes = tt }
 
 after_reserve-whole : (f : Frame) (stack : List Frame) (records : List Reservation) → AllByRecursion IsWhole records → AllByRecursion IsWhole (after_reserve f stack records).records
-after_reserve-whole (record_frame moment len None) stack records h = push-whole records (reservation_for moment len records) h (reserved_for-whole moment len records)
+after_reserve-whole (record_frame moment len None) stack records h = push-whole records (reservation_for moment len records) h (reservation_for-whole moment len records)
 after_reserve-whole (record_frame moment len (Some number)) stack records h = h
 after_reserve-whole close_frame stack records h = h
 
