@@ -27,7 +27,11 @@ pub record Commit : Type 0 where
   pub ignored : ℕ
 
 abbrev pub commit_word : Commit → ℕ
-commit_word commit = commit.size + (if commit.is_stored then 2 ^ 30 else 0) + (if commit.is_missed then 2 ^ 31 else 0) + 2 ^ 32 * commit.ignored
+commit_word commit =
+    commit.size
+    + (if commit.is_stored then 2 ^ 30 else 0)
+    + (if commit.is_missed then 2 ^ 31 else 0)
+    + 2 ^ 32 * commit.ignored
 
 -- The bytes begin with a header: the time of the page and its commit word. The rest stands behind it.
 pub record HasHeader (bytes : List ℕ) (time : ℕ) (commit : Commit) (rest : List ℕ) : Type 0 where
@@ -54,7 +58,11 @@ pub data Missed : Type 0 where
 abbrev pub TellsMissed : Commit → List ℕ → Missed → Type 0
 TellsMissed commit behind none = commit.is_missed ≡ false
 TellsMissed commit behind unknown = (commit.is_missed ≡ true) × (commit.is_stored ≡ false)
-TellsMissed commit behind (counted events) = (commit.is_missed ≡ true) × (commit.is_stored ≡ true) × (events < 2 ^ 64) × ((ignored : List ℕ) × (behind ≡ le64 events ++ ignored))
+TellsMissed commit behind (counted events) =
+    (commit.is_missed ≡ true)
+    × (commit.is_stored ≡ true)
+    × (events < 2 ^ 64)
+    × ((ignored : List ℕ) × (behind ≡ le64 events ++ ignored))
 
 -- The image reads as a page of this time, with data of this size in bytes, these missed events and these records.
 pub record DecodesImage (bytes : List ℕ) (time size : ℕ) (missed : Missed) (records : List Record) : Type 0 where
@@ -77,19 +85,32 @@ abbrev pub stores_count : List ℕ → ℕ → ℕ → Bool
 stores_count contents missed size = nat_lt 0 missed && has_room contents size
 
 abbrev pub commit_of : List ℕ → ℕ → ℕ → Commit
-commit_of contents missed size = record { size = length contents; is_stored = stores_count contents missed size; is_missed = nat_lt 0 missed; ignored = 0 }
+commit_of contents missed size = record {
+  size = length contents;
+  is_stored = stores_count contents missed size;
+  is_missed = nat_lt 0 missed;
+  ignored = 0;
+}
 
 -- the data, a count where one is stored, and zeros up to the size of the page
 abbrev pub filled : List ℕ → List ℕ → ℕ → List ℕ
 filled contents stored size = contents ++ (stored ++ replicate (size - length contents - length stored) 0)
 
+-- what is stored behind the data: the count, or nothing
+abbrev pub stored_count : List ℕ → ℕ → ℕ → List ℕ
+stored_count contents missed size = if stores_count contents missed size then le64 missed else []
+
 -- The one image that is written for a page of this time, data, number of missed events and data size.
 abbrev pub image_of : ℕ → List ℕ → ℕ → ℕ → List ℕ
-image_of time contents missed size = le64 time ++ (le64 (commit_word (commit_of contents missed size)) ++ filled contents (if stores_count contents missed size then le64 missed else []) size)
+image_of time contents missed size =
+    le64 time
+    ++ (le64 (commit_word (commit_of contents missed size))
+    ++ filled contents (stored_count contents missed size) size)
 
 -- what that image tells of this number of missed events
 abbrev pub missed_told : List ℕ → ℕ → ℕ → Missed
-missed_told contents missed size = if stores_count contents missed size then counted missed else (if nat_lt 0 missed then unknown else none)
+missed_told contents missed size =
+    if stores_count contents missed size then counted missed else (if nat_lt 0 missed then unknown else none)
 
 -- ---- what is wrong with an image
 

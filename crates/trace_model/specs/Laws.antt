@@ -51,4 +51,5 @@ OverwritingKeepsTheEnd = (bytes : List ℕ) (start len : ℕ) (new : List ℕ)
 abbrev pub PlacesAreUnique : Type 0
 PlacesAreUnique = (bytes : List ℕ) (number start len other_number other_start other_len : ℕ)
     → IsPlaceOf bytes number start len → IsPlaceOf bytes other_number other_start other_len
-    → (number ≡ other_number) ⊎ (start ≡ other_start) → (number ≡ other_number) × (start ≡ other_start) × (len ≡ other_len)
+    → (number ≡ other_number) ⊎ (start ≡ other_start)
+    → (number ≡ other_number) × (start ≡ other_start) × (len ≡ other_len)

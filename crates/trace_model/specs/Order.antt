@@ -1,5 +1,6 @@
 -- The order of records in time, where a list of them ends, and what a writer can put.
 use Rattle.std.specs.Prelude.{◌≡◌, ℕ, ◌+◌, ◌^◌, ◌<◌, ◌≤◌, ⊤, List, [], ◌∷◌, length, Option, Some, None}
+use Rattle.trace_model.specs.declared.limits.TheConstants.{MOMENT_LIMIT}
 use Rattle.trace_model.specs.Record.{Record}
 use Rattle.trace_model.specs.Words.{slot_len}
 
@@ -29,4 +30,4 @@ NeverFalls records = NeverFallsFrom 0 records
 
 -- what a writer can put: a moment that an extend can reach, and bytes that fill a slot and fit a length word
 abbrev pub IsWritable : Record → Type 0
-IsWritable r = (r.moment < 2 ^ 59) × (slot_len (length r.bytes) ≡ length r.bytes) × (length r.bytes + 4 < 2 ^ 32)
+IsWritable r = (r.moment < MOMENT_LIMIT) × (slot_len (length r.bytes) ≡ length r.bytes) × (length r.bytes + 4 < 2 ^ 32)

@@ -171,7 +171,9 @@ encoding_of prev r first = encoding (r.moment - prev) first (padded r.bytes)
 -- how many bytes that takes, for a payload of len bytes
 abbrev pub encoded_len : ℕ → ℕ → Bool → ℕ
 encoded_len len delta first =
-    (if first then 0 else (if nat_lt delta (2 ^ 27) then 0 else 8)) + (if nat_le (slot_len len) 112 then 4 else 8) + slot_len len
+    (if first then 0 else (if nat_lt delta (2 ^ 27) then 0 else 8))
+    + (if nat_le (slot_len len) 112 then 4 else 8)
+    + slot_len len
 
 -- records one behind the other, the first of them behind one of moment prev
 abbrev pub encodings_behind : ℕ → List Record → List ℕ
