@@ -25,9 +25,6 @@ bind_ok (Err e) f y h = absurd (err_is_no_ok e y h)
 same_word : (field word : Field) → bytes_eq field word ≡ true → field ≡ word
 same_word field word h = (bytes_eq-Decides field word).0 h
 
-is_word : (word : Field) → bytes_eq word word ≡ true
-is_word word = (bytes_eq-Decides word word).1 refl
-
 -- ---- what is read is spelled
 close_spelled : (cpus collectors : ℕ) (first second : Field) (command : Command) → second ≡ codes "c" → close_in cpus first ≡ Ok command
     → SpellsCommand cpus collectors command (first ∷ second ∷ [])

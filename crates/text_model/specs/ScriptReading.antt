@@ -7,7 +7,8 @@ use Rattle.text_model.specs.Script.{Command, Script, LineFault, bad_line, ◌>>=
 
 -- the significant lines of a text, where this many lines stand in front of it
 unfoldable pub significant_lines_after : ℕ → List ℕ → List Line
-significant_lines_after passed text = filter (λ line. is_significant line.1) (enumerate_from (passed + 1) (lines_of text))
+significant_lines_after passed text =
+    filter (λ line. is_significant line.1) (enumerate_from (passed + 1) (lines_of text))
 
 -- the number of the line behind the last one of a text, where this many lines stand in front of it
 unfoldable pub end_line_after : ℕ → List ℕ → ℕ
