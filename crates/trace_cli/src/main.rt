@@ -10,7 +10,7 @@ mod log_printer;
 mod messages;
 mod printer;
 
-use crate::messages::{USAGE_LINE, end_message};
+use crate::messages::{EndFault, USAGE_LINE};
 pub use command_io::{Sink, Source, Std};
 use command_io::{END_FAILED, USAGE, print_memory_line};
 use command_line::{Call, CallFault, call_of};
@@ -48,7 +48,7 @@ fn main(rt: HostRuntime) -> ExitCode {
     };
     let message = match status {
         USAGE => Some(USAGE_LINE),
-        END_FAILED => Some(end_message(&input, &output)),
+        END_FAILED => Some(EndFault::of_ends(&input, &output).message()),
         _ => None,
     };
     if let Some(line) = message {

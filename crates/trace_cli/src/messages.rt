@@ -16,19 +16,45 @@ pub const WRITE_FAILED: &str = "tracering: writing failed";
 /// The input is longer than `MAX_INPUT`.
 pub const INPUT_TOO_LONG: &str = "tracering: the input is longer than 268435456 bytes";
 
-/// Why a command over these two ends gave the exit status 4.
-pub fn end_message<R, W>(input: &Std<R>, output: &Std<W>) -> &'static str
-    ensures read { has_failed input.now ≡ true → result.now ≡ READ_FAILED.now }
-    ensures write { has_failed input.now ≡ false → has_failed output.now ≡ true
-        → result.now ≡ WRITE_FAILED.now }
-    ensures too_long { has_failed input.now ≡ false → has_failed output.now ≡ false
-        → result.now ≡ INPUT_TOO_LONG.now }
-{
-    if input.has_failed() {
-        READ_FAILED
-    } else if output.has_failed() {
-        WRITE_FAILED
-    } else {
-        INPUT_TOO_LONG
+/// Why a command gives the exit status 4.
+#[derive(Clone, Copy, Debug, PartialEq, Eq)]
+pub enum EndFault {
+    /// A read failed.
+    Read,
+    /// A write failed.
+    Write,
+    /// Neither did: more was read than may be.
+    TooLong,
+}
+
+impl EndFault {
+    /// The fault of a command over these two ends, which gave the exit status 4.
+    pub fn of_ends<R, W>(input: &Std<R>, output: &Std<W>) -> EndFault
+        ensures read { has_failed input.now ≡ true → result ≡ EndFault.Read }
+        ensures write { has_failed input.now ≡ false → has_failed output.now ≡ true
+            → result ≡ EndFault.Write }
+        ensures too_long { has_failed input.now ≡ false → has_failed output.now ≡ false
+            → result ≡ EndFault.TooLong }
+    {
+        if input.has_failed() {
+            EndFault::Read
+        } else if output.has_failed() {
+            EndFault::Write
+        } else {
+            EndFault::TooLong
+        }
+    }
+
+    /// The line that tells it.
+    pub fn message(self) -> &'static str
+        ensures read { self ≡ EndFault.Read → result.now ≡ READ_FAILED.now }
+        ensures write { self ≡ EndFault.Write → result.now ≡ WRITE_FAILED.now }
+        ensures too_long { self ≡ EndFault.TooLong → result.now ≡ INPUT_TOO_LONG.now }
+    {
+        match self {
+            EndFault::Read => READ_FAILED,
+            EndFault::Write => WRITE_FAILED,
+            EndFault::TooLong => INPUT_TOO_LONG,
+        }
     }
 }

@@ -11,7 +11,7 @@ mod replays;
 mod worked;
 
 use crate::commands::replay_to;
-use crate::messages::{INPUT_TOO_LONG, READ_FAILED, WRITE_FAILED, end_message};
+use crate::messages::EndFault;
 use command_io::{Command, DONE, END_FAILED, NO_MEMORY, Output, REFUSED, Std, run_command};
 use command_line::{Call, CallFault, call_of};
 use std::alloc::Global;
@@ -134,7 +134,7 @@ fn compare_failing_reader(rt: &(impl Abort + AllocGlobal), call: usize) {
     let status = replay_to(alloc, &mut reader, &mut writer, false);
     // Eight bytes and the end take nine reads.
     let (want, wanted, failures) = if call < 9 {
-        assert_eq!(rt; end_message(&reader, &writer), READ_FAILED);
+        assert_eq!(rt; EndFault::of_ends(&reader, &writer), EndFault::Read);
         (END_FAILED, "", 1)
     } else {
         (REFUSED, FAULT_LINE, 0)
@@ -154,7 +154,7 @@ fn compare_failing_writer(rt: &(impl Abort + AllocGlobal), call: usize) {
     let status = replay_to(alloc, &mut reader, &mut writer, true);
     // The line's sixteen bytes take sixteen writes.
     let (want, written, failures) = if call < 16 {
-        assert_eq!(rt; end_message(&reader, &writer), WRITE_FAILED);
+        assert_eq!(rt; EndFault::of_ends(&reader, &writer), EndFault::Write);
         (END_FAILED, call, 1)
     } else {
         (REFUSED, 16, 0)
@@ -181,7 +181,7 @@ fn failing_ends(rt: HostRuntime) {
     let mut writer = Std::new(Closed);
     let closed = replay_to(alloc, &mut reader, &mut writer, false);
     assert_eq!(rt; closed, END_FAILED);
-    assert_eq!(rt; end_message(&reader, &writer), WRITE_FAILED);
+    assert_eq!(rt; EndFault::of_ends(&reader, &writer), EndFault::Write);
 }
 
 #[test]
@@ -192,7 +192,7 @@ fn an_endless_input_is_too_long(rt: HostRuntime) {
     let mut writer = Std::new(&mut text);
     let status = replay_to(alloc, &mut reader, &mut writer, true);
     assert_eq!(rt; status, END_FAILED);
-    assert_eq!(rt; end_message(&reader, &writer), INPUT_TOO_LONG);
+    assert_eq!(rt; EndFault::of_ends(&reader, &writer), EndFault::TooLong);
     assert_eq!(rt; text.len(), 0);
 }
 
