@@ -18,22 +18,21 @@ enumerate_more {A} n (x ∷ xs) (suc i) d inside =
     ap {A = List (ℕ × A)} {B = List (ℕ × A)} (λ ps. (n, x) ∷ ps) below
 
 -- the text of the next of some things, which are numbered by their place
-pub numbered_more : {A B : Type 0} (f : ℕ × B → List ℕ) (view : A → B) (first i : ℕ) (things : List A) (item : A) (before so_far out : List ℕ) → i < length things → item ≡ get_or things i item
-    → so_far ≡ before ++ flat_map f (enumerate_from first (take i (map view things))) → out ≡ so_far ++ f (first + i, view item) → out ≡ before ++ flat_map f (enumerate_from first (take (i + 1) (map view things)))
-numbered_more {A} {B} f view first i things item before so_far out inside is so_far_is out_is =
+pub numbered_more : {A B : Type 0} (f : ℕ × B → List ℕ) (view : A → B) (first i number : ℕ) (things : List A) (item : A) (before so_far out : List ℕ) → number ≡ first + i → i < length things → item ≡ get_or things i item
+    → so_far ≡ before ++ flat_map f (enumerate_from first (take i (map view things))) → out ≡ so_far ++ f (number, view item) → out ≡ before ++ flat_map f (enumerate_from first (take (i + 1) (map view things)))
+numbered_more {A} {B} f view first i number things item before so_far out numbered inside is so_far_is out_is =
     let d = view item in
     let shown : List B = map view things in
     let more = enumerate_more first shown i d (omega (arith, length-map things view)) in
     let read : get_or shown i d ≡ d = get_or-map view things i item d inside ∙ ap view (sym is) in
     let pairs : enumerate_from first (take (i + 1) shown) ≡ enumerate_from first (take i shown) ++ (first + i, d) ∷ [] = rw (add-one, more, read) refl in
     let last = flat_map_more f before (enumerate_from first (take i shown)) (first + i, d) in
-    rw (out_is, so_far_is, pairs) last
+    rw (out_is, so_far_is, numbered, pairs) last
 
 -- the line of the next record
 pub line_more : (f : ℕ × Record → List ℕ) (start first i : ℕ) (copied : List (ℕ × Vec ℕ Global)) (records : List Record) (item : ℕ × Vec ℕ Global) (before so_far out : List ℕ) → start ≡ first → copies_of copied ≡ records → i < length copied → item ≡ get_or copied i item
     → so_far ≡ before ++ flat_map f (enumerate_from first (take i records)) → out ≡ so_far ++ f (start + i, copy_of item) → out ≡ before ++ flat_map f (enumerate_from first (take (i + 1) records))
 line_more f start first i copied records item before so_far out starts same inside is so_far_is out_is =
     let shown : so_far ≡ before ++ flat_map f (enumerate_from first (take i (map copy_of copied))) = subst (λ (rs : List Record). so_far ≡ before ++ flat_map f (enumerate_from first (take i rs))) (sym same) so_far_is in
-    let put : out ≡ so_far ++ f (first + i, copy_of item) = subst (λ n. out ≡ so_far ++ f (n + i, copy_of item)) starts out_is in
     subst (λ (rs : List Record). out ≡ before ++ flat_map f (enumerate_from first (take (i + 1) rs))) same
-    (numbered_more f copy_of first i copied item before so_far out inside is shown put)
+    (numbered_more f copy_of first i (start + i) copied item before so_far out (ap (λ n. n + i) starts) inside is shown out_is)
