@@ -1,7 +1,8 @@
 pub mod Histories
 pub mod LineHistories
 pub mod Sublists
-pub mod PieceLemmas
+pub mod SegmentLemmas
+pub mod Fillings
 pub mod TextLemmas
 pub mod ScriptLemmas
 pub mod ScriptReads

@@ -1,4 +1,4 @@
-pub mod Pieces
+pub mod Segments
 pub mod Text
 pub mod Script
 pub mod ScriptLimits

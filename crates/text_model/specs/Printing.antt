@@ -1,11 +1,13 @@
--- What is printed: the log, collectors, page images, the fault of a script or of an image, want of memory.
+-- What is printed: the log, collectors, page images, the fault of a script or of an image, out of memory.
 -- docs/FORMATS.md, "Printed text" and "Log".
 use Rattle.std.specs.Prelude.{ℕ, Bool, if◌then◌else◌, List, [], ◌∷◌, ◌++◌, flat_map, codes}
 use Rattle.std.specs.Fmt.{decimal}
+use Rattle.std.specs.List.{enumerate_from}
 use Rattle.trace_model.specs.Record.{Record}
 use Rattle.text_model.specs.Text.{hex_text}
 use Rattle.text_model.specs.Script.{LineFault, fault_text}
-use Rattle.text_model.specs.Log.{Refusal, too_long, late_moment, Delivery, new_page, known_page, not_taken, LogEvent, refused, taken, empty, delivered, LogLine}
+use Rattle.text_model.specs.Log.{LogLine, refused, taken, empty, moving, asks, new_delivery, known_delivery, untaken_delivery}
+use Rattle.trace_model.specs.Frames.{Refusal, too_deep, too_long, late_moment, crowded, worn, no_frame, not_reserved}
 use Rattle.trace_model.specs.Faults.{Cause, cut, bad_length, time_overflow}
 use Rattle.trace_model.specs.Image.{Missed, none, unknown, counted, ImageCause, too_short, bad_size, bad_count, bad_word}
 
@@ -19,43 +21,56 @@ abbrev pub printed_collector : ℕ → ℕ → List (ℕ × Record) → List ℕ
 printed_collector collector cpu collected =
     codes "collector " ++ decimal collector ++ 10 ∷ flat_map (printed_record cpu) collected
 
--- the world that a replay leaves: for now one collector and one CPU
-abbrev pub printed_world : List (ℕ × Record) → List ℕ
-printed_world collected = printed_collector 0 0 collected
+-- The collectors that a replay leaves, numbered from 0. For now all records are of CPU 0.
+abbrev pub printed_world : List (List (ℕ × Record)) → List ℕ
+printed_world collectors = flat_map (λ pair. printed_collector pair.0 0 pair.1) (enumerate_from 0 collectors)
 
 -- the name of why a write is refused
 abbrev pub refusal_text : Refusal → List ℕ
+refusal_text too_deep = codes "TooDeep"
 refusal_text too_long = codes "TooLong"
 refusal_text late_moment = codes "LateMoment"
+refusal_text crowded = codes "Crowded"
+refusal_text worn = codes "Worn"
+refusal_text no_frame = codes "NoFrame"
+refusal_text not_reserved = codes "NotReserved"
 
--- the word for what a delivery brings
-abbrev pub delivery_text : Delivery → List ℕ
-delivery_text new_page = codes "new"
-delivery_text known_page = codes "known"
-delivery_text not_taken = codes "not-taken"
+-- the front of a log line: the number of the script's line, and a CPU
+abbrev pub line_text : ℕ → ℕ → List ℕ
+line_text line cpu = decimal line ++ codes " c" ++ decimal cpu
 
--- a page that was taken: its fill, the number of its first record, how many records it holds, and how
+-- a page that was taken: its fill, the number of its first record, how many records it has, and how
 -- many were missed in front of them
 abbrev pub page_text : ℕ → ℕ → ℕ → ℕ → List ℕ
 page_text fill first count missed =
-    codes " taken fill " ++ decimal fill ++ codes " first " ++ decimal first ++ codes " count " ++ decimal count ++ codes " missed " ++ decimal missed
+    codes " taken fill " ++ decimal fill ++ codes " first " ++ decimal first
+    ++ codes " count " ++ decimal count ++ codes " missed " ++ decimal missed
 
--- what a command met, as it is logged
-abbrev pub event_text : LogEvent → List ℕ
-event_text (refused cpu refusal) = codes "c" ++ decimal cpu ++ codes " refused " ++ refusal_text refusal
-event_text (taken cpu fill first count missed) = codes "c" ++ decimal cpu ++ page_text fill first count missed
-event_text (empty cpu) = codes "c" ++ decimal cpu ++ codes " empty"
-event_text (delivered collector cpu fill delivery) =
-    codes "d " ++ decimal collector ++ codes " c" ++ decimal cpu ++ 32 ∷ decimal fill ++ 32 ∷ delivery_text delivery
+-- the front of a delivery's log line: the number of the script's line, a collector, a CPU, and a fill
+abbrev pub delivery_text : ℕ → ℕ → ℕ → ℕ → List ℕ
+delivery_text line collector cpu fill =
+    decimal line ++ codes " d " ++ decimal collector ++ codes " c" ++ decimal cpu ++ codes " " ++ decimal fill
 
--- a line of the log: the number of the script's line, and what its command met
+-- a line of the log, without its end
+abbrev pub log_line_text : LogLine → List ℕ
+log_line_text (refused line cpu why) = line_text line cpu ++ codes " refused " ++ refusal_text why
+log_line_text (taken line cpu fill first count missed) = line_text line cpu ++ page_text fill first count missed
+log_line_text (empty line cpu) = line_text line cpu ++ codes " empty"
+log_line_text (moving line cpu fill) = line_text line cpu ++ codes " moving " ++ decimal fill
+log_line_text (asks line cpu fill) = line_text line cpu ++ codes " asks " ++ decimal fill
+log_line_text (new_delivery line collector cpu fill) = delivery_text line collector cpu fill ++ codes " new"
+log_line_text (known_delivery line collector cpu fill) = delivery_text line collector cpu fill ++ codes " known"
+log_line_text (untaken_delivery line collector cpu fill) =
+    delivery_text line collector cpu fill ++ codes " not-taken"
+
+-- a line of the log
 abbrev pub printed_log_line : LogLine → List ℕ
-printed_log_line line = decimal line.number ++ 32 ∷ event_text line.event ++ 10 ∷ []
+printed_log_line line = log_line_text line ++ 10 ∷ []
 
 -- what a replay prints: its log, if it is asked for, and then the world
-abbrev pub printed_replay : Bool → List LogLine → List (ℕ × Record) → List ℕ
-printed_replay asked log collected =
-    (if asked then flat_map printed_log_line log else []) ++ printed_world collected
+abbrev pub printed_replay : Bool → List LogLine → List (List (ℕ × Record)) → List ℕ
+printed_replay asked log collectors =
+    (if asked then flat_map printed_log_line log else []) ++ printed_world collectors
 
 -- the line that tells which line of a script is at fault, and how
 abbrev pub printed_fault : ℕ → LineFault → List ℕ
@@ -78,7 +93,8 @@ printed_image_record r = decimal r.moment ++ 32 ∷ hex_text r.bytes ++ 10 ∷ [
 -- an image: its time, the size of its data in bytes, its missed events, then a line for each record
 abbrev pub printed_image : ℕ → ℕ → Missed → List Record → List ℕ
 printed_image time size missed records =
-    codes "page " ++ decimal time ++ codes " size " ++ decimal size ++ codes " missed " ++ missed_text missed ++ 10 ∷ flat_map printed_image_record records
+    codes "page " ++ decimal time ++ codes " size " ++ decimal size ++ codes " missed " ++ missed_text missed
+    ++ 10 ∷ flat_map printed_image_record records
 
 -- the name of what is wrong with a word
 abbrev pub cause_text : Cause → List ℕ

@@ -13,9 +13,9 @@ pub record PrintsReplay (asked : Bool) (text bytes : List ℕ) (status : ℕ) : 
   pub script : Script
   pub spelled : ParsesScript text script
   pub log : List LogLine
-  pub collected : List (ℕ × Record)
-  pub replayed : IsLoggedReplay script log collected
-  pub printed : bytes ≡ printed_replay asked log collected
+  pub collectors : List (List (ℕ × Record))
+  pub replayed : IsLoggedReplay script log collectors
+  pub printed : bytes ≡ printed_replay asked log collectors
   pub done : status ≡ DONE
 
 -- the text has a first fault, and these bytes are its line

@@ -11,26 +11,30 @@ ghost use Rattle.trace_script.specs.ScriptFaults.{script_fault_text};
 ghost use Rattle.trace_script.specs.ScriptTypes.{script_of};
 
 use crate::log_printer::put_log;
-use crate::printer::put_collector;
+use crate::printer::put_world;
 use command_io::{Command, Output, Sink, Source, run_command};
 use std::alloc::Global;
-use trace_model::{CpuId, NoMemory};
-use trace_run::replay::replay;
+use trace_model::NoMemory;
+use trace_run::{ReplayFault, replay};
 use trace_script::{Script, ScriptFault, put_fault, read_script};
 
 /// The printing of a script's replay: the log, if it is asked for, and what it leaves.
 fn print_replay(alloc: Global, script: &Script, log: bool) -> Result<Vec<u8>, NoMemory>
     requires { IsWithinLimits (script_of script.now) }
-    ensures { IfOk result (λ text. (lines : List LogLine) × (collected : List (ℕ × Record))
-        × IsLoggedReplay (script_of script.now) lines collected
-        × (text.items ≡ printed_replay log lines collected)) }
+    ensures { IfOk result (λ text. (lines : List LogLine) × (collectors : List (List (ℕ × Record)))
+        × IsLoggedReplay (script_of script.now) lines collectors
+        × (text.items ≡ printed_replay log lines collectors)) }
 {
-    let world = replay(alloc, script)?;
+    let world = match replay(alloc, script) {
+        Ok(world) => world,
+        Err(ReplayFault::NoMemory) => return Err(NoMemory),
+        Err(ReplayFault::GateShut | ReplayFault::NoThread) => unreachable!(),
+    };
     let mut text = Vec::new(alloc);
     if log {
         put_log(&mut text, world.log.as_slice())?;
     }
-    put_collector(&mut text, 0, CpuId(0), &world.collector)?;
+    put_world(&mut text, world.collectors.as_slice())?;
     Ok(text)
 }
 

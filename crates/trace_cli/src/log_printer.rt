@@ -1,12 +1,12 @@
 //! The printing of a replay's log.
 ghost use Rattle.std.specs.Prelude.{◌≡◌, ◌++◌, OnOk, flat_map};
 ghost use Rattle.std.specs.Fmt.{decimal};
-ghost use Rattle.text_model.specs.Printing.{delivery_text, event_text, page_text, printed_log_line, refusal_text};
-ghost use Rattle.trace_run.specs.LogTypes.{shown_delivery, shown_event, shown_log, shown_log_line, shown_refusal};
+ghost use Rattle.text_model.specs.Printing.{delivery_text, line_text, log_line_text, page_text, printed_log_line, refusal_text};
+ghost use Rattle.trace_run.specs.LogTypes.{shown_fault, shown_log, shown_log_line};
 
-use trace_run::log::{Delivery, LogEvent, LogLine, Refusal};
 use crate::printer::put_number;
-use trace_model::{FillNo, NoMemory, RecordNo};
+use trace_model::{CpuId, FillNo, NoMemory, RecordNo};
+use trace_run::{LogLine, WriteFault};
 
 // On an error these may leave a part of what they put, in a text that the caller drops.
 
@@ -18,29 +18,31 @@ fn put_named(out: &mut Vec<u8>, words: &[u8], number: u64) -> Result<(), NoMemor
     put_number(out, number)
 }
 
-fn put_refusal(out: &mut Vec<u8>, refusal: Refusal) -> Result<(), NoMemory>
-    ensures { OnOk result (out.new.items ≡ out.old.items ++ refusal_text (shown_refusal refusal)) }
+fn put_fault(out: &mut Vec<u8>, fault: WriteFault) -> Result<(), NoMemory>
+    ensures { OnOk result (out.new.items ≡ out.old.items ++ refusal_text (shown_fault fault)) }
 {
-    match refusal {
-        Refusal::TooLong => out.extend_from_slice(b"TooLong")?,
-        Refusal::LateMoment => out.extend_from_slice(b"LateMoment")?,
+    match fault {
+        WriteFault::TooDeep => out.extend_from_slice(b"TooDeep")?,
+        WriteFault::TooLong => out.extend_from_slice(b"TooLong")?,
+        WriteFault::LateMoment => out.extend_from_slice(b"LateMoment")?,
+        WriteFault::Crowded => out.extend_from_slice(b"Crowded")?,
+        WriteFault::Worn => out.extend_from_slice(b"Worn")?,
+        WriteFault::NoFrame => out.extend_from_slice(b"NoFrame")?,
+        WriteFault::NotReserved => out.extend_from_slice(b"NotReserved")?,
     }
     Ok(())
 }
 
-fn put_delivery(out: &mut Vec<u8>, delivery: Delivery) -> Result<(), NoMemory>
-    ensures { OnOk result (out.new.items ≡ out.old.items ++ delivery_text (shown_delivery delivery)) }
+/// The front of a line: the number of the script's line, and a CPU.
+fn put_front(out: &mut Vec<u8>, line: u64, cpu: CpuId) -> Result<(), NoMemory>
+    ensures { OnOk result (out.new.items ≡ out.old.items ++ line_text line cpu.0) }
 {
-    match delivery {
-        Delivery::New => out.extend_from_slice(b"new")?,
-        Delivery::Known => out.extend_from_slice(b"known")?,
-        Delivery::NotTaken => out.extend_from_slice(b"not-taken")?,
-    }
-    Ok(())
+    put_number(out, line)?;
+    put_named(out, b" c", u64::from(cpu.0))
 }
 
 /// What there is to tell of a page that was taken.
-fn put_page(
+fn put_taken(
     out: &mut Vec<u8>,
     fill: FillNo,
     first: RecordNo,
@@ -56,53 +58,85 @@ fn put_page(
     Ok(())
 }
 
-/// What a command met.
-fn put_event(out: &mut Vec<u8>, event: &LogEvent) -> Result<(), NoMemory>
-    ensures { OnOk result (out.new.items ≡ out.old.items ++ event_text (shown_event event.now)) }
+/// A delivery: the number of the script's line, whom it was for, and what it brought.
+fn put_delivery(
+    out: &mut Vec<u8>,
+    line: u64,
+    collector: usize,
+    cpu: CpuId,
+    fill: FillNo,
+    brought: &[u8],
+) -> Result<(), NoMemory>
+    ensures { OnOk result (out.new.items ≡ out.old.items ++ (delivery_text line collector cpu.0 fill.0 ++ brought.now)) }
 {
-    match event {
-        LogEvent::Refused { cpu, refusal } => {
-            put_named(out, b"c", u64::from(cpu.0))?;
+    put_number(out, line)?;
+    put_named(out, b" d ", collector as u64)?;
+    put_named(out, b" c", u64::from(cpu.0))?;
+    put_named(out, b" ", fill.0)?;
+    out.extend_from_slice(brought)?;
+    Ok(())
+}
+
+/// A line without its end.
+fn put_line(out: &mut Vec<u8>, logged: &LogLine) -> Result<(), NoMemory>
+    ensures { OnOk result (out.new.items ≡ out.old.items ++ log_line_text (shown_log_line logged.now)) }
+{
+    match logged {
+        LogLine::Refused { line, cpu, fault } => {
+            put_front(out, *line, *cpu)?;
             out.extend_from_slice(b" refused ")?;
-            put_refusal(out, *refusal)?;
+            put_fault(out, *fault)
         }
-        LogEvent::Taken {
+        LogLine::Taken {
+            line,
             cpu,
             fill,
             first,
             count,
             missed,
         } => {
-            put_named(out, b"c", u64::from(cpu.0))?;
-            put_page(out, *fill, *first, *count, *missed)?;
+            put_front(out, *line, *cpu)?;
+            put_taken(out, *fill, *first, *count, *missed)
         }
-        LogEvent::Empty { cpu } => {
-            put_named(out, b"c", u64::from(cpu.0))?;
+        LogLine::Empty { line, cpu } => {
+            put_front(out, *line, *cpu)?;
             out.extend_from_slice(b" empty")?;
+            Ok(())
         }
-        LogEvent::Delivered {
+        LogLine::Moving { line, cpu, fill } => {
+            put_front(out, *line, *cpu)?;
+            put_named(out, b" moving ", fill.0)
+        }
+        LogLine::Asks { line, cpu, fill } => {
+            put_front(out, *line, *cpu)?;
+            put_named(out, b" asks ", fill.0)
+        }
+        LogLine::New {
+            line,
             collector,
             cpu,
             fill,
-            delivery,
-        } => {
-            put_named(out, b"d ", *collector as u64)?;
-            put_named(out, b" c", u64::from(cpu.0))?;
-            put_named(out, b" ", fill.0)?;
-            out.push(b' ')?;
-            put_delivery(out, *delivery)?;
-        }
+        } => put_delivery(out, *line, *collector, *cpu, *fill, b" new"),
+        LogLine::Known {
+            line,
+            collector,
+            cpu,
+            fill,
+        } => put_delivery(out, *line, *collector, *cpu, *fill, b" known"),
+        LogLine::NotTaken {
+            line,
+            collector,
+            cpu,
+            fill,
+        } => put_delivery(out, *line, *collector, *cpu, *fill, b" not-taken"),
     }
-    Ok(())
 }
 
 /// A line of the log.
-fn put_log_line(out: &mut Vec<u8>, line: &LogLine) -> Result<(), NoMemory>
-    ensures { OnOk result (out.new.items ≡ out.old.items ++ printed_log_line (shown_log_line line.now)) }
+fn put_log_line(out: &mut Vec<u8>, logged: &LogLine) -> Result<(), NoMemory>
+    ensures { OnOk result (out.new.items ≡ out.old.items ++ printed_log_line (shown_log_line logged.now)) }
 {
-    put_number(out, line.number)?;
-    out.push(b' ')?;
-    put_event(out, &line.event)?;
+    put_line(out, logged)?;
     out.push(b'\n')?;
     Ok(())
 }
@@ -111,8 +145,8 @@ fn put_log_line(out: &mut Vec<u8>, line: &LogLine) -> Result<(), NoMemory>
 pub fn put_log(out: &mut Vec<u8>, log: &[LogLine]) -> Result<(), NoMemory>
     ensures { OnOk result (out.new.items ≡ out.old.items ++ flat_map printed_log_line (shown_log log.now)) }
 {
-    for line in log {
-        put_log_line(out, line)?;
+    for logged in log {
+        put_log_line(out, logged)?;
     }
     Ok(())
 }

@@ -1,17 +1,16 @@
 //! The printing of what a collector has.
-ghost use Rattle.std.specs.Prelude.{◌≡◌, ◌<◌, ◌++◌, OnOk, flat_map};
+ghost use Rattle.std.specs.Prelude.{◌≡◌, ◌<◌, ◌++◌, OnOk, flat_map, map};
 ghost use Rattle.std.specs.Char.{digit_char};
 ghost use Rattle.std.specs.Fmt.{decimal};
 ghost use Rattle.text_model.specs.Text.{hex_text};
-ghost use Rattle.text_model.specs.Printing.{printed_record, printed_collector};
+ghost use Rattle.text_model.specs.Printing.{printed_record, printed_collector, printed_world};
 ghost use Rattle.text_model.specs.Replay.{pairs_of};
-ghost use Rattle.trace_run.specs.Collected.{collected_of};
+ghost use Rattle.trace_run.specs.Collected.{collected_pairs};
 ghost use Rattle.page_image.specs.Copies.{copy_of};
 
-use trace_run::plain_collector::{Held, PlainCollector};
-use trace_run::taken::Taken;
 use itoa::Buffer;
 use trace_model::{CpuId, Moment, NoMemory, RecordNo};
+use trace_run::{CopiedPage, TakenPage, TakenPages};
 
 /// The digit of a number below 16, in lower case.
 fn hex_digit(number: u8) -> u8
@@ -86,11 +85,11 @@ fn put_copied(
 }
 
 /// The lines of a taken page's records.
-fn put_taken(out: &mut Vec<u8>, cpu: CpuId, taken: &Taken) -> Result<(), NoMemory>
-    ensures { OnOk result (out.new.items ≡ out.old.items ++ flat_map (printed_record cpu.0) (pairs_of taken.now)) }
+fn put_page(out: &mut Vec<u8>, cpu: CpuId, page: &CopiedPage) -> Result<(), NoMemory>
+    ensures { OnOk result (out.new.items ≡ out.old.items ++ flat_map (printed_record cpu.0) (pairs_of page.now)) }
 {
-    let first = taken.first();
-    for (i, copied) in taken.records().iter().enumerate() {
+    let first = page.first();
+    for (i, copied) in page.records().iter().enumerate() {
         let number = RecordNo(first.0 + i as u64);
         put_copied(out, cpu, number, copied)?;
     }
@@ -98,28 +97,38 @@ fn put_taken(out: &mut Vec<u8>, cpu: CpuId, taken: &Taken) -> Result<(), NoMemor
 }
 
 /// The lines of the pages that were delivered.
-fn put_delivered(out: &mut Vec<u8>, cpu: CpuId, held: &[Held]) -> Result<(), NoMemory>
-    ensures { OnOk result (out.new.items ≡ out.old.items ++ flat_map (printed_record cpu.0) (collected_of held.now)) }
+fn put_delivered(out: &mut Vec<u8>, cpu: CpuId, pages: &[TakenPage]) -> Result<(), NoMemory>
+    ensures { OnOk result (out.new.items ≡ out.old.items ++ flat_map (printed_record cpu.0) (collected_pairs pages.now)) }
 {
-    for page in held {
-        if page.delivered {
-            put_taken(out, cpu, &page.taking)?;
+    for taken in pages {
+        if taken.delivered {
+            put_page(out, cpu, &taken.page)?;
         }
     }
     Ok(())
 }
 
-/// Puts the text of this collector: its head line, and a line for each record, all of this CPU.
-pub fn put_collector(
+/// The text of the collector of this number: its head line, and a line for each record, all of this CPU.
+fn put_collector(
     out: &mut Vec<u8>,
     number: u64,
     cpu: CpuId,
-    collector: &PlainCollector,
+    collector: &TakenPages,
 ) -> Result<(), NoMemory>
-    ensures { OnOk result (out.new.items ≡ out.old.items ++ printed_collector number cpu.0 (collected_of collector.now)) }
+    ensures { OnOk result (out.new.items ≡ out.old.items ++ printed_collector number cpu.0 (collected_pairs collector.now)) }
 {
     out.extend_from_slice(b"collector ")?;
     put_number(out, number)?;
     out.push(b'\n')?;
-    put_delivered(out, cpu, collector.held())
+    put_delivered(out, cpu, collector.pages())
+}
+
+/// Puts the text of each collector, by rising number. All records are of CPU 0.
+pub fn put_world(out: &mut Vec<u8>, collectors: &[TakenPages]) -> Result<(), NoMemory>
+    ensures { OnOk result (out.new.items ≡ out.old.items ++ printed_world (map collected_pairs collectors.now)) }
+{
+    for (i, collector) in collectors.iter().enumerate() {
+        put_collector(out, i as u64, CpuId(0), collector)?;
+    }
+    Ok(())
 }

@@ -5,7 +5,12 @@ pub mod Members
 pub mod Numbered
 pub mod Appending
 pub mod PagesKept
-pub mod Runs
+pub mod Fillings
+pub mod Outcomes
+pub mod States
+pub mod TakeSteps
+pub mod DeliverySteps
+pub mod Steps
 pub mod Logged
 pub mod Contracts
 pub mod SoFar

@@ -5,8 +5,8 @@ use Rattle.std.specs.List.{enumerate_from}
 use Rattle.std.specs.List.Sorted.{IsStrictlyIncreasing}
 use Rattle.trace_model.specs.Record.{Record}
 use Rattle.text_model.specs.Replay.{Taking, pairs_of}
-use Rattle.trace_run.specs.declared.plain_collector.Held.{Held}
-use Rattle.trace_run.specs.Collected.{pairs_held, collected_of}
+use Rattle.trace_run.specs.declared.taken_pages.TakenPage.{TakenPage}
+use Rattle.trace_run.specs.Collected.{delivered_pairs, collected_pairs}
 
 -- each number is at least this one, and above the one before it
 abbrev pub RisesFrom : ℕ → List ℕ → Type 0
@@ -48,15 +48,15 @@ numbers_of : (mark : Bool) (t : Taking) (ks : List ℕ) → RisesFrom (t.first +
 numbers_of true t ks rest = RisesFrom-enumerate t.first t.records ks rest
 numbers_of false t ks rest = RisesFrom-weaker t.first (t.first + length t.records) ks (omega arith) rest
 
-numbers_held : (n : ℕ) (held : List Held) → NumberedFrom n (map (λ h. h.taking) held) → RisesFrom n (map (λ p. p.0) (collected_of held))
-numbers_held n [] h = tt
-numbers_held n (x ∷ held) h =
-    let t = x.taking in
-    let rest : RisesFrom (n + length t.records) (map (λ p. p.0) (collected_of held)) = numbers_held (n + length t.records) held h.1 in
-    let here : RisesFrom (t.first + length t.records) (map (λ p. p.0) (collected_of held)) = subst (λ m. RisesFrom (m + length t.records) (map (λ p. p.0) (collected_of held))) (sym h.0) rest in
-    let all : RisesFrom n (map (λ p. p.0) (pairs_held x) ++ map (λ p. p.0) (collected_of held)) = subst (λ m. RisesFrom m (map (λ p. p.0) (pairs_held x) ++ map (λ p. p.0) (collected_of held))) h.0 (numbers_of x.delivered t (map (λ p. p.0) (collected_of held)) here) in
-    subst (λ (ks : List ℕ). RisesFrom n ks) (sym (map-append (λ (p : ℕ × Record). p.0) (pairs_held x) (collected_of held))) all
+numbers_delivered : (n : ℕ) (pages : List TakenPage) → NumberedFrom n (map (λ h. h.page) pages) → RisesFrom n (map (λ p. p.0) (collected_pairs pages))
+numbers_delivered n [] h = tt
+numbers_delivered n (x ∷ pages) h =
+    let t = x.page in
+    let rest : RisesFrom (n + length t.records) (map (λ p. p.0) (collected_pairs pages)) = numbers_delivered (n + length t.records) pages h.1 in
+    let here : RisesFrom (t.first + length t.records) (map (λ p. p.0) (collected_pairs pages)) = subst (λ m. RisesFrom (m + length t.records) (map (λ p. p.0) (collected_pairs pages))) (sym h.0) rest in
+    let all : RisesFrom n (map (λ p. p.0) (delivered_pairs x) ++ map (λ p. p.0) (collected_pairs pages)) = subst (λ m. RisesFrom m (map (λ p. p.0) (delivered_pairs x) ++ map (λ p. p.0) (collected_pairs pages))) h.0 (numbers_of x.delivered t (map (λ p. p.0) (collected_pairs pages)) here) in
+    subst (λ (ks : List ℕ). RisesFrom n ks) (sym (map-append (λ (p : ℕ × Record). p.0) (delivered_pairs x) (collected_pairs pages))) all
 
 -- what the collector has rises by number
-pub collected_rises : (held : List Held) → NumberedFrom 0 (map (λ h. h.taking) held) → IsStrictlyIncreasing (map (λ p. p.0) (collected_of held))
-collected_rises held h = rises 0 (map (λ p. p.0) (collected_of held)) (numbers_held 0 held h)
+pub collected_rises : (pages : List TakenPage) → NumberedFrom 0 (map (λ h. h.page) pages) → IsStrictlyIncreasing (map (λ p. p.0) (collected_pairs pages))
+collected_rises pages h = rises 0 (map (λ p. p.0) (collected_pairs pages)) (numbers_delivered 0 pages h)

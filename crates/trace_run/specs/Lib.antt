@@ -1,5 +1,5 @@
 pub mod Collected
 pub mod PlainPages
 pub mod PlainInside
-pub mod PlainRun
+pub mod ReplaySteps
 pub mod LogTypes

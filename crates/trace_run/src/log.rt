@@ -1,37 +1,20 @@
 //! The log of a replay: what the script's commands met, in their order.
+use crate::write_fault::WriteFault;
 use trace_model::{CpuId, FillNo, RecordNo};
 
-/// Why a write is refused.
+/// A line of the log, told by the number of the script's line. A write that succeeds logs nothing.
 #[derive(Clone, Copy, Debug, PartialEq, Eq)]
-pub enum Refusal {
-    /// No page has room for the payload.
-    TooLong,
-    /// The moment is not below 2^59.
-    LateMoment,
-}
-
-/// What a delivery brings to its collector.
-#[derive(Clone, Copy, Debug, PartialEq, Eq)]
-pub enum Delivery {
-    /// A page that it hasn't yet.
-    New,
-    /// A page that it has.
-    Known,
-    /// None, since no page of that fill was taken so far.
-    NotTaken,
-}
-
-/// What a command met. A write that succeeds and a close meet nothing.
-#[derive(Clone, Copy, Debug, PartialEq, Eq)]
-pub enum LogEvent {
+pub enum LogLine {
     /// A write of this CPU was refused.
     Refused {
+        line: u64,
         cpu: CpuId,
-        refusal: Refusal,
+        fault: WriteFault,
     },
     /// A page of this CPU was taken: which fill it was, the number of its first record, how many
-    /// records it holds, and how many numbers were missed in front of them.
+    /// records it has, and how many numbers were missed in front of them.
     Taken {
+        line: u64,
         cpu: CpuId,
         fill: FillNo,
         first: RecordNo,
@@ -39,23 +22,39 @@ pub enum LogEvent {
         missed: u64,
     },
     /// There was no page of this CPU to take.
-    Empty {
+    Empty { line: u64, cpu: CpuId },
+    /// A writer of this CPU moves the head; all fills below this one are taken or lost. No replay logs
+    /// it yet.
+    Moving {
+        line: u64,
         cpu: CpuId,
+        fill: FillNo,
     },
-    /// A fill of this CPU was delivered to this collector.
-    Delivered {
+    /// The reader of this CPU asks for the page behind so many closed ones. No replay logs it yet.
+    Asks {
+        line: u64,
+        cpu: CpuId,
+        fill: FillNo,
+    },
+    /// A fill of this CPU was delivered to a collector that hadn't its page.
+    New {
+        line: u64,
         collector: usize,
         cpu: CpuId,
         fill: FillNo,
-        delivery: Delivery,
     },
-}
-
-/// A line of the log.
-#[derive(Clone, Copy, Debug, PartialEq, Eq)]
-pub struct LogLine {
-    /// The number of the script's line.
-    pub number: u64,
-    /// What its command met.
-    pub event: LogEvent,
+    /// A fill of this CPU was delivered to a collector that had its page.
+    Known {
+        line: u64,
+        collector: usize,
+        cpu: CpuId,
+        fill: FillNo,
+    },
+    /// No page of this fill of this CPU was taken so far, so nothing was delivered.
+    NotTaken {
+        line: u64,
+        collector: usize,
+        cpu: CpuId,
+        fill: FillNo,
+    },
 }

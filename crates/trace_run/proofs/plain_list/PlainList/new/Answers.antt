@@ -6,10 +6,10 @@ use Rattle.trace_run.proofs.plain_list.PlainList.new.Goals as goal
 
 pub invariant_of-result : goal.invariant_of-result
 invariant_of-result c =
-    let none = ap length c.in_ok-left.ensures.items in
+    let none = ap length c.in_ok-closed_pages.ensures.items in
     rw c.fresh.ensures.blank (record {
       some_pages = c.requires.pages;
-      room = c.in_ok-left.ensures.capacity;
+      room = c.in_ok-closed_pages.ensures.capacity;
       within = omega (arith, none, c.requires.pages);
       small = c.requires.small;
       large = c.requires.large;

@@ -11,12 +11,12 @@ use Rattle.trace_run.proofs.plain_list.PlainList.open.Goals as goal
 pub invariant_of-self : goal.invariant_of-self
 invariant_of-self c =
     let i = c.self-2.invariant in
-    let left = c.self-2.inside.left.items in
+    let left = c.self-2.inside.closed_pages.items in
     let pushed = c.push_back_reserved.ensures.items in
     let room = c.in_ok-body.ensures.room in
     let now = c.self-2.view_is in
-    let place = ap (λ (p : PlainPages). length p.left) now in
-    let most = ap (λ (p : PlainPages). p.most) now in
+    let place = ap (λ (p : PlainPages). length p.closed_pages) now in
+    let most = ap (λ (p : PlainPages). p.max_pages) now in
     let size : c.self-2.inside.size ≡ c.args.self.now.size = ap (λ (p : PlainPages). p.size) (now ∙ c.in_ok-body.ensures.ok) ∙ size-with_place c.args.self.now in
     rw (c.replace-tail.ensures.after, c.fresh-fresh.ensures.blank) (record {
       some_pages = i.some_pages;
@@ -32,6 +32,6 @@ invariant_of-self c =
       tail_end = no_records_length 0;
       tail_room = omega arith;
       tail_open = EndsInRecord-nil;
-      tail_last = no_last_record 0 c.self-2.inside.last;
+      tail_last = no_last_record 0 c.self-2.inside.last_moment;
       in_time = i.in_time;
     })

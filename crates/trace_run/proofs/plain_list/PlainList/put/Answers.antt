@@ -10,7 +10,7 @@ pub append-requires-clause-room : goal.append-requires-clause-room
 append-requires-clause-room c =
     let i = c.self.inside in
     let r : Record = record { moment = c.args.moment; bytes = padded c.args.payload.now } in
-    let room = room_by_bytes i.tail.bytes (records_of_page i.tail) i.last c.args.moment i.size c.args.payload.now c.self.invariant.tail_end c.self.invariant.tail_last in
+    let room = room_by_bytes i.tail.bytes (records_of_page i.tail) i.last_moment c.args.moment i.size c.args.payload.now c.self.invariant.tail_end c.self.invariant.tail_last in
     let fits : leb (length (page_encoding (records_of_page i.tail ++ r ∷ []))) i.size ≡ true = ap (λ (p : PlainPages). fits_tail p r) c.self.view_is ∙ c.requires.room in
     let within = leb-true (length (page_encoding (records_of_page i.tail ++ r ∷ []))) i.size fits in
     omega (arith, room, within, c.self.invariant.tail_body)
@@ -20,7 +20,7 @@ invariant_of-self c =
     let i = c.self.invariant in
     let s = c.self.inside in
     let r : Record = record { moment = c.args.moment; bytes = padded c.args.payload.now } in
-    let room = room_by_bytes s.tail.bytes (records_of_page s.tail) s.last c.args.moment s.size c.args.payload.now i.tail_end i.tail_last in
+    let room = room_by_bytes s.tail.bytes (records_of_page s.tail) s.last_moment c.args.moment s.size c.args.payload.now i.tail_end i.tail_last in
     let fits : leb (length (page_encoding (records_of_page s.tail ++ r ∷ []))) s.size ≡ true = ap (λ (p : PlainPages). fits_tail p r) c.self.view_is ∙ c.requires.room in
     let within = leb-true (length (page_encoding (records_of_page s.tail ++ r ∷ []))) s.size fits in
     record {

@@ -9,8 +9,8 @@ invariant_of-self c =
     let i = c.self.invariant in
     let rest = c.pop_front.ensures.rest in
     let count = ap length rest in
-    let left = c.self.inside.left.items in
-    let within : length c.pop_front.new.self.items < c.self.inside.most = omega (arith, count, length-drop 1 left, i.within) in
+    let left = c.self.inside.closed_pages.items in
+    let within : length c.pop_front.new.self.items < c.self.inside.max_pages = omega (arith, count, length-drop 1 left, i.within) in
     record {
       some_pages = i.some_pages;
       room = rw c.pop_front.ensures.capacity i.room;

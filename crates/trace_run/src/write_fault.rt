@@ -1,0 +1,20 @@
+//! Why a write is refused.
+
+/// Why a write, or a step of its frame, is refused. Refused memory is none of these.
+#[derive(Clone, Copy, Debug, PartialEq, Eq)]
+pub enum WriteFault {
+    /// As many frames stand on the writer's stack as can: `MAX_FRAMES`.
+    TooDeep,
+    /// The payload does not fit a page.
+    TooLong,
+    /// The moment is not below `MOMENT_LIMIT`.
+    LateMoment,
+    /// A page is needed, and none is released: as many fills are open as the ring has pages.
+    Crowded,
+    /// A page is needed, and the last fill that has a number is open.
+    Worn,
+    /// No frame stands.
+    NoFrame,
+    /// The frame has reserved nothing, or was ended or refused.
+    NotReserved,
+}
