@@ -32,12 +32,12 @@ taken_at_all outcomes t d =
 
 -- where there is one CPU and one collector, a command names no other
 names_the_one : (script : Script) → IsWithinLimits script → (c : Command) → IsCommandWithin script.cpus script.collectors c → NamesTheOne c
-names_the_one script within (write cpu moment payload) h = let few = within.most_cpus in let lower = h.0 in omega arith
-names_the_one script within (close cpu) h = let few = within.most_cpus in omega arith
-names_the_one script within (take_page cpu) h = let few = within.most_cpus in omega arith
+names_the_one script within (write cpu moment payload) h = let few = within.max_cpus in let lower = h.0 in omega arith
+names_the_one script within (close cpu) h = let few = within.max_cpus in omega arith
+names_the_one script within (take_page cpu) h = let few = within.max_cpus in omega arith
 names_the_one script within (deliver collector cpu fill) h =
-    let few = within.most_collectors in
-    let fewer = within.most_cpus in
+    let few = within.max_collectors in
+    let fewer = within.max_cpus in
     let lower = h.0 in
     let below = h.1 in
     (omega arith, omega arith)

@@ -9,7 +9,7 @@ pub loop-line-init : goal.loop-line-init
 loop-line-init c =
     let size = c.args.script.now.size in
     let pages = c.args.script.now.pages in
-    let first : SoFar pages size [] (record { list = new_pages pages size; taken = [] }) [] = record { outcomes = []; commands = refl; kept = first_state pages size c.requires.least_pages; logged = refl } in
+    let first : SoFar pages size [] (record { list = new_pages pages size; taken = [] }) [] = record { outcomes = []; commands = refl; kept = first_state pages size c.requires.min_pages; logged = refl } in
     rw (c.in_ok-new.ensures, c.new-2.ensures, c.new-log.ensures.items) first
 
 pub obey-requires-clause-fills : goal.obey-requires-clause-fills
