@@ -31,24 +31,27 @@ pub record AppendsPrefix (held holds : Option (List ℕ)) (bytes : List ℕ) : T
   pub short : count < length bytes
   pub written : Appends held holds (take count bytes)
 
--- In what follows `gives text bytes status` says that a command may answer these bytes with this exit
--- status to a text.
+-- In what follows `gives text bytes status` says that a command may print these bytes for a text, with this
+-- exit status.
 
 -- the whole source was read, it isn't too long, and these bytes with this status are an output for it
-pub record IsOutput (gives : List ℕ → List ℕ → ℕ → Type 0) (unread left : Option (List ℕ)) (bytes : List ℕ) (status : ℕ) : Type 0 where
+pub record IsOutput (gives : List ℕ → List ℕ → ℕ → Type 0)
+    (unread left : Option (List ℕ)) (bytes : List ℕ) (status : ℕ) : Type 0 where
   pub text : List ℕ
   pub read : ReadsAll unread left text
   pub limited : length text ≤ MAX_INPUT
   pub given : gives text bytes status
 
 -- an output for the whole source was written, all of it
-pub record WritesOutput (gives : List ℕ → List ℕ → ℕ → Type 0) (unread left held holds : Option (List ℕ)) (status : ℕ) : Type 0 where
+pub record WritesOutput (gives : List ℕ → List ℕ → ℕ → Type 0)
+    (unread left held holds : Option (List ℕ)) (status : ℕ) : Type 0 where
   pub bytes : List ℕ
   pub output : IsOutput gives unread left bytes status
   pub written : Appends held holds bytes
 
 -- a beginning of an output for the whole source was written, and not all of it
-pub record WritesOutputPrefix (gives : List ℕ → List ℕ → ℕ → Type 0) (unread left held holds : Option (List ℕ)) : Type 0 where
+pub record WritesOutputPrefix (gives : List ℕ → List ℕ → ℕ → Type 0)
+    (unread left held holds : Option (List ℕ)) : Type 0 where
   pub bytes : List ℕ
   pub status : ℕ
   pub output : IsOutput gives unread left bytes status
@@ -70,12 +73,13 @@ pub record WritesNothing (held holds : Option (List ℕ)) (write_failed : Bool) 
   pub sound : write_failed ≡ false
 
 -- Both ends had not failed before the run; `read_failed` and `write_failed` say whether they have now.
-pub record IsCommandRun (gives : List ℕ → List ℕ → ℕ → Type 0) (unread left held holds : Option (List ℕ)) (read_failed write_failed : Bool) (status : ℕ) : Type 0 where
+pub record IsCommandRun (gives : List ℕ → List ℕ → ℕ → Type 0)
+    (unread left held holds : Option (List ℕ)) (read_failed write_failed : Bool) (status : ℕ) : Type 0 where
   -- no other exit status comes
   pub one_of : (status ≡ DONE) ⊎ (status ≡ REFUSED) ⊎ (status ≡ NO_MEMORY) ⊎ (status ≡ END_FAILED)
   -- 0 and 1: all of the source was read and all of an output for it was written, which has this status
-  pub answered : (status ≡ DONE) ⊎ (status ≡ REFUSED) → WritesOutput gives unread left held holds status
-  -- 3: memory was refused, and nothing but the line for that was written
+  pub finished : (status ≡ DONE) ⊎ (status ≡ REFUSED) → WritesOutput gives unread left held holds status
+  -- 3, for refused memory: nothing but the line for that was written
   pub no_memory : status ≡ NO_MEMORY → WritesMemoryLine unread left held holds
   -- 4 comes wherever a read failed, and then nothing was written
   pub read_fault : read_failed ≡ true → (status ≡ END_FAILED) × WritesNothing held holds write_failed

@@ -32,7 +32,7 @@ fn dump_output(alloc: Global, text: &[u8]) -> Result<Output, NoMemory>
 }
 
 /// Reads a page image from the reader to its end, and writes its header and records, or the fault's
-/// line. Answers the exit status: 0 done, 1 the image is refused, 3 memory was refused, 4 a read or a
+/// line. Gives the exit status: 0 done, 1 the image is refused, 3 memory was refused, 4 a read or a
 /// write failed, or there are more than 2^28 bytes.
 pub fn dump_to<R: Source, W: Sink>(alloc: Global, reader: &mut R, writer: &mut W) -> u8
     requires sound_reader { R.failed reader.old ≡ false }

@@ -245,7 +245,7 @@ fn the_two_commands_and_no_other_words_are_accepted(rt: HostRuntime) -> Result<(
             "{words:?}"
         );
     }
-    let answers = [
+    let calls = [
         ("--log", Ok(logged)),
         ("--", Ok(bare)),
         ("--help", Err(CallFault::Usage)),
@@ -257,7 +257,7 @@ fn the_two_commands_and_no_other_words_are_accepted(rt: HostRuntime) -> Result<(
         ("replay", Err(CallFault::Usage)),
         ("-", Err(CallFault::Usage)),
     ];
-    for (word, want) in answers {
+    for (word, want) in calls {
         let words = ["tracering", "replay", word];
         assert_eq!(rt; call_of(alloc, words.as_slice()), want, "{words:?}");
     }

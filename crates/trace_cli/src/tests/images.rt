@@ -149,9 +149,9 @@ fn compare_dump(
     let alloc = rt.alloc();
     let mut printed = Vec::new(alloc);
     let mut reader = Std::new(image);
-    let answered = dump_to(alloc, &mut reader, &mut Std::new(&mut printed));
+    let got = dump_to(alloc, &mut reader, &mut Std::new(&mut printed));
     assert_eq!(rt; printed.as_slice(), wanted.as_bytes(), "{name}");
-    assert_eq!(rt; answered, status, "{name}");
+    assert_eq!(rt; got, status, "{name}");
 }
 
 // Dumps each image of a table.
