@@ -44,9 +44,6 @@ write_acts records moment payload =
 written_none : (history : List Action) → (written_by history).stack ≡ [] → written_by history ≡ (let w : Written = record { stack = []; records = reserved_records history } in w)
 written_none history none = ap (λ (s : List Frame). let w : Written = record { stack = s; records = reserved_records history } in w) none
 
-act : Written → Action → Written
-act w a = acted w.stack w.records a
-
 written_behind : (history actions : List Action) → (written_by history).stack ≡ [] → written_by (history ++ actions) ≡ fold (λ v a. acted v.stack v.records a) (let w : Written = record { stack = []; records = reserved_records history } in w) actions
 written_behind history actions none =
     let start : Written = record { stack = []; records = [] } in
