@@ -5,7 +5,7 @@ use Rattle.std.proofs.lemmas.List.{ext_get_or}
 use mathlib.Core.Logic.{dite}
 use native.Mathlib.Decide.{ℕ_discrete}
 use Rattle.trace_model.specs.Links.{Link, normal_link, header_link}
-use Rattle.trace_model.specs.Ring.{Held, loading_link, Core, IsStart, link_into}
+use Rattle.trace_model.specs.Ring.{loading_link, Core, IsStart, link_into}
 use Rattle.link_marks.specs.RingLaws.{NewRingIsOne}
 use Rattle.link_marks.proofs.Positions.{at_position, one_position}
 
@@ -27,9 +27,6 @@ made_at f from (suc count) zero d low = ap f (let e : from ≡ from + 0 = omega 
 made_at f from (suc count) (suc i) d low = made_at f (suc from) count i d (omega arith) ∙ ap f (let e : suc from + i ≡ from + suc i = omega arith in e)
 
 -- ---- the new ring
-
-nothing : Held
-nothing = record { first = 0; records = [] }
 
 -- the first round's fill at a position
 fill_by : (n start position : ℕ) → (position < n) ⊎ (n ≤ position) → ℕ

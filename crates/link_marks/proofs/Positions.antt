@@ -41,9 +41,6 @@ link_turn n links f = ap (λ (k : ℕ). get_or links k (normal_link 0 0)) (add-m
 pub page_turn : (n : ℕ) (order : List ℕ) (f : ℕ) → page_at n order (f + n) ≡ page_at n order f
 page_turn n order f = ap (λ (k : ℕ). get_or order k 0) (add-mod_right f n)
 
-pub links_with_turn : (n : ℕ) (links : List Link) (f : ℕ) (l : Link) → links_with n links (f + n) l ≡ links_with n links f l
-links_with_turn n links f l = ap (λ (k : ℕ). set links k l) (add-mod_right f n)
-
 pub link_here : (n : ℕ) (links : List Link) (f : ℕ) (l : Link) → 1 ≤ n → length links ≡ n → link_into n (links_with n links f l) f ≡ l
 link_here n links f l some wide = get_or-set_same links (f % n) l (normal_link 0 0) (let low : f % n < n = mod-lt f some in omega arith)
 

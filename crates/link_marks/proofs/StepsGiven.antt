@@ -42,10 +42,6 @@ module _ (n size : ℕ) (c : Core) (frame : Frame) (below : List Frame) (k : Lin
   reserve_given (for_record moment len) = given_if (nat_le (record_len n c moment len) size) _ _ (λ e. tt) (λ e. needs_page_given)
   reserve_given for_close = close_given (contents_of c (tail_page n c)).records
 
-  -- the position of the next fill is free; or the ring is full, and its position the head's
-  full : (noted : ℕ) → noted ≡ c.opened → (noted < c.head + n → ⊥) → noted ≡ c.head + n
-  full noted now out = let within = k.opened_le in dite (ℕ_discrete noted (c.head + n)) (λ e. e) (λ ne. absurd (out (omega arith)))
-
   look_at_given : (noted : ℕ) (mark : Mark) → noted ≡ c.opened → (link_into n c.links noted).mark ≡ mark → Given (look_at n c frame below noted (link_into n c.links noted) mark)
   look_at_given noted normal now is = let l = link_into n c.links noted in given_if (l.fill == noted) _ _ (λ e. tt) (λ e. eqb-false l.fill noted e (fill_is (link_is l normal l.page l.fill is refl refl)))
     where

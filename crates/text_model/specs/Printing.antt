@@ -76,10 +76,6 @@ printed_replay asked log collectors =
 abbrev pub printed_fault : ℕ → LineFault → List ℕ
 printed_fault number fault = fault_text number fault ++ 10 ∷ []
 
--- the line that is printed where memory is refused
-abbrev pub memory_line : List ℕ
-memory_line = codes "memory" ++ 10 ∷ []
-
 -- what an image tells of missed events
 abbrev pub missed_text : Missed → List ℕ
 missed_text none = codes "none"
