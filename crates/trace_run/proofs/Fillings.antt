@@ -1,13 +1,12 @@
 -- The pages of a plain list are the last ones that were begun, and the oldest of them is the one to take.
-use Rattle.std.proofs.Common.{◌≡◌, ℕ, zero, suc, ◌+◌, ◌-◌, ◌<◌, ◌≤◌, max, Bool, true, false, cond, ltb, leb, eqb, List, [], ◌∷◌, ◌++◌, length, get_or, drop, slice_get, Option, Some, None, refl, sym, ap, ◌∙◌, subst, arith, append_assoc, All, length-append}
+use Rattle.std.proofs.Common.{◌≡◌, ℕ, ◌+◌, ◌-◌, ◌<◌, ◌≤◌, max, Bool, true, false, cond, ltb, leb, eqb, List, [], ◌∷◌, ◌++◌, length, get_or, drop, slice_get, Some, refl, sym, ap, ◌∙◌, subst, arith, append_assoc, All, length-append}
 use Rattle.std.proofs.lemmas.Bool.{ltb-true, ltb-false}
 use Rattle.std.proofs.lemmas.List.{length_push, get_or_push}
-use Rattle.std.proofs.lemmas.List.Elements.{All-push, All-weaker}
 use Rattle.trace_model.specs.declared.limits.TheConstants.{START_FILL}
 use Rattle.trace_model.specs.Record.{Record}
 use Rattle.trace_model.specs.Words.{padded, page_encoding}
-use Rattle.text_model.specs.Replay.{is_writable, Taking, Filling, begun_count, with_page, with_record_on_tail, with_record_behind, IsUnread, taking_at}
-use Rattle.trace_run.specs.PlainPages.{PlainPages, new_pages, fits_tail, record_for, without_oldest, with_place, with_record, with_record_or_page, pages_after_open, pages_after_write, pages_after_close, first_taking, without_taking}
+use Rattle.text_model.specs.Replay.{Taking, Filling, begun_count, with_page, with_record_on_tail, with_record_behind, IsUnread, taking_at}
+use Rattle.trace_run.specs.PlainPages.{PlainPages, new_pages, fits_tail, record_for, without_oldest, with_record, with_record_or_page, pages_after_open, pages_after_close, first_taking, without_taking}
 
 -- the pages begun, where these were taken or dropped
 abbrev pub filling_behind : List (List Record) → PlainPages → Filling

@@ -4,7 +4,7 @@ use Rattle.std.proofs.lemmas.Bool.{cases_eq}
 use Rattle.std.proofs.lemmas.List.Elements.{All-cons, All-map}
 use Rattle.text_model.specs.Script.{Command, write, close, take_page, deliver}
 use Rattle.text_model.specs.Replay.{Taking, Outcome, takings_of}
-use Rattle.text_model.specs.Log.{Delivery, new_page, known_page, no_page, LogLine, refusal_of, write_line, delivery_line, Brings, IsLogged, Logs}
+use Rattle.text_model.specs.Log.{Delivery, new_page, known_page, no_page, LogLine, refusal_of, write_line, Brings, IsLogged, Logs}
 use Rattle.trace_run.specs.declared.taken_pages.TakenPage.{TakenPage}
 use Rattle.trace_run.specs.declared.script_replay.ReplayState.{ReplayState}
 use Rattle.trace_run.specs.Collected.{delivery_of}

@@ -1,5 +1,5 @@
 -- Outcomes of a replay's commands, and one more.
-use Rattle.std.proofs.Common.{◌≡◌, ⊎_elim, ℕ, List, [], ◌∷◌, ◌++◌, map, flat_map, fold, Option, Some, None, option_to_list, sym, ap, ◌∙◌, subst, append_assoc, append-nil, Contains}
+use Rattle.std.proofs.Common.{◌≡◌, ⊎_elim, ℕ, List, [], ◌∷◌, ◌++◌, flat_map, Option, Some, None, option_to_list, sym, ap, ◌∙◌, subst, append_assoc, append-nil, Contains}
 use Rattle.std.proofs.lemmas.List.{map_push}
 use Rattle.std.proofs.lemmas.List.Concat.{flat_map-append}
 use Rattle.std.proofs.lemmas.List.Sums.{fold-append}
@@ -7,7 +7,7 @@ use Rattle.trace_model.specs.Record.{Record}
 use Rattle.trace_model.specs.History.{committed_records}
 use Rattle.text_model.specs.Script.{Command, take_page, deliver}
 use Rattle.text_model.specs.Segments.{HasSegments}
-use Rattle.text_model.specs.Replay.{history_of_lines, Filling, filling_after, filling_of, Taking, Outcome, takings_of, commands_of, IsTakingBehind, IsDelivered, taken_pages, TakesSegments, LeavesOnePage, TakesOldest}
+use Rattle.text_model.specs.Replay.{history_of_lines, filling_after, filling_of, Taking, Outcome, takings_of, commands_of, IsTakingBehind, IsDelivered, taken_pages, TakesSegments, LeavesOnePage, TakesOldest}
 use Rattle.text_model.proofs.Histories.{LinesLeave, LinesLeave-committed}
 use Rattle.trace_run.specs.PlainPages.{PlainPages}
 use Rattle.trace_run.proofs.Members.{cut_at_push, cut_push}

@@ -22,7 +22,10 @@ pub enum LogLine {
         missed: u64,
     },
     /// There was no page of this CPU to take.
-    Empty { line: u64, cpu: CpuId },
+    Empty {
+        line: u64,
+        cpu: CpuId,
+    },
     /// A writer of this CPU moves the head; all fills below this one are taken or lost. No replay logs
     /// it yet.
     Moving {

@@ -131,11 +131,7 @@ fn deliver(
 
 /// Obeys the command of the script's line of this number, and tells what is logged of it. What it leaves
 /// where memory is refused is not used.
-fn obey(
-    state: &mut ReplayState,
-    line: u64,
-    command: &Command,
-) -> Result<Option<LogLine>, NoMemory>
+fn obey(state: &mut ReplayState, line: u64, command: &Command) -> Result<Option<LogLine>, NoMemory>
     requires fills { tail_fill state.old.list + 1 < 2 ^ 64 }
     requires records { takeable_records state.old.list < 2 ^ 64 }
     requires below { All (λ p. p.page.fill < state.old.list.oldest) state.old.taken }
