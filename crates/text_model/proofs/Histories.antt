@@ -44,9 +44,6 @@ write_acts records moment payload =
 written_none : (history : List Action) → (writer_after history).stack ≡ [] → writer_after history ≡ (let w : WriterState = record { stack = []; records = reserved_records history } in w)
 written_none history none = ap (λ (s : List Frame). let w : WriterState = record { stack = s; records = reserved_records history } in w) none
 
-act : WriterState → Action → WriterState
-act w a = after_action w.stack w.records a
-
 written_behind : (history actions : List Action) → (writer_after history).stack ≡ [] → writer_after (history ++ actions) ≡ fold (λ v a. after_action v.stack v.records a) (let w : WriterState = record { stack = []; records = reserved_records history } in w) actions
 written_behind history actions none =
     let start : WriterState = record { stack = []; records = [] } in

@@ -14,9 +14,3 @@ pub IsSublist-append : {A : Type 0} {xs ys us vs : List A} → IsSublist xs ys �
 IsSublist-append ended t = t
 IsSublist-append (kept x s) t = kept x (IsSublist-append s t)
 IsSublist-append (skipped y s) t = skipped y (IsSublist-append s t)
-
--- more elements behind
-pub IsSublist-front : {A : Type 0} {xs ys : List A} (more : List A) → IsSublist xs ys → IsSublist xs (ys ++ more)
-IsSublist-front more ended = IsSublist-none more
-IsSublist-front more (kept x s) = kept x (IsSublist-front more s)
-IsSublist-front more (skipped y s) = skipped y (IsSublist-front more s)

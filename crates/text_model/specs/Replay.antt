@@ -37,10 +37,6 @@ actions_of size (deliver collector cpu fill) = []
 abbrev pub history_of_lines : ℕ → List Command → List Action
 history_of_lines size commands = flat_map (actions_of size) commands
 
--- the history of a script's CPU
-abbrev pub history_of : Script → List Action
-history_of script = history_of_lines script.size (map (λ line. line.1) script.commands)
-
 -- ---- which pages are begun
 
 -- All pages that were begun, none of them dropped: the records of those that were closed, oldest first,

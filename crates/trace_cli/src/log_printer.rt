@@ -67,7 +67,8 @@ fn put_delivery(
     fill: FillNo,
     brought: &[u8],
 ) -> Result<(), NoMemory>
-    ensures { OnOk result (out.new.items ≡ out.old.items ++ (delivery_text line collector cpu.0 fill.0 ++ brought.now)) }
+    ensures { OnOk result (out.new.items
+        ≡ out.old.items ++ (delivery_text line collector cpu.0 fill.0 ++ brought.now)) }
 {
     put_number(out, line)?;
     put_named(out, b" d ", collector as u64)?;

@@ -58,7 +58,8 @@ fn put_record(
     moment: Moment,
     payload: &[u8],
 ) -> Result<(), NoMemory>
-    ensures { OnOk result (out.new.items ≡ out.old.items ++ printed_record cpu.0 (number.0, record { moment = moment.0; bytes = payload.now })) }
+    ensures { OnOk result (out.new.items
+        ≡ out.old.items ++ printed_record cpu.0 (number.0, record { moment = moment.0; bytes = payload.now })) }
 {
     put_number(out, u64::from(cpu.0))?;
     out.push(b' ')?;
@@ -98,7 +99,8 @@ fn put_page(out: &mut Vec<u8>, cpu: CpuId, page: &CopiedPage) -> Result<(), NoMe
 
 /// The lines of the pages that were delivered.
 fn put_delivered(out: &mut Vec<u8>, cpu: CpuId, pages: &[TakenPage]) -> Result<(), NoMemory>
-    ensures { OnOk result (out.new.items ≡ out.old.items ++ flat_map (printed_record cpu.0) (collected_pairs pages.now)) }
+    ensures { OnOk result (out.new.items
+        ≡ out.old.items ++ flat_map (printed_record cpu.0) (collected_pairs pages.now)) }
 {
     for taken in pages {
         if taken.delivered {
@@ -115,7 +117,8 @@ fn put_collector(
     cpu: CpuId,
     collector: &TakenPages,
 ) -> Result<(), NoMemory>
-    ensures { OnOk result (out.new.items ≡ out.old.items ++ printed_collector number cpu.0 (collected_pairs collector.now)) }
+    ensures { OnOk result (out.new.items
+        ≡ out.old.items ++ printed_collector number cpu.0 (collected_pairs collector.now)) }
 {
     out.extend_from_slice(b"collector ")?;
     put_number(out, number)?;

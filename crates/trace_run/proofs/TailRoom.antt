@@ -26,10 +26,6 @@ encoded_len_le len delta first = by_test first (ltb delta (2 ^ 27)) (leb (slot_l
     by_test false false true = omega arith
     by_test false false false = omega arith
 
--- as the first of its page a record takes as much whatever its delta
-pub encoded_len_first : (len delta other : ℕ) → encoded_len len delta true ≡ encoded_len len other true
-encoded_len_first len delta other = refl
-
 pub ends_at : (x : Record) (records : List Record) (last : ℕ) → IfSome (moment_of_last (x ∷ records)) (λ m. m ≡ last) → EndsAt (x ∷ records) last
 ends_at x [] last h = ap (λ (m : ℕ). Some m) h
 ends_at x (y ∷ records) last h = ends_at y records last h

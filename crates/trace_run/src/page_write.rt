@@ -18,15 +18,18 @@ fn fill(slot: &mut [u8], payload: &[u8])
 /// Adds a record of this moment and payload behind the others of the page. `prev` is the moment of the last
 /// record, if there is one.
 pub fn append(page: &mut Page, prev: u64, moment: u64, payload: &[u8])
-    requires room { length page.old.bytes + encoded_len (length payload.now) (moment - prev) (is_blank page.old.bytes) ≤ page.old.size }
+    requires room { length page.old.bytes + encoded_len (length payload.now) (moment - prev) (is_blank page.old.bytes)
+        ≤ page.old.size }
     requires order { prev ≤ moment }
     requires moment { moment < 2 ^ 59 }
     requires last { IfSome (moment_of_last (records_of_page page.old)) (λ last. last ≡ prev) }
     requires open { EndsInRecord page.old.bytes }
     requires page { IsPage page.old }
     ensures page { IsPage page.new }
-    ensures records { records_of_page page.new ≡ records_of_page page.old ++ record { moment = moment; bytes = padded payload.now } ∷ [] }
-    ensures end { length page.new.bytes ≡ length page.old.bytes + encoded_len (length payload.now) (moment - prev) (is_blank page.old.bytes) }
+    ensures records { records_of_page page.new
+        ≡ records_of_page page.old ++ record { moment = moment; bytes = padded payload.now } ∷ [] }
+    ensures end { length page.new.bytes
+        ≡ length page.old.bytes + encoded_len (length payload.now) (moment - prev) (is_blank page.old.bytes) }
     ensures size { page.new.size ≡ page.old.size }
     ensures open { EndsInRecord page.new.bytes }
 {

@@ -144,7 +144,8 @@ impl PlainList {
     /// changed.
     pub fn write(&mut self, moment: u64, payload: &[u8]) -> Result<Option<WriteFault>, NoMemory>
         requires { tail_fill self.old + 1 < 2 ^ 64 }
-        ensures fault { IfOk result (λ fault. shown_refusal fault ≡ refusal_of self.old.size moment (length payload.now)) }
+        ensures fault { IfOk result (λ fault.
+            shown_refusal fault ≡ refusal_of self.old.size moment (length payload.now)) }
         ensures ok { OnOk result (self.new ≡ pages_after_write self.old moment payload.now) }
         ensures err { OnErr result (self.new ≡ self.old) }
     {

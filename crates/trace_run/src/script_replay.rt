@@ -65,7 +65,8 @@ fn write(
 ) -> Result<Option<LogLine>, NoMemory>
     requires { tail_fill state.old.list + 1 < 2 ^ 64 }
     ensures state { OnOk result (state.new ≡ state_after state.old (write cpu.0 moment payload.now)) }
-    ensures logged { IfOk result (λ logged. shown_logged logged ≡ line_logged state.old line (write cpu.0 moment payload.now)) }
+    ensures logged { IfOk result (λ logged.
+        shown_logged logged ≡ line_logged state.old line (write cpu.0 moment payload.now)) }
 {
     match state.list.write(moment, payload)? {
         Some(fault) => Ok(Some(LogLine::Refused { line, cpu, fault })),
@@ -79,7 +80,8 @@ fn take(state: &mut ReplayState, line: u64, cpu: CpuId) -> Result<LogLine, NoMem
     requires records { takeable_records state.old.list < 2 ^ 64 }
     requires below { All (λ p. p.page.fill < state.old.list.oldest) state.old.taken }
     ensures state { OnOk result (state.new ≡ state_after state.old (take_page cpu.0)) }
-    ensures logged { IfOk result (λ logged. shown_log_line logged ≡ take_line line cpu.0 (oldest_taking state.old.list)) }
+    ensures logged { IfOk result (λ logged.
+        shown_log_line logged ≡ take_line line cpu.0 (oldest_taking state.old.list)) }
 {
     let Some(page) = state.list.take()? else {
         return Ok(LogLine::Empty { line, cpu });
@@ -105,7 +107,8 @@ fn deliver(
     fill: FillNo,
 ) -> LogLine
     ensures state { state.new ≡ state_after state.old (deliver collector cpu.0 fill.0) }
-    ensures logged { shown_log_line result ≡ delivery_line line collector cpu.0 fill.0 (delivery_of fill.0 state.old.taken) }
+    ensures logged { shown_log_line result
+        ≡ delivery_line line collector cpu.0 fill.0 (delivery_of fill.0 state.old.taken) }
 {
     match state.taken.deliver(fill) {
         Delivery::New => LogLine::New {
@@ -136,7 +139,8 @@ fn obey(state: &mut ReplayState, line: u64, command: &Command) -> Result<Option<
     requires records { takeable_records state.old.list < 2 ^ 64 }
     requires below { All (λ p. p.page.fill < state.old.list.oldest) state.old.taken }
     ensures state { OnOk result (state.new ≡ state_after state.old (shown_command command.now)) }
-    ensures logged { IfOk result (λ logged. shown_logged logged ≡ line_logged state.old line (shown_command command.now)) }
+    ensures logged { IfOk result (λ logged.
+        shown_logged logged ≡ line_logged state.old line (shown_command command.now)) }
 {
     match command {
         Command::Write {
@@ -159,7 +163,8 @@ fn obey(state: &mut ReplayState, line: u64, command: &Command) -> Result<Option<
 
 /// Adds what is logged of a command, if anything is.
 fn note(log: &mut Vec<LogLine>, logged: Option<LogLine>) -> Result<(), NoMemory>
-    ensures { OnOk result (shown_log log.new.items ≡ shown_log log.old.items ++ option_to_list (shown_logged logged)) }
+    ensures { OnOk result (shown_log log.new.items
+        ≡ shown_log log.old.items ++ option_to_list (shown_logged logged)) }
 {
     if let Some(line) = logged {
         log.push(line)?;
@@ -178,7 +183,8 @@ pub struct World {
 /// Obeys the script's commands one behind the other, and answers the taken pages and the log.
 fn replayed_pages(alloc: Global, script: &Script) -> Result<(TakenPages, Vec<LogLine>), NoMemory>
     requires { IsWithinLimits (script_of script.now) }
-    ensures { IfOk result (λ left. IsLoggedReplay (script_of script.now) (shown_log left.1.items) (collected_pairs left.0 ∷ [])) }
+    ensures { IfOk result (λ left.
+        IsLoggedReplay (script_of script.now) (shown_log left.1.items) (collected_pairs left.0 ∷ [])) }
 {
     let mut log = Vec::new(alloc);
     let mut state = ReplayState {
@@ -198,7 +204,8 @@ fn replayed_pages(alloc: Global, script: &Script) -> Result<(TakenPages, Vec<Log
 /// `NoMemory`.
 pub fn replay(alloc: Global, script: &Script) -> Result<World, ReplayFault>
     requires { IsWithinLimits (script_of script.now) }
-    ensures world { IfOk result (λ world. IsLoggedReplay (script_of script.now) (shown_log world.log.items) (map collected_pairs world.collectors.items)) }
+    ensures world { IfOk result (λ world. IsLoggedReplay (script_of script.now)
+        (shown_log world.log.items) (map collected_pairs world.collectors.items)) }
     ensures memory { IsOkUnless result no_memory }
 {
     let (taken, log) = replayed_pages(alloc, script)?;
