@@ -9,6 +9,7 @@ use trace_model::{CpuId, FillNo, RecordNo};
 use trace_run::{LogLine, WriteFault};
 
 const CPU: CpuId = CpuId(3);
+
 const FILL: FillNo = FillNo(40);
 
 /// The whole output of a script, with its log; nothing where its replay isn't done.
