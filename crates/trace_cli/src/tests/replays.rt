@@ -1,8 +1,7 @@
 //! Scripts that the worked examples leave out, and log lines that no replay logs yet.
 use crate::commands::replay_to;
 use crate::log_printer::put_log;
-use command_io::ends::Std;
-use command_io::status::DONE;
+use command_io::{DONE, Std};
 use std::alloc::Global;
 use std::test::Fail;
 use trace_model::{CpuId, FillNo, RecordNo};
