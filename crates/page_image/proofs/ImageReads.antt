@@ -45,7 +45,7 @@ pub parts_from : (bytes : List ℕ) (time word : ℕ) (told : CommitTold) → Ar
     → HasPartsOf bytes (record { time = time; commit = told })
 parts_from bytes time word told small there time_is word_is w limit = record {
   ignored = w.ignored;
-  parts = HasParts-of bytes time (commit_with told w.ignored) (behind_header bytes) (header_from bytes time word told small (omega arith) time_is word_is w) (omega (arith, length-drop 16 bytes)) limit;
+  parts = HasParts-of MAX_IMAGE bytes time (commit_with told w.ignored) (behind_header bytes) (header_from bytes time word told small (omega arith) time_is word_is w) (omega (arith, length-drop 16 bytes)) limit;
 }
 
 -- ---- missed events
@@ -85,7 +85,7 @@ pub outlined : (bytes : List ℕ) (outline : Outline) (told : CommitTold) → ou
     → 16 + told.size ≤ length bytes → IsCounted (data_in bytes told.size) outline.time outline.count → 4 * outline.count ≤ length (data_in bytes told.size) → IsOutlined bytes outline
 outlined bytes outline told size_is p tells there counts few =
     let size : length (data_in bytes told.size) ≡ told.size = p.parts.size_is in
-    let limit = p.parts.limit in
+    let limit = p.parts.length_fits in
     subst (λ (n : ℕ). IsOutlined bytes (record { time = outline.time; size = n; missed = outline.missed; count = outline.count })) (sym size_is) (record {
       reads = record {
         commit = commit_with told p.ignored;

@@ -88,7 +88,7 @@ pub record IsCommitWord (word : ℕ) (told : CommitTold) : Type 0 where
 pub record HasPartsOf (bytes : List ℕ) (header : Header) : Type 0 where
   pub ignored : ℕ
   pub parts :
-      HasParts bytes header.time (commit_with header.commit ignored)
+      HasParts MAX_IMAGE bytes header.time (commit_with header.commit ignored)
       (data_in bytes header.commit.size)
       (behind_data bytes header.commit.size)
 

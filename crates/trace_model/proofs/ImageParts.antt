@@ -5,7 +5,6 @@ use Rattle.std.proofs.lemmas.List.{take_at, drop_at, drop-drop}
 use Rattle.std.proofs.lemmas.Bool.{eq-eqb, ne_eqb, cases_Bool, cases_lt, false≢true, true≢false}
 use Rattle.trace_model.specs.FirstFault.{AreBytes}
 use Rattle.trace_model.specs.Image.{le64, from_le64, Commit, commit_word, HasHeader, HasParts, Missed, none, unknown, counted, TellsMissed}
-use Rattle.trace_model.specs.declared.limits.TheConstants.{MAX_IMAGE}
 use Rattle.trace_model.proofs.OneWord.{AreBytes-drop, AreBytes-take}
 
 -- ---- a number in eight bytes
@@ -140,11 +139,11 @@ HasHeader-same bytes time other_time commit other rest left h g =
 -- ---- the data, and what stands behind it
 
 -- where the stated size is there, and the image isn't too long, the parts are there
-pub HasParts-of : (bytes : List ℕ) (time : ℕ) (commit : Commit) (rest : List ℕ) → HasHeader bytes time commit rest → commit.size ≤ length rest → length bytes ≤ MAX_IMAGE → HasParts bytes time commit (take commit.size rest) (drop commit.size rest)
-HasParts-of bytes time commit rest h there limit = record {
+pub HasParts-of : (limit : ℕ) (bytes : List ℕ) (time : ℕ) (commit : Commit) (rest : List ℕ) → HasHeader bytes time commit rest → commit.size ≤ length rest → length bytes ≤ limit → HasParts limit bytes time commit (take commit.size rest) (drop commit.size rest)
+HasParts-of limit bytes time commit rest h there fits = record {
   header = subst (HasHeader bytes time commit) (sym (take-append-drop commit.size rest)) h;
   size_is = length-take-le commit.size rest there;
-  limit = limit;
+  length_fits = fits;
 }
 
 pub record SameParts (time other_time : ℕ) (commit other : Commit) (contents others behind left : List ℕ) : Type 0 where
@@ -153,9 +152,9 @@ pub record SameParts (time other_time : ℕ) (commit other : Commit) (contents o
   pub datas : contents ≡ others
   pub behinds : behind ≡ left
 
-pub HasParts-same : (bytes : List ℕ) (time other_time : ℕ) (commit other : Commit) (contents others behind left : List ℕ) → HasParts bytes time commit contents behind → HasParts bytes other_time other others left
+pub HasParts-same : (limit other_limit : ℕ) (bytes : List ℕ) (time other_time : ℕ) (commit other : Commit) (contents others behind left : List ℕ) → HasParts limit bytes time commit contents behind → HasParts other_limit bytes other_time other others left
     → SameParts time other_time commit other contents others behind left
-HasParts-same bytes time other_time commit other contents others behind left p q =
+HasParts-same limit other_limit bytes time other_time commit other contents others behind left p q =
     let same = HasHeader-same bytes time other_time commit other (contents ++ behind) (others ++ left) p.header q.header in
     let size : length others ≡ length contents = q.size_is ∙ ap (λ (c : Commit). c.size) (sym same.commits) ∙ sym p.size_is in
     record {

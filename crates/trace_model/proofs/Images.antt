@@ -6,7 +6,7 @@ use Rattle.trace_model.specs.Record.{Record}
 use Rattle.trace_model.specs.Words.{Decodes}
 use Rattle.trace_model.specs.Faults.{Cause}
 use Rattle.trace_model.specs.FirstFault.{AreBytes, FirstFault}
-use Rattle.trace_model.specs.Image.{le64, Commit, commit_word, HasHeader, HasParts, Missed, none, unknown, counted, TellsMissed, DecodesImage, has_room, stores_count, commit_of, filled, image_of, missed_told, ImageCause, too_short, bad_size, bad_count, bad_word, HasBadSize, HasBadCount, HasBadWord, FirstImageFault}
+use Rattle.trace_model.specs.Image.{le64, Commit, commit_word, HasHeader, HasParts, Missed, none, unknown, counted, TellsMissed, DecodesImageWithin, DecodesImage, has_room, stores_count, commit_of, filled, image_of, missed_told, ImageCause, too_short, bad_size, bad_count, bad_word, HasBadSize, HasBadCount, HasBadWord, FirstImageFault}
 use Rattle.trace_model.specs.declared.limits.TheConstants.{MAX_IMAGE}
 use Rattle.trace_model.proofs.OneWord.{AreBytes-drop, AreBytes-take}
 use Rattle.trace_model.proofs.Unique.{Decodes-unique}
@@ -18,16 +18,16 @@ use Rattle.trace_model.proofs.ImageParts.{length-le64, HasHeader-of, HasHeader-i
 header_not_short : (bytes : List ℕ) (time : ℕ) (commit : Commit) (rest : List ℕ) → HasHeader bytes time commit rest → length bytes < 16 → ⊥
 header_not_short bytes time commit rest h short = let is = HasHeader-is bytes time commit rest h in let long = is.long in omega arith
 
-parts_no_bad_size : (bytes : List ℕ) (time : ℕ) (commit : Commit) (contents behind : List ℕ) → HasParts bytes time commit contents behind → HasBadSize bytes → ⊥
+parts_no_bad_size : (bytes : List ℕ) (time : ℕ) (commit : Commit) (contents behind : List ℕ) → HasParts MAX_IMAGE bytes time commit contents behind → HasBadSize bytes → ⊥
 parts_no_bad_size bytes time commit contents behind p bad =
     let same = HasHeader-same bytes time bad.time commit bad.commit (contents ++ behind) bad.rest p.header bad.header in
     let size : length contents ≡ bad.commit.size = p.size_is ∙ ap (λ (c : Commit). c.size) same.commits in
     let left : length bad.rest ≡ length contents + length behind = sym (ap length same.rests) ∙ length-append contents behind in
-    ⊎_elim (λ (past : length bad.rest < bad.commit.size). omega arith) (λ (past : MAX_IMAGE < length bytes). let limit = p.limit in omega arith) bad.wrong
+    ⊎_elim (λ (past : length bad.rest < bad.commit.size). omega arith) (λ (past : MAX_IMAGE < length bytes). let fits = p.length_fits in omega arith) bad.wrong
 
-telling_no_bad_count : (bytes : List ℕ) (time : ℕ) (commit : Commit) (contents behind : List ℕ) (missed : Missed) → HasParts bytes time commit contents behind → TellsMissed commit behind missed → HasBadCount bytes → ⊥
+telling_no_bad_count : (bytes : List ℕ) (time : ℕ) (commit : Commit) (contents behind : List ℕ) (missed : Missed) → HasParts MAX_IMAGE bytes time commit contents behind → TellsMissed commit behind missed → HasBadCount bytes → ⊥
 telling_no_bad_count bytes time commit contents behind missed p told bad =
-    let same = HasParts-same bytes time bad.time commit bad.commit contents bad.contents behind bad.behind p bad.parts in
+    let same = HasParts-same MAX_IMAGE MAX_IMAGE bytes time bad.time commit bad.commit contents bad.contents behind bad.behind p bad.parts in
     let room = TellsMissed-room commit behind missed told (ap (λ (c : Commit). c.is_missed) same.commits ∙ bad.missed) (ap (λ (c : Commit). c.is_stored) same.commits ∙ bad.stored) in
     let short = bad.no_room in
     let len = ap length same.behinds in
@@ -40,15 +40,16 @@ DecodesImage-FirstImageFault bytes time size missed records too_short d short = 
 DecodesImage-FirstImageFault bytes time size missed records bad_size d bad = parts_no_bad_size bytes time d.commit d.contents d.behind d.parts bad
 DecodesImage-FirstImageFault bytes time size missed records bad_count d bad = telling_no_bad_count bytes time d.commit d.contents d.behind missed d.parts d.tells bad
 DecodesImage-FirstImageFault bytes time size missed records (bad_word cause at) d bad =
-    let same = HasParts-same bytes time bad.time d.commit bad.commit d.contents bad.contents d.behind bad.behind d.parts bad.parts in
+    let same = HasParts-same MAX_IMAGE MAX_IMAGE bytes time bad.time d.commit bad.commit d.contents bad.contents d.behind bad.behind d.parts bad.parts in
     Decodes-FirstFault bad.contents bad.time records cause at (subst (λ (t : ℕ). Decodes bad.contents t records) same.times (subst (λ (b : List ℕ). Decodes b time records) same.datas d.reads)) bad.fault
 
 -- ---- one reading
 
-pub DecodesImage-unique : (bytes : List ℕ) (time other_time size other_size : ℕ) (missed other : Missed) (records others : List Record) → DecodesImage bytes time size missed records → DecodesImage bytes other_time other_size other others
+-- whatever the limits are within which it reads
+pub DecodesImageWithin-unique : (limit other_limit : ℕ) (bytes : List ℕ) (time other_time size other_size : ℕ) (missed other : Missed) (records others : List Record) → DecodesImageWithin limit bytes time size missed records → DecodesImageWithin other_limit bytes other_time other_size other others
     → (time ≡ other_time) × (size ≡ other_size) × (missed ≡ other) × (records ≡ others)
-DecodesImage-unique bytes time other_time size other_size missed other records others d e =
-    let same = HasParts-same bytes time other_time d.commit e.commit d.contents e.contents d.behind e.behind d.parts e.parts in
+DecodesImageWithin-unique limit other_limit bytes time other_time size other_size missed other records others d e =
+    let same = HasParts-same limit other_limit bytes time other_time d.commit e.commit d.contents e.contents d.behind e.behind d.parts e.parts in
     let told : TellsMissed e.commit e.behind missed = subst (λ (b : List ℕ). TellsMissed e.commit b missed) same.behinds (subst (λ (c : Commit). TellsMissed c d.behind missed) same.commits d.tells) in
     let reads : Decodes e.contents other_time records = subst (λ (t : ℕ). Decodes e.contents t records) same.times (subst (λ (b : List ℕ). Decodes b time records) same.datas d.reads) in (
       same.times,
@@ -57,11 +58,33 @@ DecodesImage-unique bytes time other_time size other_size missed other records o
       Decodes-unique e.contents other_time records others reads e.reads,
     )
 
+pub DecodesImage-unique : (bytes : List ℕ) (time other_time size other_size : ℕ) (missed other : Missed) (records others : List Record) → DecodesImage bytes time size missed records → DecodesImage bytes other_time other_size other others
+    → (time ≡ other_time) × (size ≡ other_size) × (missed ≡ other) × (records ≡ others)
+DecodesImage-unique = DecodesImageWithin-unique MAX_IMAGE MAX_IMAGE
+
+-- ---- the limit
+
+-- an image that reads within a limit reads as the same within any other that it fits
+pub DecodesImageWithin-other : (limit other_limit : ℕ) (bytes : List ℕ) (time size : ℕ) (missed : Missed) (records : List Record) → length bytes ≤ other_limit → DecodesImageWithin limit bytes time size missed records → DecodesImageWithin other_limit bytes time size missed records
+DecodesImageWithin-other limit other_limit bytes time size missed records fits d = record {
+  commit = d.commit;
+  contents = d.contents;
+  behind = d.behind;
+  parts = record { header = d.parts.header; size_is = d.parts.size_is; length_fits = fits };
+  size_is = d.size_is;
+  tells = d.tells;
+  reads = d.reads;
+}
+
+pub DecodesImageWithin-larger : (small large : ℕ) (bytes : List ℕ) (time size : ℕ) (missed : Missed) (records : List Record) → small ≤ large → DecodesImageWithin small bytes time size missed records → DecodesImageWithin large bytes time size missed records
+DecodesImageWithin-larger small large bytes time size missed records below d =
+    DecodesImageWithin-other small large bytes time size missed records (let fits = d.parts.length_fits in omega arith) d
+
 -- ---- one first fault
 
 same_bad_word : (bytes : List ℕ) (cause other : Cause) (at there : ℕ) → HasBadWord bytes cause at → HasBadWord bytes other there → bad_word cause at ≡ bad_word other there
 same_bad_word bytes cause other at there b c =
-    let same = HasParts-same bytes b.time c.time b.commit c.commit b.contents c.contents b.behind c.behind b.parts c.parts in
+    let same = HasParts-same MAX_IMAGE MAX_IMAGE bytes b.time c.time b.commit c.commit b.contents c.contents b.behind c.behind b.parts c.parts in
     let fault : FirstFault c.contents c.time cause at = subst (λ (t : ℕ). FirstFault c.contents t cause at) same.times (subst (λ (x : List ℕ). FirstFault x b.time cause at) same.datas b.fault) in
     let one = FirstFault-unique c.contents c.time cause other at there fault c.fault in
     (λ i. bad_word (one.0 i) (one.1 i))
@@ -92,7 +115,7 @@ IsReadImage bytes = (time size : ℕ) × (missed : Missed) × (records : List Re
 abbrev IsFaultyImage : List ℕ → Type 0
 IsFaultyImage bytes = (fault : ImageCause) × FirstImageFault bytes fault
 
-from_telling : (bytes : List ℕ) (time : ℕ) (commit : Commit) (contents behind : List ℕ) → HasParts bytes time commit contents behind → AreBytes contents → Telling commit behind → IsReadImage bytes ⊎ IsFaultyImage bytes
+from_telling : (bytes : List ℕ) (time : ℕ) (commit : Commit) (contents behind : List ℕ) → HasParts MAX_IMAGE bytes time commit contents behind → AreBytes contents → Telling commit behind → IsReadImage bytes ⊎ IsFaultyImage bytes
 from_telling bytes time commit contents behind p small (no_room missed stored short) =
     inr (bad_count, record { time = time; commit = commit; contents = contents; behind = behind; parts = p; missed = missed; stored = stored; no_room = short })
 from_telling bytes time commit contents behind p small (tells missed told) = ⊎_elim
@@ -104,7 +127,7 @@ from_header : (bytes : List ℕ) (time : ℕ) (commit : Commit) (rest : List ℕ
 from_header bytes time commit rest h small =
     ⊎_elim (λ past. wrong (inl past)) (λ there.
     ⊎_elim (λ past. wrong (inr past)) (λ limit.
-    from_telling bytes time commit (take commit.size rest) (drop commit.size rest) (HasParts-of bytes time commit rest h there limit)
+    from_telling bytes time commit (take commit.size rest) (drop commit.size rest) (HasParts-of MAX_IMAGE bytes time commit rest h there limit)
     (AreBytes-take commit.size rest small) (telling commit (drop commit.size rest) (AreBytes-drop commit.size rest small)))
     (cases_lt MAX_IMAGE (length bytes)))
     (cases_lt (length rest) commit.size)
@@ -156,7 +179,7 @@ DecodesImage-image_of time contents missed size records time_fits missed_fits fi
       parts = record {
         header = record { whole = refl; time_fits = time_fits; size_fits = omega arith; ignored_fits = omega arith };
         size_is = refl;
-        limit = omega (arith, length-image_of time contents missed size fits);
+        length_fits = omega (arith, length-image_of time contents missed size fits);
       };
       size_is = refl;
       tells = told_by contents zeros missed (ltb 0 missed) (has_room contents size) missed_fits;

@@ -40,12 +40,12 @@ pub record HasHeader (bytes : List ℕ) (time : ℕ) (commit : Commit) (rest : L
   pub size_fits : commit.size < 2 ^ 30
   pub ignored_fits : commit.ignored < 2 ^ 32
 
--- The bytes are the parts of an image of at most MAX_IMAGE bytes: a header, data of the size that it
+-- The bytes are the parts of an image of at most `limit` bytes: a header, data of the size that it
 -- states, and what stands behind the data.
-pub record HasParts (bytes : List ℕ) (time : ℕ) (commit : Commit) (contents behind : List ℕ) : Type 0 where
+pub record HasParts (limit : ℕ) (bytes : List ℕ) (time : ℕ) (commit : Commit) (contents behind : List ℕ) : Type 0 where
   pub header : HasHeader bytes time commit (contents ++ behind)
   pub size_is : length contents ≡ commit.size
-  pub limit : length bytes ≤ MAX_IMAGE
+  pub length_fits : length bytes ≤ limit
 
 -- what an image tells of events that were missed in front of it: none were; some were, of unknown number; how many
 pub data Missed : Type 0 where
@@ -64,15 +64,21 @@ TellsMissed commit behind (counted events) =
     × (events < 2 ^ 64)
     × ((ignored : List ℕ) × (behind ≡ le64 events ++ ignored))
 
--- The image reads as a page of this time, with data of this size in bytes, these missed events and these records.
-pub record DecodesImage (bytes : List ℕ) (time size : ℕ) (missed : Missed) (records : List Record) : Type 0 where
+-- The image, which has at most `limit` bytes, reads as a page of this time, with data of this size in bytes,
+-- these missed events and these records.
+pub record DecodesImageWithin (limit : ℕ) (bytes : List ℕ) (time size : ℕ) (missed : Missed)
+    (records : List Record) : Type 0 where
   pub commit : Commit
   pub contents : List ℕ
   pub behind : List ℕ
-  pub parts : HasParts bytes time commit contents behind
+  pub parts : HasParts limit bytes time commit contents behind
   pub size_is : size ≡ commit.size
   pub tells : TellsMissed commit behind missed
   pub reads : Decodes contents time records
+
+-- the reading of an image that is short enough to be read
+abbrev pub DecodesImage : List ℕ → ℕ → ℕ → Missed → List Record → Type 0
+DecodesImage = DecodesImageWithin MAX_IMAGE
 
 -- ---- the image that is written
 
@@ -134,7 +140,7 @@ pub record HasBadCount (bytes : List ℕ) : Type 0 where
   pub commit : Commit
   pub contents : List ℕ
   pub behind : List ℕ
-  pub parts : HasParts bytes time commit contents behind
+  pub parts : HasParts MAX_IMAGE bytes time commit contents behind
   pub missed : commit.is_missed ≡ true
   pub stored : commit.is_stored ≡ true
   pub no_room : length behind < 8
@@ -144,7 +150,7 @@ pub record HasBadWord (bytes : List ℕ) (cause : Cause) (at : ℕ) : Type 0 whe
   pub commit : Commit
   pub contents : List ℕ
   pub behind : List ℕ
-  pub parts : HasParts bytes time commit contents behind
+  pub parts : HasParts MAX_IMAGE bytes time commit contents behind
   pub missed : Missed
   pub tells : TellsMissed commit behind missed
   pub fault : FirstFault contents time cause at

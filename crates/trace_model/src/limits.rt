@@ -10,10 +10,10 @@ pub const MAX_PAGES: usize = 1024;
 pub const MIN_SIZE: usize = 32;
 
 /// The largest data size of a page, in bytes. 4 divides a data size.
-pub const MAX_SIZE: usize = 4080;
+pub const MAX_SIZE: usize = 65_520;
 
 /// The longest page image that is read, in bytes.
-pub const MAX_IMAGE: usize = 4096;
+pub const MAX_IMAGE: usize = 65_536;
 
 /// The most frames that stand on the writer's stack of one ring at a time.
 pub const MAX_FRAMES: usize = 4;

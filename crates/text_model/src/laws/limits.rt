@@ -22,7 +22,7 @@ pub fn constants_are()
 pub fn header_is()
     ensures order { header_settings ≡ pages_setting ∷ size_setting ∷ cpus_setting ∷ collectors_setting ∷ [] }
     ensures pages { pages_setting ≡ record { word = codes "pages"; min = 2; max = 1024; step = 1 } }
-    ensures size { size_setting ≡ record { word = codes "size"; min = 32; max = 4080; step = 4 } }
+    ensures size { size_setting ≡ record { word = codes "size"; min = 32; max = 65520; step = 4 } }
     ensures cpus { cpus_setting ≡ record { word = codes "cpus"; min = 1; max = 1; step = 1 } }
     ensures collectors { collectors_setting ≡ record { word = codes "collectors"; min = 1; max = 1; step = 1 } }
 {}

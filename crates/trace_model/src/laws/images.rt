@@ -1,7 +1,7 @@
 //! Laws over page images.
 ghost use Rattle.std.specs.Prelude.{◌≡◌, ℕ, ◌+◌, ◌^◌, ◌<◌, ◌≤◌, ◌⊎◌, List, length};
 ghost use Rattle.trace_model.specs.FirstFault.{AreBytes};
-ghost use Rattle.trace_model.specs.Image.{Missed, DecodesImage, ImageCause, FirstImageFault, image_of, missed_told};
+ghost use Rattle.trace_model.specs.Image.{Missed, DecodesImageWithin, DecodesImage, ImageCause, FirstImageFault, image_of, missed_told};
 ghost use Rattle.trace_model.specs.declared.limits.TheConstants.{MAX_IMAGE};
 ghost use Rattle.trace_model.specs.Record.{Record};
 ghost use Rattle.trace_model.specs.Words.{Decodes};
@@ -23,6 +23,28 @@ pub fn image_reading_or_fault()
         → (time ≡ other_time) × (size ≡ other_size) × (missed ≡ other) × (records ≡ others) }
     ensures one_fault { (bytes : List ℕ) (fault other : ImageCause)
         → FirstImageFault bytes fault → FirstImageFault bytes other → fault ≡ other }
+{}
+
+/// The limit decides only how long an image may be: one that reads within a limit reads as the same within a
+/// larger one, and an image that is read newly is longer than the smaller one. So each image of at most 4,096
+/// bytes, as kernels with pages of that length write them, reads as it does where no longer one is read.
+pub fn image_limit_may_grow()
+    ensures reads_within_a_larger_limit { (small large : ℕ) (bytes : List ℕ) (time size : ℕ)
+        (missed : Missed) (records : List Record) → small ≤ large
+        → DecodesImageWithin small bytes time size missed records
+        → DecodesImageWithin large bytes time size missed records }
+    ensures newly_read_is_longer { (small large : ℕ) (bytes : List ℕ) (time size : ℕ)
+        (missed : Missed) (records : List Record) → length bytes ≤ small
+        → DecodesImageWithin large bytes time size missed records
+        → DecodesImageWithin small bytes time size missed records }
+    ensures one_reading { (limit other_limit : ℕ) (bytes : List ℕ) (time other_time size other_size : ℕ)
+        (missed other : Missed) (records others : List Record)
+        → DecodesImageWithin limit bytes time size missed records
+        → DecodesImageWithin other_limit bytes other_time other_size other others
+        → (time ≡ other_time) × (size ≡ other_size) × (missed ≡ other) × (records ≡ others) }
+    ensures kernel_pages { (bytes : List ℕ) (time size : ℕ) (missed : Missed) (records : List Record)
+        → DecodesImageWithin 4096 bytes time size missed records
+        → DecodesImage bytes time size missed records }
 {}
 
 /// The image that is written has as many bytes as its page and the header, and reads as what it was

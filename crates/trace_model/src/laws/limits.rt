@@ -8,8 +8,8 @@ pub fn constants_are()
     ensures min_pages { MIN_PAGES ≡ 2 }
     ensures max_pages { MAX_PAGES ≡ 1024 }
     ensures min_size { MIN_SIZE ≡ 32 }
-    ensures max_size { MAX_SIZE ≡ 4080 }
-    ensures max_image { MAX_IMAGE ≡ 4096 }
+    ensures max_size { MAX_SIZE ≡ 65520 }
+    ensures max_image { MAX_IMAGE ≡ 65536 }
     ensures max_frames { MAX_FRAMES ≡ 4 }
     ensures max_input { MAX_INPUT ≡ 268435456 }
     ensures moment_limit { MOMENT_LIMIT ≡ 2 ^ 59 }
