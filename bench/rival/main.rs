@@ -417,7 +417,7 @@ fn word_of(data: &[u8]) -> u32 {
 /// The header's words with their least and most values and their steps.
 const SETTINGS: [(&[u8], u64, u64, u64); 4] = [
     (b"pages", 2, 1024, 1),
-    (b"size", 32, 4080, 4),
+    (b"size", 32, 65520, 4),
     (b"cpus", 1, 1, 1),
     (b"collectors", 1, 1, 1),
 ];

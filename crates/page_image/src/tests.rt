@@ -9,9 +9,9 @@ use record_words::size_of;
 use std::alloc::Global;
 use std::process::Abort;
 use std::test::Fail;
-use trace_model::{FillNo, MAX_SIZE, MOMENT_LIMIT, NoMemory, RecordNo};
+use trace_model::{FillNo, MAX_SIZE, MIN_SIZE, MOMENT_LIMIT, NoMemory, RecordNo};
 
-/// How many bytes the pages have for records.
+/// How many bytes most of the pages have for records.
 const ROOM: usize = 256;
 
 /// A record: its moment, and its payload as it is given.
@@ -50,21 +50,29 @@ fn add(rt: &impl Abort, page: &mut Page, prev: u64, given: Given)
     write(page.payload_mut(place), given.payload);
 }
 
-/// A page without a record.
-fn blank_page(alloc: Global) -> Result<Page, NoMemory>
+/// A page of this data size without a record.
+fn blank_page(rt: &impl Abort, alloc: Global, size: usize) -> Result<Page, NoMemory>
     ensures page { IfOk result (λ page. IsPage page) }
     ensures last { IfOk result (λ page. IfSome (moment_of_last (records_of_page page)) (λ last. last ≡ 0)) }
     ensures open { IfOk result (λ page. EndsInRecord page.bytes) }
 {
-    let body = Body::new(alloc, ROOM)?;
+    assert!(rt; MIN_SIZE <= size);
+    assert!(rt; size <= MAX_SIZE);
+    assert!(rt; size % 4 == 0);
+    let body = Body::new(alloc, size)?;
     Ok(Page::fresh(body, RecordNo(7), FillNo(3)))
 }
 
-/// A page of these records.
-fn page_of(rt: &impl Abort, alloc: Global, records: &[Given]) -> Result<Page, NoMemory>
+/// A page of this data size with these records.
+fn page_of(
+    rt: &impl Abort,
+    alloc: Global,
+    size: usize,
+    records: &[Given],
+) -> Result<Page, NoMemory>
     ensures { IfOk result (λ page. IsPage page) }
 {
-    let mut page = blank_page(alloc)?;
+    let mut page = blank_page(rt, alloc, size)?;
     let mut prev = 0;
     for given in records {
         add(rt, &mut page, prev, *given);
@@ -101,10 +109,15 @@ impl Row {
     }
 }
 
-/// Puts the records of a table into pages, and compares each byte of their data.
-fn put_and_compare(rt: &impl Abort, alloc: Global, table: &[Row]) -> Result<(), NoMemory> {
+/// Puts the records of a table into pages of this data size, and compares each byte of their data.
+fn put_and_compare(
+    rt: &impl Abort,
+    alloc: Global,
+    size: usize,
+    table: &[Row],
+) -> Result<(), NoMemory> {
     for row in table {
-        let page = page_of(rt, alloc, row.records)?;
+        let page = page_of(rt, alloc, size, row.records)?;
         let data = page.data();
         assert_eq!(rt; data.len(), row.size);
         for (i, byte) in data.iter().enumerate() {
@@ -130,7 +143,7 @@ fn delta_in_the_word(rt: HostRuntime) -> Result<(), Fail> {
         head: b"\x01\x00\x00\x00\xaa\xbb\xcc\xdd\xa1\x00\x00\x00",
         size: 16,
     }];
-    Ok(put_and_compare(&rt, rt.alloc(), &table)?)
+    Ok(put_and_compare(&rt, rt.alloc(), ROOM, &table)?)
 }
 
 #[test]
@@ -153,7 +166,23 @@ fn length_forms(rt: HostRuntime) -> Result<(), Fail> {
             size: 124,
         },
     ];
-    Ok(put_and_compare(&rt, rt.alloc(), &table)?)
+    Ok(put_and_compare(&rt, rt.alloc(), ROOM, &table)?)
+}
+
+/// A record of 65,512 bytes fills the largest page, and one of 65,513 fits in none.
+#[test]
+fn largest_page(rt: HostRuntime) -> Result<(), Fail> {
+    let table = [Row {
+        records: &[Given {
+            moment: 0,
+            payload: &[0x5a; 65_512],
+        }],
+        head: b"\x00\x00\x00\x00\xec\xff\x00\x00",
+        size: 65_520,
+    }];
+    put_and_compare(&rt, rt.alloc(), 65_520, &table)?;
+    assert!(rt; size_of(65_513, 0, true) > MAX_SIZE);
+    Ok(())
 }
 
 /// A record, and one that comes 2^27 + 3 later.
@@ -185,7 +214,7 @@ fn time_extend(rt: HostRuntime) -> Result<(), Fail> {
             size: 8,
         },
     ];
-    Ok(put_and_compare(&rt, rt.alloc(), &table)?)
+    Ok(put_and_compare(&rt, rt.alloc(), ROOM, &table)?)
 }
 
 #[test]
@@ -198,12 +227,12 @@ fn empty_payload(rt: HostRuntime) -> Result<(), Fail> {
         head: b"\x01\x00\x00\x00",
         size: 8,
     }];
-    Ok(put_and_compare(&rt, rt.alloc(), &table)?)
+    Ok(put_and_compare(&rt, rt.alloc(), ROOM, &table)?)
 }
 
 #[test]
 fn only_whole_payloads_are_places(rt: HostRuntime) -> Result<(), Fail> {
-    let page = page_of(&rt, rt.alloc(), FAR_APART)?;
+    let page = page_of(&rt, rt.alloc(), ROOM, FAR_APART)?;
     for (start, len) in [(4, 4), (20, 8)] {
         assert!(rt;
             page.is_place(Place { start, len }),
@@ -237,7 +266,7 @@ fn only_whole_payloads_are_places(rt: HostRuntime) -> Result<(), Fail> {
 
 #[test]
 fn records_are_copied(rt: HostRuntime) -> Result<(), Fail> {
-    let page = page_of(&rt, rt.alloc(), FAR_APART)?;
+    let page = page_of(&rt, rt.alloc(), ROOM, FAR_APART)?;
     let copies = page.copied(rt.alloc())?;
     assert_eq!(rt; copies.len(), 2);
     assert_eq!(rt; copies[0].0, 3);
@@ -247,14 +276,14 @@ fn records_are_copied(rt: HostRuntime) -> Result<(), Fail> {
         copies[1].1.as_slice(),
         b"\xaa\xbb\xcc\xdd\xee\x00\x00\x00".as_slice()
     );
-    let none = blank_page(rt.alloc())?.copied(rt.alloc())?;
+    let none = blank_page(&rt, rt.alloc(), ROOM)?.copied(rt.alloc())?;
     assert!(rt; none.is_empty());
     Ok(())
 }
 
 #[test]
 fn a_page_tells_of_itself(rt: HostRuntime) -> Result<(), Fail> {
-    let page = page_of(&rt, rt.alloc(), FAR_APART)?;
+    let page = page_of(&rt, rt.alloc(), ROOM, FAR_APART)?;
     assert_eq!(rt; page.time(), 3);
     assert_eq!(rt; page.end(), 28);
     assert_eq!(rt; page.first(), RecordNo(7));

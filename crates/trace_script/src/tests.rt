@@ -44,6 +44,26 @@ fn script_faults(rt: HostRuntime) -> Result<(), Fail> {
     Ok(())
 }
 
+#[test]
+fn wide_limits(rt: HostRuntime) -> Result<(), Fail> {
+    let rows: [(&[u8], &str); 3] = [
+        (b"pages 1024\nsize 65520\ncpus 1\ncollectors 1\n", "a script\n"),
+        (
+            b"pages 2\nsize 65524\ncpus 1\ncollectors 1\n",
+            "line 2: OutOfRange\n",
+        ),
+        (
+            b"pages 2\nsize 65519\ncpus 1\ncollectors 1\n",
+            "line 2: OutOfRange\n",
+        ),
+    ];
+    for (text, want) in rows {
+        let got = answer_text(rt.alloc(), text)?;
+        assert_eq!(rt; got.as_slice(), want.as_bytes());
+    }
+    Ok(())
+}
+
 /// The header of each of the next scripts: its commands begin in line 5.
 const HEADER: &[u8] = b"pages 2\nsize 32\ncpus 1\ncollectors 1\n";
 

@@ -183,11 +183,37 @@ fn image_readings(rt: HostRuntime) -> Result<(), Fail> {
             answer: Err(ImageFault::Word(WordFault::Cut(8))),
         },
     ];
-    read_and_compare(&rt, rt.alloc(), &table)?;
+    Ok(read_and_compare(&rt, rt.alloc(), &table)?)
+}
+
+/// The image of the largest page, which one record fills, is read and written again.
+#[test]
+fn largest_page(rt: HostRuntime) -> Result<(), Fail> {
+    let mut given = vec![in rt.alloc(); 0x5a; 65_536]?;
+    given[..24].copy_from_slice(
+        b"\x07\0\0\0\0\0\0\0\xf0\xff\0\0\0\0\0\0\0\0\0\0\xec\xff\0\0",
+    );
+    match read_image(rt.alloc(), &given) {
+        Ok(image) => {
+            assert_eq!(rt; image.size, 65_520);
+            assert_eq!(rt; image.page.size(), 65_520);
+            assert_eq!(rt; image.page.count(), 1);
+            let written = image.page.write_image(rt.alloc(), 0)?;
+            assert!(rt; written == given);
+        }
+        Err(fault) => assert!(rt; false, "{fault:?}"),
+    }
+    Ok(())
+}
+
+#[test]
+fn an_image_is_at_most_as_long_as_the_largest_page(rt: HostRuntime) -> Result<(), Fail> {
+    for len in [16, 4_096, 4_097, MAX_IMAGE] {
+        let image = vec![in rt.alloc(); 0; len]?;
+        assert!(rt; read_image(rt.alloc(), &image).is_ok(), "{len}");
+    }
     let long = vec![in rt.alloc(); 0; MAX_IMAGE + 1]?;
     assert!(rt; matches!(read_image(rt.alloc(), &long), Err(ImageFault::BadSize)));
-    let longest = vec![in rt.alloc(); 0; MAX_IMAGE]?;
-    assert!(rt; read_image(rt.alloc(), &longest).is_ok());
     Ok(())
 }
 

@@ -4,7 +4,6 @@ use command_io::{DONE, REFUSED, Std};
 use hex::decode;
 use std::process::Abort;
 use std::test::Fail;
-use trace_model::MAX_IMAGE;
 
 // An image in hexadecimal, what must be printed for it, and the exit status.
 struct Worked {
@@ -227,15 +226,23 @@ fn an_image_that_ends_within_a_word_is_refused_there(rt: HostRuntime) -> Result<
     Ok(())
 }
 
+// A page that one record fills, and pages without a record, the last of which is a byte too long.
 #[test]
-fn data_longer_than_a_page_is_refused(rt: HostRuntime) -> Result<(), Fail> {
-    let image = vec![in rt.alloc(); 0u8; MAX_IMAGE + 1]?;
-    compare_dump(
-        &rt,
-        "one byte too long",
-        image.as_slice(),
-        "image: BadSize\n",
-        REFUSED,
-    );
+fn largest_page(rt: HostRuntime) -> Result<(), Fail> {
+    let alloc = rt.alloc();
+    let mut image = decode(alloc, "0700000000000000f0ff00000000000000000000ecff0000")?;
+    image.extend_from_slice(vec![in alloc; 0x5au8; 65_512]?.as_slice())?;
+    let payload = "5a".repeat(alloc, 65_512)?;
+    let wanted = format!(in alloc; "page 7 size 65520 missed none\n7 {payload}\n")?;
+    compare_dump(&rt, "one record", image.as_slice(), &wanted, DONE);
+    for (len, wanted, status) in [
+        (4_097, "page 7 size 0 missed none\n", DONE),
+        (65_536, "page 7 size 0 missed none\n", DONE),
+        (65_537, "image: BadSize\n", REFUSED),
+    ] {
+        let mut image = vec![in alloc; 0u8; len]?;
+        image[0] = 7;
+        compare_dump(&rt, "no record", image.as_slice(), wanted, status);
+    }
     Ok(())
 }

@@ -2,6 +2,7 @@
 use crate::commands::replay_to;
 use command_io::{DONE, REFUSED, Std};
 use std::process::Abort;
+use std::test::Fail;
 
 // A script, the lines of its log, what must be printed behind them, and the exit status.
 struct Worked {
@@ -128,6 +129,35 @@ const SCRIPT_FAULTS: [Worked; 6] = [
         script: "",
         log: "",
         printed: "line 1: BadLine\n",
+        status: REFUSED,
+    },
+];
+
+const WIDE_LIMITS: [Worked; 2] = [
+    Worked {
+        name: "the largest pages, and the most",
+        script: lines![
+            "pages 1024",
+            "size 65520",
+            "cpus 1",
+            "collectors 1",
+            "c0 w 1 01020304",
+            "c0 c",
+            "c0 t",
+            "d 0 c0 0"
+        ],
+        log: lines![
+            "7 c0 taken fill 0 first 0 count 1 missed 0",
+            "8 d 0 c0 0 new"
+        ],
+        printed: lines!["collector 0", "0 0 1 01020304"],
+        status: DONE,
+    },
+    Worked {
+        name: "pages above the limit",
+        script: lines!["pages 2", "size 65524", "cpus 1", "collectors 1"],
+        log: "",
+        printed: "line 2: OutOfRange\n",
         status: REFUSED,
     },
 ];
@@ -424,6 +454,32 @@ fn overwrite_uncounted(rt: HostRuntime) {
 #[test]
 fn script_faults(rt: HostRuntime) {
     compare_replays(&rt, &SCRIPT_FAULTS);
+}
+
+#[test]
+fn wide_limits(rt: HostRuntime) {
+    compare_replays(&rt, &WIDE_LIMITS);
+}
+
+#[test]
+fn largest_page(rt: HostRuntime) -> Result<(), Fail> {
+    let alloc = rt.alloc();
+    let payload = "5a".repeat(alloc, 65_512)?;
+    let header = lines!["pages 2", "size 65520", "cpus 1", "collectors 1"];
+    let commands = lines!["c0 w 8 -", "c0 t", "d 0 c0 0"];
+    let script = format!(in alloc; "{header}c0 w 7 {payload}5a\nc0 w 7 {payload}\n{commands}")?;
+    let log = lines![
+        "5 c0 refused TooLong",
+        "8 c0 taken fill 0 first 0 count 1 missed 0",
+        "9 d 0 c0 0 new"
+    ];
+    let wanted = format!(in alloc; "{log}collector 0\n0 0 7 {payload}\n")?;
+    let mut text = Vec::new(alloc);
+    let mut reader = Std::new(script.as_bytes());
+    let status = replay_to(alloc, &mut reader, &mut Std::new(&mut text), true);
+    assert_eq!(rt; status, DONE);
+    assert_eq!(rt; text.as_slice(), wanted.as_bytes());
+    Ok(())
 }
 
 #[test]
