@@ -25,15 +25,15 @@ pub fn image_reading_or_fault()
         → FirstImageFault bytes fault → FirstImageFault bytes other → fault ≡ other }
 {}
 
-/// The limit decides only how long an image may be: one that reads within a limit reads as the same within a
-/// larger one, and an image that is read newly is longer than the smaller one. So each image of at most 4,096
-/// bytes, as kernels with pages of that length write them, reads as it does where no longer one is read.
+/// The limit decides only how long an image may be: an image that reads within a limit reads as the same
+/// within a larger one, and one that reads within the larger one alone is longer than the smaller. So a page
+/// of 4,096 bytes, as most kernels have them, reads as it would if no longer image were read.
 pub fn image_limit_may_grow()
     ensures reads_within_a_larger_limit { (small large : ℕ) (bytes : List ℕ) (time size : ℕ)
         (missed : Missed) (records : List Record) → small ≤ large
         → DecodesImageWithin small bytes time size missed records
         → DecodesImageWithin large bytes time size missed records }
-    ensures newly_read_is_longer { (small large : ℕ) (bytes : List ℕ) (time size : ℕ)
+    ensures others_are_longer { (small large : ℕ) (bytes : List ℕ) (time size : ℕ)
         (missed : Missed) (records : List Record) → length bytes ≤ small
         → DecodesImageWithin large bytes time size missed records
         → DecodesImageWithin small bytes time size missed records }
