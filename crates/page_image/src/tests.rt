@@ -64,12 +64,7 @@ fn blank_page(rt: &impl Abort, alloc: Global, size: usize) -> Result<Page, NoMem
 }
 
 /// A page of this data size with these records.
-fn page_of(
-    rt: &impl Abort,
-    alloc: Global,
-    size: usize,
-    records: &[Given],
-) -> Result<Page, NoMemory>
+fn page_of(rt: &impl Abort, alloc: Global, size: usize, records: &[Given]) -> Result<Page, NoMemory>
     ensures { IfOk result (λ page. IsPage page) }
 {
     let mut page = blank_page(rt, alloc, size)?;

@@ -47,7 +47,10 @@ fn script_faults(rt: HostRuntime) -> Result<(), Fail> {
 #[test]
 fn wide_limits(rt: HostRuntime) -> Result<(), Fail> {
     let rows: [(&[u8], &str); 3] = [
-        (b"pages 1024\nsize 65520\ncpus 1\ncollectors 1\n", "a script\n"),
+        (
+            b"pages 1024\nsize 65520\ncpus 1\ncollectors 1\n",
+            "a script\n",
+        ),
         (
             b"pages 2\nsize 65524\ncpus 1\ncollectors 1\n",
             "line 2: OutOfRange\n",

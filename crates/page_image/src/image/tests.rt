@@ -190,9 +190,7 @@ fn image_readings(rt: HostRuntime) -> Result<(), Fail> {
 #[test]
 fn largest_page(rt: HostRuntime) -> Result<(), Fail> {
     let mut given = vec![in rt.alloc(); 0x5a; 65_536]?;
-    given[..24].copy_from_slice(
-        b"\x07\0\0\0\0\0\0\0\xf0\xff\0\0\0\0\0\0\0\0\0\0\xec\xff\0\0",
-    );
+    given[..24].copy_from_slice(b"\x07\0\0\0\0\0\0\0\xf0\xff\0\0\0\0\0\0\0\0\0\0\xec\xff\0\0");
     match read_image(rt.alloc(), &given) {
         Ok(image) => {
             assert_eq!(rt; image.size, 65_520);
