@@ -67,7 +67,7 @@ log_line_text (untaken_delivery line collector cpu fill) =
 abbrev pub printed_log_line : LogLine → List ℕ
 printed_log_line line = log_line_text line ++ 10 ∷ []
 
--- what a replay prints: its log, if it is asked for, and then the world
+-- what a replay prints: its log, if it is asked for, and then its collectors
 abbrev pub printed_replay : Bool → List LogLine → List (List (ℕ × Record)) → List ℕ
 printed_replay asked log collectors =
     (if asked then flat_map printed_log_line log else []) ++ printed_world collectors
