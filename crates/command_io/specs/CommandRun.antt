@@ -7,6 +7,9 @@ use Rattle.command_io.specs.declared.status.TheConstants.{DONE, REFUSED, NO_MEMO
 
 -- In what follows the source has `unread` before the run and `left` after it, and the sink `held` before it
 -- and `holds` after it. An end whose bytes aren't known has `None`, and then nothing is said of them.
+-- Of known bytes std's words say: `Consumes unread left bytes`, that `unread` is `bytes` and then `left`;
+-- `IsAtEnd left`, that none is left; `Appends held holds bytes`, that `holds` is `held` and then `bytes`;
+-- `Keeps held holds`, that they are the same.
 
 -- the text is all that the source had: it was taken, and nothing is left
 pub record ReadsAll (unread left : Option (List ℕ)) (text : List ℕ) : Type 0 where

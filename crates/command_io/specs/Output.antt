@@ -4,10 +4,12 @@ use Rattle.command_io.specs.declared.output.Output.{Output}
 use Rattle.command_io.specs.declared.output.Output.TheVariants.{Done, Refused}
 use Rattle.command_io.specs.declared.status.TheConstants.{DONE, REFUSED}
 
+-- the bytes that are printed
 abbrev pub bytes_of : Output → List ℕ
 bytes_of (Done bytes) = bytes.items
 bytes_of (Refused line) = line.items
 
+-- the exit status: 0 for work that is done, 1 for an input that is refused
 abbrev pub status_of : Output → ℕ
 status_of (Done bytes) = DONE
 status_of (Refused line) = REFUSED

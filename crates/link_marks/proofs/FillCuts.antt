@@ -25,12 +25,12 @@ pub IsRising-least : (from : ℕ) (cuts : List ℕ) (to : ℕ) → IsRising from
 IsRising-least from [] to r = r
 IsRising-least from (cut ∷ cuts) to r = let low = r.0 in let rest = IsRising-least cut cuts to r.1 in omega arith
 
--- one more piece than there are cuts
+-- one more sublist than there are cuts
 pub length-cut_from : (from : ℕ) (cuts : List ℕ) (xs : List Reservation) → length (cut_from from cuts xs) ≡ suc (length cuts)
 length-cut_from from [] xs = refl
 length-cut_from from (cut ∷ cuts) xs = ap suc (length-cut_from cut cuts xs)
 
--- a piece stays the same behind which there is a cut, where the list does up to that cut
+-- a sublist stays the same behind which there is a cut, where the list does up to that cut
 pub cut-stays : {A : Type 0} (from : ℕ) (cuts more : List ℕ) (to : ℕ) (xs ys : List A) (i : ℕ) → IsRising from cuts to → i < length cuts → take (get_or (from ∷ cuts) (suc i) 0) ys ≡ take (get_or (from ∷ cuts) (suc i) 0) xs
     → get_or (cut_from from (cuts ++ more) ys) i [] ≡ get_or (cut_from from cuts xs) i []
 cut-stays from [] more to xs ys i r low same = absurd (omega arith)

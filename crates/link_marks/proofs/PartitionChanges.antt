@@ -1,4 +1,5 @@
--- Each step keeps the taken fills and the lost ones a partition of the records.
+-- The taken fills and the lost ones stay a partition of the records where an action more is done, and where the
+-- head is lost or taken.
 use Rattle.std.proofs.Common.{◌≡◌, ℕ, suc, ◌+◌, ◌-◌, ◌<◌, ◌≤◌, ⊎_elim, List, [], ◌∷◌, ◌++◌, length, get_or, take, map, Some, sym, ap, ◌∙◌, subst, arith, length-append, length-take-le, append_assoc}
 use Rattle.std.proofs.lemmas.List.{map-append, length-map}
 use Rattle.std.proofs.Math.ListN.{get_or-append}

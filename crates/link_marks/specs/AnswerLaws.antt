@@ -22,7 +22,7 @@ pub record IsInNeed (n size : ℕ) (c : Core) : Type 0 where
   pub needs : NeedsPage n size c top.kind
 
 -- such a frame is refused as crowded where no page is released; and where one is, as worn where the tail is the
--- last fill that has a number
+-- last fill that may be begun: the one a round behind the next has no number
 abbrev pub RefusalsAreDue : Type 0
 RefusalsAreDue = (n size : ℕ) (c : Core) (answer : Answer) (after : Core)
     → Step n size c steps answer after
@@ -36,7 +36,7 @@ CrowdedIsRight = (n size : ℕ) (c : Core) (event : Event) (after : Core)
     → Step n size c event (refused crowded) after
     → IsCrowded n (window_of c)
 
--- a frame is refused as worn only where a page is released, and the tail is the last fill that has a number
+-- a frame is refused as worn only where a page is released, and the tail is the last fill that may be begun
 abbrev pub WornIsRight : Type 0
 WornIsRight = (n size start : ℕ) (c : Core) (event : Event) (after : Core)
     → IsRingKept n start c

@@ -68,7 +68,7 @@ records_behind history fills = flat_map (λ fill. fill) (drop fills (fills_of hi
 
 -- Behind the pieces that the reader took stand the records of the fills that were lost since. Then comes the
 -- rest: what lies behind the last fill that was taken or lost, from the head's first number on. With no frame
--- standing that is all of the fills from the head on, the unread ones and the tail.
+-- standing that is all of the unread fills: those from the head on, the tail among them.
 pub record IsRest (start : ℕ) (c : Core) (lost rest : List Record) : Type 0 where
   pub partition : IsPartition (committed_records c.history) (pieces_of c.reader.taken) (lost ++ rest)
   pub behind : length (committed_records c.history) ≡ first_of_fill c.history start c.head + length rest

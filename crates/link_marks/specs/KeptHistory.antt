@@ -13,7 +13,7 @@ abbrev pub history_frame : Kind → Phase → history.Frame
 history_frame (for_record moment len) phase = history.record_frame moment len (number_in phase)
 history_frame for_close phase = history.close_frame
 
--- with a frame that closes fills, which has left in the history
+-- the stack with this frame on top; one that only releases has left in the history, and isn't there
 abbrev pub history_stack_on : Phase → Kind → List history.Frame → List history.Frame
 history_stack_on reserving kind below = history_frame kind reserving ∷ below
 history_stack_on (looking o) kind below = history_frame kind (looking o) ∷ below

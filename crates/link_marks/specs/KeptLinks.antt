@@ -1,4 +1,4 @@
--- What each step of a ring keeps: the ring's invariant in the form that an induction needs.
+-- What each step of a ring keeps of its links, its counts, its frames and its reader.
 -- docs/FORMATS.md, "Writer frames" and "The reader".
 use Rattle.std.specs.Prelude.{◌≡◌, ◌≢◌, ℕ, suc, ◌+◌, ◌<◌, ◌≤◌, ◌⊎◌, List, [], ◌∷◌, length, Option, Some, None}
 use Rattle.trace_model.specs.declared.limits.TheConstants.{MIN_PAGES, LINK_FILLS}

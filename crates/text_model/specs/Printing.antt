@@ -67,7 +67,7 @@ log_line_text (untaken_delivery line collector cpu fill) =
 abbrev pub printed_log_line : LogLine → List ℕ
 printed_log_line line = log_line_text line ++ 10 ∷ []
 
--- what a replay prints: its log, if it is asked for, and then the world
+-- what a replay prints: its log, if it is asked for, and then its collectors
 abbrev pub printed_replay : Bool → List LogLine → List (List (ℕ × Record)) → List ℕ
 printed_replay asked log collectors =
     (if asked then flat_map printed_log_line log else []) ++ printed_world collectors
@@ -86,7 +86,7 @@ missed_text (counted events) = decimal events
 abbrev pub printed_image_record : Record → List ℕ
 printed_image_record r = decimal r.moment ++ 32 ∷ hex_text r.bytes ++ 10 ∷ []
 
--- an image: its time, the size of its data in bytes, its missed events, then a line for each record
+-- an image: its time, how many bytes its records take, its missed events, then a line for each record
 abbrev pub printed_image : ℕ → ℕ → Missed → List Record → List ℕ
 printed_image time size missed records =
     codes "page " ++ decimal time ++ codes " size " ++ decimal size ++ codes " missed " ++ missed_text missed

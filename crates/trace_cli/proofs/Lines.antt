@@ -17,7 +17,7 @@ enumerate_more {A} n (x ∷ xs) (suc i) d inside =
     let below : enumerate_from (n + 1) (take (suc i) xs) ≡ enumerate_from (n + 1) (take i xs) ++ (n + suc i, get_or xs i d) ∷ [] = rw e at rest in
     ap {A = List (ℕ × A)} {B = List (ℕ × A)} (λ ps. (n, x) ∷ ps) below
 
--- the text of the next of some things, which are numbered by their place
+-- the text of the next of some things, which are numbered by their index
 pub numbered_more : {A B : Type 0} (f : ℕ × B → List ℕ) (view : A → B) (first i number : ℕ) (things : List A) (item : A) (before so_far out : List ℕ) → number ≡ first + i → i < length things → item ≡ get_or things i item
     → so_far ≡ before ++ flat_map f (enumerate_from first (take i (map view things))) → out ≡ so_far ++ f (number, view item) → out ≡ before ++ flat_map f (enumerate_from first (take (i + 1) (map view things)))
 numbered_more {A} {B} f view first i number things item before so_far out numbered inside is so_far_is out_is =

@@ -73,7 +73,7 @@ fn replay_output(alloc: Global, text: &[u8], log: bool) -> Result<Output, NoMemo
 }
 
 /// Reads a script from the reader to its end, replays it, and writes the log, if it is asked for, and
-/// what the collectors hold, or the fault's line. Gives the exit status: 0 done, 1 the script is
+/// what the collectors have, or the fault's line. Gives the exit status: 0 done, 1 the script is
 /// refused, 3 memory was refused, 4 a read or a write failed, or the script is longer than 2^28 bytes.
 pub fn replay_to<R: Source, W: Sink>(alloc: Global, reader: &mut R, writer: &mut W, log: bool) -> u8
     requires sound_reader { R.failed reader.old ≡ false }

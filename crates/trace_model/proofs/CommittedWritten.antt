@@ -8,7 +8,7 @@ use Rattle.trace_model.proofs.Lengths.{length-padded}
 use Rattle.trace_model.proofs.HistoryPrefixes.{none_stands, settled_within}
 use Rattle.trace_model.proofs.Allowed.{AreAllowed, allowed-IsHistory, AreAllowed-front}
 
--- ---- places in a list of records
+-- ---- numbers in a list of records
 
 -- this record has this number
 abbrev StandsAt : ℕ → List Reservation → Reservation → Type 0

@@ -8,7 +8,7 @@ use Rattle.trace_model.proofs.Elements.{some_is, get_in_front, get_behind}
 
 -- ---- where a piece lies
 
--- the records of the piece at a place, with those in front of it and those behind it
+-- the records of the piece at an index, with those in front of it and those behind it
 record IsPlaced (records : List Record) (pieces : List Piece) (rest : List Record) (k : ℕ) (p : Piece) : Type 0 where
   before : List Record
   lost : List Record

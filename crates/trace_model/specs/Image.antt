@@ -26,6 +26,7 @@ pub record Commit : Type 0 where
   pub is_missed : Bool
   pub ignored : ℕ
 
+-- the commit word as one number
 abbrev pub commit_word : Commit → ℕ
 commit_word commit =
     commit.size
@@ -90,6 +91,7 @@ has_room contents size = nat_le (length contents + 8) size
 abbrev pub stores_count : List ℕ → ℕ → ℕ → Bool
 stores_count contents missed size = nat_lt 0 missed && has_room contents size
 
+-- the commit word that is written for data, a number of missed events and the page's size
 abbrev pub commit_of : List ℕ → ℕ → ℕ → Commit
 commit_of contents missed size = record {
   size = length contents;
@@ -128,6 +130,7 @@ pub data ImageCause : Type 0 where
   bad_count : ImageCause
   bad_word : (cause : Cause) (at : ℕ) → ImageCause
 
+-- there is a header, and more data is stated than there is, or the image is too long
 pub record HasBadSize (bytes : List ℕ) : Type 0 where
   pub time : ℕ
   pub commit : Commit
@@ -135,6 +138,7 @@ pub record HasBadSize (bytes : List ℕ) : Type 0 where
   pub header : HasHeader bytes time commit rest
   pub wrong : (length rest < commit.size) ⊎ (MAX_IMAGE < length bytes)
 
+-- header and data are there, a count is stated, and there is no room for it
 pub record HasBadCount (bytes : List ℕ) : Type 0 where
   pub time : ℕ
   pub commit : Commit
@@ -145,6 +149,7 @@ pub record HasBadCount (bytes : List ℕ) : Type 0 where
   pub stored : commit.is_stored ≡ true
   pub no_room : length behind < 8
 
+-- header, data and the count are there, and the data has this first fault
 pub record HasBadWord (bytes : List ℕ) (cause : Cause) (at : ℕ) : Type 0 where
   pub time : ℕ
   pub commit : Commit

@@ -1,4 +1,5 @@
--- The laws over record words, as statements. The functions of src/laws.rt have them as their contracts.
+-- The laws over record words, as statements. The functions of src/laws/words.rt have them as
+-- their contracts.
 use Rattle.std.specs.Prelude.{◌≡◌, ◌⊎◌, ℕ, Bool, List, length}
 use Rattle.std.specs.List.{AllByRecursion}
 use Rattle.trace_model.specs.Record.{Record}

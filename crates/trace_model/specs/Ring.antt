@@ -72,6 +72,7 @@ pub record Core : Type 0 where
   pub held : List Held
   pub history : List Action
 
+-- the three counts of the state
 abbrev pub window_of : Core → Window
 window_of c = record { head = c.head; done = c.done; opened = c.opened }
 

@@ -233,8 +233,8 @@ pub data LookStep (n : ℕ) (c : Core) (frame : Frame) (below : List Frame)
 abbrev pub with_head_claimed : ℕ → Core → (noted page lost : ℕ) → Core
 with_head_claimed n c noted page lost = record (with_link n c noted (update_link page lost)) { head = c.head + 1 }
 
--- A compare and exchange of that link from HEADER to UPDATE: done, the head is lost and the frame owns the
--- UPDATE.
+-- A compare and exchange of that link from HEADER to UPDATE: where it succeeds, the head is lost and the frame
+-- owns the UPDATE.
 pub data ClaimStep (n : ℕ) (c : Core) (frame : Frame) (below : List Frame)
     (noted page : ℕ) (answer : Answer) (after : Core)
     : Type 0 where
@@ -278,7 +278,7 @@ pub data NextStep (n : ℕ) (c : Core) (frame : Frame) (below : List Frame)
       → after ≡ in_phase c frame below (after_next role noted page)
       → NextStep n c frame below role noted page answer after
 
--- A compare and exchange of the next link from NORMAL to HEADER, done or not.
+-- A compare and exchange of the next link from NORMAL to HEADER, which succeeds or fails.
 pub data MarkStep (n : ℕ) (c : Core) (frame : Frame) (below : List Frame)
     (role : Role) (noted page next : ℕ) (answer : Answer) (after : Core)
     : Type 0 where
@@ -447,7 +447,7 @@ after_swap n c page fill = record c {
   held = slice_set (slice_set c.held c.spare empty_page) page empty_page;
 }
 
--- A compare and exchange of the link to the head from HEADER to NORMAL: the swap, done or not.
+-- A compare and exchange of the link to the head from HEADER to NORMAL: the swap, which succeeds or fails.
 pub data SwapStep (n : ℕ) (c : Core) (page fill : ℕ) (answer : Answer) (after : Core) : Type 0 where
   swaps :
       link_into n c.links fill ≡ header_link page fill

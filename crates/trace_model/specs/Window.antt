@@ -23,6 +23,7 @@ pub data Happening : Type 0 where
   took_one : Happening
   lost_one : Happening
 
+-- the counts behind a happening: each moves one of them by one
 abbrev pub window_after : Window → Happening → Window
 window_after w opened_one = record { head = w.head; done = w.done; opened = w.opened + 1 }
 window_after w released_one = record { head = w.head; done = w.done + 1; opened = w.opened }
@@ -38,6 +39,7 @@ MayHappen n history w released_one = (w.done + 1 < w.opened) × IsTrue (is_settl
 MayHappen n history w took_one = w.head < w.done
 MayHappen n history w lost_one = (w.head < w.done) × (w.opened ≡ w.head + n)
 
+-- the happening may happen, behind this history, and makes the one window of the other
 pub record WindowStep (n : ℕ) (history : List Action) (before : Window) (happening : Happening) (after : Window)
     : Type 0 where
   pub may : MayHappen n history before happening

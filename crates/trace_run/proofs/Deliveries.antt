@@ -47,7 +47,7 @@ apart xs up i k in-i in-k ne same =
     (λ above. ⊎_elim (λ lt. let far = rising_far xs up k i lt in-i in omega arith) (λ ge. ne (omega arith)) (cases_lt k i))
     (cases_lt i k)
 
--- no page but the one at this place has this fill
+-- no page but the one at this index has this fill
 abbrev pub IsAlone : ℕ → List TakenPage → ℕ → Type 0
 IsAlone fill pages at = (k : ℕ) → k < length pages → (k ≡ at → ⊥) → get_or (fills pages) k 0 ≡ fill → ⊥
 

@@ -49,7 +49,7 @@ closed_behind p closed oldest = record p { closed_pages = closed ++ p.tail ∷ [
 begun_more : (f : Filling) → begun_count (with_page f) ≡ begun_count f + 1
 begun_more f = let more = length_push f.closed f.tail in omega arith
 
--- where there is a place, the list holds one page more
+-- where there is room, the list holds one page more
 ring-more : (max_pages : ℕ) (f : Filling) (takings : List Taking) (p : PlainPages) → length p.closed_pages + 1 < p.max_pages → IsPlainRing max_pages f takings p → IsPlainRing max_pages (with_page f) takings (closed_behind p p.closed_pages p.oldest)
 ring-more max_pages f takings p free h = record {
   passed = h.passed;

@@ -22,7 +22,7 @@ use Rattle.trace_run.proofs.Fillings.{IsPlainRing, ring-taken}
 use Rattle.trace_run.proofs.Outcomes.{outcome, commands-push, takings-push, records-of_takings-push, in_segments-push, each-push, up_to_date-push, oldest-push, filling-push, delivered-keep, delivered-push}
 use Rattle.trace_run.proofs.States.{IsReplayState, state_oldest, quiet_step}
 
--- the oldest page is taken: it is the next piece, and nothing is lost behind it
+-- the oldest page is taken: it is the next segment, and nothing is lost behind it
 abbrev HoldsRest-taken : (p : PlainPages) (x : List Record) (left : List (List Record)) (all : List Record) (pages : List (List Record)) → p.closed_pages ≡ x ∷ left → HoldsRest all pages p → HoldsRest all (pages ++ x ∷ []) (without_taking p (Some record { fill = p.oldest; first = p.records_taken; records = x }))
 HoldsRest-taken p x left all pages is h =
     let some : All (λ records. records ≢ []) (x ∷ left) = subst (λ (ps : List (List Record)). All (λ records. records ≢ []) ps) is h.some in

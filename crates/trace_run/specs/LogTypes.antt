@@ -9,6 +9,7 @@ use Rattle.trace_run.specs.declared.taken_pages.Delivery.TheVariants as brought
 use Rattle.trace_run.specs.declared.log.LogLine.{LogLine}
 use Rattle.trace_run.specs.declared.log.LogLine.TheVariants.{Refused, Taken, Empty, Moving, Asks, New, Known, NotTaken}
 
+-- why a write was refused
 abbrev pub shown_fault : WriteFault → frames.Refusal
 shown_fault TooDeep = frames.too_deep
 shown_fault TooLong = frames.too_long
@@ -23,11 +24,13 @@ abbrev pub shown_refusal : Option WriteFault → Option frames.Refusal
 shown_refusal None = None
 shown_refusal (Some fault) = Some (shown_fault fault)
 
+-- what a delivery brought
 abbrev pub shown_delivery : deliveries.Delivery → model.Delivery
 shown_delivery brought.New = model.new_page
 shown_delivery brought.Known = model.known_page
 shown_delivery brought.NotTaken = model.no_page
 
+-- a line of the log
 abbrev pub shown_log_line : LogLine → model.LogLine
 shown_log_line (Refused line cpu fault) = model.refused line cpu.0 (shown_fault fault)
 shown_log_line (Taken line cpu fill first count missed) = model.taken line cpu.0 fill.0 first.0 count missed
@@ -43,5 +46,6 @@ abbrev pub shown_logged : Option LogLine → Option model.LogLine
 shown_logged None = None
 shown_logged (Some line) = Some (shown_log_line line)
 
+-- the log, line by line
 abbrev pub shown_log : List LogLine → List model.LogLine
 shown_log log = map shown_log_line log

@@ -50,7 +50,7 @@ fits_tail p r = nat_le (length (page_encoding (p.tail ++ r ∷ []))) p.size
 abbrev pub without_oldest : PlainPages → PlainPages
 without_oldest p = record p { closed_pages = drop 1 p.closed_pages; oldest = p.oldest + 1 }
 
--- a place for one more page: in a full list the oldest page is dropped
+-- room for one more page: in a full list the oldest page is dropped
 abbrev pub with_place : PlainPages → PlainPages
 with_place p = if nat_lt (length p.closed_pages + 1) p.max_pages then p else without_oldest p
 
