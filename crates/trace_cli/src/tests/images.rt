@@ -235,13 +235,13 @@ fn largest_page(rt: HostRuntime) -> Result<(), Fail> {
     let payload = "5a".repeat(alloc, 65_512)?;
     let wanted = format!(in alloc; "page 7 size 65520 missed none\n7 {payload}\n")?;
     compare_dump(&rt, "one record", image.as_slice(), &wanted, DONE);
-    for (len, wanted, status) in [
-        (4_097, "page 7 size 0 missed none\n", DONE),
-        (65_536, "page 7 size 0 missed none\n", DONE),
-        (65_537, "image: BadSize\n", REFUSED),
+    for (behind, wanted, status) in [
+        (4_081, "page 7 size 0 missed none\n", DONE),
+        (65_520, "page 7 size 0 missed none\n", DONE),
+        (65_521, "image: BadSize\n", REFUSED),
     ] {
-        let mut image = vec![in alloc; 0u8; len]?;
-        image[0] = 7;
+        let mut image = decode(alloc, "07000000000000000000000000000000")?;
+        image.extend_from_slice(vec![in alloc; 0u8; behind]?.as_slice())?;
         compare_dump(&rt, "no record", image.as_slice(), wanted, status);
     }
     Ok(())
