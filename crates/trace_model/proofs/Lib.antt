@@ -1,4 +1,5 @@
 pub mod Lengths
+pub mod FillLengths
 pub mod OneWord
 pub mod Unique
 pub mod Appended
