@@ -28,6 +28,7 @@ pub mod ToldSteps
 pub mod AnswersRight
 pub mod RefusalsDue
 pub mod Relinking
+pub mod LinksFit
 pub mod PackedHistories
 pub mod PackedSteps
 pub mod PackedRuns
