@@ -34,6 +34,7 @@ pub mod PackedSteps
 pub mod PackedRuns
 pub mod FullFills
 pub mod TakenHoldRecords
+pub mod RecordCounts
 -- the step as a function: it gives the steps and no others; the head and the count of closed fills move by it
 pub mod StepFunction
 pub mod StepFunctionSound
