@@ -22,6 +22,8 @@ pub mod PartitionSteps
 pub mod NewRing
 pub mod RingsKept
 pub mod UnreadRest
+-- the stack of frames
+pub mod StackSteps
 -- runs of the window, answers, links that stand once, packed histories
 pub mod WindowRuns
 pub mod ToldSteps
