@@ -22,17 +22,21 @@ pub mod PartitionSteps
 pub mod NewRing
 pub mod RingsKept
 pub mod UnreadRest
+-- the stack of frames
+pub mod StackSteps
 -- runs of the window, answers, links that stand once, packed histories
 pub mod WindowRuns
 pub mod ToldSteps
 pub mod AnswersRight
 pub mod RefusalsDue
 pub mod Relinking
+pub mod LinksFit
 pub mod PackedHistories
 pub mod PackedSteps
 pub mod PackedRuns
 pub mod FullFills
 pub mod TakenHoldRecords
+pub mod RecordCounts
 -- the step as a function: it gives the steps and no others; the head and the count of closed fills move by it
 pub mod StepFunction
 pub mod StepFunctionSound

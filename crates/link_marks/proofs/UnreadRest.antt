@@ -18,7 +18,7 @@ use Rattle.link_marks.proofs.RingsKept.{reached_kept, taken_partition_at}
 -- ---- fills, joined
 
 -- all fills, joined, are the list behind the index where the first one begins
-joined_all : {A : Type 0} (from : ℕ) (cuts : List ℕ) (xs : List A) → IsRising from cuts (length xs) → flat_map (λ fill. fill) (cut_from from cuts xs) ≡ drop from xs
+pub joined_all : {A : Type 0} (from : ℕ) (cuts : List ℕ) (xs : List A) → IsRising from cuts (length xs) → flat_map (λ fill. fill) (cut_from from cuts xs) ≡ drop from xs
 joined_all from [] xs r = append-nil (drop from xs)
 joined_all {A} from (cut ∷ cuts) xs r =
     ap (λ (l : List A). take (cut - from) (drop from xs) ++ l) (joined_all cut cuts xs r.1 ∙ ap (λ (m : ℕ). drop m xs) (let le = r.0 in let e : cut ≡ from + (cut - from) = omega arith in e) ∙ sym (drop-drop (cut - from) from xs))

@@ -1,6 +1,7 @@
 -- The laws of what a ring's frames did, and of the partition of its records, as statements: each is a clause
 -- of a function of src/laws/histories.rt.
-use Rattle.std.specs.Prelude.{◌≡◌, ◌≢◌, ℕ, ◌+◌, ◌-◌, ◌<◌, List, [], ◌++◌, length, map, take, drop, flat_map, Some, slice_get, slice_index_or}
+use Rattle.std.specs.Prelude.{◌≡◌, ◌≢◌, ℕ, ◌+◌, ◌-◌, ◌*◌, ◌^◌, ◌<◌, ◌≤◌, List, [], ◌++◌, length, map, take, drop, flat_map, Some, slice_get, slice_index_or}
+use Rattle.trace_model.specs.declared.limits.TheConstants.{MAX_SIZE}
 use Rattle.trace_model.specs.Record.{Record}
 use Rattle.trace_model.specs.History.{Action, IsHistory, Reservation, reserved_records, settled_prefix, as_record, committed_records}
 use Rattle.trace_model.specs.Packing.{fills_of, IsPacked}
@@ -26,6 +27,19 @@ PackedFillsAreFull = (history : List Action) (size k : ℕ)
     → IsPacked history size
     → k + 1 < length (fills_of history)
     → slice_index_or (fills_of history) k [] ≢ []
+
+-- each record takes 8 bytes at least, and so many fills were begun: so many records at most were reserved
+abbrev pub RecordsAreFew : Type 0
+RecordsAreFew = (n size start : ℕ) (c : Core)
+    → IsReached n size start c
+    → 8 * length (reserved_records c.history) ≤ size * (c.opened - start)
+
+-- so the records of a ring have numbers below 2 ^ 61, whatever its run
+abbrev pub RecordNumbersFit : Type 0
+RecordNumbersFit = (n size start : ℕ) (c : Core)
+    → IsReached n size start c
+    → size ≤ MAX_SIZE
+    → length (reserved_records c.history) < 2 ^ 61
 
 -- each of these fills holds a record
 abbrev pub HoldRecords : List Taken → Type 0

@@ -1,10 +1,19 @@
 -- The laws of a ring's links, as statements: each is a clause of a function of src/laws/links.rt.
-use Rattle.std.specs.Prelude.{◌≡◌, ◌≢◌, ℕ, suc, ◌+◌, ◌*◌, ◌%◌, ◌<◌, ◌⊎◌, List, ◌∷◌, Some}
-use Rattle.trace_model.specs.Links.{Link, mark_code, normal_link, header_link, update_link}
+use Rattle.std.specs.Prelude.{◌≡◌, ◌≢◌, ℕ, suc, ◌+◌, ◌*◌, ◌%◌, ◌<◌, ◌⊎◌, List, ◌∷◌, Some, All}
+use Rattle.trace_model.specs.declared.limits.TheConstants.{LINK_PAGES}
+use Rattle.trace_model.specs.Links.{Link, mark_code, normal_link, header_link, update_link, FitsWord}
 use Rattle.trace_model.specs.Frames.{Frame, owned_update}
 use Rattle.trace_model.specs.Ring.{link_into, page_at, Core}
 use Rattle.trace_model.specs.Steps.{Event, steps, reads, Answer, Step, Exchange, Run}
 use Rattle.link_marks.specs.RingKept.{IsRingKept}
+use Rattle.link_marks.specs.Reached.{IsReached}
+
+-- where the spare's number has a place in a word, all links of a ring have words, and so has the spare's
+abbrev pub LinksFitWords : Type 0
+LinksFitWords = (n size start : ℕ) (c : Core)
+    → IsReached n size start c
+    → n < LINK_PAGES
+    → All FitsWord c.links × FitsWord c.spare_link
 
 -- How far a position has come: fill by fill, and within a fill from NORMAL to HEADER to UPDATE.
 abbrev pub age_of : Link → ℕ

@@ -1,12 +1,14 @@
 -- The laws of a ring's states and steps, as statements: each is a clause of a function of src/laws/rings.rt.
-use Rattle.std.specs.Prelude.{◌≡◌, ℕ, ◌≤◌, List, ◌∷◌, length, map}
+use Rattle.std.specs.Prelude.{◌≡◌, ℕ, ◌+◌, ◌≤◌, List, [], ◌∷◌, length, map, Some, slice_get}
+use Rattle.trace_model.specs.declared.limits.TheConstants.{MAX_FRAMES}
 use Rattle.trace_model.specs.Words.{slot_len}
 use Rattle.trace_model.specs.Window.{first_window}
-use Rattle.trace_model.specs.Frames.{for_record, reserved, Frame}
+use Rattle.trace_model.specs.Frames.{for_record, reserved, releasing, Frame}
 use Rattle.trace_model.specs.Ring.{Core, IsStart, IsRing, window_of}
 use Rattle.trace_model.specs.Steps.{Event, pushes, pushes_close, steps, ends, reads, Answer, Step, Exchange, Run}
 use Rattle.link_marks.specs.Reached.{MayStart, IsReached}
 use Rattle.link_marks.specs.RingKept.{IsRingKept}
+use Rattle.link_marks.specs.KeptStack.{StackKept}
 
 -- ---- the invariant
 
@@ -32,6 +34,38 @@ KeptIsRing = (n start : ℕ) (c : Core) → IsRingKept n start c → IsRing n st
 -- so every state that steps reach is a ring
 abbrev pub RunsMakeRings : Type 0
 RunsMakeRings = (n size start : ℕ) (c : Core) → IsReached n size start c → IsRing n start c
+
+-- ---- the stack of frames
+
+-- a new ring has what its steps keep of the stack
+abbrev pub StartHasStack : Type 0
+StartHasStack = (n start : ℕ) (c : Core) → IsStart n start c → StackKept c
+
+-- every step keeps it
+abbrev pub StepsKeepStack : Type 0
+StepsKeepStack = (n size : ℕ) (c : Core) (event : Event) (answer : Answer) (after : Core)
+    → StackKept c
+    → Step n size c event answer after
+    → StackKept after
+
+-- so in every state that steps reach no more than MAX_FRAMES frames stand
+abbrev pub FewFramesStand : Type 0
+FewFramesStand = (n size start : ℕ) (c : Core) → IsReached n size start c → length c.frames ≤ MAX_FRAMES
+
+-- a frame that closes fills stands at the bottom
+abbrev pub ReleasesStandAtBottom : Type 0
+ReleasesStandAtBottom = (n size start : ℕ) (c : Core) (k : ℕ) (frame : Frame)
+    → IsReached n size start c
+    → slice_get c.frames k ≡ Some frame
+    → frame.phase ≡ releasing
+    → k + 1 ≡ length c.frames
+
+-- and where no frame stands, all fills that are begun are closed but the tail
+abbrev pub AllIsClosedAtRest : Type 0
+AllIsClosedAtRest = (n size start : ℕ) (c : Core)
+    → IsReached n size start c
+    → c.frames ≡ []
+    → c.done + 1 ≡ c.opened
 
 -- ---- one start, and one step for each event
 

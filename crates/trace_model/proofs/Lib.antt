@@ -1,4 +1,6 @@
 pub mod Lengths
+pub mod FillLengths
+pub mod LinkWords
 pub mod OneWord
 pub mod Unique
 pub mod Appended

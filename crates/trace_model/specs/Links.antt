@@ -2,7 +2,7 @@
 -- After Documentation/trace/ring-buffer-design.rst, "Making the Ring Buffer Lockless": the two low bits
 -- of a page's next pointer say HEADER or UPDATE. That the fill's number stands in the link too is this
 -- project's own, and so is the word (docs/FORMATS.md, "Link word").
-use Rattle.std.specs.Prelude.{ℕ, ◌+◌, ◌*◌, ◌<◌}
+use Rattle.std.specs.Prelude.{◌≡◌, ◌≢◌, ℕ, ◌+◌, ◌*◌, ◌%◌, ◌^◌, ◌<◌}
 use Rattle.trace_model.specs.declared.limits.TheConstants.{LINK_PAGES, LINK_FILLS}
 
 -- normal: nothing is told of the page. header: the page is the head. update: a writer moves the head
@@ -41,3 +41,15 @@ word_of l = mark_code l.mark + 4 * l.page + 65536 * l.fill
 pub record FitsWord (l : Link) : Type 0 where
   pub page_fits : l.page < LINK_PAGES
   pub fill_fits : l.fill < LINK_FILLS
+
+-- links that fit a word differ in their words
+abbrev pub WordTellsLink : Type 0
+WordTellsLink = (l other : Link) → FitsWord l → FitsWord other → word_of l ≡ word_of other → l ≡ other
+
+-- the fourth value of the mark's two bits is no link's
+abbrev pub ThreeIsNoMark : Type 0
+ThreeIsNoMark = (l : Link) → word_of l % 4 ≢ 3
+
+-- such a word has 64 bits
+abbrev pub WordHasItsBits : Type 0
+WordHasItsBits = (l : Link) → FitsWord l → word_of l < 2 ^ 64

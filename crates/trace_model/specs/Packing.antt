@@ -1,9 +1,10 @@
 -- The fills of a CPU: which records stand in which page, and when a new page is begun.
 -- After kernel/trace/ring_buffer.c (rb_reserve_next_event, rb_move_tail): a record that doesn't fit in
 -- what the tail page has left goes to the next page. docs/FORMATS.md, "Record words", "The ring".
-use Rattle.std.specs.Prelude.{◌≡◌, ◌≢◌, ℕ, ◌+◌, ◌-◌, ◌<◌, ◌≤◌, true, false, List, [], ◌∷◌, ◌++◌, length, take, drop, Option, Some, None, slice_index_or}
-use Rattle.trace_model.specs.Words.{encoded_len}
-use Rattle.trace_model.specs.History.{Action, push, push_close, open_fill, reserve, leave, Reservation, Frame, record_frame, close_frame, writer_after, reserved_records, reservation_for}
+use Rattle.std.specs.Prelude.{◌≡◌, ◌≢◌, ℕ, ◌+◌, ◌-◌, ◌<◌, ◌≤◌, true, false, List, [], ◌∷◌, ◌++◌, length, take, drop, map, Option, Some, None, slice_index_or}
+use Rattle.std.specs.List.{AllByRecursion}
+use Rattle.trace_model.specs.Words.{encoded_len, page_encoding}
+use Rattle.trace_model.specs.History.{Action, push, push_close, open_fill, reserve, leave, Reservation, Frame, record_frame, close_frame, writer_after, reserved_records, reservation_for, as_record}
 
 -- how many records were reserved in front of each open, in order
 abbrev pub opens_behind : List Action → List Action → List ℕ
@@ -40,6 +41,16 @@ len_behind prev (r ∷ records) = encoded_len r.len (r.moment - prev) false + le
 abbrev pub fill_len : List Reservation → ℕ
 fill_len [] = 0
 fill_len (r ∷ records) = encoded_len r.len 0 true + len_behind r.moment records
+
+-- the record has as many bytes as its slot; while they are open they count as that many zeros
+abbrev pub FillsSlot : Reservation → Type 0
+FillsSlot r = length (as_record r).bytes ≡ r.len
+
+-- what the writer reckons for records that fill their slots is the length of the page's data that holds them
+abbrev pub FillHasItsLength : Type 0
+FillHasItsLength = (records : List Reservation)
+    → AllByRecursion FillsSlot records
+    → fill_len records ≡ length (page_encoding (map as_record records))
 
 -- the record fits in a page of this size behind these
 abbrev pub FitsBehind : ℕ → List Reservation → Reservation → Type 0

@@ -4,6 +4,8 @@ pub mod collections;
 pub mod histories;
 pub mod images;
 pub mod limits;
+pub mod links;
+pub mod packings;
 pub mod partitions;
 pub mod windows;
 pub mod words;

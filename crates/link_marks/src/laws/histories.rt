@@ -1,5 +1,5 @@
 //! Laws of what a ring's frames did, and of the partition of its records.
-ghost use Rattle.link_marks.specs.HistoryLaws.{CommittedIsPrefix, PackedFillsAreFull, RestIsUnread, RunsAreHistories, RunsArePacked, TakenAreFills, TakenHoldRecords, TakenPartitionCommitted};
+ghost use Rattle.link_marks.specs.HistoryLaws.{CommittedIsPrefix, PackedFillsAreFull, RecordNumbersFit, RecordsAreFew, RestIsUnread, RunsAreHistories, RunsArePacked, TakenAreFills, TakenHoldRecords, TakenPartitionCommitted};
 
 /// After every run what the frames did is a history: each action is one that the stack allowed.
 pub fn runs_are_histories()
@@ -13,6 +13,13 @@ pub fn runs_are_packed()
     ensures packed { RunsArePacked }
     ensures full { PackedFillsAreFull }
     ensures taken { TakenHoldRecords }
+{}
+
+/// Each record takes 8 bytes of a page at least, so after every run the fills that were begun bound how many
+/// records were reserved; and as fills have numbers below `LINK_FILLS`, all records have ones below 2^61.
+pub fn record_numbers_fit()
+    ensures few { RecordsAreFew }
+    ensures fit { RecordNumbersFit }
 {}
 
 /// The committed records are the first of the reserved ones; and after every run the fills that the reader

@@ -1,5 +1,5 @@
 //! Laws of a ring's states and steps: what every step keeps, and that each event is one step.
-ghost use Rattle.link_marks.specs.RingLaws.{EachEventIsAStep, KeptIsRing, NewRingIsOne, RunsAreDetermined, RunsMakeRings, StartHasWindow, StartIsKept, StepsAreDetermined, StepsKeepRing};
+ghost use Rattle.link_marks.specs.RingLaws.{AllIsClosedAtRest, EachEventIsAStep, FewFramesStand, KeptIsRing, NewRingIsOne, ReleasesStandAtBottom, RunsAreDetermined, RunsMakeRings, StartHasStack, StartHasWindow, StartIsKept, StepsAreDetermined, StepsKeepRing, StepsKeepStack};
 
 /// A new ring has all that its steps keep, and its window is the first one.
 pub fn start_is_kept()
@@ -12,6 +12,16 @@ pub fn steps_keep_ring()
     ensures kept { StepsKeepRing }
     ensures ring { KeptIsRing }
     ensures runs { RunsMakeRings }
+{}
+
+/// Every step keeps what holds of the stack, and so after every run no more than `MAX_FRAMES` frames stand, only
+/// the bottom one closes fills, and where none stands all fills but the tail are closed.
+pub fn stacks_come_to_rest()
+    ensures start { StartHasStack }
+    ensures kept { StepsKeepStack }
+    ensures few { FewFramesStand }
+    ensures bottom { ReleasesStandAtBottom }
+    ensures at_rest { AllIsClosedAtRest }
 {}
 
 /// There is a new ring of each number of positions, and only one.
