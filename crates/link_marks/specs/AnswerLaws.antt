@@ -1,7 +1,7 @@
 -- The laws of a ring's answers, as statements: each is a clause of a function of src/laws/answers.rt.
 use Rattle.std.specs.Prelude.{◌≡◌, ℕ, ◌+◌, ◌<◌, ◌≤◌, ◌⊎◌, List, [], ◌∷◌, ◌++◌}
 use Rattle.trace_model.specs.declared.limits.TheConstants.{LINK_FILLS}
-use Rattle.trace_model.specs.Frames.{reserving, Frame, crowded, worn}
+use Rattle.trace_model.specs.Frames.{waiting, idle, Frame, crowded, worn}
 use Rattle.trace_model.specs.Links.{update_link}
 use Rattle.trace_model.specs.Ring.{link_into, page_at, Taken, Core, window_of, IsMoved, IsTaken}
 use Rattle.trace_model.specs.Window.{IsCrowded}
@@ -18,8 +18,9 @@ pub record IsInNeed (n size : ℕ) (c : Core) : Type 0 where
   pub top : Frame
   pub below : List Frame
   pub is_top : c.frames ≡ top ∷ below
-  pub about : top.phase ≡ reserving
-  pub needs : NeedsPage n size c top.kind
+  pub waits : top.state ≡ waiting
+  pub about : top.phase ≡ idle
+  pub needs : NeedsPage size c top.kind
 
 -- such a frame is refused as crowded where no page is released; and where one is, as worn where the tail is the
 -- last fill that may be begun: the one a round behind the next has no number
@@ -39,14 +40,14 @@ CrowdedIsRight = (n size : ℕ) (c : Core) (event : Event) (after : Core)
 -- a frame is refused as worn only where a page is released, and the tail is the last fill that may be begun
 abbrev pub WornIsRight : Type 0
 WornIsRight = (n size start : ℕ) (c : Core) (event : Event) (after : Core)
-    → IsRingKept n start c
+    → IsRingKept n size start c
     → Step n size c event (refused worn) after
     → (c.opened + n ≡ LINK_FILLS) × (IsCrowded n (window_of c) → ⊥)
 
 -- the reader finds nothing only where the head is the first fill that isn't closed, and then it takes nothing
 abbrev pub EmptyIsRight : Type 0
 EmptyIsRight = (n size start : ℕ) (c : Core) (event : Event) (done : ℕ) (after : Core)
-    → IsRingKept n start c
+    → IsRingKept n size start c
     → Step n size c event (empty done) after
     → (c.head ≡ done)
     × (c.done ≡ done)
@@ -66,14 +67,14 @@ pub record IsInTheWay (n start : ℕ) (c : Core) (fill : ℕ) : Type 0 where
 
 abbrev pub MovingIsRight : Type 0
 MovingIsRight = (n size start : ℕ) (c : Core) (event : Event) (fill : ℕ) (after : Core)
-    → IsRingKept n start c
+    → IsRingKept n size start c
     → Step n size c event (moving fill) after
     → IsInTheWay n start c fill × (after.reader.taken ≡ c.reader.taken)
 
 -- what is taken is the head, and that is closed; and it is what is then held as taken last
 abbrev pub SwappedIsRight : Type 0
 SwappedIsRight = (n size start : ℕ) (c : Core) (event : Event) (t : Taken) (after : Core)
-    → IsRingKept n start c
+    → IsRingKept n size start c
     → Step n size c event (swapped t) after
     → (t.fill ≡ c.head)
     × (c.head < c.done)

@@ -8,18 +8,18 @@ use Rattle.trace_model.specs.Packing.{fills_of, IsPacked}
 use Rattle.trace_model.specs.Partition.{IsPartition}
 use Rattle.trace_model.specs.Ring.{Taken, Core, first_of_fill, AreFillsOf}
 use Rattle.link_marks.specs.KeptPartition.{pieces_of, HaveFirsts}
-use Rattle.link_marks.specs.Reached.{IsReached}
+use Rattle.link_marks.specs.RingKept.{IsRingKept}
 
 -- ---- histories
 
 -- what the frames did keeps the discipline of the stack: each action is one that the frames that stood allowed
 abbrev pub RunsAreHistories : Type 0
-RunsAreHistories = (n size start : ℕ) (c : Core) → IsReached n size start c → IsHistory c.history
+RunsAreHistories = (n size start : ℕ) (c : Core) → IsRingKept n size start c → IsHistory c.history
 
 -- and it is packed in its pages: each fill has room in one, and a fill is begun only behind one that isn't
 -- empty, by a close frame or for a record that doesn't fit
 abbrev pub RunsArePacked : Type 0
-RunsArePacked = (n size start : ℕ) (c : Core) → IsReached n size start c → IsPacked c.history size
+RunsArePacked = (n size start : ℕ) (c : Core) → IsRingKept n size start c → IsPacked c.history size
 
 -- in a packed history every fill but the last holds a record
 abbrev pub PackedFillsAreFull : Type 0
@@ -31,13 +31,13 @@ PackedFillsAreFull = (history : List Action) (size k : ℕ)
 -- each record takes 8 bytes at least, and so many fills were begun: so many records at most were reserved
 abbrev pub RecordsAreFew : Type 0
 RecordsAreFew = (n size start : ℕ) (c : Core)
-    → IsReached n size start c
+    → IsRingKept n size start c
     → 8 * length (reserved_records c.history) ≤ size * (c.opened - start)
 
 -- so the records of a ring have numbers below 2 ^ 61, whatever its run
 abbrev pub RecordNumbersFit : Type 0
 RecordNumbersFit = (n size start : ℕ) (c : Core)
-    → IsReached n size start c
+    → IsRingKept n size start c
     → size ≤ MAX_SIZE
     → length (reserved_records c.history) < 2 ^ 61
 
@@ -47,7 +47,7 @@ HoldRecords taken = (k : ℕ) (t : Taken) → slice_get taken k ≡ Some t → t
 
 -- so no page that the reader takes is empty
 abbrev pub TakenHoldRecords : Type 0
-TakenHoldRecords = (n size start : ℕ) (c : Core) → IsReached n size start c → HoldRecords c.reader.taken
+TakenHoldRecords = (n size start : ℕ) (c : Core) → IsRingKept n size start c → HoldRecords c.reader.taken
 
 -- ---- the partition
 
@@ -64,21 +64,21 @@ CommittedIsPrefix = (history : List Action)
 -- rest; and each has as its first number the count of all records in front of it
 abbrev pub TakenPartitionCommitted : Type 0
 TakenPartitionCommitted = (n size start : ℕ) (c : Core)
-    → IsReached n size start c
+    → IsRingKept n size start c
     → ((rest : List Record) × IsPartition (committed_records c.history) (pieces_of c.reader.taken) rest)
     × HaveFirsts c.reader.taken
 
 -- and each of these is a fill of what the frames did, whole and under that fill's number, which rise
 abbrev pub TakenAreFills : Type 0
 TakenAreFills = (n size start : ℕ) (c : Core)
-    → IsReached n size start c
+    → IsRingKept n size start c
     → AreFillsOf start c.history c.reader.taken
 
 -- ---- the rest
 
--- the records of the fills of a history but the first ones, joined
-abbrev pub records_behind : List Action → ℕ → List Reservation
-records_behind history fills = flat_map (λ fill. fill) (drop fills (fills_of history))
+-- the records of the fills of a history, joined, but for those of the first ones
+abbrev pub records_from : List Action → ℕ → List Reservation
+records_from history fills = flat_map (λ fill. fill) (drop fills (fills_of history))
 
 -- Behind the pieces that the reader took stand the records of the fills that were lost since. Then comes the
 -- rest: what lies behind the last fill that was taken or lost, from the head's first number on. With no frame
@@ -86,10 +86,10 @@ records_behind history fills = flat_map (λ fill. fill) (drop fills (fills_of hi
 pub record IsRest (start : ℕ) (c : Core) (lost rest : List Record) : Type 0 where
   pub partition : IsPartition (committed_records c.history) (pieces_of c.reader.taken) (lost ++ rest)
   pub behind : length (committed_records c.history) ≡ first_of_fill c.history start c.head + length rest
-  pub at_rest : c.frames ≡ [] → rest ≡ map as_record (records_behind c.history (c.head - start))
+  pub at_rest : c.frames ≡ [] → rest ≡ map as_record (records_from c.history (c.head - start))
 
 -- there is such a rest
 abbrev pub RestIsUnread : Type 0
 RestIsUnread = (n size start : ℕ) (c : Core)
-    → IsReached n size start c
+    → IsRingKept n size start c
     → (lost rest : List Record) × IsRest start c lost rest

@@ -2,12 +2,8 @@
 use Rattle.std.specs.Prelude.{◌≡◌, ℕ, ◌+◌, ◌-◌, ◌<◌, ◌≤◌, List, [], ◌∷◌, length, slice_index_or}
 use Rattle.trace_model.specs.History.{Action, Reservation, reserved_records, settled_prefix}
 use Rattle.trace_model.specs.Packing.{opens_of, cut_from}
+use Rattle.trace_model.specs.Fitting.{IsRising}
 use Rattle.trace_model.specs.Ring.{Held, empty_page, Core, page_at, first_of_fill}
-
--- these cuts rise from one to another, none of them below the one before it
-abbrev pub IsRising : ℕ → List ℕ → ℕ → Type 0
-IsRising from [] to = from ≤ to
-IsRising from (cut ∷ cuts) to = (from ≤ cut) × IsRising cut cuts to
 
 -- a fill as the cuts give it: its records, from its first number on
 abbrev pub cut_fill : ℕ → List ℕ → List Reservation → ℕ → Held
@@ -42,3 +38,11 @@ ClosedAt start history done = first_of_fill history start done ≤ length (reser
 
 abbrev pub ClosedKept : ℕ → Core → Type 0
 ClosedKept start c = ClosedAt start c.history c.done
+
+-- The writer holds the pages of the fills that are begun and not closed, the oldest first.
+pub record OpenPagesAt (n : ℕ) (order open_pages : List ℕ) (done opened : ℕ) : Type 0 where
+  pub count : done + length open_pages ≡ opened
+  pub each : (i : ℕ) → i < length open_pages → slice_index_or open_pages i 0 ≡ page_at n order (done + i)
+
+abbrev pub OpenPagesKept : ℕ → Core → Type 0
+OpenPagesKept n c = OpenPagesAt n c.order c.open_pages c.done c.opened

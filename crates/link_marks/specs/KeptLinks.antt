@@ -3,7 +3,7 @@
 use Rattle.std.specs.Prelude.{◌≡◌, ◌≢◌, ℕ, suc, ◌+◌, ◌<◌, ◌≤◌, ◌⊎◌, List, [], ◌∷◌, length, Option, Some, None}
 use Rattle.trace_model.specs.declared.limits.TheConstants.{MIN_PAGES, LINK_FILLS}
 use Rattle.trace_model.specs.Links.{Link, normal_link, header_link, update_link}
-use Rattle.trace_model.specs.Frames.{Phase, reserving, looking, claiming, looking_next, marking, clearing, opening, reserved, releasing, Frame, noted_fill, owned_update}
+use Rattle.trace_model.specs.Frames.{Phase, idle, looking, claiming, looking_next, marking, clearing, opening, releasing, wishing, Frame, noted_fill, owned_update}
 use Rattle.trace_model.specs.Ring.{link_into, page_at, ReaderPhase, loading_link, loading_done, storing_link, swapping, Core, AreApart}
 
 -- a frame of these has set the UPDATE at the position of fill f and not yet cleared it
@@ -26,39 +26,39 @@ spot fill page = record { fill = fill; page = page }
 
 -- the fill and its page, where the frame has found the head moved on from that position
 abbrev pub passed_spot : Phase → Option Spot
-passed_spot reserving = None
+passed_spot idle = None
 passed_spot (looking o) = None
 passed_spot (claiming o page) = None
 passed_spot (looking_next role o page) = Some (spot o page)
 passed_spot (marking role o page next) = Some (spot o page)
 passed_spot (clearing o page) = Some (spot o page)
 passed_spot (opening o page) = Some (spot o page)
-passed_spot (reserved number) = None
 passed_spot releasing = None
+passed_spot wishing = None
 
 -- the fill and the next page, where the frame is about to set the HEADER
 abbrev pub marking_spot : Phase → Option Spot
-marking_spot reserving = None
+marking_spot idle = None
 marking_spot (looking o) = None
 marking_spot (claiming o page) = None
 marking_spot (looking_next role o page) = None
 marking_spot (marking role o page next) = Some (spot o next)
 marking_spot (clearing o page) = None
 marking_spot (opening o page) = None
-marking_spot (reserved number) = None
 marking_spot releasing = None
+marking_spot wishing = None
 
 -- the fill whose UPDATE the frame is about to clear
 abbrev pub clearing_fill : Phase → Option ℕ
-clearing_fill reserving = None
+clearing_fill idle = None
 clearing_fill (looking o) = None
 clearing_fill (claiming o page) = None
 clearing_fill (looking_next role o page) = None
 clearing_fill (marking role o page next) = None
 clearing_fill (clearing o page) = Some o
 clearing_fill (opening o page) = None
-clearing_fill (reserved number) = None
 clearing_fill releasing = None
+clearing_fill wishing = None
 
 -- What a frame knows in its phase. noted: the fill to open was the next one, and some page was released.
 -- passed: the position of that fill is free but for an UPDATE. moves: its own UPDATE stands. marks: the next
@@ -130,7 +130,8 @@ ReaderKept n links order spare_link head done hint (swapping page fill) =
     × (fill < done)
     × (spare_link ≡ header_link (page_at n order (suc fill)) (suc fill))
 
--- What every step keeps of links, counts, frames and the reader.
+-- What every step keeps of links, counts, frames and the reader, who has seen no more fills closed than are, and
+-- wishes for none but the one behind those.
 pub record LinksKept (n : ℕ) (c : Core) : Type 0 where
   pub some_pages : MIN_PAGES ≤ n
   pub positions : length c.links ≡ n
@@ -143,4 +144,6 @@ pub record LinksKept (n : ℕ) (c : Core) : Type 0 where
   pub frames : FramesKept n c.links c.order c.head c.done c.opened c.frames
   pub movers : MoversDiffer c.frames
   pub hint_le : c.reader.hint ≤ c.head
+  pub seen_le : c.reader.seen ≤ c.done
+  pub wish_le : c.wish ≤ c.done + 1
   pub reader : ReaderKept n c.links c.order c.spare_link c.head c.done c.reader.hint c.reader.phase

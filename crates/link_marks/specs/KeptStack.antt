@@ -1,20 +1,34 @@
 -- What each step of a ring keeps of its stack of frames, whatever its links are.
 -- docs/FORMATS.md, "Writer frames".
-use Rattle.std.specs.Prelude.{◌≡◌, ℕ, ◌+◌, ◌≤◌, List, [], ◌∷◌, length}
+use Rattle.std.specs.Prelude.{◌≡◌, ◌≢◌, ℕ, ◌+◌, ◌≤◌, List, [], ◌∷◌, length}
 use Rattle.trace_model.specs.declared.limits.TheConstants.{MAX_FRAMES}
-use Rattle.trace_model.specs.Frames.{Frame, releasing}
+use Rattle.trace_model.specs.Frames.{Kind, for_record, for_close, FrameState, waiting, reserved, left, Phase, idle, releasing, wishing, Frame}
 use Rattle.trace_model.specs.Ring.{Core}
 
--- of these frames, the top first, none closes fills but the one at the bottom
-abbrev pub BottomReleases : List Frame → Type 0
-BottomReleases [] = Unit {0}
-BottomReleases (frame ∷ below) = (frame.phase ≡ releasing → below ≡ []) × BottomReleases below
+abbrev pub IsForRecord : Kind → Type 0
+IsForRecord (for_record moment len) = Unit {0}
+IsForRecord for_close = ⊥
 
--- No more than MAX_FRAMES frames stand, and none but the bottom one closes fills; where none stands, all fills
--- that are begun are closed but the tail.
+-- The phases of a frame in its state. Only a record frame has reserved, and then it has noted nothing; a frame
+-- closes fills and looks for a wish only when it has left, and then it doesn't rest.
+abbrev pub MayBeIn : Kind → FrameState → Phase → Type 0
+MayBeIn kind waiting phase = (phase ≢ releasing) × (phase ≢ wishing)
+MayBeIn kind (reserved number) phase = IsForRecord kind × (phase ≡ idle)
+MayBeIn kind left phase = phase ≢ idle
+
+-- of these frames, the top first, each is in a phase of its state, and none has left but the one at the bottom
+abbrev pub FramesAgree : List Frame → Type 0
+FramesAgree [] = Unit {0}
+FramesAgree (frame ∷ below) =
+    MayBeIn frame.kind frame.state frame.phase
+    × (frame.state ≡ left → below ≡ [])
+    × FramesAgree below
+
+-- No more than MAX_FRAMES frames stand, and they agree; where none stands, all fills that are begun are closed but
+-- the tail.
 pub record StackAt (done opened : ℕ) (frames : List Frame) : Type 0 where
   pub few : length frames ≤ MAX_FRAMES
-  pub bottom : BottomReleases frames
+  pub agree : FramesAgree frames
   pub at_rest : frames ≡ [] → done + 1 ≡ opened
 
 abbrev pub StackKept : Core → Type 0

@@ -1,22 +1,28 @@
 -- the crate's links as the model's
 pub mod ModelLinks
--- the invariant that every step of a ring keeps: of links, history, pages and partition, and all of it; and
--- what it keeps of the stack of frames
+-- the invariant that every step of a ring keeps: of links, the stack, progress, history, pages, packing and
+-- partition, and all of it
 pub mod KeptLinks
+pub mod KeptStack
+pub mod KeptProgress
 pub mod KeptHistory
 pub mod KeptContents
+pub mod KeptPacking
 pub mod KeptPartition
 pub mod RingKept
-pub mod KeptStack
--- the states that steps reach, and a run told as deeds of the window
+-- the states that steps reach, a run told as deeds of the window, and the writer's private steps
 pub mod Reached
 pub mod ToldRuns
+pub mod Seats
 -- the laws, by subject
 pub mod RingLaws
 pub mod WindowLaws
 pub mod LinkLaws
 pub mod HistoryLaws
+pub mod PayloadLaws
 pub mod AnswerLaws
+pub mod SeatLaws
+pub mod WishLaws
 -- worked examples, and wrong steps
 pub mod Examples
 pub mod WrongSteps

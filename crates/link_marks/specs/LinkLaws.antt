@@ -6,12 +6,11 @@ use Rattle.trace_model.specs.Frames.{Frame, owned_update}
 use Rattle.trace_model.specs.Ring.{link_into, page_at, Core}
 use Rattle.trace_model.specs.Steps.{Event, steps, reads, Answer, Step, Exchange, Run}
 use Rattle.link_marks.specs.RingKept.{IsRingKept}
-use Rattle.link_marks.specs.Reached.{IsReached}
 
 -- where the spare's number has a place in a word, all links of a ring have words, and so has the spare's
 abbrev pub LinksFitWords : Type 0
 LinksFitWords = (n size start : ℕ) (c : Core)
-    → IsReached n size start c
+    → IsRingKept n size start c
     → n < LINK_PAGES
     → All FitsWord c.links × FitsWord c.spare_link
 
@@ -22,7 +21,7 @@ age_of l = 3 * l.fill + mark_code l.mark
 -- a step leaves the link into a position as it was, or makes it one of a greater age
 abbrev pub StepsRaiseLinks : Type 0
 StepsRaiseLinks = (n size start : ℕ) (c : Core) (event : Event) (answer : Answer) (after : Core) (f : ℕ)
-    → IsRingKept n start c
+    → IsRingKept n size start c
     → Step n size c event answer after
     → (link_into n after.links f ≡ link_into n c.links f)
     ⊎ (age_of (link_into n c.links f) < age_of (link_into n after.links f))
@@ -30,7 +29,7 @@ StepsRaiseLinks = (n size start : ℕ) (c : Core) (event : Event) (answer : Answ
 -- a link that was replaced at its position never comes back: so a compare and exchange that comes late fails
 abbrev pub LinksStandOnce : Type 0
 LinksStandOnce = (n size start : ℕ) (c between after : Core) (exchanges more : List Exchange) (f : ℕ)
-    → IsRingKept n start c
+    → IsRingKept n size start c
     → Run n size c exchanges between
     → Run n size between more after
     → link_into n between.links f ≢ link_into n c.links f
@@ -38,8 +37,8 @@ LinksStandOnce = (n size start : ℕ) (c between after : Core) (exchanges more :
 
 -- a HEADER tells the head, and just one position has it
 abbrev pub OneHeader : Type 0
-OneHeader = (n start : ℕ) (c : Core) (f g page other_page fill other_fill : ℕ)
-    → IsRingKept n start c
+OneHeader = (n size start : ℕ) (c : Core) (f g page other_page fill other_fill : ℕ)
+    → IsRingKept n size start c
     → link_into n c.links f ≡ header_link page fill
     → link_into n c.links g ≡ header_link other_page other_fill
     → (fill ≡ c.head) × (other_fill ≡ fill) × (other_page ≡ page) × (g % n ≡ f % n)
@@ -57,7 +56,7 @@ pub record IsHeaderSet (n : ℕ) (c : Core) (event : Event) (after : Core) (f pa
 
 abbrev pub HeadersAreOwed : Type 0
 HeadersAreOwed = (n size start : ℕ) (c : Core) (event : Event) (answer : Answer) (after : Core) (f page fill : ℕ)
-    → IsRingKept n start c
+    → IsRingKept n size start c
     → Step n size c event answer after
     → link_into n c.links f ≢ header_link page fill
     → link_into n after.links f ≡ header_link page fill
@@ -68,7 +67,7 @@ HeadersAreOwed = (n size start : ℕ) (c : Core) (event : Event) (answer : Answe
 abbrev pub HeadersAreSetOnce : Type 0
 HeadersAreSetOnce = (n size start : ℕ) (c between : Core) (exchanges : List Exchange)
     (event : Event) (answer : Answer) (after : Core) (f g page other_page fill : ℕ)
-    → IsRingKept n start c
+    → IsRingKept n size start c
     → link_into n c.links f ≡ header_link page fill
     → Run n size c exchanges between
     → Step n size between event answer after
@@ -91,7 +90,7 @@ pub record IsClaimed (n : ℕ) (c : Core) (event : Event) (after : Core) (f page
 
 abbrev pub UpdatesAreClaimed : Type 0
 UpdatesAreClaimed = (n size start : ℕ) (c : Core) (event : Event) (answer : Answer) (after : Core) (f page lost : ℕ)
-    → IsRingKept n start c
+    → IsRingKept n size start c
     → Step n size c event answer after
     → link_into n c.links f ≢ update_link page lost
     → link_into n after.links f ≡ update_link page lost
@@ -111,7 +110,7 @@ pub record IsCleared (n : ℕ) (c : Core) (event : Event) (after : Core) (f page
 
 abbrev pub OwnersClear : Type 0
 OwnersClear = (n size start : ℕ) (c : Core) (event : Event) (answer : Answer) (after : Core) (f page lost : ℕ)
-    → IsRingKept n start c
+    → IsRingKept n size start c
     → Step n size c event answer after
     → link_into n c.links f ≡ update_link page lost
     → link_into n after.links f ≢ update_link page lost

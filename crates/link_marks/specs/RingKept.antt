@@ -1,15 +1,23 @@
--- What every step of a ring keeps: the ring's invariant as an induction needs it.
+-- The ring's invariant: what holds of every state that a ring's steps reach, and what each step keeps; from it all
+-- laws of a ring follow, and that each event has its step.
 use Rattle.std.specs.Prelude.{ℕ}
 use Rattle.trace_model.specs.Ring.{Core}
 use Rattle.link_marks.specs.KeptLinks.{LinksKept}
+use Rattle.link_marks.specs.KeptStack.{StackKept}
+use Rattle.link_marks.specs.KeptProgress.{ProgressKept}
 use Rattle.link_marks.specs.KeptHistory.{HistoryKept}
-use Rattle.link_marks.specs.KeptContents.{ContentsKept, ClosedKept}
+use Rattle.link_marks.specs.KeptContents.{ContentsKept, OpenPagesKept, ClosedKept}
+use Rattle.link_marks.specs.KeptPacking.{PackedKept}
 use Rattle.link_marks.specs.KeptPartition.{PartitionKept}
 
--- n positions; the first fill has the number start
-pub record IsRingKept (n start : ℕ) (c : Core) : Type 0 where
+-- n positions, and pages of this size; the first fill has the number start
+pub record IsRingKept (n size start : ℕ) (c : Core) : Type 0 where
   pub links : LinksKept n c
+  pub stack : StackKept c
+  pub progress : ProgressKept n c
   pub history : HistoryKept n start c
   pub contents : ContentsKept n start c
+  pub open_pages : OpenPagesKept n c
+  pub packed : PackedKept size c
   pub closed : ClosedKept start c
   pub partition : PartitionKept start c

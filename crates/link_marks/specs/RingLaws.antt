@@ -3,18 +3,17 @@ use Rattle.std.specs.Prelude.{◌≡◌, ℕ, ◌+◌, ◌≤◌, List, [], ◌�
 use Rattle.trace_model.specs.declared.limits.TheConstants.{MAX_FRAMES}
 use Rattle.trace_model.specs.Words.{slot_len}
 use Rattle.trace_model.specs.Window.{first_window}
-use Rattle.trace_model.specs.Frames.{for_record, reserved, releasing, Frame}
+use Rattle.trace_model.specs.Frames.{for_record, reserved, left, releasing, wishing, Frame}
 use Rattle.trace_model.specs.Ring.{Core, IsStart, IsRing, window_of}
-use Rattle.trace_model.specs.Steps.{Event, pushes, pushes_close, steps, ends, reads, Answer, Step, Exchange, Run}
+use Rattle.trace_model.specs.Steps.{Event, pushes, pushes_close, steps, ends, reads, wishes, Answer, Step, Exchange, Run}
 use Rattle.link_marks.specs.Reached.{MayStart, IsReached}
 use Rattle.link_marks.specs.RingKept.{IsRingKept}
-use Rattle.link_marks.specs.KeptStack.{StackKept}
 
 -- ---- the invariant
 
 -- a new ring has what every step keeps
 abbrev pub StartIsKept : Type 0
-StartIsKept = (n start : ℕ) (c : Core) → MayStart n start → IsStart n start c → IsRingKept n start c
+StartIsKept = (n size start : ℕ) (c : Core) → MayStart n start → IsStart n start c → IsRingKept n size start c
 
 -- its window is the first one
 abbrev pub StartHasWindow : Type 0
@@ -23,47 +22,40 @@ StartHasWindow = (n start : ℕ) (c : Core) → IsStart n start c → window_of 
 -- every step keeps it, whatever frames stand and whatever UPDATEs they own
 abbrev pub StepsKeepRing : Type 0
 StepsKeepRing = (n size start : ℕ) (c : Core) (event : Event) (answer : Answer) (after : Core)
-    → IsRingKept n start c
+    → IsRingKept n size start c
     → Step n size c event answer after
-    → IsRingKept n start after
+    → IsRingKept n size start after
 
 -- where it holds, the state is a ring
 abbrev pub KeptIsRing : Type 0
-KeptIsRing = (n start : ℕ) (c : Core) → IsRingKept n start c → IsRing n start c
+KeptIsRing = (n size start : ℕ) (c : Core) → IsRingKept n size start c → IsRing n start c
 
--- so every state that steps reach is a ring
-abbrev pub RunsMakeRings : Type 0
-RunsMakeRings = (n size start : ℕ) (c : Core) → IsReached n size start c → IsRing n start c
+-- so it holds of every state that steps reach, and each of these is a ring
+abbrev pub ReachedIsKept : Type 0
+ReachedIsKept = (n size start : ℕ) (c : Core) → IsReached n size start c → IsRingKept n size start c
+
+abbrev pub ReachedIsRing : Type 0
+ReachedIsRing = (n size start : ℕ) (c : Core) → IsReached n size start c → IsRing n start c
 
 -- ---- the stack of frames
 
--- a new ring has what its steps keep of the stack
-abbrev pub StartHasStack : Type 0
-StartHasStack = (n start : ℕ) (c : Core) → IsStart n start c → StackKept c
-
--- every step keeps it
-abbrev pub StepsKeepStack : Type 0
-StepsKeepStack = (n size : ℕ) (c : Core) (event : Event) (answer : Answer) (after : Core)
-    → StackKept c
-    → Step n size c event answer after
-    → StackKept after
-
--- so in every state that steps reach no more than MAX_FRAMES frames stand
+-- no more than MAX_FRAMES frames stand
 abbrev pub FewFramesStand : Type 0
-FewFramesStand = (n size start : ℕ) (c : Core) → IsReached n size start c → length c.frames ≤ MAX_FRAMES
+FewFramesStand = (n size start : ℕ) (c : Core) → IsRingKept n size start c → length c.frames ≤ MAX_FRAMES
 
--- a frame that closes fills stands at the bottom
-abbrev pub ReleasesStandAtBottom : Type 0
-ReleasesStandAtBottom = (n size start : ℕ) (c : Core) (k : ℕ) (frame : Frame)
-    → IsReached n size start c
+-- a frame that has left, which alone closes fills and looks for a wish, stands at the bottom
+abbrev pub OnlyTheBottomHasLeft : Type 0
+OnlyTheBottomHasLeft = (n size start : ℕ) (c : Core) (k : ℕ) (frame : Frame)
+    → IsRingKept n size start c
     → slice_get c.frames k ≡ Some frame
-    → frame.phase ≡ releasing
-    → k + 1 ≡ length c.frames
+    → (frame.state ≡ left → k + 1 ≡ length c.frames)
+    × (frame.phase ≡ releasing → frame.state ≡ left)
+    × (frame.phase ≡ wishing → frame.state ≡ left)
 
 -- and where no frame stands, all fills that are begun are closed but the tail
 abbrev pub AllIsClosedAtRest : Type 0
 AllIsClosedAtRest = (n size start : ℕ) (c : Core)
-    → IsReached n size start c
+    → IsRingKept n size start c
     → c.frames ≡ []
     → c.done + 1 ≡ c.opened
 
@@ -83,15 +75,16 @@ MayAsk c pushes_close = Unit {0}
 MayAsk c steps = Unit {0}
 MayAsk c (ends payload) = (frame : Frame) (below : List Frame) (number moment len : ℕ)
     → c.frames ≡ frame ∷ below
-    → frame.phase ≡ reserved number
+    → frame.state ≡ reserved number
     → frame.kind ≡ for_record moment len
     → slot_len (length payload) ≡ slot_len len
 MayAsk c reads = Unit {0}
+MayAsk c wishes = Unit {0}
 
--- in every state that steps reach, each event is a step: it has an answer and a state after it
+-- each event is a step: it has an answer and a state after it
 abbrev pub EachEventIsAStep : Type 0
 EachEventIsAStep = (n size start : ℕ) (c : Core) (event : Event)
-    → IsReached n size start c
+    → IsRingKept n size start c
     → MayAsk c event
     → (answer : Answer) × (after : Core) × Step n size c event answer after
 

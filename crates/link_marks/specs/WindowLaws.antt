@@ -1,7 +1,7 @@
 -- The laws of a ring's window, as statements: each is a clause of a function of src/laws/windows.rt.
 use Rattle.std.specs.Prelude.{◌≡◌, ℕ, ◌+◌, ◌<◌, ◌≤◌, ◌⊎◌, List, [], ◌∷◌, ◌++◌, IsTrue, Contains}
 use Rattle.trace_model.specs.History.{is_settled, open_fill}
-use Rattle.trace_model.specs.Window.{Window, Deed, WindowRun, Happening, WindowStep, opened_one, released_one, took_one, lost_one}
+use Rattle.trace_model.specs.Window.{Deed, Happening, WindowStep, opened_one, released_one, took_one, lost_one}
 use Rattle.trace_model.specs.Ring.{Taken, Core, window_of}
 use Rattle.trace_model.specs.Steps.{Event, Answer, swapped, Step, Exchange, Run}
 use Rattle.trace_model.specs.Sublist.{IsPrefix}
@@ -11,7 +11,7 @@ use Rattle.link_marks.specs.ToldRuns.{fills_taken, fills_lost, IsToldBy}
 
 -- ---- steps
 
--- A happening as the state shows it. Where a fill is begun, the history has one more open; where one is taken,
+-- A happening as the state shows it. Where a fill is begun, the history has one more open_fill; where one is taken,
 -- it is the head, and the last page that the reader took; and else a happening changes neither.
 abbrev pub IsShown : Core → Core → Happening → Type 0
 IsShown c after opened_one = IsPrefix (c.history ++ open_fill ∷ []) after.history × (after.reader ≡ c.reader)
@@ -37,7 +37,7 @@ WindowStays c after = (window_of after ≡ window_of c) × (after.reader.taken �
 -- taken, closed; or the head is lost, closed and in a full ring
 abbrev pub StepsMoveWindow : Type 0
 StepsMoveWindow = (n size start : ℕ) (c : Core) (event : Event) (answer : Answer) (after : Core)
-    → IsRingKept n start c
+    → IsRingKept n size start c
     → Step n size c event answer after
     → WindowStays c after ⊎ ((what : Happening) × Happened n c what after)
 
@@ -66,14 +66,14 @@ HeadIsLost n c after = (c.opened ≡ c.head + n) × (after.head ≡ c.head + 1) 
 -- the head stays, is taken, or is lost in a full ring
 abbrev pub LossesNeedAFullRing : Type 0
 LossesNeedAFullRing = (n size start : ℕ) (c : Core) (event : Event) (answer : Answer) (after : Core)
-    → IsRingKept n start c
+    → IsRingKept n size start c
     → Step n size c event answer after
     → (after.head ≡ c.head) ⊎ (HeadIsTaken c answer after ⊎ HeadIsLost n c after)
 
 -- no fill is closed; or the oldest one is, where each push has its leave
 abbrev pub ClosesNeedNoFrame : Type 0
 ClosesNeedNoFrame = (n size start : ℕ) (c : Core) (event : Event) (answer : Answer) (after : Core)
-    → IsRingKept n start c
+    → IsRingKept n size start c
     → Step n size c event answer after
     → (after.done ≡ c.done) ⊎ (IsTrue (is_settled c.history) × (after.done ≡ c.done + 1))
 
@@ -86,38 +86,47 @@ RunsMoveWindow = (n size start : ℕ) (c : Core)
     → IsReached n size start c
     → (deeds : List Deed) × IsToldBy n start c deeds
 
+-- and the deeds of a longer run go on from those of a shorter one
+abbrev pub RunsExtendDeeds : Type 0
+RunsExtendDeeds = (n size start : ℕ) (c after : Core) (exchanges : List Exchange) (deeds : List Deed)
+    → IsRingKept n size start c
+    → IsToldBy n start c deeds
+    → Run n size c exchanges after
+    → (more : List Deed) × IsToldBy n start after (deeds ++ more)
+
 -- over a run the counts only rise: so what was once passed, closed or begun stays so
 abbrev pub CountsRise : Type 0
 CountsRise = (n size start : ℕ) (c after : Core) (exchanges : List Exchange)
-    → IsRingKept n start c
+    → IsRingKept n size start c
     → Run n size c exchanges after
     → (c.head ≤ after.head) × (c.done ≤ after.done) × (c.opened ≤ after.opened)
 
 -- each fill from the start to the head was taken or lost
 abbrev pub PassedAreTakenOrLost : Type 0
-PassedAreTakenOrLost = (n start : ℕ) (deeds : List Deed) (w : Window) (f : ℕ)
-    → WindowRun n start deeds w
+PassedAreTakenOrLost = (n start : ℕ) (c : Core) (deeds : List Deed) (f : ℕ)
+    → IsToldBy n start c deeds
     → start ≤ f
-    → f < w.head
+    → f < c.head
     → Contains (fills_taken start deeds) f ⊎ Contains (fills_lost start deeds) f
 
 -- no fill is both taken and lost
 abbrev pub NoneIsTakenAndLost : Type 0
-NoneIsTakenAndLost = (start : ℕ) (deeds : List Deed) (f : ℕ)
+NoneIsTakenAndLost = (n start : ℕ) (c : Core) (deeds : List Deed) (f : ℕ)
+    → IsToldBy n start c deeds
     → Contains (fills_taken start deeds) f
     → Contains (fills_lost start deeds) f
     → ⊥
 
 -- a fill that was taken had been closed
 abbrev pub TakenAreClosed : Type 0
-TakenAreClosed = (n start : ℕ) (deeds : List Deed) (w : Window) (f : ℕ)
-    → WindowRun n start deeds w
+TakenAreClosed = (n start : ℕ) (c : Core) (deeds : List Deed) (f : ℕ)
+    → IsToldBy n start c deeds
     → Contains (fills_taken start deeds) f
-    → (start ≤ f) × (f < w.head) × (f < w.done)
+    → (start ≤ f) × (f < c.head) × (f < c.done)
 
 -- so had one that was lost; and a whole round of fills is begun behind it
 abbrev pub LostAreClosed : Type 0
-LostAreClosed = (n start : ℕ) (deeds : List Deed) (w : Window) (f : ℕ)
-    → WindowRun n start deeds w
+LostAreClosed = (n start : ℕ) (c : Core) (deeds : List Deed) (f : ℕ)
+    → IsToldBy n start c deeds
     → Contains (fills_lost start deeds) f
-    → (start ≤ f) × (f < w.head) × (f < w.done) × (f + n ≤ w.opened)
+    → (start ≤ f) × (f < c.head) × (f < c.done) × (f + n ≤ c.opened)

@@ -5,7 +5,7 @@ use Rattle.std.proofs.lemmas.Bool.{cond-true, cond-false}
 use Rattle.std.proofs.lemmas.List.Concat.{flat_map-append}
 use Rattle.trace_model.specs.Record.{Record}
 use Rattle.trace_model.specs.Words.{slot_len, padded}
-use Rattle.trace_model.specs.History.{Action, push, push_close, reserve, leave, Reservation, Frame, WriterState, last_moment, reservation_for, records_with_payload, after_action, writer_after, reserved_records, is_settled, settled_prefix_within, as_record, committed_records}
+use Rattle.trace_model.specs.History.{Action, push, push_close, reserve, leave, Reservation, PushedFrame, WriterState, last_moment, reservation_for, records_with_payload, after_action, writer_after, reserved_records, is_settled, settled_prefix_within, as_record, committed_records}
 use Rattle.text_model.specs.Script.{Command, write, close}
 use Rattle.text_model.specs.Replay.{is_writable, actions_of, history_of_lines}
 use Rattle.trace_model.proofs.HistoryPrefixes.{writer-append}
@@ -42,7 +42,7 @@ write_acts records moment payload =
 
 -- what is written so far, where no frame stands
 written_none : (history : List Action) → (writer_after history).stack ≡ [] → writer_after history ≡ (let w : WriterState = record { stack = []; records = reserved_records history } in w)
-written_none history none = ap (λ (s : List Frame). let w : WriterState = record { stack = s; records = reserved_records history } in w) none
+written_none history none = ap (λ (s : List PushedFrame). let w : WriterState = record { stack = s; records = reserved_records history } in w) none
 
 written_behind : (history actions : List Action) → (writer_after history).stack ≡ [] → writer_after (history ++ actions) ≡ fold (λ v a. after_action v.stack v.records a) (let w : WriterState = record { stack = []; records = reserved_records history } in w) actions
 written_behind history actions none =

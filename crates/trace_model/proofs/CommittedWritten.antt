@@ -3,7 +3,7 @@ use Rattle.std.proofs.Common.{◌≡◌, ◌⊎◌, inl, inr, ⊎_elim, ℕ, zer
 use Rattle.std.specs.List.{All, AllByRecursion}
 use Rattle.std.proofs.lemmas.List.Elements.{All-from_recursion}
 use Rattle.trace_model.specs.Words.{slot_len, padded}
-use Rattle.trace_model.specs.History.{Action, push, push_close, open_fill, reserve, leave, Reservation, IsWritten, Frame, record_frame, close_frame, WriterState, reservation_for, records_with_payload, after_reserve, records_after_leave, after_action, writer_after, reserved_records, settled_prefix, MayAct, IsHistory}
+use Rattle.trace_model.specs.History.{Action, push, push_close, open_fill, reserve, leave, wished, Reservation, IsWritten, PushedFrame, record_frame, close_frame, WriterState, reservation_for, records_with_payload, after_reserve, records_after_leave, after_action, writer_after, reserved_records, settled_prefix, MayAct, IsHistory}
 use Rattle.trace_model.proofs.Lengths.{length-padded}
 use Rattle.trace_model.proofs.HistoryPrefixes.{none_stands, settled_within}
 use Rattle.trace_model.proofs.Allowed.{AreAllowed, allowed-IsHistory, AreAllowed-front}
@@ -62,21 +62,21 @@ abbrev HasItsRecord : List Reservation → ℕ → Option ℕ → Type 0
 HasItsRecord records len None = Unit {0}
 HasItsRecord records len (Some number) = (number < length records) × ((r : Reservation) → StandsAt number records r → r.len ≡ slot_len len)
 
-abbrev IsFrameOf : List Reservation → Frame → Type 0
+abbrev IsFrameOf : List Reservation → PushedFrame → Type 0
 IsFrameOf records (record_frame moment len number) = HasItsRecord records len number
 IsFrameOf records close_frame = Unit {0}
 
-abbrev HasNumber : ℕ → Frame → Type 0
+abbrev HasNumber : ℕ → PushedFrame → Type 0
 HasNumber k (record_frame moment len number) = number ≡ Some k
 HasNumber k close_frame = ⊥
 
 -- a frame with this number stands
-abbrev Stands : ℕ → List Frame → Type 0
+abbrev Stands : ℕ → List PushedFrame → Type 0
 Stands k [] = ⊥
 Stands k (f ∷ stack) = HasNumber k f ⊎ Stands k stack
 
 -- each record is written, or its frame stands
-record IsKept (stack : List Frame) (records : List Reservation) : Type 0 where
+record IsKept (stack : List PushedFrame) (records : List Reservation) : Type 0 where
   frames : AllByRecursion (IsFrameOf records) stack
   each : (k : ℕ) (r : Reservation) → StandsAt k records r → IsWritten r ⊎ Stands k stack
 
@@ -94,12 +94,12 @@ HasItsRecord-push records last len (Some number) h =
     let below : number < length records = h.0 in
     (omega (arith, length-append records (last ∷ [])), λ r at. ⊎_elim (h.1 r) (λ new. let past : number ≡ length records = new.0 in absurd (omega arith)) (StandsAt-push number records last r at))
 
-frames-push : (records : List Reservation) (last : Reservation) (stack : List Frame) → AllByRecursion (IsFrameOf records) stack → AllByRecursion (IsFrameOf (records ++ last ∷ [])) stack
+frames-push : (records : List Reservation) (last : Reservation) (stack : List PushedFrame) → AllByRecursion (IsFrameOf records) stack → AllByRecursion (IsFrameOf (records ++ last ∷ [])) stack
 frames-push records last [] h = tt
 frames-push records last (record_frame moment len number ∷ stack) h = (HasItsRecord-push records last len number h.0, frames-push records last stack h.1)
 frames-push records last (close_frame ∷ stack) h = (tt, frames-push records last stack h.1)
 
-reserve-IsKept : (moment len : ℕ) (number : Option ℕ) (stack : List Frame) (records : List Reservation) → number ≡ None → IsKept (record_frame moment len number ∷ stack) records → (let w = after_reserve (record_frame moment len number) stack records in IsKept w.stack w.records)
+reserve-IsKept : (moment len : ℕ) (number : Option ℕ) (stack : List PushedFrame) (records : List Reservation) → number ≡ None → IsKept (record_frame moment len number ∷ stack) records → (let w = after_reserve (record_frame moment len number) stack records in IsKept w.stack w.records)
 reserve-IsKept moment len (Some number) stack records none h = absurd (none_is_no_number number (sym none))
 reserve-IsKept moment len None stack records none h =
     let last = reservation_for moment len records in
@@ -126,7 +126,7 @@ HasItsRecord-finished number payload records len (Some other) h = (
       (StandsAt-finished number payload records other r at),
 )
 
-frames-finished : (number : ℕ) (payload : List ℕ) (records : List Reservation) (stack : List Frame) → AllByRecursion (IsFrameOf records) stack → AllByRecursion (IsFrameOf (records_with_payload (Some number) (Some payload) records)) stack
+frames-finished : (number : ℕ) (payload : List ℕ) (records : List Reservation) (stack : List PushedFrame) → AllByRecursion (IsFrameOf records) stack → AllByRecursion (IsFrameOf (records_with_payload (Some number) (Some payload) records)) stack
 frames-finished number payload records [] h = tt
 frames-finished number payload records (record_frame moment len other ∷ stack) h = (HasItsRecord-finished number payload records len other h.0, frames-finished number payload records stack h.1)
 frames-finished number payload records (close_frame ∷ stack) h = (tt, frames-finished number payload records stack h.1)
@@ -136,7 +136,7 @@ written_with-IsWritten : (payload : List ℕ) (len : ℕ) (before r : Reservatio
 written_with-IsWritten payload len before r is slot fits =
     subst IsWritten is (length-padded payload ∙ fits ∙ sym slot)
 
-leave-IsKept : (f : Frame) (stack : List Frame) (records : List Reservation) (payload : Option (List ℕ)) → MayAct (f ∷ stack) (leave payload) → IsKept (f ∷ stack) records → IsKept stack (records_after_leave f payload records)
+leave-IsKept : (f : PushedFrame) (stack : List PushedFrame) (records : List Reservation) (payload : Option (List ℕ)) → MayAct (f ∷ stack) (leave payload) → IsKept (f ∷ stack) records → IsKept stack (records_after_leave f payload records)
 leave-IsKept (record_frame moment len None) stack records payload may h = record {
   frames = h.frames.1;
   each = λ k r at. ⊎_elim (λ done. inl done) (λ stands. inr (⊎_elim (λ e. absurd (none_is_no_number k e)) (λ below. below) stands)) (h.each k r at);
@@ -156,7 +156,7 @@ leave-IsKept close_frame stack records payload may h = record {
 
 -- ---- a whole history
 
-after_action-IsKept : (stack : List Frame) (records : List Reservation) (a : Action) → MayAct stack a → IsKept stack records → (let w = after_action stack records a in IsKept w.stack w.records)
+after_action-IsKept : (stack : List PushedFrame) (records : List Reservation) (a : Action) → MayAct stack a → IsKept stack records → (let w = after_action stack records a in IsKept w.stack w.records)
 after_action-IsKept stack records (push moment len) may h = record {
   frames = (tt, h.frames);
   each = λ k r at. ⊎_elim (λ done. inl done) (λ stands. inr (inr stands)) (h.each k r at);
@@ -171,6 +171,7 @@ after_action-IsKept (record_frame moment len number ∷ stack) records reserve m
 after_action-IsKept (close_frame ∷ stack) records reserve may h = h
 after_action-IsKept [] records (leave payload) may h = h
 after_action-IsKept (f ∷ stack) records (leave payload) may h = leave-IsKept f stack records payload may h
+after_action-IsKept stack records wished may h = h
 
 fold-IsKept : (w : WriterState) (history : List Action) → AreAllowed w history → IsKept w.stack w.records → (let v = fold (λ v a. after_action v.stack v.records a) w history in IsKept v.stack v.records)
 fold-IsKept w [] allowed h = h

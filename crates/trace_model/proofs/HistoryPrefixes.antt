@@ -1,6 +1,6 @@
 -- The records reserved in a settled prefix of a history are a prefix of all that it reserves.
 use Rattle.std.proofs.Common.{◌≡◌, ◌⊎◌, inl, inr, ⊎_elim, ℕ, zero, suc, ◌≤◌, Bool, true, false, cond, List, [], ◌∷◌, ◌++◌, length, take, drop, fold, Option, Some, None, refl, sym, ap, ◌∙◌, arith, append_assoc, append-nil, take-append-drop, length-append}
-use Rattle.trace_model.specs.History.{Action, push, push_close, open_fill, reserve, leave, Reservation, Frame, record_frame, close_frame, WriterState, reservation_for, records_with_payload, after_reserve, records_after_leave, after_action, writer_after, reserved_records, is_settled, settled_prefix_within, settled_prefix}
+use Rattle.trace_model.specs.History.{Action, push, push_close, open_fill, reserve, leave, wished, Reservation, PushedFrame, record_frame, close_frame, WriterState, reservation_for, records_with_payload, after_reserve, records_after_leave, after_action, writer_after, reserved_records, is_settled, settled_prefix_within, settled_prefix}
 use Rattle.trace_model.specs.Sublist.{IsPrefix}
 
 -- a frame that has no record yet, or one behind the first n
@@ -8,11 +8,11 @@ abbrev pub HasNumberFrom : ℕ → Option ℕ → Type 0
 HasNumberFrom n None = Unit {0}
 HasNumberFrom n (Some number) = n ≤ number
 
-abbrev pub IsFrameFrom : ℕ → Frame → Type 0
+abbrev pub IsFrameFrom : ℕ → PushedFrame → Type 0
 IsFrameFrom n (record_frame moment len number) = HasNumberFrom n number
 IsFrameFrom n close_frame = Unit {0}
 
-abbrev pub AreFramesFrom : ℕ → List Frame → Type 0
+abbrev pub AreFramesFrom : ℕ → List PushedFrame → Type 0
 AreFramesFrom n [] = Unit {0}
 AreFramesFrom n (f ∷ stack) = IsFrameFrom n f × AreFramesFrom n stack
 
@@ -41,7 +41,7 @@ record IsBehind (xs : List Reservation) (w : WriterState) : Type 0 where
   frames : AreFramesFrom (length xs) w.stack
   front : IsPrefix xs w.records
 
-reserving_keeps : (xs : List Reservation) (f : Frame) (stack : List Frame) (records : List Reservation) → IsFrameFrom (length xs) f → AreFramesFrom (length xs) stack → IsPrefix xs records → IsBehind xs (after_reserve f stack records)
+reserving_keeps : (xs : List Reservation) (f : PushedFrame) (stack : List PushedFrame) (records : List Reservation) → IsFrameFrom (length xs) f → AreFramesFrom (length xs) stack → IsPrefix xs records → IsBehind xs (after_reserve f stack records)
 reserving_keeps xs (record_frame moment len None) stack records f below h = record {
   frames = (reserved_above xs records h, below);
   front = reserved_keeps xs records (reservation_for moment len records) h;
@@ -49,11 +49,11 @@ reserving_keeps xs (record_frame moment len None) stack records f below h = reco
 reserving_keeps xs (record_frame moment len (Some number)) stack records f below h = record { frames = (f, below); front = h }
 reserving_keeps xs close_frame stack records f below h = record { frames = (tt, below); front = h }
 
-leaving_keeps : (xs : List Reservation) (f : Frame) (payload : Option (List ℕ)) (records : List Reservation) → IsFrameFrom (length xs) f → IsPrefix xs records → IsPrefix xs (records_after_leave f payload records)
+leaving_keeps : (xs : List Reservation) (f : PushedFrame) (payload : Option (List ℕ)) (records : List Reservation) → IsFrameFrom (length xs) f → IsPrefix xs records → IsPrefix xs (records_after_leave f payload records)
 leaving_keeps xs (record_frame moment len number) payload records f h = finished_keeps xs records number payload f h
 leaving_keeps xs close_frame payload records f h = h
 
-after_action_keeps : (xs : List Reservation) (stack : List Frame) (records : List Reservation) (a : Action) → AreFramesFrom (length xs) stack → IsPrefix xs records → IsBehind xs (after_action stack records a)
+after_action_keeps : (xs : List Reservation) (stack : List PushedFrame) (records : List Reservation) (a : Action) → AreFramesFrom (length xs) stack → IsPrefix xs records → IsBehind xs (after_action stack records a)
 after_action_keeps xs stack records (push moment len) f h = record { frames = (tt, f); front = h }
 after_action_keeps xs stack records push_close f h = record { frames = (tt, f); front = h }
 after_action_keeps xs stack records open_fill f h = record { frames = f; front = h }
@@ -62,6 +62,7 @@ after_action_keeps xs (top ∷ stack) records reserve f h = reserving_keeps xs t
 after_action_keeps xs [] records (leave payload) f h = record { frames = tt; front = h }
 after_action_keeps xs (top ∷ stack) records (leave payload) f h =
     record { frames = f.1; front = leaving_keeps xs top payload records f.0 h }
+after_action_keeps xs stack records wished f h = record { frames = f; front = h }
 
 fold_keeps : (xs : List Reservation) (w : WriterState) (history : List Action) → IsBehind xs w → IsBehind xs (fold (λ v a. after_action v.stack v.records a) w history)
 fold_keeps xs w [] h = h
@@ -73,7 +74,7 @@ writer-append w [] behind = refl
 writer-append w (a ∷ front) behind = writer-append (after_action w.stack w.records a) front behind
 
 -- where no frame stands, all that follows keeps the records
-stack_cases : (stack : List Frame) → (stack ≡ []) ⊎ ((f : Frame) × (below : List Frame) × (stack ≡ f ∷ below))
+stack_cases : (stack : List PushedFrame) → (stack ≡ []) ⊎ ((f : PushedFrame) × (below : List PushedFrame) × (stack ≡ f ∷ below))
 stack_cases [] = inl refl
 stack_cases (f ∷ stack) = inr (f, stack, refl)
 

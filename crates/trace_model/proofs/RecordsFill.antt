@@ -5,7 +5,7 @@ use Rattle.std.proofs.lemmas.List.{length-replicate}
 use Rattle.std.proofs.lemmas.List.Elements.{All-from_recursion, All-append, All-cons, All-nil, All-same}
 use Rattle.trace_model.specs.Record.{Record, IsRecord}
 use Rattle.trace_model.specs.Words.{Word, short_data, long_data, padding, time_extend, time_stamp, IsWord, records_at, records_behind, Decodes, padded}
-use Rattle.trace_model.specs.History.{Action, push, push_close, open_fill, reserve, leave, Reservation, Frame, record_frame, close_frame, WriterState, reservation_for, records_with_payload, after_reserve, records_after_leave, after_action, reserved_records, settled_prefix, as_record, committed_records}
+use Rattle.trace_model.specs.History.{Action, push, push_close, open_fill, reserve, leave, wished, Reservation, PushedFrame, record_frame, close_frame, WriterState, reservation_for, records_with_payload, after_reserve, records_after_leave, after_action, reserved_records, settled_prefix, as_record, committed_records}
 use Rattle.trace_model.proofs.Lengths.{slot_len-mod, length-padded}
 
 -- ---- committed records
@@ -41,16 +41,16 @@ reservation_for-whole : (moment len : ℕ) (records : List Reservation) → IsWh
 unfolding FillsWords
 reservation_for-whole moment len records = record { len = slot_len-mod len; bytes = tt }
 
-after_reserve-whole : (f : Frame) (stack : List Frame) (records : List Reservation) → AllByRecursion IsWhole records → AllByRecursion IsWhole (after_reserve f stack records).records
+after_reserve-whole : (f : PushedFrame) (stack : List PushedFrame) (records : List Reservation) → AllByRecursion IsWhole records → AllByRecursion IsWhole (after_reserve f stack records).records
 after_reserve-whole (record_frame moment len None) stack records h = push-whole records (reservation_for moment len records) h (reservation_for-whole moment len records)
 after_reserve-whole (record_frame moment len (Some number)) stack records h = h
 after_reserve-whole close_frame stack records h = h
 
-records_after_leave-whole : (f : Frame) (payload : Option (List ℕ)) (records : List Reservation) → AllByRecursion IsWhole records → AllByRecursion IsWhole (records_after_leave f payload records)
+records_after_leave-whole : (f : PushedFrame) (payload : Option (List ℕ)) (records : List Reservation) → AllByRecursion IsWhole records → AllByRecursion IsWhole (records_after_leave f payload records)
 records_after_leave-whole (record_frame moment len number) payload records h = records_with_payload-whole number payload records h
 records_after_leave-whole close_frame payload records h = h
 
-after_action-whole : (stack : List Frame) (records : List Reservation) (a : Action) → AllByRecursion IsWhole records → AllByRecursion IsWhole (after_action stack records a).records
+after_action-whole : (stack : List PushedFrame) (records : List Reservation) (a : Action) → AllByRecursion IsWhole records → AllByRecursion IsWhole (after_action stack records a).records
 after_action-whole stack records (push moment len) h = h
 after_action-whole stack records push_close h = h
 after_action-whole stack records open_fill h = h
@@ -58,6 +58,7 @@ after_action-whole [] records reserve h = h
 after_action-whole (f ∷ stack) records reserve h = after_reserve-whole f stack records h
 after_action-whole [] records (leave payload) h = h
 after_action-whole (f ∷ stack) records (leave payload) h = records_after_leave-whole f payload records h
+after_action-whole stack records wished h = h
 
 fold-whole : (w : WriterState) (history : List Action) → AllByRecursion IsWhole w.records → AllByRecursion IsWhole (fold (λ v a. after_action v.stack v.records a) w history).records
 fold-whole w [] h = h

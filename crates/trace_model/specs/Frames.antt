@@ -2,7 +2,10 @@
 -- After kernel/trace/ring_buffer.c (rb_reserve_next_event, rb_move_tail, rb_handle_head_page) and
 -- Documentation/trace/ring-buffer-design.rst, "Nested writes"; phase by phase in docs/FORMATS.md,
 -- "Writer frames".
-use Rattle.std.specs.Prelude.{ℕ, Option, Some, None}
+use Rattle.std.specs.Prelude.{ℕ, List, [], ◌∷◌, Option, Some, None}
+use Rattle.trace_model.specs.History.{PushedFrame, record_frame, close_frame}
+
+-- ---- the stack
 
 -- A record frame writes one record, pushed with its moment and its payload's length in bytes; a close
 -- frame only leaves the tail, where that holds a record.
@@ -10,45 +13,79 @@ pub data Kind : Type 0 where
   for_record : (moment len : ℕ) → Kind
   for_close : Kind
 
+-- What a frame is on the writer's stack. waiting: it has no record yet. reserved: its record has this number.
+-- left: it was ended or refused, or had nothing more to do, and stays only at the bottom, to close fills.
+pub data FrameState : Type 0 where
+  waiting : FrameState
+  reserved : (number : ℕ) → FrameState
+  left : FrameState
+
+-- the number of the frame's record, while it has reserved one
+abbrev pub number_of : FrameState → Option ℕ
+number_of waiting = None
+number_of (reserved number) = Some number
+number_of left = None
+
+-- a frame as the history has it
+abbrev pub pushed_frame : Kind → FrameState → PushedFrame
+pushed_frame (for_record moment len) state = record_frame moment len (number_of state)
+pushed_frame for_close state = close_frame
+
+-- the frames that haven't left, with this one on top
+abbrev pub pushed_onto : Kind → FrameState → List PushedFrame → List PushedFrame
+pushed_onto kind waiting below = pushed_frame kind waiting ∷ below
+pushed_onto kind (reserved number) below = pushed_frame kind (reserved number) ∷ below
+pushed_onto kind left below = below
+
+-- ---- the head's protocol
+
 -- Who moves the head: the frame that set the UPDATE, or one that found it.
 pub data Role : Type 0 where
   owner : Role
   helper : Role
 
--- How far a frame has come. noted: the number of begun fills when it found that it needs a page, which
--- is the number of the fill to open. page: the page at that fill's position. next: the page behind that.
--- reserved: its record has this number. releasing: it has left, stands alone, and closes fills.
+-- How far a frame has come with the ring's words. idle: it has noted nothing. noted: the number of begun fills
+-- when it found that it needs a page, which is the number of the fill to open. page: the page at that fill's
+-- position. next: the page behind that. releasing: it closes fills. wishing: none is left to close, and it looks
+-- for the reader's wish.
 pub data Phase : Type 0 where
-  reserving : Phase
+  idle : Phase
   looking : (noted : ℕ) → Phase
   claiming : (noted page : ℕ) → Phase
   looking_next : Role → (noted page : ℕ) → Phase
   marking : Role → (noted page next : ℕ) → Phase
   clearing : (noted page : ℕ) → Phase
   opening : (noted page : ℕ) → Phase
-  reserved : (number : ℕ) → Phase
   releasing : Phase
+  wishing : Phase
 
+-- A frame that has left and is about to open a fill closes the tail for the reader.
 pub record Frame : Type 0 where
   pub kind : Kind
+  pub state : FrameState
   pub phase : Phase
+
+-- the frames that haven't left, as the history has them
+abbrev pub pushed_frames : List Frame → List PushedFrame
+pushed_frames [] = []
+pushed_frames (frame ∷ below) = pushed_onto frame.kind frame.state (pushed_frames below)
 
 -- the fill that a frame is about to open, where it has noted one
 abbrev pub noted_fill : Phase → Option ℕ
-noted_fill reserving = None
+noted_fill idle = None
 noted_fill (looking o) = Some o
 noted_fill (claiming o page) = Some o
 noted_fill (looking_next role o page) = Some o
 noted_fill (marking role o page next) = Some o
 noted_fill (clearing o page) = Some o
 noted_fill (opening o page) = Some o
-noted_fill (reserved number) = None
 noted_fill releasing = None
+noted_fill wishing = None
 
 -- the fill to open, where at its position stands the UPDATE that the frame owns: it has set that, and not
 -- yet cleared it
 abbrev pub owned_update : Phase → Option ℕ
-owned_update reserving = None
+owned_update idle = None
 owned_update (looking o) = None
 owned_update (claiming o page) = None
 owned_update (looking_next owner o page) = Some o
@@ -57,8 +94,10 @@ owned_update (marking owner o page next) = Some o
 owned_update (marking helper o page next) = None
 owned_update (clearing o page) = Some o
 owned_update (opening o page) = None
-owned_update (reserved number) = None
 owned_update releasing = None
+owned_update wishing = None
+
+-- ---- refusals
 
 -- why a write is refused: docs/FORMATS.md, "Writer frames"
 pub data Refusal : Type 0 where

@@ -7,13 +7,15 @@ use Rattle.trace_model.specs.Words.{slot_len, padded}
 
 -- push: a record frame of this moment, for a payload of len bytes. push_close: a close frame, which only
 -- leaves the tail page. leave: of the frame on top, with the payload that it wrote, or without a record.
--- open_fill and reserve are of the frame on top.
+-- open_fill and reserve are of the frame on top. wished: where no frame stands, the outermost one, which has
+-- left, found that the reader wants the tail page, and goes on to begin the next fill.
 pub data Action : Type 0 where
   push : (moment len : ℕ) → Action
   push_close : Action
   open_fill : Action
   reserve : Action
   leave : (payload : Option (List ℕ)) → Action
+  wished : Action
 
 -- A record from its reservation on. Its bytes are open until its frame leaves.
 pub record Reservation : Type 0 where
@@ -25,15 +27,15 @@ pub record Reservation : Type 0 where
 abbrev pub IsWritten : Reservation → Type 0
 IsWritten r = IsSomeAnd r.bytes (λ bytes. length bytes ≡ r.len)
 
--- A frame on the stack. A record frame has what it was pushed with, and the number of its record once
--- it has reserved one.
-pub data Frame : Type 0 where
-  record_frame : (moment len : ℕ) (number : Option ℕ) → Frame
-  close_frame : Frame
+-- A frame that was pushed and hasn't left. A record frame has what it was pushed with, and the number of its
+-- record once it has reserved one.
+pub data PushedFrame : Type 0 where
+  record_frame : (moment len : ℕ) (number : Option ℕ) → PushedFrame
+  close_frame : PushedFrame
 
 -- the stack, the top first, and the reserved records, the first reservation first
 pub record WriterState : Type 0 where
-  pub stack : List Frame
+  pub stack : List PushedFrame
   pub records : List Reservation
 
 -- the moment of the last record, 0 where there is none
@@ -61,7 +63,7 @@ records_with_payload (Some (suc number)) (Some payload) (r ∷ records) =
     r ∷ records_with_payload (Some number) (Some payload) records
 
 -- a record frame without a record gets the next one; any other frame stays as it is
-abbrev pub after_reserve : Frame → List Frame → List Reservation → WriterState
+abbrev pub after_reserve : PushedFrame → List PushedFrame → List Reservation → WriterState
 after_reserve (record_frame moment len None) stack records = record {
   stack = record_frame moment len (Some (length records)) ∷ stack;
   records = records ++ reservation_for moment len records ∷ [];
@@ -73,12 +75,12 @@ after_reserve (record_frame moment len (Some number)) stack records = record {
 after_reserve close_frame stack records = record { stack = close_frame ∷ stack; records = records }
 
 -- the record of a frame that leaves gets its bytes, if it has one
-abbrev pub records_after_leave : Frame → Option (List ℕ) → List Reservation → List Reservation
+abbrev pub records_after_leave : PushedFrame → Option (List ℕ) → List Reservation → List Reservation
 records_after_leave (record_frame moment len number) payload records = records_with_payload number payload records
 records_after_leave close_frame payload records = records
 
 -- what an action makes of it; where no frame stands, reserve and leave do nothing
-abbrev pub after_action : List Frame → List Reservation → Action → WriterState
+abbrev pub after_action : List PushedFrame → List Reservation → Action → WriterState
 after_action stack records (push moment len) = record {
   stack = record_frame moment len None ∷ stack;
   records = records;
@@ -92,6 +94,7 @@ after_action (f ∷ stack) records (leave payload) = record {
   stack = stack;
   records = records_after_leave f payload records;
 }
+after_action stack records wished = record { stack = stack; records = records }
 
 -- what a history leaves, from nothing
 abbrev pub writer_after : List Action → WriterState
@@ -105,7 +108,7 @@ reserved_records history = (writer_after history).records
 abbrev pub is_settled : List Action → Bool
 is_settled history = has_none (writer_after history).stack
   where
-    has_none : List Frame → Bool
+    has_none : List PushedFrame → Bool
     has_none [] = true
     has_none (f ∷ stack) = false
 
@@ -130,34 +133,41 @@ abbrev pub committed_records : List Action → List Record
 committed_records history = map as_record (reserved_records (settled_prefix history))
 
 -- a reservation is a record frame's that has no record yet
-abbrev pub MayReserve : List Frame → Type 0
+abbrev pub MayReserve : List PushedFrame → Type 0
 MayReserve [] = ⊥
 MayReserve (record_frame moment len number ∷ stack) = number ≡ None
 MayReserve (close_frame ∷ stack) = ⊥
 
--- a fill is begun for a frame that has no record yet: a record frame that wants one, or a close frame
-abbrev pub MayOpen : List Frame → Type 0
-MayOpen [] = ⊥
+-- a fill is begun for a frame that has no record yet: a record frame that wants one, or a close frame; or, where
+-- none stands, by the outermost one, which has left
+abbrev pub MayOpen : List PushedFrame → Type 0
+MayOpen [] = ⊤
 MayOpen (record_frame moment len number ∷ stack) = number ≡ None
 MayOpen (close_frame ∷ stack) = ⊤
 
 -- A frame that has reserved leaves with a payload that takes just the slot which it was pushed for, to the
 -- last byte or with zeros behind it; any other frame leaves with none.
-abbrev pub MayLeave : List Frame → Option (List ℕ) → Type 0
+abbrev pub MayLeave : List PushedFrame → Option (List ℕ) → Type 0
 MayLeave [] payload = ⊥
 MayLeave (record_frame moment len None ∷ stack) payload = payload ≡ None
 MayLeave (record_frame moment len (Some number) ∷ stack) None = ⊥
 MayLeave (record_frame moment len (Some number) ∷ stack) (Some payload) = slot_len (length payload) ≡ slot_len len
 MayLeave (close_frame ∷ stack) payload = payload ≡ None
 
--- What may be done while these frames stand. A push may come at any time; all else is of the frame on
--- top, so one stands.
-abbrev pub MayAct : List Frame → Action → Type 0
+-- a wish is found where no frame stands
+abbrev pub MayWish : List PushedFrame → Type 0
+MayWish [] = ⊤
+MayWish (f ∷ stack) = ⊥
+
+-- What may be done while these frames stand. A push may come at any time; to reserve and to leave are of the
+-- frame on top, so one stands.
+abbrev pub MayAct : List PushedFrame → Action → Type 0
 MayAct stack (push moment len) = ⊤
 MayAct stack push_close = ⊤
 MayAct stack open_fill = MayOpen stack
 MayAct stack reserve = MayReserve stack
 MayAct stack (leave payload) = MayLeave stack payload
+MayAct stack wished = MayWish stack
 
 -- The discipline of the stack: each action is one that the frames standing behind the actions in front
 -- of it allow.

@@ -15,6 +15,7 @@ pub mod Packing
 -- a ring: its links, frames and counts, its state, and one step
 pub mod Links
 pub mod Frames
+pub mod Fitting
 pub mod Window
 pub mod Ring
 pub mod Steps

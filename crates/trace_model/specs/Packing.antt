@@ -1,10 +1,10 @@
 -- The fills of a CPU: which records stand in which page, and when a new page is begun.
 -- After kernel/trace/ring_buffer.c (rb_reserve_next_event, rb_move_tail): a record that doesn't fit in
 -- what the tail page has left goes to the next page. docs/FORMATS.md, "Record words", "The ring".
-use Rattle.std.specs.Prelude.{◌≡◌, ◌≢◌, ℕ, ◌+◌, ◌-◌, ◌<◌, ◌≤◌, true, false, List, [], ◌∷◌, ◌++◌, length, take, drop, map, Option, Some, None, slice_index_or}
+use Rattle.std.specs.Prelude.{◌≡◌, ◌≢◌, ℕ, ◌+◌, ◌-◌, ◌<◌, ◌≤◌, Bool, true, false, IsTrue, fold, List, [], ◌∷◌, ◌++◌, length, take, drop, map, Option, Some, None, slice_index_or}
 use Rattle.std.specs.List.{AllByRecursion}
 use Rattle.trace_model.specs.Words.{encoded_len, page_encoding}
-use Rattle.trace_model.specs.History.{Action, push, push_close, open_fill, reserve, leave, Reservation, Frame, record_frame, close_frame, writer_after, reserved_records, reservation_for, as_record}
+use Rattle.trace_model.specs.History.{Action, push, push_close, open_fill, reserve, leave, wished, Reservation, PushedFrame, record_frame, close_frame, writer_after, reserved_records, reservation_for, as_record}
 
 -- how many records were reserved in front of each open, in order
 abbrev pub opens_behind : List Action → List Action → List ℕ
@@ -15,6 +15,7 @@ opens_behind front (open_fill ∷ behind) =
     length (reserved_records front) ∷ opens_behind (front ++ open_fill ∷ []) behind
 opens_behind front (reserve ∷ behind) = opens_behind (front ++ reserve ∷ []) behind
 opens_behind front (leave payload ∷ behind) = opens_behind (front ++ leave payload ∷ []) behind
+opens_behind front (wished ∷ behind) = opens_behind (front ++ wished ∷ []) behind
 
 abbrev pub opens_of : List Action → List ℕ
 opens_of history = opens_behind [] history
@@ -57,7 +58,7 @@ abbrev pub FitsBehind : ℕ → List Reservation → Reservation → Type 0
 FitsBehind size records r = fill_len (records ++ r ∷ []) ≤ size
 
 -- what the frame on top would reserve: nothing for a close frame, and for one that has its record
-abbrev pub next_reservation_of : List Frame → List Reservation → Option Reservation
+abbrev pub next_reservation_of : List PushedFrame → List Reservation → Option Reservation
 next_reservation_of [] records = None
 next_reservation_of (record_frame moment len None ∷ stack) records = Some (reservation_for moment len records)
 next_reservation_of (record_frame moment len (Some number) ∷ stack) records = None
@@ -66,15 +67,28 @@ next_reservation_of (close_frame ∷ stack) records = None
 abbrev pub next_reservation : List Action → Option Reservation
 next_reservation history = next_reservation_of (writer_after history).stack (reserved_records history)
 
--- the frame on top is a close frame
-abbrev pub Closes : List Frame → Type 0
-Closes [] = ⊥
-Closes (record_frame moment len number ∷ stack) = ⊥
-Closes (close_frame ∷ stack) = Unit {0}
+-- the reader's wish was found since the last fill was begun
+abbrev pub is_wished : List Action → Bool
+is_wished history = fold wished_after false history
+  where
+    wished_after : Bool → Action → Bool
+    wished_after found (push moment len) = found
+    wished_after found push_close = found
+    wished_after found open_fill = false
+    wished_after found reserve = found
+    wished_after found (leave payload) = found
+    wished_after found wished = true
+
+-- The tail page may be left without a record that wants it: for the close frame on top; or, where no frame
+-- stands, for the reader, who wished for it.
+abbrev pub MayCloseTail : List Action → List PushedFrame → Type 0
+MayCloseTail front [] = IsTrue (is_wished front)
+MayCloseTail front (record_frame moment len number ∷ stack) = ⊥
+MayCloseTail front (close_frame ∷ stack) = Unit {0}
 
 -- What was done is packed in pages of this size: each fill has room in one; what is reserved fits behind
--- its fill; and a fill is begun only behind one that isn't empty, by a close frame or for a record that
--- doesn't fit.
+-- its fill; and a fill is begun only behind one that isn't empty, for a record that doesn't fit, by a close
+-- frame, or for the reader's wish.
 pub record IsPacked (history : List Action) (size : ℕ) : Type 0 where
   pub rooms : (k : ℕ) → k < length (fills_of history) → fill_len (slice_index_or (fills_of history) k []) ≤ size
   pub reserves : (front behind : List Action) (r : Reservation)
@@ -92,4 +106,4 @@ pub record IsPacked (history : List Action) (size : ℕ) : Type 0 where
   pub asked : (front behind : List Action)
       → history ≡ front ++ open_fill ∷ behind
       → next_reservation front ≡ None
-      → Closes (writer_after front).stack
+      → MayCloseTail front (writer_after front).stack

@@ -49,28 +49,37 @@ pub data ReaderPhase : Type 0 where
   storing_link : (page fill : ℕ) → ReaderPhase
   swapping : (page fill : ℕ) → ReaderPhase
 
--- hint: the least fill that the reader doesn't know to be taken or lost. expected: the number behind
--- the last record that it took. taken: the fills that it took, in order.
+-- hint: the least fill that the reader doesn't know to be taken or lost. seen: the greatest number of closed
+-- fills that it has seen. expected: the number behind the last record that it took. taken: the fills that it
+-- took, in order.
 pub record Reader : Type 0 where
   pub phase : ReaderPhase
   pub hint : ℕ
+  pub seen : ℕ
   pub expected : ℕ
   pub taken : List Taken
 
--- links: the link into each position. order: the page at each position. spare: the reader's page, outside
--- the ring, with its own link. held: what each page holds, by its number. history: what the frames did.
+-- Words of the ring: links, the link into each position; spare_link, that of the reader's page; done, opened and
+-- wish, of which the writer alone stores the first two, and the reader alone the last, as the number of closed
+-- fills that it knew, and one. head: the least fill that is neither taken nor lost. held: what each page holds, by
+-- its number.
+-- The writer's part: frames; open_pages, the pages of the fills that are begun and not closed, the oldest first;
+-- history, what the frames did. The reader's part: order, the page at each position; spare, the page outside the
+-- ring; reader.
 pub record Core : Type 0 where
   pub links : List Link
-  pub order : List ℕ
-  pub spare : ℕ
   pub spare_link : Link
-  pub head : ℕ
   pub done : ℕ
   pub opened : ℕ
-  pub frames : List Frame
-  pub reader : Reader
+  pub wish : ℕ
+  pub head : ℕ
   pub held : List Held
+  pub frames : List Frame
+  pub open_pages : List ℕ
   pub history : List Action
+  pub order : List ℕ
+  pub spare : ℕ
+  pub reader : Reader
 
 -- the three counts of the state
 abbrev pub window_of : Core → Window
@@ -80,7 +89,7 @@ window_of c = record { head = c.head; done = c.done; opened = c.opened }
 
 -- the reader of a new ring whose first fill has this number
 abbrev pub first_reader : ℕ → Reader
-first_reader start = record { phase = loading_link; hint = start; expected = 0; taken = [] }
+first_reader start = record { phase = loading_link; hint = start; seen = start; expected = 0; taken = [] }
 
 -- The state of a new ring of n positions whose first fill has this number: fill f lies on page f % n, the
 -- head is the first fill and the tail, and the spare is page n.
@@ -95,7 +104,9 @@ pub record IsStart (n start : ℕ) (c : Core) : Type 0 where
   pub head : c.head ≡ start
   pub done : c.done ≡ start
   pub opened : c.opened ≡ start + 1
+  pub wish : c.wish ≡ 0
   pub frames : c.frames ≡ []
+  pub open_pages : c.open_pages ≡ (start % n) ∷ []
   pub reader : c.reader ≡ first_reader start
   pub bodies : length c.held ≡ n + 1
   pub held : (page : ℕ) → page < n + 1 → slice_index_or c.held page empty_page ≡ empty_page
@@ -191,9 +202,10 @@ IsSwapReady n c (storing_link page fill) = Unit {0}
 IsSwapReady n c (swapping page fill) = c.spare_link ≡ header_link (page_at n c.order (suc fill)) (suc fill)
 
 -- The ring, between any two steps. Each position has a link, and each page a body; the pages go round; the
--- window keeps its order, from the first fill on, and the fills begun are those of the history; links behind
--- the head, and to it, are as above; pages hold their fills; what is closed is committed, and a fill that is
--- lost was lost in a full ring; and what a frame or the reader has seen is no more than was true.
+-- window keeps its order, from the first fill on, and the fills begun are those of the history; the reader wishes
+-- for no fill that isn't begun; links behind the head, and to it, are as above; pages hold their fills; what is
+-- closed is committed, and a fill that is lost was lost in a full ring; and what a frame or the reader has seen is
+-- no more than was true.
 pub record IsRing (n start : ℕ) (c : Core) : Type 0 where
   pub positions : length c.links ≡ n
   pub bodies : length c.held ≡ n + 1
@@ -203,6 +215,7 @@ pub record IsRing (n start : ℕ) (c : Core) : Type 0 where
   pub opened_le : c.opened ≤ c.head + n
   pub from_start : start ≤ c.head
   pub begun : c.opened ≡ start + length (fills_of c.history)
+  pub wish_le : c.wish ≤ c.opened
   pub behind_head : (f : ℕ) → c.head < f → f < c.head + n → IsBehindHead n c f
   pub at_head : IsAtHead n c
   pub contents : (f : ℕ) → c.head ≤ f → f < c.opened → HoldsFill n start c f

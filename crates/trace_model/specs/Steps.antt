@@ -2,29 +2,30 @@
 -- After kernel/trace/ring_buffer.c (rb_reserve_next_event, rb_move_tail, rb_handle_head_page, rb_commit,
 -- rb_get_reader_page, rb_head_page_replace) and docs/FORMATS.md, "Writer frames" and "The reader". A step
 -- reads or writes one word of the ring at most, with what goes with it in the frame or in the reader.
-use Rattle.std.specs.Prelude.{◌≡◌, ◌≢◌, ℕ, suc, ◌+◌, ◌-◌, ◌%◌, ◌<◌, ◌≤◌, ◌⊎◌, true, if◌then◌else◌, ◌==◌, nat_lt, List, [], ◌∷◌, ◌++◌, length, map, Option, Some, None, slice_index_or, slice_set}
+use Rattle.std.specs.Prelude.{◌≡◌, ◌≢◌, ℕ, suc, ◌+◌, ◌-◌, ◌%◌, ◌<◌, ◌≤◌, ◌⊎◌, true, if◌then◌else◌, ◌==◌, nat_lt, List, [], ◌∷◌, ◌++◌, length, map, Option, Some, None, drop, slice_index_or, slice_set}
 use Rattle.trace_model.specs.Words.{slot_len, encoded_len}
-use Rattle.trace_model.specs.History.{Action, push, push_close, open_fill, reserve, leave, Reservation, reservation_for, reserved_records, records_with_payload}
-use Rattle.trace_model.specs.Packing.{FitsBehind}
+use Rattle.trace_model.specs.History.{Action, push, push_close, open_fill, reserve, leave, wished, Reservation, reservation_for, reserved_records, records_with_payload}
+use Rattle.trace_model.specs.Packing.{tail_of, FitsBehind}
 use Rattle.trace_model.specs.Links.{Link, normal_link, header_link, update_link}
-use Rattle.trace_model.specs.Frames.{Kind, for_record, for_close, Role, owner, helper, Phase, reserving, looking, claiming, looking_next, marking, clearing, opening, reserved, releasing, Frame, Refusal, too_deep, too_long, late_moment, crowded, worn, no_frame, not_reserved}
+use Rattle.trace_model.specs.Frames.{Kind, for_record, for_close, FrameState, waiting, reserved, left, number_of, Role, owner, helper, Phase, idle, looking, claiming, looking_next, marking, clearing, opening, releasing, wishing, Frame, Refusal, too_deep, too_long, late_moment, crowded, worn, no_frame, not_reserved}
 use Rattle.trace_model.specs.declared.limits.TheConstants.{MAX_FRAMES, MOMENT_LIMIT, LINK_FILLS}
 use Rattle.trace_model.specs.Ring.{Held, empty_page, Taken, Reader, ReaderPhase, loading_link, loading_done, storing_link, swapping, Core, link_into, links_with, page_at}
 
 -- A frame is pushed, for a record or for a close; the frame on top makes one step, or is ended with its
 -- payload, which takes the slot that the record has; the reader makes one step, which begins a take where
--- none is under way.
+-- none is under way, or wishes for the tail page.
 pub data Event : Type 0 where
   pushes : (moment len : ℕ) → Event
   pushes_close : Event
   steps : Event
   ends : (payload : List ℕ) → Event
   reads : Event
+  wishes : Event
 
 -- going: the frame stands and hasn't reserved. reserved_as: its record has this number. pending, full:
 -- it was ended, with a frame below it or with none. gone: it has left the stack. reading: the take goes
 -- on. empty: no closed fill is unread, so many are closed. moving: a head move stands in the way, and
--- fills below this one are taken or lost. swapped: a fill is taken.
+-- fills below this one are taken or lost. swapped: a fill is taken. wished_for: the reader wished for this fill.
 pub data Answer : Type 0 where
   pushed : Answer
   going : Answer
@@ -37,6 +38,7 @@ pub data Answer : Type 0 where
   empty : (done : ℕ) → Answer
   moving : (fill : ℕ) → Answer
   swapped : Taken → Answer
+  wished_for : (fill : ℕ) → Answer
 
 -- ---- what a step makes of the state
 
@@ -46,7 +48,7 @@ with_action c action = record c { history = c.history ++ action ∷ [] }
 
 -- the frame on top goes on in this phase
 abbrev pub in_phase : Core → Frame → List Frame → Phase → Core
-in_phase c frame below phase = record c { frames = record { kind = frame.kind; phase = phase } ∷ below }
+in_phase c frame below phase = record c { frames = record frame { phase = phase } ∷ below }
 
 -- the link into the position of a fill is set
 abbrev pub with_link : ℕ → Core → ℕ → Link → Core
@@ -60,36 +62,38 @@ with_held c page h = record c { held = slice_set c.held page h }
 abbrev pub contents_of : Core → ℕ → Held
 contents_of c page = slice_index_or c.held page empty_page
 
--- the tail page
-abbrev pub tail_page : ℕ → Core → ℕ
-tail_page n c = page_at n c.order (c.opened - 1)
-
--- what the tail page holds
-abbrev pub tail_contents : ℕ → Core → Held
-tail_contents n c = contents_of c (tail_page n c)
+-- the tail page: the last one that the writer holds
+abbrev pub tail_page : Core → ℕ
+tail_page c = slice_index_or c.open_pages (length c.open_pages - 1) 0
 
 -- the reservation of a record of this moment, for a payload of len bytes, where it is made now
 abbrev pub new_reservation : Core → (moment len : ℕ) → Reservation
 new_reservation c moment len = reservation_for moment len (reserved_records c.history)
 
 -- the state in which a record is reserved: it stands last in the tail page
-abbrev pub with_reservation : ℕ → Core → Reservation → Core
-with_reservation n c r =
-    with_action (with_held c (tail_page n c) record {
-      first = (tail_contents n c).first;
-      records = (tail_contents n c).records ++ r ∷ [];
-    }) reserve
+abbrev pub with_reservation : Core → Reservation → Core
+with_reservation c r =
+    let tail : Held = contents_of c (tail_page c) in
+    with_action (with_held c (tail_page c) record { first = tail.first; records = tail.records ++ r ∷ [] }) reserve
 
--- The frame leaves: one with a frame below it is popped, and so is the last one where no fill is left to
--- close; else that one stays, to close them.
+-- the frame on top has reserved the record of this number
+abbrev pub in_reserved : Core → Frame → List Frame → ℕ → Core
+in_reserved c frame below number = record c {
+  frames = record frame { state = reserved number; phase = idle } ∷ below;
+}
+
+-- the phase of a frame that has left: it closes fills, or where none is left to close looks for a wish
+abbrev pub closing_phase : Core → Phase
+closing_phase c = if (c.done + 1) == c.opened then wishing else releasing
+
+-- The frame leaves: one with a frame below it is popped; the bottom one stays, to close fills.
 abbrev pub frames_after_leave : Core → Frame → List Frame → List Frame
-frames_after_leave c frame [] =
-    if (c.done + 1) == c.opened then [] else record { kind = frame.kind; phase = releasing } ∷ []
+frames_after_leave c frame [] = record frame { state = left; phase = closing_phase c } ∷ []
 frames_after_leave c frame (next ∷ below) = next ∷ below
 
-abbrev pub leave_answer : Core → List Frame → Answer
-leave_answer c [] = if (c.done + 1) == c.opened then gone else going
-leave_answer c (next ∷ below) = gone
+abbrev pub leave_answer : List Frame → Answer
+leave_answer [] = going
+leave_answer (next ∷ below) = gone
 
 -- what a page holds, with the payload of the record of this number
 abbrev pub held_with_payload : Option ℕ → Option (List ℕ) → Held → Held
@@ -102,40 +106,32 @@ held_with_payload (Some number) payload h = record {
       else records_with_payload (Some (number - h.first)) payload h.records;
 }
 
--- the number of the frame's record, once it has reserved
-abbrev pub number_in : Phase → Option ℕ
-number_in reserving = None
-number_in (looking o) = None
-number_in (claiming o page) = None
-number_in (looking_next role o page) = None
-number_in (marking role o page next) = None
-number_in (clearing o page) = None
-number_in (opening o page) = None
-number_in (reserved number) = Some number
-number_in releasing = None
-
 -- the number of the record that a frame leaves behind
-abbrev pub own_number : Kind → Phase → Option ℕ
-own_number (for_record moment len) phase = number_in phase
-own_number for_close phase = None
+abbrev pub own_number : Kind → FrameState → Option ℕ
+own_number (for_record moment len) state = number_of state
+own_number for_close state = None
 
 -- the state in which the frame has left
 abbrev pub after_leave : Core → Frame → List Frame → Option (List ℕ) → Core
 after_leave c frame below payload = record c {
   frames = frames_after_leave c frame below;
   history = c.history ++ leave payload ∷ [];
-  held = map (held_with_payload (own_number frame.kind frame.phase) payload) c.held;
+  held = map (held_with_payload (own_number frame.kind frame.state) payload) c.held;
 }
 
--- A page was begun by this frame or by another: a record frame tries again, a close frame has what it
--- wanted and leaves.
-abbrev pub after_begin : Kind → Core → Frame → List Frame → Core
-after_begin (for_record moment len) c frame below = in_phase c frame below reserving
-after_begin for_close c frame below = after_leave c frame below None
+-- A page was begun by this frame or by another: a record frame tries again; a close frame has what it wanted and
+-- leaves; one that has left goes on to close fills.
+abbrev pub after_begin : Kind → FrameState → Core → Frame → List Frame → Core
+after_begin (for_record moment len) waiting c frame below = in_phase c frame below idle
+after_begin for_close waiting c frame below = after_leave c frame below None
+after_begin kind (reserved number) c frame below = in_phase c frame below idle
+after_begin kind left c frame below = in_phase c frame below (closing_phase c)
 
-abbrev pub begin_answer : Kind → Core → List Frame → Answer
-begin_answer (for_record moment len) c below = going
-begin_answer for_close c below = leave_answer c below
+abbrev pub begin_answer : Kind → FrameState → List Frame → Answer
+begin_answer (for_record moment len) waiting below = going
+begin_answer for_close waiting below = leave_answer below
+begin_answer kind (reserved number) below = going
+begin_answer kind left below = going
 
 -- after the look at the next link: only the owner clears
 abbrev pub after_next : Role → ℕ → ℕ → Phase
@@ -148,10 +144,10 @@ GoesOn owner noted opened = Unit {0}
 GoesOn helper noted opened = noted ≡ opened
 
 -- the frame needs a page: its record doesn't fit in the tail page, or it closes one that holds a record
-abbrev pub NeedsPage : ℕ → ℕ → Core → Kind → Type 0
-NeedsPage n size c (for_record moment len) =
-    FitsBehind size (tail_contents n c).records (new_reservation c moment len) → ⊥
-NeedsPage n size c for_close = (tail_contents n c).records ≢ []
+abbrev pub NeedsPage : ℕ → Core → Kind → Type 0
+NeedsPage size c (for_record moment len) =
+    FitsBehind size (tail_of c.history) (new_reservation c moment len) → ⊥
+NeedsPage size c for_close = tail_of c.history ≢ []
 
 -- ---- the steps of a frame, phase by phase
 
@@ -162,31 +158,31 @@ pub data ReserveStep (n size : ℕ) (c : Core) (frame : Frame) (below : List Fra
   reserves : (moment len : ℕ) (r : Reservation)
       → frame.kind ≡ for_record moment len
       → r ≡ new_reservation c moment len
-      → FitsBehind size (tail_contents n c).records r
+      → FitsBehind size (tail_of c.history) r
       → answer ≡ reserved_as (length (reserved_records c.history))
-      → after ≡ in_phase (with_reservation n c r) frame below (reserved (length (reserved_records c.history)))
+      → after ≡ in_reserved (with_reservation c r) frame below (length (reserved_records c.history))
       → ReserveStep n size c frame below answer after
   finds_nothing :
       frame.kind ≡ for_close
-      → (tail_contents n c).records ≡ []
-      → answer ≡ leave_answer c below
+      → tail_of c.history ≡ []
+      → answer ≡ leave_answer below
       → after ≡ after_leave c frame below None
       → ReserveStep n size c frame below answer after
   is_crowded :
-      NeedsPage n size c frame.kind
+      NeedsPage size c frame.kind
       → c.opened ≡ c.done + n
       → answer ≡ refused crowded
       → after ≡ after_leave c frame below None
       → ReserveStep n size c frame below answer after
   is_worn :
-      NeedsPage n size c frame.kind
+      NeedsPage size c frame.kind
       → c.opened ≢ c.done + n
       → LINK_FILLS ≤ c.opened + n
       → answer ≡ refused worn
       → after ≡ after_leave c frame below None
       → ReserveStep n size c frame below answer after
   notes :
-      NeedsPage n size c frame.kind
+      NeedsPage size c frame.kind
       → c.opened ≢ c.done + n
       → c.opened + n < LINK_FILLS
       → answer ≡ going
@@ -197,8 +193,8 @@ pub data ReserveStep (n size : ℕ) (c : Core) (frame : Frame) (below : List Fra
 pub record BeginsAnew (c : Core) (frame : Frame) (below : List Frame) (noted : ℕ) (answer : Answer) (after : Core)
     : Type 0 where
   pub passed : noted ≢ c.opened
-  pub answer_is : answer ≡ begin_answer frame.kind c below
-  pub after_is : after ≡ after_begin frame.kind c frame below
+  pub answer_is : answer ≡ begin_answer frame.kind frame.state below
+  pub after_is : after ≡ after_begin frame.kind frame.state c frame below
 
 -- A load of the link into the position of the fill to open: the position is free, or its page is the head, or
 -- a frame below is moving the head.
@@ -313,12 +309,15 @@ pub data ClearStep (n : ℕ) (c : Core) (frame : Frame) (below : List Frame)
       → after ≡ in_phase (with_link n c noted (normal_link page noted)) frame below (opening noted page)
       → ClearStep n c frame below noted page answer after
 
--- The state in which the fill is begun: its page is empty, and its first record will be the next one that
--- is reserved.
+-- The state in which the fill is begun: the writer holds its page, which is empty, and its first record will be
+-- the next one that is reserved.
 abbrev pub with_new_tail : Core → ℕ → Core
 with_new_tail c page =
     let empty : Held = record { first = length (reserved_records c.history); records = [] } in
-    record (with_action (with_held c page empty) open_fill) { opened = c.opened + 1 }
+    record (with_action (with_held c page empty) open_fill) {
+      opened = c.opened + 1;
+      open_pages = c.open_pages ++ page ∷ [];
+    }
 
 -- A store of the number of begun fills.
 pub data OpenStep (n : ℕ) (c : Core) (frame : Frame) (below : List Frame)
@@ -329,29 +328,69 @@ pub data OpenStep (n : ℕ) (c : Core) (frame : Frame) (below : List Frame)
       → OpenStep n c frame below noted page answer after
   opens :
       noted ≡ c.opened
-      → answer ≡ begin_answer frame.kind (with_new_tail c page) below
-      → after ≡ after_begin frame.kind (with_new_tail c page) frame below
+      → answer ≡ begin_answer frame.kind frame.state below
+      → after ≡ after_begin frame.kind frame.state (with_new_tail c page) frame below
       → OpenStep n c frame below noted page answer after
 
--- A store of the number of closed fills; with the last one that is left to close, the frame is gone.
+-- the oldest fill that isn't closed is closed, and the writer lets its page go
+abbrev pub with_released : Core → Core
+with_released c = record c { done = c.done + 1; open_pages = drop 1 c.open_pages }
+
+-- A store of the number of closed fills; with the last one that is left to close, the frame looks for a wish.
 pub data ReleaseStep (c : Core) (frame : Frame) (below : List Frame) (answer : Answer) (after : Core)
     : Type 0 where
   releases :
       below ≡ []
       → c.done + 2 < c.opened
       → answer ≡ going
-      → after ≡ record c { done = c.done + 1 }
+      → after ≡ with_released c
       → ReleaseStep c frame below answer after
   releases_last :
       below ≡ []
       → c.done + 2 ≡ c.opened
-      → answer ≡ gone
-      → after ≡ record c { done = c.done + 1; frames = [] }
+      → answer ≡ going
+      → after ≡ in_phase (with_released c) frame below wishing
       → ReleaseStep c frame below answer after
+
+-- the reader wishes for the tail, which holds a record and isn't the last fill
+pub record IsGranted (n : ℕ) (c : Core) : Type 0 where
+  pub asks_tail : c.wish ≡ c.opened
+  pub holds_record : tail_of c.history ≢ []
+  pub numbers_left : c.opened + n < LINK_FILLS
+
+-- A load of the reader's wish: the frame closes the tail for it; or it closes what was begun meanwhile, or is gone.
+pub data WishStep (n : ℕ) (c : Core) (frame : Frame) (below : List Frame) (answer : Answer) (after : Core)
+    : Type 0 where
+  grants :
+      below ≡ []
+      → IsGranted n c
+      → answer ≡ going
+      → after ≡ in_phase (with_action c wished) frame below (looking c.opened)
+      → WishStep n c frame below answer after
+  closes_more :
+      below ≡ []
+      → (IsGranted n c → ⊥)
+      → c.done + 1 < c.opened
+      → answer ≡ going
+      → after ≡ in_phase c frame below releasing
+      → WishStep n c frame below answer after
+  goes_away :
+      below ≡ []
+      → (IsGranted n c → ⊥)
+      → c.done + 1 ≡ c.opened
+      → answer ≡ gone
+      → after ≡ record c { frames = [] }
+      → WishStep n c frame below answer after
+
+-- the step of a frame on top that has noted nothing
+abbrev pub IdleStep : ℕ → ℕ → Core → Frame → List Frame → FrameState → Answer → Core → Type 0
+IdleStep n size c frame below waiting answer after = ReserveStep n size c frame below answer after
+IdleStep n size c frame below (reserved number) answer after = (answer ≡ reserved_as number) × (after ≡ c)
+IdleStep n size c frame below left answer after = ⊥
 
 -- the step of the frame on top, in its phase
 abbrev pub FrameStep : ℕ → ℕ → Core → Frame → List Frame → Phase → Answer → Core → Type 0
-FrameStep n size c frame below reserving answer after = ReserveStep n size c frame below answer after
+FrameStep n size c frame below idle answer after = IdleStep n size c frame below frame.state answer after
 FrameStep n size c frame below (looking noted) answer after = LookStep n c frame below noted answer after
 FrameStep n size c frame below (claiming noted page) answer after = ClaimStep n c frame below noted page answer after
 FrameStep n size c frame below (looking_next role noted page) answer after =
@@ -360,8 +399,8 @@ FrameStep n size c frame below (marking role noted page next) answer after =
     MarkStep n c frame below role noted page next answer after
 FrameStep n size c frame below (clearing noted page) answer after = ClearStep n c frame below noted page answer after
 FrameStep n size c frame below (opening noted page) answer after = OpenStep n c frame below noted page answer after
-FrameStep n size c frame below (reserved number) answer after = (answer ≡ reserved_as number) × (after ≡ c)
 FrameStep n size c frame below releasing answer after = ReleaseStep c frame below answer after
+FrameStep n size c frame below wishing answer after = WishStep n c frame below answer after
 
 -- ---- the steps of the reader, phase by phase
 
@@ -394,17 +433,21 @@ pub data LoadStep (n : ℕ) (c : Core) (answer : Answer) (after : Core) : Type 0
       → after ≡ reader_at c loading_link least
       → LoadStep n c answer after
 
+-- the reader goes on in this phase, and has seen how many fills are closed
+abbrev pub reader_saw : Core → ReaderPhase → Core
+reader_saw c phase = record c { reader = record c.reader { phase = phase; seen = c.done } }
+
 -- A load of the number of closed fills.
 pub data LoadDoneStep (c : Core) (page fill : ℕ) (answer : Answer) (after : Core) : Type 0 where
   finds_none :
       c.done ≤ fill
       → answer ≡ empty c.done
-      → after ≡ reader_at c loading_link c.reader.hint
+      → after ≡ reader_saw c loading_link
       → LoadDoneStep c page fill answer after
   finds_closed :
       fill < c.done
       → answer ≡ reading
-      → after ≡ reader_at c (storing_link page fill) c.reader.hint
+      → after ≡ reader_saw c (storing_link page fill)
       → LoadDoneStep c page fill answer after
 
 -- the spare's link as it is stored before a swap: it will lead to the fill behind the one that is taken
@@ -430,6 +473,7 @@ abbrev pub reader_after : Core → ℕ → ℕ → Reader
 reader_after c page fill = record {
   phase = loading_link;
   hint = suc fill;
+  seen = c.reader.seen;
   expected = (contents_of c page).first + length (contents_of c page).records;
   taken = c.reader.taken ++ taken_fill c page fill ∷ [];
 }
@@ -467,6 +511,10 @@ ReadStep n c (loading_done page fill) answer after = LoadDoneStep c page fill an
 ReadStep n c (storing_link page fill) answer after = StoreStep n c page fill answer after
 ReadStep n c (swapping page fill) answer after = SwapStep n c page fill answer after
 
+-- the reader wishes for the fill behind those that it knows to be closed
+abbrev pub with_wish : Core → Core
+with_wish c = record c { wish = c.reader.seen + 1 }
+
 -- ---- the whole
 
 -- a record of len bytes has no room in an empty page of this size
@@ -494,7 +542,7 @@ pub data PushRefused (size : ℕ) (c : Core) (moment len : ℕ) : Refusal → Ty
 
 -- a frame of this kind is pushed
 abbrev pub with_frame : Core → Kind → Core
-with_frame c kind = record c { frames = record { kind = kind; phase = reserving } ∷ c.frames }
+with_frame c kind = record c { frames = record { kind = kind; state = waiting; phase = idle } ∷ c.frames }
 
 -- the answer to the end of a record above these frames
 abbrev pub end_answer : List Frame → Answer
@@ -543,7 +591,7 @@ pub data Step (n size : ℕ) (c : Core) (event : Event) (answer : Answer) (after
   end_step : (payload : List ℕ) (frame : Frame) (below : List Frame) (number moment len : ℕ)
       → event ≡ ends payload
       → c.frames ≡ frame ∷ below
-      → frame.phase ≡ reserved number
+      → frame.state ≡ reserved number
       → frame.kind ≡ for_record moment len
       → slot_len (length payload) ≡ slot_len len
       → answer ≡ end_answer below
@@ -558,13 +606,18 @@ pub data Step (n size : ℕ) (c : Core) (event : Event) (answer : Answer) (after
   end_early : (payload : List ℕ) (frame : Frame) (below : List Frame)
       → event ≡ ends payload
       → c.frames ≡ frame ∷ below
-      → number_in frame.phase ≡ None
+      → number_of frame.state ≡ None
       → answer ≡ refused not_reserved
       → after ≡ c
       → Step n size c event answer after
   read_step :
       event ≡ reads
       → ReadStep n c c.reader.phase answer after
+      → Step n size c event answer after
+  wish_step :
+      event ≡ wishes
+      → answer ≡ wished_for c.reader.seen
+      → after ≡ with_wish c
       → Step n size c event answer after
 
 -- what was asked of the ring, and what it answered

@@ -1,8 +1,8 @@
 -- The window of a ring of n positions: how many fills are taken or lost, closed, and begun, and what may
 -- happen to these counts. After kernel/trace/ring_buffer.c (rb_move_tail, rb_handle_head_page,
 -- rb_get_reader_page) and docs/FORMATS.md, "The ring".
-use Rattle.std.specs.Prelude.{◌≡◌, ℕ, ◌+◌, ◌<◌, ◌≤◌, List, [], ◌∷◌, ◌++◌, IsTrue}
-use Rattle.trace_model.specs.History.{Action, is_settled}
+use Rattle.std.specs.Prelude.{◌≡◌, ℕ, ◌+◌, ◌<◌, ◌≤◌, List, [], ◌∷◌, ◌++◌, IsTrue, Option, Some, None}
+use Rattle.trace_model.specs.History.{Action, push, push_close, open_fill, reserve, leave, wished, is_settled}
 
 -- head: the fills below it are taken or lost. done: those below it are closed, that is, released to
 -- the reader. opened: those below it are begun; the last of these is the tail.
@@ -45,23 +45,53 @@ pub record WindowStep (n : ℕ) (history : List Action) (before : Window) (happe
   pub may : MayHappen n history before happening
   pub after_is : after ≡ window_after before happening
 
--- what the frames do and what happens to the window, in one order
+-- What is done to a ring, in one order: what the frames do; and a fill is closed, taken by the reader, or lost to
+-- a writer. That a fill is begun is an action of the frames, and happens to the window with it.
 pub data Deed : Type 0 where
   acts : Action → Deed
-  happens : Happening → Deed
+  closes : Deed
+  takes : Deed
+  loses : Deed
 
 -- the actions among the deeds
 abbrev pub actions_of : List Deed → List Action
 actions_of [] = []
 actions_of (acts a ∷ deeds) = a ∷ actions_of deeds
-actions_of (happens h ∷ deeds) = actions_of deeds
+actions_of (closes ∷ deeds) = actions_of deeds
+actions_of (takes ∷ deeds) = actions_of deeds
+actions_of (loses ∷ deeds) = actions_of deeds
+
+-- what happens to the window with an action
+abbrev pub happens_with : Action → Option Happening
+happens_with (push moment len) = None
+happens_with push_close = None
+happens_with open_fill = Some opened_one
+happens_with reserve = None
+happens_with (leave payload) = None
+happens_with wished = None
+
+-- nothing happens, or what may
+abbrev pub MayPass : ℕ → List Action → Window → Option Happening → Type 0
+MayPass n history w None = Unit {0}
+MayPass n history w (Some what) = MayHappen n history w what
+
+-- the window behind it
+abbrev pub window_behind : Window → Option Happening → Window
+window_behind w None = w
+window_behind w (Some what) = window_after w what
 
 -- Behind a history, the deeds lead from one window to another.
 abbrev pub WindowRunFrom : ℕ → List Action → Window → List Deed → Window → Type 0
 WindowRunFrom n history before [] after = before ≡ after
-WindowRunFrom n history before (acts a ∷ deeds) after = WindowRunFrom n (history ++ a ∷ []) before deeds after
-WindowRunFrom n history before (happens h ∷ deeds) after =
-    MayHappen n history before h × WindowRunFrom n history (window_after before h) deeds after
+WindowRunFrom n history before (acts a ∷ deeds) after =
+    MayPass n history before (happens_with a)
+    × WindowRunFrom n (history ++ a ∷ []) (window_behind before (happens_with a)) deeds after
+WindowRunFrom n history before (closes ∷ deeds) after =
+    MayHappen n history before released_one × WindowRunFrom n history (window_after before released_one) deeds after
+WindowRunFrom n history before (takes ∷ deeds) after =
+    MayHappen n history before took_one × WindowRunFrom n history (window_after before took_one) deeds after
+WindowRunFrom n history before (loses ∷ deeds) after =
+    MayHappen n history before lost_one × WindowRunFrom n history (window_after before lost_one) deeds after
 
 -- the deeds of a ring from its start lead to this window
 abbrev pub WindowRun : ℕ → ℕ → List Deed → Window → Type 0

@@ -1,0 +1,80 @@
+-- The laws of the reader's wish, as statements: each is a clause of a function of src/laws/wishes.rt.
+use Rattle.std.specs.Prelude.{◌≡◌, ◌≢◌, ℕ, ◌+◌, ◌<◌, ◌≤◌, ◌⊎◌, List, [], ◌∷◌, length}
+use Rattle.trace_model.specs.declared.limits.TheConstants.{LINK_FILLS}
+use Rattle.trace_model.specs.Packing.{tail_of}
+use Rattle.trace_model.specs.Frames.{reserved, wishing, Frame}
+use Rattle.trace_model.specs.Ring.{Core, first_of_fill}
+use Rattle.trace_model.specs.Steps.{Event, steps, ends, reads, wishes, Answer, gone, full, empty, wished_for, IsGranted, Step, Exchange, Run}
+use Rattle.link_marks.specs.RingKept.{IsRingKept}
+use Rattle.link_marks.specs.WindowLaws.{HeadIsLost}
+
+-- the reader wishes for the fill behind those that it has seen closed, which is begun and no later than the first
+-- that isn't closed; and all else stays
+abbrev pub WishesAreHeld : Type 0
+WishesAreHeld = (n size start : ℕ) (c : Core) (answer : Answer) (after : Core)
+    → IsRingKept n size start c
+    → Step n size c wishes answer after
+    → (answer ≡ wished_for c.reader.seen)
+    × (after ≡ record c { wish = c.reader.seen + 1 })
+    × (c.reader.seen ≤ c.done)
+
+-- a frame leaves the stack by its look for a wish alone; and where the reader's wish is for the tail, that holds no
+-- record or is the last fill
+abbrev pub GoneHasLooked : Type 0
+GoneHasLooked = (n size start : ℕ) (c : Core) (event : Event) (answer : Answer) (after : Core)
+    (frame : Frame)
+    → IsRingKept n size start c
+    → c.frames ≡ frame ∷ []
+    → Step n size c event answer after
+    → after.frames ≡ []
+    → (frame.phase ≡ wishing)
+    × (answer ≡ gone)
+    × (c.wish ≡ c.done + 1 → (tail_of c.history ≡ []) ⊎ (LINK_FILLS ≤ c.opened + n))
+
+-- So a wish for the first fill that isn't closed is answered by the next outermost end that finds a record in the
+-- tail, the last fill aside: when that frame is gone, the fill is closed.
+abbrev pub WishesAreAnswered : Type 0
+WishesAreAnswered = (n size start : ℕ) (c after : Core) (exchanges : List Exchange) (frame : Frame)
+    → IsRingKept n size start c
+    → c.frames ≡ frame ∷ []
+    → frame.phase ≡ wishing
+    → c.wish ≡ c.done + 1
+    → tail_of c.history ≢ []
+    → c.opened + n < LINK_FILLS
+    → Run n size c exchanges after
+    → after.frames ≡ []
+    → c.done < after.done
+
+-- And the end's own record is on that page, where the frame has no fill to close before: it is in the tail, which
+-- is the first fill that isn't closed.
+abbrev pub EndsOnTheWishedPage : Type 0
+EndsOnTheWishedPage = (n size start : ℕ) (c : Core) (payload : List ℕ) (after : Core) (frame : Frame) (number : ℕ)
+    → IsRingKept n size start c
+    → c.frames ≡ frame ∷ []
+    → frame.state ≡ reserved number
+    → c.done + 1 ≡ c.opened
+    → Step n size c (ends payload) full after
+    → (first_of_fill c.history start c.done ≤ number)
+    × (number < first_of_fill c.history start c.done + length (tail_of c.history))
+
+-- behind an answer that nothing closed is unread, the reader has seen no more fills closed than are taken or lost
+abbrev pub EmptySeesTheHead : Type 0
+EmptySeesTheHead = (n size start : ℕ) (c : Core) (event : Event) (done : ℕ) (after : Core)
+    → IsRingKept n size start c
+    → Step n size c event (empty done) after
+    → (after.reader.seen ≡ done) × (after.head ≡ done)
+
+-- A wish right behind that answer loses no fill: from where it is granted, no fill is lost until the next one is
+-- begun, and that is begun behind a ring that isn't full.
+abbrev pub WishBehindEmptyLosesNone : Type 0
+WishBehindEmptyLosesNone = (n size start : ℕ) (c between : Core) (exchanges : List Exchange)
+    (event : Event) (answer : Answer) (after : Core)
+    → IsRingKept n size start c
+    → c.reader.seen ≤ c.head
+    → c.wish ≡ c.reader.seen + 1
+    → IsGranted n c
+    → Run n size c exchanges between
+    → between.opened ≡ c.opened
+    → Step n size between event answer after
+    → HeadIsLost n between after
+    → ⊥
