@@ -143,9 +143,9 @@ module _ (n size : ℕ) (c : Core) (frame : Frame) (below : List Frame) (k : Lin
       let some_pages = k.some_pages in let behind = k.done_lt in let le = k.wish_le in let asks = granted.asks_tail in
       subst (LinksKept n) (sym is) (rephased n c frame below k top (record frame { phase = looking c.opened }) c.held (c.history ++ wished ∷ [])
       (knows_looking n c.links c.order c.head c.done c.opened c.opened (behind, omega arith, omega arith, granted.numbers_left)) (sym (ap owned_update same)))
-  wish_kept answer after same (closes_more alone no more a is) =
+  wish_kept answer after same (closes_more alone denied more a is) =
       goes n size c frame below k top after releasing (knows_releasing n c.links c.order c.head c.done c.opened more) (sym (ap owned_update same)) is
-  wish_kept answer after same (goes_away alone no last a is) =
+  wish_kept answer after same (goes_away alone denied last a is) =
       subst (LinksKept n) (sym is) (subst (λ (fs : List Frame). LinksKept n (record c { frames = fs })) alone (popped n c frame below k top c.held c.history (ap owned_update same)))
 
 pub frame_kept : (n size : ℕ) (c : Core) (frame : Frame) (below : List Frame) (phase : Phase) (answer : Answer) (after : Core) → LinksKept n c → c.frames ≡ frame ∷ below → frame.phase ≡ phase → FrameStep n size c frame below phase answer after → LinksKept n after
