@@ -30,7 +30,7 @@ FramesAdvance n links head (frame ∷ below) = PhaseAdvances n links head frame.
 -- while the head's HEADER is owed, a position is free
 pub record ProgressAt (n : ℕ) (links : List Link) (head opened : ℕ) (frames : List Frame) : Type 0 where
   pub room : (seen : ℕ) → link_into n links head ≡ normal_link seen head → opened < head + n
-  pub frames : FramesAdvance n links head frames
+  pub advance : FramesAdvance n links head frames
 
 abbrev pub ProgressKept : ℕ → Core → Type 0
 ProgressKept n c = ProgressAt n c.links c.head c.opened c.frames

@@ -12,6 +12,7 @@ pub mod Walked
 pub mod WordFaults
 pub mod HistoryPrefixes
 pub mod Allowed
+pub mod NextAction
 pub mod CommittedWritten
 pub mod RecordsFill
 pub mod FirstFaults
