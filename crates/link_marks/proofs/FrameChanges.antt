@@ -1,14 +1,14 @@
 -- The frames change, and no word of the ring.
-use Rattle.std.proofs.Common.{◌≡◌, ℕ, ◌+◌, ◌⊎◌, List, [], ◌∷◌, ◌++◌, map, Option, Some, None, sym, ◌∙◌, subst, inl, inr, ⊎_elim, arith}
+use Rattle.std.proofs.Common.{◌≡◌, ℕ, ◌+◌, ◌⊎◌, List, [], ◌∷◌, ◌++◌, map, Option, Some, None, refl, sym, ◌∙◌, subst, inl, inr, ⊎_elim, arith}
 use Rattle.std.specs.Prelude.{◌==◌}
 use Rattle.std.proofs.lemmas.Bool.{cond_both, eqb-false}
 use Rattle.trace_model.specs.History.{Action, leave}
 use Rattle.trace_model.specs.Links.{Link}
-use Rattle.trace_model.specs.Frames.{Kind, for_record, for_close, Phase, reserving, releasing, Frame, owned_update}
+use Rattle.trace_model.specs.Frames.{Kind, for_record, for_close, FrameState, waiting, reserved, left, Phase, idle, releasing, wishing, Frame, owned_update}
 use Rattle.trace_model.specs.Ring.{Held, Core}
-use Rattle.trace_model.specs.Steps.{after_leave, after_begin, held_with_payload, own_number}
+use Rattle.trace_model.specs.Steps.{after_leave, after_begin, in_phase, closing_phase, held_with_payload, own_number}
 use Rattle.link_marks.specs.KeptLinks.{Stands, MoversDiffer, PhaseKept, FramesKept, LinkKept, is_normal, is_header, is_update, LinksKept}
-use Rattle.link_marks.proofs.FramePhases.{none_some, knows_reserving, knows_releasing}
+use Rattle.link_marks.proofs.FramePhases.{none_some, knows_idle, knows_releasing, knows_wishing}
 
 pub link_stays : (n : ℕ) (links : List Link) (order : List ℕ) (head : ℕ) (frames frames' : List Frame) (f : ℕ) → ((g : ℕ) → Stands frames g → Stands frames' g) → LinkKept n links order head frames f → LinkKept n links order head frames' f
 link_stays n links order head frames frames' f stays (is_normal e owed) = is_normal e (λ at. let (lost, is, st) = owed at in (lost, is, stays (lost + n) st))
@@ -31,6 +31,9 @@ restacked n c frames held history k kept differ stays = record {
   frames = kept;
   movers = differ;
   hint_le = k.hint_le;
+  seen_le = k.seen_le;
+  wish_le = k.wish_le;
+  spare_fits = k.spare_fits;
   reader = k.reader;
 }
 
@@ -51,9 +54,9 @@ module _ (n : ℕ) (c : Core) (frame : Frame) (below : List Frame) (k : LinksKep
   stands_top f st = subst (λ (fs : List Frame). Stands fs f) top st
 
   -- the frame on top goes on, with the UPDATE that it had
-  pub rephased : (phase : Phase) (held : List Held) (history : List Action) → PhaseKept n c.links c.order c.head c.done c.opened phase → owned_update phase ≡ owned_update frame.phase
-      → LinksKept n (record c { frames = record { kind = frame.kind; phase = phase } ∷ below; held = held; history = history })
-  rephased phase held history facts same = restacked n c (record { kind = frame.kind; phase = phase } ∷ below) held history k (facts, below_kept)
+  pub rephased : (next : Frame) (held : List Held) (history : List Action) → PhaseKept n c.links c.order c.head c.done c.opened next.phase → owned_update next.phase ≡ owned_update frame.phase
+      → LinksKept n (record c { frames = next ∷ below; held = held; history = history })
+  rephased next held history facts same = restacked n c (next ∷ below) held history k (facts, below_kept)
       ((λ f at st. top_alone f (sym same ∙ at) st), below_differ)
       (λ f st. ⊎_elim (λ at. inl (same ∙ at)) (λ b. inr b) (stands_top f st))
 
@@ -61,18 +64,25 @@ module _ (n : ℕ) (c : Core) (frame : Frame) (below : List Frame) (k : LinksKep
   pub popped : (held : List Held) (history : List Action) → owned_update frame.phase ≡ None → LinksKept n (record c { frames = below; held = held; history = history })
   popped held history none = restacked n c below held history k below_kept below_differ (λ f st. ⊎_elim (λ at. absurd (none_some (sym none ∙ at))) (λ b. b) (stands_top f st))
 
+-- what a frame that has left knows, where it closes fills or looks for a wish
+pub knows_closing : (n : ℕ) (c : Core) → LinksKept n c → PhaseKept n c.links c.order c.head c.done c.opened (closing_phase c)
+knows_closing n c k = let behind = k.done_lt in
+    cond_both ((c.done + 1) == c.opened) wishing releasing (PhaseKept n c.links c.order c.head c.done c.opened)
+    (λ last. knows_wishing n c.links c.order c.head c.done c.opened)
+    (λ more. let ne = eqb-false (c.done + 1) c.opened more in knows_releasing n c.links c.order c.head c.done c.opened (omega arith))
+
+pub closing_owns : (c : Core) → owned_update (closing_phase c) ≡ None
+closing_owns c = cond_both ((c.done + 1) == c.opened) wishing releasing (λ (p : Phase). owned_update p ≡ None) (λ _. refl) (λ _. refl)
+
 -- The frame on top owns no UPDATE, and leaves.
 pub leaves_kept : (n : ℕ) (c : Core) (frame : Frame) (below : List Frame) (payload : Option (List ℕ)) → LinksKept n c → c.frames ≡ frame ∷ below → owned_update frame.phase ≡ None → LinksKept n (after_leave c frame below payload)
 leaves_kept n c frame [] payload k top none =
-    let held : List Held = map (held_with_payload (own_number frame.kind frame.phase) payload) c.held in let history : List Action = c.history ++ leave payload ∷ [] in
-    let behind = k.done_lt in
-    cond_both ((c.done + 1) == c.opened) [] (record { kind = frame.kind; phase = releasing } ∷ []) (λ (fs : List Frame). LinksKept n (record c { frames = fs; held = held; history = history }))
-    (λ last. popped n c frame [] k top held history none)
-    (λ more. let ne = eqb-false (c.done + 1) c.opened more in
-    rephased n c frame [] k top releasing held history (knows_releasing n c.links c.order c.head c.done c.opened (omega arith)) (sym none))
-leaves_kept n c frame (next ∷ below) payload k top none = popped n c frame (next ∷ below) k top (map (held_with_payload (own_number frame.kind frame.phase) payload) c.held) (c.history ++ leave payload ∷ []) none
+    rephased n c frame [] k top (record frame { state = left; phase = closing_phase c }) (map (held_with_payload (own_number frame.kind frame.state) payload) c.held) (c.history ++ leave payload ∷ []) (knows_closing n c k) (closing_owns c ∙ sym none)
+leaves_kept n c frame (next ∷ below) payload k top none = popped n c frame (next ∷ below) k top (map (held_with_payload (own_number frame.kind frame.state) payload) c.held) (c.history ++ leave payload ∷ []) none
 
--- A fill was begun by another frame: the one on top tries again, or leaves.
-pub after_begin_kept : (n : ℕ) (c : Core) (kind : Kind) (frame : Frame) (below : List Frame) → LinksKept n c → c.frames ≡ frame ∷ below → owned_update frame.phase ≡ None → LinksKept n (after_begin kind c frame below)
-after_begin_kept n c (for_record moment len) frame below k top none = rephased n c frame below k top reserving c.held c.history (knows_reserving n c.links c.order c.head c.done c.opened) (sym none)
-after_begin_kept n c for_close frame below k top none = leaves_kept n c frame below None k top none
+-- A fill was begun by another frame: the one on top tries again, or leaves, or goes on to close fills.
+pub after_begin_kept : (n : ℕ) (c : Core) (kind : Kind) (state : FrameState) (frame : Frame) (below : List Frame) → LinksKept n c → c.frames ≡ frame ∷ below → owned_update frame.phase ≡ None → LinksKept n (after_begin kind state c frame below)
+after_begin_kept n c (for_record moment len) waiting frame below k top none = rephased n c frame below k top (record frame { phase = idle }) c.held c.history (knows_idle n c.links c.order c.head c.done c.opened) (sym none)
+after_begin_kept n c for_close waiting frame below k top none = leaves_kept n c frame below None k top none
+after_begin_kept n c kind (reserved number) frame below k top none = rephased n c frame below k top (record frame { phase = idle }) c.held c.history (knows_idle n c.links c.order c.head c.done c.opened) (sym none)
+after_begin_kept n c kind left frame below k top none = rephased n c frame below k top (record frame { phase = closing_phase c }) c.held c.history (knows_closing n c k) (closing_owns c ∙ sym none)

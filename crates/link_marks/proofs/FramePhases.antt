@@ -6,7 +6,7 @@ use mathlib.Core.Logic.{dite}
 use native.Mathlib.Decide.{ℕ_discrete}
 use Rattle.trace_model.specs.declared.limits.TheConstants.{LINK_FILLS}
 use Rattle.trace_model.specs.Links.{normal, header, update, Link, normal_link, header_link, update_link}
-use Rattle.trace_model.specs.Frames.{Role, owner, helper, Phase, reserving, looking, claiming, looking_next, marking, clearing, opening, reserved, releasing, Frame, noted_fill, owned_update}
+use Rattle.trace_model.specs.Frames.{Role, owner, helper, Phase, idle, looking, claiming, looking_next, marking, clearing, opening, releasing, wishing, Frame, noted_fill, owned_update}
 use Rattle.trace_model.specs.Ring.{link_into, links_with, page_at, ReaderPhase, loading_link, loading_done, storing_link, swapping}
 use Rattle.link_marks.specs.KeptLinks.{Spot, spot, Stands, HasSeen, ReaderKept, PhaseKept, FramesKept, passed_spot, marking_spot, clearing_fill}
 use Rattle.link_marks.proofs.Positions.{link_here}
@@ -69,11 +69,11 @@ module _ (n : ℕ) (links : List Link) (order : List ℕ) (head done opened : �
     releases = f;
   }
 
-  pub knows_reserving : PhaseKept n links order head done opened reserving
-  knows_reserving = knows_nothing reserving refl refl refl refl refl (λ e. absurd (cc))
+  pub knows_idle : PhaseKept n links order head done opened idle
+  knows_idle = knows_nothing idle refl refl refl refl refl (λ e. absurd (cc))
 
-  pub knows_reserved : (number : ℕ) → PhaseKept n links order head done opened (reserved number)
-  knows_reserved number = knows_nothing (reserved number) refl refl refl refl refl (λ e. absurd (cc))
+  pub knows_wishing : PhaseKept n links order head done opened wishing
+  knows_wishing = knows_nothing wishing refl refl refl refl refl (λ e. absurd (cc))
 
   pub knows_releasing : done + 1 < opened → PhaseKept n links order head done opened releasing
   knows_releasing more = knows_nothing releasing refl refl refl refl refl (λ e. more)
