@@ -17,8 +17,8 @@ use Rattle.link_marks.specs.RingKept.{IsRingKept}
 use Rattle.link_marks.specs.Reached.{MayStart, IsReached}
 use Rattle.link_marks.proofs.FramePhases.{none_some, normal_ne_update}
 use Rattle.link_marks.proofs.LinkFills.{owned_by}
-use Rattle.link_marks.proofs.FillCuts.{length-cut_from}
-use Rattle.link_marks.proofs.Committed.{committed_prefix}
+use Rattle.trace_model.proofs.FillCuts.{length-cut_from}
+use Rattle.trace_model.proofs.Committed.{committed_prefix}
 use Rattle.link_marks.proofs.LinkSteps.{step_kept}
 use Rattle.link_marks.proofs.HistorySteps.{step_owed}
 use Rattle.link_marks.proofs.ContentSteps.{contents_step}
