@@ -40,7 +40,7 @@ pub mod RecordCounts
 -- the step as a function: it gives the steps and no others; the head and the count of closed fills move by it
 pub mod StepFunction
 pub mod StepFunctionSound
-pub mod StepsReady
+pub mod ProgressSteps
 pub mod StepsGiven
 pub mod StepsDetermined
 pub mod OneNewRing
