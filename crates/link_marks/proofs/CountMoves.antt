@@ -1,18 +1,20 @@
 -- By which steps the head and the count of closed fills move.
 use Rattle.std.proofs.Common.{◌≡◌, ℕ, ◌+◌, ◌⊎◌, IsTrue, List, ◌∷◌, refl, ap, ◌∙◌, inl, inr, ⊎_elim, arith}
 use Rattle.trace_model.specs.History.{is_settled}
-use Rattle.trace_model.specs.Frames.{Kind, for_record, for_close, Role, Phase, reserving, looking, claiming, looking_next, marking, clearing, opening, reserved, releasing, Frame}
+use Rattle.trace_model.specs.Frames.{Kind, for_record, for_close, FrameState, waiting, reserved, left, Role, Phase, idle, looking, claiming, looking_next, marking, clearing, opening, releasing, wishing, Frame}
 use Rattle.trace_model.specs.Ring.{ReaderPhase, loading_link, loading_done, storing_link, swapping, Core, window_of}
 use Rattle.trace_model.specs.Window.{Window, Happening, opened_one, released_one, took_one, lost_one, WindowStep}
-use Rattle.trace_model.specs.Steps.{Event, Answer, with_new_tail, after_begin, taken_fill, BeginsAnew, ReserveStep, reserves, finds_nothing, is_crowded, is_worn, notes, LookStep, look_late, sees_free, sees_header, sees_update, ClaimStep, claim_late, claims, claim_fails, NextStep, next_late, sees_normal, sees_other, MarkStep, mark_late, marks, mark_fails, ClearStep, clears, OpenStep, open_late, opens, ReleaseStep, releases, releases_last, FrameStep, loads_header, loads_update, loads_owed, loads_passed, finds_none, finds_closed, swaps, swap_fails, ReadStep, Step, push_step, push_refused, close_step, close_refused, frame_step, frame_lacks, end_step, end_lacks, end_early, read_step}
+use Rattle.trace_model.specs.Steps.{Event, Answer, with_new_tail, after_begin, taken_fill, BeginsAnew, ReserveStep, reserves, finds_nothing, is_crowded, is_worn, notes, LookStep, look_late, sees_free, sees_header, sees_update, ClaimStep, claim_late, claims, claim_fails, NextStep, next_late, sees_normal, sees_other, MarkStep, mark_late, marks, mark_fails, ClearStep, clears, OpenStep, open_late, opens, ReleaseStep, releases, releases_last, WishStep, grants, closes_more, goes_away, IdleStep, FrameStep, loads_header, loads_update, loads_owed, loads_passed, finds_none, finds_closed, swaps, swap_fails, ReadStep, Step, push_step, push_refused, close_step, close_refused, frame_step, frame_lacks, end_step, end_lacks, end_early, read_step, wish_step}
 use Rattle.link_marks.specs.KeptLinks.{LinksKept}
 use Rattle.link_marks.specs.WindowLaws.{HeadIsTaken, HeadIsLost, LossesNeedAFullRing, ClosesNeedNoFrame}
 use Rattle.link_marks.proofs.LinkFills.{header_tells, header_inside, fill_at}
 use Rattle.link_marks.proofs.HistorySteps.{step_owed}
 
-after_begin_head : (kind : Kind) (c : Core) (frame : Frame) (below : List Frame) → (after_begin kind c frame below).head ≡ c.head
-after_begin_head (for_record moment len) c frame below = refl
-after_begin_head for_close c frame below = refl
+after_begin_head : (kind : Kind) (state : FrameState) (c : Core) (frame : Frame) (below : List Frame) → (after_begin kind state c frame below).head ≡ c.head
+after_begin_head (for_record moment len) waiting c frame below = refl
+after_begin_head for_close waiting c frame below = refl
+after_begin_head kind (reserved number) c frame below = refl
+after_begin_head kind left c frame below = refl
 
 -- the head stays, is taken, or is lost
 abbrev HeadMoves : ℕ → Core → Answer → Core → Type 0
@@ -24,7 +26,7 @@ DoneMoves c after = (after.done ≡ c.done) ⊎ (IsTrue (is_settled c.history) �
 
 module _ (n size : ℕ) (c : Core) (frame : Frame) (below : List Frame) (answer : Answer) (after : Core) (k : LinksKept n c) (top : c.frames ≡ frame ∷ below) where
   stays_anew : (noted : ℕ) → BeginsAnew c frame below noted answer after → HeadMoves n c answer after
-  stays_anew noted step = inl (ap (λ (s : Core). s.head) step.after_is ∙ after_begin_head frame.kind c frame below)
+  stays_anew noted step = inl (ap (λ (s : Core). s.head) step.after_is ∙ after_begin_head frame.kind frame.state c frame below)
 
   stays : (next : Core) → next.head ≡ c.head → after ≡ next → HeadMoves n c answer after
   stays next same is = inl (ap (λ (s : Core). s.head) is ∙ same)
@@ -65,22 +67,32 @@ module _ (n size : ℕ) (c : Core) (frame : Frame) (below : List Frame) (answer 
 
   open_moves : (noted page : ℕ) → OpenStep n c frame below noted page answer after → HeadMoves n c answer after
   open_moves noted page (open_late step) = stays_anew noted step
-  open_moves noted page (opens now a is) = inl (ap (λ (s : Core). s.head) is ∙ after_begin_head frame.kind (with_new_tail c page) frame below)
+  open_moves noted page (opens now a is) = inl (ap (λ (s : Core). s.head) is ∙ after_begin_head frame.kind frame.state (with_new_tail c page) frame below)
 
   release_moves : ReleaseStep c frame below answer after → HeadMoves n c answer after
   release_moves (releases alone more a is) = stays _ refl is
   release_moves (releases_last alone last a is) = stays _ refl is
 
+  idle_moves : (state : FrameState) → IdleStep n size c frame below state answer after → HeadMoves n c answer after
+  idle_moves waiting step = reserve_moves step
+  idle_moves (reserved number) step = stays c refl step.1
+  idle_moves left step = absurd step
+
+  wish_moves : WishStep n c frame below answer after → HeadMoves n c answer after
+  wish_moves (grants alone granted a is) = stays _ refl is
+  wish_moves (closes_more alone denied more a is) = stays _ refl is
+  wish_moves (goes_away alone denied last a is) = stays _ refl is
+
   frame_moves : (phase : Phase) → FrameStep n size c frame below phase answer after → HeadMoves n c answer after
-  frame_moves reserving step = reserve_moves step
+  frame_moves idle step = idle_moves frame.state step
   frame_moves (looking noted) step = look_moves noted step
   frame_moves (claiming noted page) step = claim_moves noted page step
   frame_moves (looking_next role noted page) step = next_moves role noted page step
   frame_moves (marking role noted page next) step = mark_moves role noted page next step
   frame_moves (clearing noted page) step = clear_moves noted page step
   frame_moves (opening noted page) step = open_moves noted page step
-  frame_moves (reserved number) step = stays c refl step.1
   frame_moves releasing step = release_moves step
+  frame_moves wishing step = wish_moves step
 
 module _ (n : ℕ) (c : Core) (answer : Answer) (after : Core) (k : LinksKept n c) where
   rests : (next : Core) → next.head ≡ c.head → after ≡ next → HeadMoves n c answer after
@@ -111,13 +123,14 @@ moves n size c event answer after k (end_step payload frame below number moment 
 moves n size c event answer after k (end_lacks payload e none a is) = rests n c answer after k _ refl is
 moves n size c event answer after k (end_early payload frame below e top none a is) = rests n c answer after k _ refl is
 moves n size c event answer after k (read_step e step) = read_moves n c answer after k c.reader.phase step
+moves n size c event answer after k (wish_step e a is) = rests n c answer after k _ refl is
 
 pub losses_need_a_full_ring : LossesNeedAFullRing
 losses_need_a_full_ring n size start c event answer after r step = moves n size c event answer after r.links step
 
 pub closes_need_no_frame : ClosesNeedNoFrame
 closes_need_no_frame n size start c event answer after r step =
-    ⊎_elim (λ same. inl (ap (λ (w : Window). w.done) same.0)) (λ one. by_what one.0 one.1.step) (step_owed n size start c event answer after r.links r.history step).window
+    ⊎_elim (λ same. inl (ap (λ (w : Window). w.done) same.0)) (λ one. by_what one.0 one.1.step) (step_owed n size start c event answer after r.links r.stack r.history step).window
   where
     by_what : (what : Happening) → WindowStep n c.history (window_of c) what (window_of after) → DoneMoves c after
     by_what opened_one w = inl (ap (λ (v : Window). v.done) w.after_is)

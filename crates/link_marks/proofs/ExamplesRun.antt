@@ -5,7 +5,7 @@ use Rattle.trace_model.specs.Links.{normal_link, header_link}
 use Rattle.trace_model.specs.Ring.{Held, Core, IsStart, link_into, loading_link}
 use Rattle.trace_model.specs.History.{committed_records}
 use Rattle.trace_model.specs.Steps.{Exchange, Run}
-use Rattle.link_marks.specs.Examples.{at, all, four, IsExample, first_record, FirstRecord, nested_writer, NestedWriter, inner_reserves_first, InnerReservesFirst, halted_head_move, HaltedHeadMove, helpers_at_the_head, HelpersAtTheHead, late_swap, LateSwap}
+use Rattle.link_marks.specs.Examples.{at, all, four, IsExample, first_record, FirstRecord, nested_writer, NestedWriter, inner_reserves_first, InnerReservesFirst, halted_head_move, HaltedHeadMove, helpers_at_the_head, HelpersAtTheHead, late_swap, LateSwap, wish_answered, WishAnswered, wish_waits_for_the_outermost, WishWaitsForTheOutermost}
 use Rattle.link_marks.proofs.StepFunction.{Ran, run_of}
 use Rattle.link_marks.proofs.OneNewRing.{same_ring}
 use Rattle.link_marks.proofs.StepFunctionSound.{event_in, answer_in, Gives, run_sound}
@@ -22,8 +22,10 @@ two_pages = record {
   head = 0;
   done = 0;
   opened = 1;
+  wish = 0;
   frames = [];
-  reader = record { phase = loading_link; hint = 0; expected = 0; taken = [] };
+  open_pages = 0 ∷ [];
+  reader = record { phase = loading_link; hint = 0; seen = 0; expected = 0; taken = [] };
   held = nothing ∷ nothing ∷ nothing ∷ [];
   history = [];
 }
@@ -37,8 +39,10 @@ four_pages = record {
   head = 0;
   done = 0;
   opened = 1;
+  wish = 0;
   frames = [];
-  reader = record { phase = loading_link; hint = 0; expected = 0; taken = [] };
+  open_pages = 0 ∷ [];
+  reader = record { phase = loading_link; hint = 0; seen = 0; expected = 0; taken = [] };
   held = nothing ∷ nothing ∷ nothing ∷ nothing ∷ nothing ∷ [];
   history = [];
 }
@@ -55,7 +59,9 @@ two_start = record {
   head = refl;
   done = refl;
   opened = refl;
+  wish = refl;
   frames = refl;
+  open_pages = refl;
   reader = refl;
   bodies = refl;
   held = held_at;
@@ -90,7 +96,9 @@ four_start = record {
   head = refl;
   done = refl;
   opened = refl;
+  wish = refl;
   frames = refl;
+  open_pages = refl;
   reader = refl;
   bodies = refl;
   held = held_at;
@@ -153,3 +161,9 @@ helpers_at_the_head_tried =
 
 pub late_swap_tried : LateSwap
 late_swap_tried = tried 2 32 two_pages late_swap (at 1 (all 1) ∷ at 2 (all 2) ∷ at 3 (all 3) ∷ at 4 (all 4) ∷ []) (omega arith) two_start (refl, refl) refl
+
+pub wish_answered_tried : WishAnswered
+wish_answered_tried = tried 2 32 two_pages wish_answered (at 1 (1 ∷ 2 ∷ 3 ∷ 4 ∷ []) ∷ at 2 (5 ∷ 6 ∷ 7 ∷ 8 ∷ []) ∷ []) (omega arith) two_start (refl, refl) refl
+
+pub wish_waits_for_the_outermost_tried : WishWaitsForTheOutermost
+wish_waits_for_the_outermost_tried = tried 2 32 two_pages wish_waits_for_the_outermost (at 1 (1 ∷ 2 ∷ 3 ∷ 4 ∷ []) ∷ at 2 (5 ∷ 6 ∷ 7 ∷ 8 ∷ []) ∷ []) (omega arith) two_start (refl, refl) refl

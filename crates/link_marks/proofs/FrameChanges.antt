@@ -33,6 +33,7 @@ restacked n c frames held history k kept differ stays = record {
   hint_le = k.hint_le;
   seen_le = k.seen_le;
   wish_le = k.wish_le;
+  spare_fits = k.spare_fits;
   reader = k.reader;
 }
 

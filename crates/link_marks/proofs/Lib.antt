@@ -10,10 +10,9 @@ pub mod LinkSteps
 pub mod Histories
 pub mod HistorySteps
 pub mod Happenings
-pub mod FillCuts
 pub mod PageChanges
 pub mod ContentSteps
-pub mod Committed
+pub mod OpenPageSteps
 pub mod ClosedSteps
 -- the partition of the records, and the invariant as a whole
 pub mod PartitionLemmas
@@ -31,10 +30,8 @@ pub mod AnswersRight
 pub mod RefusalsDue
 pub mod Relinking
 pub mod LinksFit
-pub mod PackedHistories
 pub mod PackedSteps
 pub mod PackedRuns
-pub mod FullFills
 pub mod TakenHoldRecords
 pub mod RecordCounts
 -- the step as a function: it gives the steps and no others; the head and the count of closed fills move by it

@@ -1,17 +1,18 @@
 -- Each step of a ring keeps what is known of links, counts, frames and the reader.
 use Rattle.std.proofs.Common.{◌≡◌, ℕ, suc, ◌+◌, List, [], ◌∷◌, ◌++◌, length, Option, Some, None, refl, sym, ap, ◌∙◌, subst, inr, ⊎_elim, arith}
-use Rattle.trace_model.specs.History.{Action, push, push_close, reserved_records}
+use Rattle.trace_model.specs.History.{Action, push, push_close, wished, reserved_records}
 use Rattle.trace_model.specs.Links.{Link, normal_link, header_link}
-use Rattle.trace_model.specs.Frames.{Kind, for_record, for_close, Role, owner, helper, Phase, reserving, looking, claiming, looking_next, marking, clearing, opening, reserved, releasing, Frame, owned_update}
+use Rattle.trace_model.specs.Frames.{Kind, for_record, for_close, FrameState, waiting, reserved, left, Role, owner, helper, Phase, idle, looking, claiming, looking_next, marking, clearing, opening, releasing, wishing, Frame, owned_update}
 use Rattle.trace_model.specs.Ring.{Core, links_with}
-use Rattle.trace_model.specs.Steps.{Event, Answer, with_link, in_phase, after_leave, with_new_tail, after_next, BeginsAnew, ReserveStep, reserves, finds_nothing, is_crowded, is_worn, notes, LookStep, look_late, sees_free, sees_header, sees_update, ClaimStep, claim_late, claims, claim_fails, NextStep, next_late, sees_normal, sees_other, MarkStep, mark_late, marks, mark_fails, ClearStep, clears, OpenStep, open_late, opens, ReleaseStep, releases, releases_last, FrameStep, Step, push_step, push_refused, close_step, close_refused, frame_step, frame_lacks, end_step, end_lacks, end_early, read_step}
+use Rattle.trace_model.specs.Steps.{Event, Answer, with_link, in_phase, after_leave, with_new_tail, after_next, BeginsAnew, ReserveStep, reserves, finds_nothing, is_crowded, is_worn, notes, LookStep, look_late, sees_free, sees_header, sees_update, ClaimStep, claim_late, claims, claim_fails, NextStep, next_late, sees_normal, sees_other, MarkStep, mark_late, marks, mark_fails, ClearStep, clears, OpenStep, open_late, opens, ReleaseStep, releases, releases_last, WishStep, grants, closes_more, goes_away, IdleStep, FrameStep, Step, push_step, push_refused, close_step, close_refused, frame_step, frame_lacks, end_step, end_lacks, end_early, read_step, wish_step}
 use Rattle.link_marks.specs.KeptLinks.{Stands, PhaseKept, FramesKept, LinksKept}
+use Rattle.link_marks.specs.KeptStack.{MayBeIn, FramesAgree, StackKept}
 use Rattle.link_marks.proofs.Positions.{link_here}
-use Rattle.link_marks.proofs.FramePhases.{none_some, normal_ne_header, Noted, Passed, IsSet, knows_reserving, knows_reserved, knows_looking, knows_claiming, knows_looking_next, knows_marking, knows_clearing, knows_opening, knows_releasing}
+use Rattle.link_marks.proofs.FramePhases.{none_some, normal_ne_header, Noted, Passed, IsSet, knows_idle, knows_looking, knows_claiming, knows_looking_next, knows_marking, knows_clearing, knows_opening, knows_releasing, knows_wishing}
 use Rattle.link_marks.proofs.LinkFills.{normal_inside, update_inside}
-use Rattle.link_marks.proofs.FrameChanges.{restacked, rephased, leaves_kept, after_begin_kept, top_kept}
+use Rattle.link_marks.proofs.FrameChanges.{restacked, rephased, popped, leaves_kept, after_begin_kept, top_kept, below_differ, stands_top}
 use Rattle.link_marks.proofs.WriterSteps.{claims_kept, marks_kept, clears_kept, begun_kept, released_kept}
-use Rattle.link_marks.proofs.ReaderSteps.{read_kept}
+use Rattle.link_marks.proofs.ReaderSteps.{read_kept, wished_kept}
 
 -- an owner stays one from the look at the next link to its mark
 next_moves : (role : Role) (noted page next : ℕ) → owned_update (marking role noted page next) ≡ owned_update (looking_next role noted page)
@@ -26,19 +27,24 @@ module _ (n size : ℕ) (c : Core) (frame : Frame) (below : List Frame) (k : Lin
   leaves after payload none is = subst (LinksKept n) (sym is) (leaves_kept n c frame below payload k top none)
 
   anew : (noted : ℕ) (answer : Answer) (after : Core) → owned_update frame.phase ≡ None → BeginsAnew c frame below noted answer after → LinksKept n after
-  anew noted answer after none step = subst (LinksKept n) (sym step.after_is) (after_begin_kept n c frame.kind frame below k top none)
+  anew noted answer after none step = subst (LinksKept n) (sym step.after_is) (after_begin_kept n c frame.kind frame.state frame below k top none)
 
   goes : (after : Core) (phase : Phase) → PhaseKept n c.links c.order c.head c.done c.opened phase → owned_update phase ≡ owned_update frame.phase → after ≡ in_phase c frame below phase → LinksKept n after
-  goes after phase facts same is = subst (LinksKept n) (sym is) (rephased n c frame below k top phase c.held c.history facts same)
+  goes after phase facts same is = subst (LinksKept n) (sym is) (rephased n c frame below k top (record frame { phase = phase }) c.held c.history facts same)
 
-  reserve_kept : (answer : Answer) (after : Core) → frame.phase ≡ reserving → ReserveStep n size c frame below answer after → LinksKept n after
+  reserve_kept : (answer : Answer) (after : Core) → frame.phase ≡ idle → ReserveStep n size c frame below answer after → LinksKept n after
   reserve_kept answer after same (reserves moment len r kind r_is fits a is) = subst (LinksKept n) (sym is)
-      (rephased n c frame below k top (reserved (length (reserved_records c.history))) _ _ (knows_reserved n c.links c.order c.head c.done c.opened (length (reserved_records c.history))) (sym (ap owned_update same)))
+      (rephased n c frame below k top (record frame { state = reserved (length (reserved_records c.history)); phase = idle }) _ _ (knows_idle n c.links c.order c.head c.done c.opened) (sym (ap owned_update same)))
   reserve_kept answer after same (finds_nothing kind none a is) = leaves after None (ap owned_update same) is
   reserve_kept answer after same (is_crowded needs full a is) = leaves after None (ap owned_update same) is
   reserve_kept answer after same (is_worn needs full last a is) = leaves after None (ap owned_update same) is
   reserve_kept answer after same (notes needs room small a is) = let behind = k.done_lt in let within = k.opened_le in let unread = k.head_le in
       goes after (looking c.opened) (knows_looking n c.links c.order c.head c.done c.opened c.opened (behind, omega arith, omega arith, small)) (sym (ap owned_update same)) is
+
+  idle_kept : (state : FrameState) (answer : Answer) (after : Core) → frame.phase ≡ idle → IdleStep n size c frame below state answer after → LinksKept n after
+  idle_kept waiting answer after same step = reserve_kept answer after same step
+  idle_kept (reserved number) answer after same step = subst (LinksKept n) (sym step.1) k
+  idle_kept left answer after same step = absurd step
 
   look_kept : (noted : ℕ) (answer : Answer) (after : Core) → frame.phase ≡ looking noted → LookStep n c frame below noted answer after → LinksKept n after
   look_kept noted answer after same (look_late step) = anew noted answer after (ap owned_update same) step
@@ -113,49 +119,64 @@ module _ (n size : ℕ) (c : Core) (frame : Frame) (below : List Frame) (k : Lin
   open_kept noted page answer after same (open_late step) = anew n size c frame below k top noted answer after (ap owned_update same) step
   open_kept noted page answer after same (opens now a is) = let kept = kept_in n size c frame below k top (opening noted page) same in
       let (open_yet, inside, page_is) = kept.passed noted page refl in let (x, y, z, small) = kept.noted noted refl in
-      subst (LinksKept n) (sym is) (after_begin_kept n (with_new_tail c page) frame.kind frame below (begun_kept n c page k (omega arith) (omega arith)) top (ap owned_update same))
+      subst (LinksKept n) (sym is) (after_begin_kept n (with_new_tail c page) frame.kind frame.state frame below (begun_kept n c page k (omega arith) (omega arith)) top (ap owned_update same))
+
+  -- one that closes fills owns no UPDATE, and stands alone
+  stands_none : below ≡ [] → frame.phase ≡ releasing → (f : ℕ) → Stands c.frames f → ⊥
+  stands_none alone same f st = ⊎_elim (λ e. none_some (sym (ap owned_update same) ∙ e)) (λ b. subst (λ (fs : List Frame). Stands fs f) alone b) (stands_top n c frame below k top f st)
 
   release_kept : (answer : Answer) (after : Core) → frame.phase ≡ releasing → ReleaseStep c frame below answer after → LinksKept n after
   release_kept answer after same (releases alone more a is) =
       let one : c.frames ≡ frame ∷ [] = top ∙ ap (λ (fs : List Frame). frame ∷ fs) alone in
-      subst (LinksKept n) (sym is) (released_kept n c c.frames k (omega arith) (stands_none one)
+      subst (LinksKept n) (sym is) (released_kept n c c.frames k (omega arith) (stands_none alone same)
       (subst (FramesKept n c.links c.order c.head (c.done + 1) c.opened) (sym one)
       (subst (PhaseKept n c.links c.order c.head (c.done + 1) c.opened) (sym same) (knows_releasing n c.links c.order c.head (c.done + 1) c.opened (omega arith)), tt))
       k.movers)
-    where
-      stands_none : c.frames ≡ frame ∷ [] → (f : ℕ) → Stands c.frames f → ⊥
-      stands_none one f st = ⊎_elim (λ e. none_some (sym (ap owned_update same) ∙ e)) (λ b. b) (subst (λ (fs : List Frame). Stands fs f) one st)
   release_kept answer after same (releases_last alone last a is) =
-      let one : c.frames ≡ frame ∷ [] = top ∙ ap (λ (fs : List Frame). frame ∷ fs) alone in
-      subst (LinksKept n) (sym is) (released_kept n c [] k (omega arith) (stands_none one) tt tt)
-    where
-      stands_none : c.frames ≡ frame ∷ [] → (f : ℕ) → Stands c.frames f → ⊥
-      stands_none one f st = ⊎_elim (λ e. none_some (sym (ap owned_update same) ∙ e)) (λ b. b) (subst (λ (fs : List Frame). Stands fs f) one st)
+      subst (LinksKept n) (sym is) (released_kept n c (record frame { phase = wishing } ∷ below) k (omega arith) (stands_none alone same)
+      (subst (λ (fs : List Frame). FramesKept n c.links c.order c.head (c.done + 1) c.opened (record frame { phase = wishing } ∷ fs)) (sym alone) (knows_wishing n c.links c.order c.head (c.done + 1) c.opened, tt))
+      ((λ f is_f st. absurd (none_some is_f)), below_differ n c frame below k top))
+
+  -- a wish that is granted is for the first fill that isn't closed, which is the tail
+  wish_kept : (answer : Answer) (after : Core) → frame.phase ≡ wishing → WishStep n c frame below answer after → LinksKept n after
+  wish_kept answer after same (grants alone granted a is) =
+      let some_pages = k.some_pages in let behind = k.done_lt in let le = k.wish_le in let asks = granted.asks_tail in
+      subst (LinksKept n) (sym is) (rephased n c frame below k top (record frame { phase = looking c.opened }) c.held (c.history ++ wished ∷ [])
+      (knows_looking n c.links c.order c.head c.done c.opened c.opened (behind, omega arith, omega arith, granted.numbers_left)) (sym (ap owned_update same)))
+  wish_kept answer after same (closes_more alone denied more a is) =
+      goes n size c frame below k top after releasing (knows_releasing n c.links c.order c.head c.done c.opened more) (sym (ap owned_update same)) is
+  wish_kept answer after same (goes_away alone denied last a is) =
+      subst (LinksKept n) (sym is) (subst (λ (fs : List Frame). LinksKept n (record c { frames = fs })) alone (popped n c frame below k top c.held c.history (ap owned_update same)))
 
 pub frame_kept : (n size : ℕ) (c : Core) (frame : Frame) (below : List Frame) (phase : Phase) (answer : Answer) (after : Core) → LinksKept n c → c.frames ≡ frame ∷ below → frame.phase ≡ phase → FrameStep n size c frame below phase answer after → LinksKept n after
-frame_kept n size c frame below reserving answer after k top same step = reserve_kept n size c frame below k top answer after same step
+frame_kept n size c frame below idle answer after k top same step = idle_kept n size c frame below k top frame.state answer after same step
 frame_kept n size c frame below (looking noted) answer after k top same step = look_kept n size c frame below k top noted answer after same step
 frame_kept n size c frame below (claiming noted page) answer after k top same step = claim_kept n size c frame below k top noted page answer after same step
 frame_kept n size c frame below (looking_next role noted page) answer after k top same step = next_kept n size c frame below k top role noted page answer after same step
 frame_kept n size c frame below (marking role noted page next) answer after k top same step = mark_kept n c frame below k top role noted page next answer after same step
 frame_kept n size c frame below (clearing noted page) answer after k top same step = clear_kept n size c frame below k top noted page answer after same step
 frame_kept n size c frame below (opening noted page) answer after k top same step = open_kept n size c frame below k top noted page answer after same step
-frame_kept n size c frame below (reserved number) answer after k top same step = subst (LinksKept n) (sym step.1) k
 frame_kept n size c frame below releasing answer after k top same step = release_kept n size c frame below k top answer after same step
+frame_kept n size c frame below wishing answer after k top same step = wish_kept n size c frame below k top answer after same step
 
 -- a new frame knows nothing
-pushed_kept : (n : ℕ) (c after : Core) (kind : Kind) (action : Action) → LinksKept n c → after ≡ record c { frames = record { kind = kind; phase = reserving } ∷ c.frames; history = c.history ++ action ∷ [] } → LinksKept n after
+pushed_kept : (n : ℕ) (c after : Core) (kind : Kind) (action : Action) → LinksKept n c → after ≡ record c { frames = record { kind = kind; state = waiting; phase = idle } ∷ c.frames; history = c.history ++ action ∷ [] } → LinksKept n after
 pushed_kept n c after kind action k is = subst (LinksKept n) (sym is)
-    (restacked n c (record { kind = kind; phase = reserving } ∷ c.frames) c.held (c.history ++ action ∷ []) k (knows_reserving n c.links c.order c.head c.done c.opened, k.frames) ((λ f own st. none_some own), k.movers) (λ f st. inr st))
+    (restacked n c (record { kind = kind; state = waiting; phase = idle } ∷ c.frames) c.held (c.history ++ action ∷ []) k (knows_idle n c.links c.order c.head c.done c.opened, k.frames) ((λ f own st. none_some own), k.movers) (λ f st. inr st))
 
-pub step_kept : (n size : ℕ) (c : Core) (event : Event) (answer : Answer) (after : Core) → LinksKept n c → Step n size c event answer after → LinksKept n after
-step_kept n size c event answer after k (push_step moment len e few fits early a is) = pushed_kept n c after (for_record moment len) (push moment len) k is
-step_kept n size c event answer after k (push_refused moment len why e refused a is) = subst (LinksKept n) (sym is) k
-step_kept n size c event answer after k (close_step e few a is) = pushed_kept n c after for_close push_close k is
-step_kept n size c event answer after k (close_refused e many a is) = subst (LinksKept n) (sym is) k
-step_kept n size c event answer after k (frame_step frame below e top step) = frame_kept n size c frame below frame.phase answer after k top refl step
-step_kept n size c event answer after k (frame_lacks e none a is) = subst (LinksKept n) (sym is) k
-step_kept n size c event answer after k (end_step payload frame below number moment len e top phase kind slot a is) = leaves n size c frame below k top after (Some payload) (ap owned_update phase) is
-step_kept n size c event answer after k (end_lacks payload e none a is) = subst (LinksKept n) (sym is) k
-step_kept n size c event answer after k (end_early payload frame below e top none a is) = subst (LinksKept n) (sym is) k
-step_kept n size c event answer after k (read_step e step) = read_kept n c after c.reader.phase answer k k.reader step
+-- a frame that has reserved has noted nothing
+pub reserved_rests : (c : Core) (frame : Frame) (below : List Frame) (number : ℕ) → StackKept c → c.frames ≡ frame ∷ below → frame.state ≡ reserved number → frame.phase ≡ idle
+reserved_rests c frame below number stack top state = (subst (λ (s : FrameState). MayBeIn frame.kind s frame.phase) state (subst FramesAgree top stack.agree).0).1
+
+pub step_kept : (n size : ℕ) (c : Core) (event : Event) (answer : Answer) (after : Core) → LinksKept n c → StackKept c → Step n size c event answer after → LinksKept n after
+step_kept n size c event answer after k stack (push_step moment len e few fits early a is) = pushed_kept n c after (for_record moment len) (push moment len) k is
+step_kept n size c event answer after k stack (push_refused moment len why e refused a is) = subst (LinksKept n) (sym is) k
+step_kept n size c event answer after k stack (close_step e few a is) = pushed_kept n c after for_close push_close k is
+step_kept n size c event answer after k stack (close_refused e many a is) = subst (LinksKept n) (sym is) k
+step_kept n size c event answer after k stack (frame_step frame below e top step) = frame_kept n size c frame below frame.phase answer after k top refl step
+step_kept n size c event answer after k stack (frame_lacks e none a is) = subst (LinksKept n) (sym is) k
+step_kept n size c event answer after k stack (end_step payload frame below number moment len e top state kind slot a is) = leaves n size c frame below k top after (Some payload) (ap owned_update (reserved_rests c frame below number stack top state)) is
+step_kept n size c event answer after k stack (end_lacks payload e none a is) = subst (LinksKept n) (sym is) k
+step_kept n size c event answer after k stack (end_early payload frame below e top none a is) = subst (LinksKept n) (sym is) k
+step_kept n size c event answer after k stack (read_step e step) = read_kept n c after c.reader.phase answer k k.reader step
+step_kept n size c event answer after k stack (wish_step e a is) = subst (LinksKept n) (sym is) (wished_kept n c k)

@@ -5,7 +5,7 @@ use Rattle.std.proofs.lemmas.List.{ext_get_or}
 use mathlib.Core.Logic.{dite}
 use native.Mathlib.Decide.{ℕ_discrete}
 use Rattle.trace_model.specs.Links.{Link, normal_link, header_link}
-use Rattle.trace_model.specs.Ring.{loading_link, Core, IsStart, link_into}
+use Rattle.trace_model.specs.Ring.{first_reader, Core, IsStart, link_into}
 use Rattle.link_marks.specs.RingLaws.{NewRingIsOne}
 use Rattle.link_marks.proofs.Positions.{at_position, one_position}
 
@@ -68,8 +68,10 @@ new_ring n start = record {
   head = start;
   done = start;
   opened = start + 1;
+  wish = 0;
   frames = [];
-  reader = record { phase = loading_link; hint = start; expected = 0; taken = [] };
+  open_pages = (start % n) ∷ [];
+  reader = first_reader start;
   held = made (λ page. record { first = 0; records = [] }) 0 (n + 1);
   history = [];
 }
@@ -91,7 +93,9 @@ module _ (n start : ℕ) (some : 1 ≤ n) where
     head = refl;
     done = refl;
     opened = refl;
+    wish = refl;
     frames = refl;
+    open_pages = refl;
     reader = refl;
     bodies = made_length (λ page. record { first = 0; records = [] }) 0 (n + 1);
     held = λ page low. made_at (λ p. record { first = 0; records = [] }) 0 (n + 1) page record { first = 0; records = [] } low;
@@ -126,7 +130,9 @@ module _ (n start : ℕ) (some : 1 ≤ n) where
       head = (s.head ∙ sym t.head) i;
       done = (s.done ∙ sym t.done) i;
       opened = (s.opened ∙ sym t.opened) i;
+      wish = (s.wish ∙ sym t.wish) i;
       frames = (s.frames ∙ sym t.frames) i;
+      open_pages = (s.open_pages ∙ sym t.open_pages) i;
       reader = (s.reader ∙ sym t.reader) i;
       held = held_same i;
       history = (s.history ∙ sym t.history) i;

@@ -6,15 +6,15 @@ use native.Mathlib.Decide.{ℕ_discrete}
 use Rattle.trace_model.specs.Links.{Link, normal_link, header_link, update_link}
 use Rattle.trace_model.specs.Frames.{Frame, Phase}
 use Rattle.trace_model.specs.Ring.{ReaderPhase, loading_link, loading_done, storing_link, swapping, Reader, Core, link_into, links_with, page_at, AreApart}
-use Rattle.trace_model.specs.Steps.{Answer, reader_at, LoadStep, loads_header, loads_update, loads_owed, loads_passed, LoadDoneStep, finds_none, finds_closed, StoreStep, SwapStep, swaps, swap_fails, ReadStep, after_swap}
-use Rattle.link_marks.specs.KeptLinks.{PhaseKept, LinkKept, is_normal, is_header, is_update, HasSeen, ReaderKept, LinksKept}
+use Rattle.trace_model.specs.Steps.{Answer, reader_at, reader_saw, with_wish, next_header, LoadStep, loads_header, loads_update, loads_owed, loads_passed, LoadDoneStep, finds_none, finds_closed, StoreStep, SwapStep, swaps, swap_fails, ReadStep, after_swap}
+use Rattle.link_marks.specs.KeptLinks.{PhaseKept, LinkKept, is_normal, is_header, is_update, HasSeen, ReaderKept, FitsRing, LinksKept}
 use Rattle.link_marks.proofs.Positions.{link_here, link_else, link_turn, page_turn, page_here, page_else}
 use Rattle.link_marks.proofs.FramePhases.{normal_ne_update, normal_ne_header, header_ne_update, relink_phase, map_frames}
 use Rattle.link_marks.proofs.LinkFills.{normal_tells, header_tells, update_tells, owned_by, fill_at, behind_closed}
 
 -- the reader goes on; the spare's link may be set
-pub reader_kept : (n : ℕ) (c : Core) (spare_link : Link) (reader : Reader) → LinksKept n c → reader.hint ≤ c.head → ReaderKept n c.links c.order spare_link c.head c.done reader.hint reader.phase → LinksKept n (record c { spare_link = spare_link; reader = reader })
-reader_kept n c spare_link reader k le facts = record {
+pub reader_kept : (n : ℕ) (c : Core) (spare_link : Link) (reader : Reader) → LinksKept n c → reader.hint ≤ c.head → reader.seen ≤ c.done → FitsRing n spare_link → ReaderKept n c.links c.order spare_link c.head c.done reader.hint reader.phase → LinksKept n (record c { spare_link = spare_link; reader = reader })
+reader_kept n c spare_link reader k le seen fits facts = record {
   some_pages = k.some_pages;
   positions = k.positions;
   apart = k.apart;
@@ -26,11 +26,34 @@ reader_kept n c spare_link reader k le facts = record {
   frames = k.frames;
   movers = k.movers;
   hint_le = le;
+  seen_le = seen;
+  wish_le = k.wish_le;
+  spare_fits = fits;
   reader = facts;
 }
 
 at_phase : (n : ℕ) (c : Core) (phase : ReaderPhase) (hint : ℕ) → LinksKept n c → hint ≤ c.head → ReaderKept n c.links c.order c.spare_link c.head c.done hint phase → LinksKept n (reader_at c phase hint)
-at_phase n c phase hint k le facts = reader_kept n c c.spare_link record { phase = phase; hint = hint; expected = c.reader.expected; taken = c.reader.taken } k le facts
+at_phase n c phase hint k le facts = reader_kept n c c.spare_link (record c.reader { phase = phase; hint = hint }) k le k.seen_le k.spare_fits facts
+
+-- the reader wishes
+pub wished_kept : (n : ℕ) (c : Core) → LinksKept n c → LinksKept n (with_wish c)
+wished_kept n c k = record {
+  some_pages = k.some_pages;
+  positions = k.positions;
+  apart = k.apart;
+  head_le = k.head_le;
+  done_lt = k.done_lt;
+  opened_le = k.opened_le;
+  fits = k.fits;
+  each = k.each;
+  frames = k.frames;
+  movers = k.movers;
+  hint_le = k.hint_le;
+  seen_le = k.seen_le;
+  wish_le = let le = k.seen_le in omega arith;
+  spare_fits = k.spare_fits;
+  reader = k.reader;
+}
 
 pub load_kept : (n : ℕ) (c after : Core) (answer : Answer) → LinksKept n c → LoadStep n c answer after → LinksKept n after
 load_kept n c after answer k (loads_header page fill at a is) = let (g, low, high, same, link) = fill_at n c k c.reader.hint in
@@ -45,13 +68,22 @@ load_kept n c after answer k (loads_passed page fill least at more sum a is) = l
     let told = normal_tells n c.links c.order c.head c.frames g page fill link (same ∙ at) in let it = told.0 in
     subst (LinksKept n) (sym is) (at_phase n c loading_link least k (omega arith) tt)
 
+-- the reader goes on, and has seen how many fills are closed
+saw_kept : (n : ℕ) (c : Core) (phase : ReaderPhase) → LinksKept n c → ReaderKept n c.links c.order c.spare_link c.head c.done c.reader.hint phase → LinksKept n (reader_saw c phase)
+saw_kept n c phase k facts = reader_kept n c c.spare_link (record c.reader { phase = phase; seen = c.done }) k k.hint_le (omega arith) k.spare_fits facts
+
 pub load_done_kept : (n : ℕ) (c after : Core) (page fill : ℕ) (answer : Answer) → LinksKept n c → HasSeen n c.links c.head c.reader.hint page fill → LoadDoneStep c page fill answer after → LinksKept n after
-load_done_kept n c after page fill answer k seen (finds_none le a is) = subst (LinksKept n) (sym is) (at_phase n c loading_link c.reader.hint k k.hint_le tt)
-load_done_kept n c after page fill answer k seen (finds_closed below a is) = subst (LinksKept n) (sym is) (at_phase n c (storing_link page fill) c.reader.hint k k.hint_le (seen, below))
+load_done_kept n c after page fill answer k seen (finds_none le a is) = subst (LinksKept n) (sym is) (saw_kept n c loading_link k tt)
+load_done_kept n c after page fill answer k seen (finds_closed below a is) = subst (LinksKept n) (sym is) (saw_kept n c (storing_link page fill) k (seen, below))
+
+-- the link that leads to the fill behind a closed one
+next_fits : (n : ℕ) (c : Core) (fill : ℕ) → LinksKept n c → fill < c.done → FitsRing n (next_header n c fill)
+next_fits n c fill k closed = let some_pages = k.some_pages in let behind = k.done_lt in let fits = k.fits in
+    (k.apart.each (suc fill % n) (mod-lt (suc fill) (omega arith)), omega arith)
 
 pub store_kept : (n : ℕ) (c after : Core) (page fill : ℕ) (answer : Answer) → LinksKept n c → HasSeen n c.links c.head c.reader.hint page fill × (fill < c.done) → StoreStep n c page fill answer after → LinksKept n after
-store_kept n c after page fill answer k facts step = let l : Link = header_link (page_at n c.order (suc fill)) (suc fill) in
-    subst (LinksKept n) (sym step.after_is) (reader_kept n c l record { phase = swapping page fill; hint = c.reader.hint; expected = c.reader.expected; taken = c.reader.taken } k k.hint_le (facts.0, facts.1, refl))
+store_kept n c after page fill answer k facts step =
+    subst (LinksKept n) (sym step.after_is) (reader_kept n c (next_header n c fill) (record c.reader { phase = swapping page fill }) k k.hint_le k.seen_le (next_fits n c fill k facts.1) (facts.0, facts.1, refl))
 
 -- ---- the swap
 
@@ -155,6 +187,11 @@ module _ (n : ℕ) (c : Core) (page : ℕ) (k : LinksKept n c) (closed : c.head 
       (page_else c.head n c.order f c.head c.spare (omega arith) (omega arith) (omega arith) (omega arith) (λ e. omega arith))
       (k.each f (omega arith) (omega arith))))
 
+  -- the link behind the head, which the spare's will be
+  behind_fits : FitsRing n (link_into n c.links (suc c.head))
+  behind_fits = let some_pages = k.some_pages in let behind = k.done_lt in let fits = k.fits in
+      subst (FitsRing n) (sym (behind_closed n c k closed)) (k.apart.each (suc c.head % n) (mod-lt (suc c.head) (omega arith)), omega arith)
+
   pub swaps_kept : LinksKept n (after_swap n c page c.head)
   unfolding once
   swaps_kept = let some_pages = k.some_pages in let wide = k.positions in let within = k.opened_le in
@@ -170,6 +207,9 @@ module _ (n : ℕ) (c : Core) (page : ℕ) (k : LinksKept n c) (closed : c.head 
         frames = map_frames n c.links (links_with n once (suc c.head) c.spare_link) c.order (set c.order (c.head % n) c.spare) c.head (c.head + 1) c.done c.done c.opened c.opened c.frames swapped_phase k.frames;
         movers = k.movers;
         hint_le = omega arith;
+        seen_le = k.seen_le;
+        wish_le = k.wish_le;
+        spare_fits = behind_fits;
         reader = tt;
       }
 

@@ -4,9 +4,9 @@ use Rattle.std.proofs.lemmas.List.{get_or-set_other}
 use mathlib.Core.Logic.{dite}
 use native.Mathlib.Decide.{ℕ_discrete}
 use Rattle.trace_model.specs.Links.{Link, normal_link, header_link, update_link}
-use Rattle.trace_model.specs.Frames.{Kind, for_record, for_close, owner, Phase, reserving, looking, claiming, looking_next, marking, clearing, opening, reserved, releasing, Frame, owned_update}
+use Rattle.trace_model.specs.Frames.{Kind, for_record, for_close, FrameState, waiting, reserved, left, owner, Phase, idle, looking, claiming, looking_next, marking, clearing, opening, releasing, wishing, Frame, owned_update}
 use Rattle.trace_model.specs.Ring.{link_into, links_with, page_at, ReaderPhase, loading_link, loading_done, storing_link, swapping, Core}
-use Rattle.trace_model.specs.Steps.{Event, steps, reads, Answer, with_new_tail, after_begin, BeginsAnew, reserves, finds_nothing, is_crowded, is_worn, notes, look_late, sees_free, sees_header, sees_update, claim_late, claims, claim_fails, next_late, sees_normal, sees_other, mark_late, marks, mark_fails, clears, open_late, opens, releases, releases_last, FrameStep, Step, push_step, push_refused, close_step, close_refused, frame_step, frame_lacks, end_step, end_lacks, end_early, read_step, loads_header, loads_update, loads_owed, loads_passed, finds_none, finds_closed, swaps, swap_fails, ReadStep, Exchange, Run}
+use Rattle.trace_model.specs.Steps.{Event, steps, reads, Answer, with_new_tail, after_begin, BeginsAnew, reserves, finds_nothing, is_crowded, is_worn, notes, look_late, sees_free, sees_header, sees_update, claim_late, claims, claim_fails, next_late, sees_normal, sees_other, mark_late, marks, mark_fails, clears, open_late, opens, releases, releases_last, grants, closes_more, goes_away, IdleStep, FrameStep, Step, push_step, push_refused, close_step, close_refused, frame_step, frame_lacks, end_step, end_lacks, end_early, read_step, wish_step, loads_header, loads_update, loads_owed, loads_passed, finds_none, finds_closed, swaps, swap_fails, ReadStep, Exchange, Run}
 use Rattle.link_marks.specs.KeptLinks.{PhaseKept, LinkKept, is_normal, is_header, is_update, ReaderKept, LinksKept}
 use Rattle.link_marks.specs.RingKept.{IsRingKept}
 use Rattle.link_marks.specs.LinkLaws.{age_of, IsHeaderSet, IsClaimed, IsCleared}
@@ -44,23 +44,30 @@ pub data Relinks (n : ℕ) (c : Core) (event : Event) (after : Core) : Type 0 wh
       → after.links ≡ links_with n (links_with n c.links c.head (normal_link c.spare (c.head + n))) (suc c.head) (header_link next (suc c.head))
       → Relinks n c event after
 
-links_after_begin : (kind : Kind) (c : Core) (frame : Frame) (below : List Frame) → (after_begin kind c frame below).links ≡ c.links
-links_after_begin (for_record moment len) c frame below = refl
-links_after_begin for_close c frame below = refl
+links_after_begin : (kind : Kind) (state : FrameState) (c : Core) (frame : Frame) (below : List Frame) → (after_begin kind state c frame below).links ≡ c.links
+links_after_begin (for_record moment len) waiting c frame below = refl
+links_after_begin for_close waiting c frame below = refl
+links_after_begin kind (reserved number) c frame below = refl
+links_after_begin kind left c frame below = refl
 
 anew : (n : ℕ) (c : Core) (event : Event) (frame : Frame) (below : List Frame) (noted : ℕ) (answer : Answer) (after : Core) → BeginsAnew c frame below noted answer after → Relinks n c event after
-anew n c event frame below noted answer after step = leaves_links (ap (λ (d : Core). d.links) step.after_is ∙ links_after_begin frame.kind c frame below)
+anew n c event frame below noted answer after step = leaves_links (ap (λ (d : Core). d.links) step.after_is ∙ links_after_begin frame.kind frame.state c frame below)
 
 stays : (n : ℕ) (c : Core) (event : Event) (after d : Core) → after ≡ d → d.links ≡ c.links → Relinks n c event after
 stays n c event after d is same = leaves_links (ap (λ (x : Core). x.links) is ∙ same)
 
 module _ (n size : ℕ) (c : Core) (event : Event) (frame : Frame) (below : List Frame) (k : LinksKept n c) (steps_is : event ≡ steps) (top : c.frames ≡ frame ∷ below) where
+  relinks_idle : (state : FrameState) (answer : Answer) (after : Core) → IdleStep n size c frame below state answer after → Relinks n c event after
+  relinks_idle waiting answer after (reserves moment len r kind r_is fits a is) = stays n c event after _ is refl
+  relinks_idle waiting answer after (finds_nothing kind none a is) = stays n c event after _ is refl
+  relinks_idle waiting answer after (is_crowded needs full a is) = stays n c event after _ is refl
+  relinks_idle waiting answer after (is_worn needs full last a is) = stays n c event after _ is refl
+  relinks_idle waiting answer after (notes needs room small a is) = stays n c event after _ is refl
+  relinks_idle (reserved number) answer after step = stays n c event after c step.1 refl
+  relinks_idle left answer after step = absurd step
+
   relinks_frame : (phase : Phase) (answer : Answer) (after : Core) → frame.phase ≡ phase → FrameStep n size c frame below phase answer after → Relinks n c event after
-  relinks_frame reserving answer after same (reserves moment len r kind r_is fits a is) = stays n c event after _ is refl
-  relinks_frame reserving answer after same (finds_nothing kind none a is) = stays n c event after _ is refl
-  relinks_frame reserving answer after same (is_crowded needs full a is) = stays n c event after _ is refl
-  relinks_frame reserving answer after same (is_worn needs full last a is) = stays n c event after _ is refl
-  relinks_frame reserving answer after same (notes needs room small a is) = stays n c event after _ is refl
+  relinks_frame idle answer after same step = relinks_idle frame.state answer after step
   relinks_frame (looking noted) answer after same (look_late step) = anew n c event frame below noted answer after step
   relinks_frame (looking noted) answer after same (sees_free page now at a is) = stays n c event after _ is refl
   relinks_frame (looking noted) answer after same (sees_header page lost now sum at a is) = stays n c event after _ is refl
@@ -71,7 +78,7 @@ module _ (n size : ℕ) (c : Core) (event : Event) (frame : Frame) (below : List
       let unread = k.head_le in let within = k.opened_le in
       let (here, page_is, head_at) = header_inside n c k noted page lost (omega arith) (omega arith) sum at in
       claims_head noted page lost steps_is
-      record { sum = sum; here = here; closed = omega arith; full = now; passed = ap (λ (x : Core). x.head) is; top = record { kind = frame.kind; phase = looking_next owner noted page }; below = below; is_top = ap (λ (x : Core). x.frames) is; owns = refl }
+      record { sum = sum; here = here; closed = omega arith; full = now; passed = ap (λ (x : Core). x.head) is; top = record frame { phase = looking_next owner noted page }; below = below; is_top = ap (λ (x : Core). x.frames) is; owns = refl }
       at (ap (λ (x : Core). x.links) is)
   relinks_frame (claiming noted page) answer after same (claim_fails now other a is) = stays n c event after _ is refl
   relinks_frame (looking_next role noted page) answer after same (next_late helps step) = anew n c event frame below noted answer after step
@@ -87,10 +94,12 @@ module _ (n size : ℕ) (c : Core) (event : Event) (frame : Frame) (below : List
       let kept = subst (PhaseKept n c.links c.order c.head c.done c.opened) same (top_kept n c frame below k top) in
       clears_own frame below noted page lost steps_is top (ap owned_update same) sum (kept.clears noted lost refl sum) at (ap (λ (x : Core). x.links) is)
   relinks_frame (opening noted page) answer after same (open_late step) = anew n c event frame below noted answer after step
-  relinks_frame (opening noted page) answer after same (opens now a is) = stays n c event after _ is (links_after_begin frame.kind (with_new_tail c page) frame below)
-  relinks_frame (reserved number) answer after same step = stays n c event after c step.1 refl
+  relinks_frame (opening noted page) answer after same (opens now a is) = stays n c event after _ is (links_after_begin frame.kind frame.state (with_new_tail c page) frame below)
   relinks_frame releasing answer after same (releases alone more a is) = stays n c event after _ is refl
   relinks_frame releasing answer after same (releases_last alone last a is) = stays n c event after _ is refl
+  relinks_frame wishing answer after same (grants alone granted a is) = stays n c event after _ is refl
+  relinks_frame wishing answer after same (closes_more alone denied more a is) = stays n c event after _ is refl
+  relinks_frame wishing answer after same (goes_away alone denied last a is) = stays n c event after _ is refl
 
 relinks_read : (n : ℕ) (c : Core) (event : Event) (phase : ReaderPhase) (answer : Answer) (after : Core) → LinksKept n c → event ≡ reads → ReaderKept n c.links c.order c.spare_link c.head c.done c.reader.hint phase → ReadStep n c phase answer after → Relinks n c event after
 relinks_read n c event loading_link answer after k reads_is facts (loads_header page fill at a is) = stays n c event after _ is refl
@@ -121,6 +130,7 @@ relinks_step n size c event answer after k (end_step payload frame below number 
 relinks_step n size c event answer after k (end_lacks payload e none a is) = stays n c event after c is refl
 relinks_step n size c event answer after k (end_early payload frame below e top none a is) = stays n c event after c is refl
 relinks_step n size c event answer after k (read_step e step) = relinks_read n c event c.reader.phase answer after k e k.reader step
+relinks_step n size c event answer after k (wish_step e a is) = stays n c event after _ is refl
 
 -- ---- one position
 
@@ -182,7 +192,7 @@ raised n c event after f some (to_header page fill was is head by) = let a = ap 
 raised n c event after f some (to_next frame below page lost by top own set was is) = let a = ap age_of was in let b = ap age_of is in inr (omega arith)
 raised n c event after f some (to_spare page other fill was is) = let a = ap age_of was in let b = ap age_of is in inr (omega arith)
 
-pub raised_step : (n size start : ℕ) (c : Core) (event : Event) (answer : Answer) (after : Core) (f : ℕ) → IsRingKept n start c → Step n size c event answer after → Rises (link_into n c.links f) (link_into n after.links f)
+pub raised_step : (n size start : ℕ) (c : Core) (event : Event) (answer : Answer) (after : Core) (f : ℕ) → IsRingKept n size start c → Step n size c event answer after → Rises (link_into n c.links f) (link_into n after.links f)
 raised_step n size start c event answer after f r step = raised n c event after f (let two = r.links.some_pages in omega arith) (turn_step n size c event answer after f r.links step)
 
 rises_on : (l m o : Link) → Rises l m → Rises m o → Rises l o
@@ -191,7 +201,7 @@ rises_on l m o (inl e) (inr more) = inr (let a = ap age_of e in omega arith)
 rises_on l m o (inr more) (inl e) = inr (let a = ap age_of e in omega arith)
 rises_on l m o (inr more) (inr more') = inr (omega arith)
 
-pub raised_run : (n size start : ℕ) (c after : Core) (exchanges : List Exchange) (f : ℕ) → IsRingKept n start c → Run n size c exchanges after → Rises (link_into n c.links f) (link_into n after.links f)
+pub raised_run : (n size start : ℕ) (c after : Core) (exchanges : List Exchange) (f : ℕ) → IsRingKept n size start c → Run n size c exchanges after → Rises (link_into n c.links f) (link_into n after.links f)
 raised_run n size start c after [] f r run = inl (ap (λ (d : Core). link_into n d.links f) (sym run))
 raised_run n size start c after (x ∷ exchanges) f r (between, step, run) = rises_on (link_into n c.links f) (link_into n between.links f) (link_into n after.links f) (raised_step n size start c x.event x.answer between f r step)
     (raised_run n size start between after exchanges f (ring_step n size start c x.event x.answer between r step) run)
@@ -201,7 +211,7 @@ stands_once l m o (inl e) b ne is = ne e
 stands_once l m o (inr more) (inl e) ne is = ne (sym e ∙ is)
 stands_once l m o (inr more) (inr more') ne is = let a = ap age_of is in omega arith
 
-pub once_run : (n size start : ℕ) (c between after : Core) (exchanges more : List Exchange) (f : ℕ) → IsRingKept n start c → Run n size c exchanges between → Run n size between more after → link_into n between.links f ≢ link_into n c.links f
+pub once_run : (n size start : ℕ) (c between after : Core) (exchanges more : List Exchange) (f : ℕ) → IsRingKept n size start c → Run n size c exchanges between → Run n size between more after → link_into n between.links f ≢ link_into n c.links f
     → link_into n after.links f ≢ link_into n c.links f
 once_run n size start c between after exchanges more f r run rest ne = stands_once (link_into n c.links f) (link_into n between.links f) (link_into n after.links f)
     (raised_run n size start c between exchanges f r run)
@@ -218,9 +228,9 @@ header_at n c k f page fill at =
     let (told, here, page_is) = header_tells n c.links c.order c.head c.frames g page fill (k.each g low high) (ap (λ (i : ℕ). get_or c.links i (normal_link 0 0)) position ∙ at) in
     (told ∙ here, page_is ∙ ap (page_at n c.order) here, ap (λ (i : ℕ). i % n) (sym here) ∙ position)
 
-pub one_header : (n start : ℕ) (c : Core) (f g page other_page fill other_fill : ℕ) → IsRingKept n start c → link_into n c.links f ≡ header_link page fill → link_into n c.links g ≡ header_link other_page other_fill
+pub one_header : (n size start : ℕ) (c : Core) (f g page other_page fill other_fill : ℕ) → IsRingKept n size start c → link_into n c.links f ≡ header_link page fill → link_into n c.links g ≡ header_link other_page other_fill
     → (fill ≡ c.head) × (other_fill ≡ fill) × (other_page ≡ page) × (g % n ≡ f % n)
-one_header n start c f g page other_page fill other_fill r at other =
+one_header n size start c f g page other_page fill other_fill r at other =
     let (a, p, position) = header_at n c r.links f page fill at in
     let (b, q, other_position) = header_at n c r.links g other_page other_fill other in
     (a, b ∙ sym a, q ∙ sym p, sym other_position ∙ position)
@@ -249,7 +259,7 @@ header_set n c event after f page fill k (to_header p g was now head by) ne is =
 header_set n c event after f page fill k (to_next frame below p lost by top own set was now) ne is = absurd (normal_ne_header p (lost + n) page fill (sym now ∙ is))
 header_set n c event after f page fill k (to_spare p other g was now) ne is = absurd (normal_ne_header other (g + n) page fill (sym now ∙ is))
 
-pub headers_owed : (n size start : ℕ) (c : Core) (event : Event) (answer : Answer) (after : Core) (f page fill : ℕ) → IsRingKept n start c → Step n size c event answer after → link_into n c.links f ≢ header_link page fill → link_into n after.links f ≡ header_link page fill
+pub headers_owed : (n size start : ℕ) (c : Core) (event : Event) (answer : Answer) (after : Core) (f page fill : ℕ) → IsRingKept n size start c → Step n size c event answer after → link_into n c.links f ≢ header_link page fill → link_into n after.links f ≡ header_link page fill
     → IsHeaderSet n c event after f page fill
 headers_owed n size start c event answer after f page fill r step ne is = header_set n c event after f page fill r.links (turn_step n size c event answer after f r.links step) ne is
 
@@ -257,7 +267,7 @@ too_old : (l m : Link) (page other_page fill : ℕ) → l ≡ header_link page f
 too_old l m page other_page fill at (inl e) is = normal_ne_header other_page fill page fill (sym is ∙ e ∙ at)
 too_old l m page other_page fill at (inr more) is = let a = ap age_of at in let b = ap age_of is in omega arith
 
-pub headers_once : (n size start : ℕ) (c between : Core) (exchanges : List Exchange) (event : Event) (answer : Answer) (after : Core) (f g page other_page fill : ℕ) → IsRingKept n start c → link_into n c.links f ≡ header_link page fill → Run n size c exchanges between
+pub headers_once : (n size start : ℕ) (c between : Core) (exchanges : List Exchange) (event : Event) (answer : Answer) (after : Core) (f g page other_page fill : ℕ) → IsRingKept n size start c → link_into n c.links f ≡ header_link page fill → Run n size c exchanges between
     → Step n size between event answer after
     → link_into n between.links g ≢ header_link other_page fill
     → link_into n after.links g ≢ header_link other_page fill
@@ -292,7 +302,7 @@ claimed n c event after f page lost (to_header p g was now head by) ne is = absu
 claimed n c event after f page lost (to_next frame below p u by top own set was now) ne is = absurd (normal_ne_update p (u + n) page lost (sym now ∙ is))
 claimed n c event after f page lost (to_spare p other g was now) ne is = absurd (normal_ne_update other (g + n) page lost (sym now ∙ is))
 
-pub updates_claimed : (n size start : ℕ) (c : Core) (event : Event) (answer : Answer) (after : Core) (f page lost : ℕ) → IsRingKept n start c → Step n size c event answer after → link_into n c.links f ≢ update_link page lost → link_into n after.links f ≡ update_link page lost
+pub updates_claimed : (n size start : ℕ) (c : Core) (event : Event) (answer : Answer) (after : Core) (f page lost : ℕ) → IsRingKept n size start c → Step n size c event answer after → link_into n c.links f ≢ update_link page lost → link_into n after.links f ≡ update_link page lost
     → IsClaimed n c event after f page lost
 updates_claimed n size start c event answer after f page lost r step ne is = claimed n c event after f page lost (turn_step n size c event answer after f r.links step) ne is
 
@@ -323,6 +333,6 @@ cleared n c event after f page lost k (to_next frame below p u by top own set wa
     }
 cleared n c event after f page lost k (to_spare p other g was now) at ne = absurd (header_ne_update p g page lost (sym was ∙ at))
 
-pub owners_clear : (n size start : ℕ) (c : Core) (event : Event) (answer : Answer) (after : Core) (f page lost : ℕ) → IsRingKept n start c → Step n size c event answer after → link_into n c.links f ≡ update_link page lost → link_into n after.links f ≢ update_link page lost
+pub owners_clear : (n size start : ℕ) (c : Core) (event : Event) (answer : Answer) (after : Core) (f page lost : ℕ) → IsRingKept n size start c → Step n size c event answer after → link_into n c.links f ≡ update_link page lost → link_into n after.links f ≢ update_link page lost
     → IsCleared n c event after f page lost
 owners_clear n size start c event answer after f page lost r step at ne = cleared n c event after f page lost r.links (turn_step n size c event answer after f r.links step) at ne

@@ -69,7 +69,7 @@ shorter (suc a) zero xs le = absurd (omega arith)
 shorter (suc a) (suc b) [] le = refl
 shorter (suc a) (suc b) (x ∷ xs) le = ap (λ (l : List Reservation). x ∷ l) (shorter a b xs (omega arith))
 
-module _ (n start : ℕ) (c : Core) (r : IsRingKept n start c) where
+module _ (n size start : ℕ) (c : Core) (r : IsRingKept n size start c) where
   behind_head : (f : ℕ) → c.head < f → f < c.head + n → IsBehindHead n c f
   behind_head f low high = by_link (r.links.each f (omega arith) high)
     where
@@ -125,6 +125,7 @@ module _ (n start : ℕ) (c : Core) (r : IsRingKept n start c) where
     opened_le = r.links.opened_le;
     from_start = r.contents.from_start;
     begun = let count = r.contents.begun in let e = length-cut_from 0 (opens_of c.history) (reserved_records c.history) in let sum : c.opened ≡ start + length (fills_of c.history) = omega arith in sum;
+    wish_le = let wish = r.links.wish_le in let behind = r.links.done_lt in omega arith;
     behind_head = behind_head;
     at_head = at_head;
     contents = r.contents.each;
@@ -138,8 +139,8 @@ module _ (n start : ℕ) (c : Core) (r : IsRingKept n start c) where
 
 -- The fills that the reader took, and the records lost between, are a partition of the committed records up to
 -- the number that the reader expects; behind that is the rest.
-pub taken_partition_at : (n start : ℕ) (c : Core) → IsRingKept n start c → IsPartition (committed_records c.history) (pieces_of c.reader.taken) (map as_record (drop c.reader.expected (take (length (reserved_records (settled_prefix c.history))) (reserved_records c.history))))
-taken_partition_at n start c r =
+pub taken_partition_at : (n size start : ℕ) (c : Core) → IsRingKept n size start c → IsPartition (committed_records c.history) (pieces_of c.reader.taken) (map as_record (drop c.reader.expected (take (length (reserved_records (settled_prefix c.history))) (reserved_records c.history))))
+taken_partition_at n size start c r =
     let e : ℕ = c.reader.expected in
     let base : ℕ = length (reserved_records (settled_prefix c.history)) in
     let xs : List Reservation = reserved_records c.history in
@@ -152,22 +153,26 @@ taken_partition_at n start c r =
     ∙ k.agrees in
     subst (λ (l : List Record). IsPartition l (pieces_of c.reader.taken) rest) whole (partition_rest (take e (map as_record xs)) (pieces_of c.reader.taken) rest r.partition.partition)
 
-pub taken_partition : (n start : ℕ) (c : Core) → IsRingKept n start c → (rest : List Record) × IsPartition (committed_records c.history) (pieces_of c.reader.taken) rest
-taken_partition n start c r = (map as_record (drop c.reader.expected (take (length (reserved_records (settled_prefix c.history))) (reserved_records c.history))), taken_partition_at n start c r)
+pub taken_partition : (n size start : ℕ) (c : Core) → IsRingKept n size start c → (rest : List Record) × IsPartition (committed_records c.history) (pieces_of c.reader.taken) rest
+taken_partition n size start c r = (map as_record (drop c.reader.expected (take (length (reserved_records (settled_prefix c.history))) (reserved_records c.history))), taken_partition_at n size start c r)
 
 -- ---- steps and runs
 
-pub ring_step : (n size start : ℕ) (c : Core) (event : Event) (answer : Answer) (after : Core) → IsRingKept n start c → Step n size c event answer after → IsRingKept n start after
+pub ring_step : (n size start : ℕ) (c : Core) (event : Event) (answer : Answer) (after : Core) → IsRingKept n size start c → Step n size c event answer after → IsRingKept n size start after
 ring_step n size start c event answer after r step = record {
-  links = step_kept n size c event answer after r.links step;
-  history = (step_owed n size start c event answer after r.links r.history step).kept;
-  contents = contents_step n size start c event answer after r.links r.history r.contents step;
-  closed = closed_step n size start c event answer after r.links r.history r.contents r.closed step;
+  links = step_kept n size c event answer after r.links r.stack step;
+  stack = stack_step n size c event answer after r.links r.stack step;
+  progress = progress_step n size c event answer after r.links r.progress step;
+  history = (step_owed n size start c event answer after r.links r.stack r.history step).kept;
+  contents = contents_step n size start c event answer after r.links r.stack r.history r.contents r.open_pages step;
+  open_pages = open_pages_step n size c event answer after r.links r.open_pages step;
+  packed = packs_step n size start c event answer after r.links r.stack r.history r.contents r.packed step;
+  closed = closed_step n size start c event answer after r.links r.stack r.history r.contents r.closed step;
   partition = partition_step n size start c event answer after r.links r.history r.contents r.closed r.partition step;
 }
 
-pub ring_run : (n size start : ℕ) (c after : Core) (exchanges : List Exchange) → IsRingKept n start c → Run n size c exchanges after → IsRingKept n start after
-ring_run n size start c after [] r run = subst (IsRingKept n start) run r
+pub ring_run : (n size start : ℕ) (c after : Core) (exchanges : List Exchange) → IsRingKept n size start c → Run n size c exchanges after → IsRingKept n size start after
+ring_run n size start c after [] r run = subst (IsRingKept n size start) run r
 ring_run n size start c after (x ∷ exchanges) r (between, step, run) = ring_run n size start between after exchanges (ring_step n size start c x.event x.answer between r step) run
 
 -- ---- the start
@@ -182,16 +187,23 @@ nothing_done n start c some a s = let head = s.head in let opened = s.opened in 
       ∙ ap (λ (i : ℕ). let h : Held = record { first = get_or (0 ∷ []) i 0; records = get_or ([] ∷ []) i [] } in h) (let e : 0 ≡ f - start = omega arith in e);
 }
 
-pub ring_start : (n start : ℕ) (c : Core) → MayStart n start → IsStart n start c → IsRingKept n start c
-ring_start n start c may s = let some = may.some_pages in let fits = may.numbers_left in let links = start_kept n start c s some fits in let done = s.done in record {
+pub ring_start : (n size start : ℕ) (c : Core) → MayStart n start → IsStart n start c → IsRingKept n size start c
+ring_start n size start c may s = let some = may.some_pages in let fits = may.numbers_left in let links = start_kept n start c s some fits in let done = s.done in record {
   links = links;
+  stack = stack_start n start c s;
+  progress = progress_start n start c s;
   history = start_history n start c s;
   contents = subst (λ (h : List Action). PagesKept n start c.order c.held (opens_of h) (reserved_records h) c.head c.opened) (sym s.history) (nothing_done n start c (omega arith) links.apart s);
+  open_pages = open_pages_start n start c (omega arith) s;
+  packed = packed_start n size start c s;
   closed = subst (λ (h : List Action). first_of_fill h start c.done ≤ length (reserved_records (settled_prefix h))) (sym s.history)
       (subst (λ (i : ℕ). get_or (0 ∷ []) i 0 ≤ 0) (let e : 0 ≡ c.done - start = omega arith in e) (let z : 0 ≤ 0 = omega arith in z));
   partition = subst (λ (x : Reader). PartitionAt start c.history c.head x.expected x.taken) (sym s.reader) record { expected_le = omega arith; partition = refl; total = refl; firsts = λ k t at. absurd (none_some at); fills = record { each = λ k t at. absurd (none_some at); rising = λ j k a b less at_j at_k. absurd (none_some at_j) }; below = λ k t at. absurd (none_some at) };
 }
 
 -- what every step keeps holds of every state that steps reach
-pub reached_kept : (n size start : ℕ) (c : Core) → IsReached n size start c → IsRingKept n start c
-reached_kept n size start c r = ring_run n size start r.from c r.exchanges (ring_start n start r.from r.may_start r.is_new) r.run
+pub reached_kept : (n size start : ℕ) (c : Core) → IsReached n size start c → IsRingKept n size start c
+reached_kept n size start c r = ring_run n size start r.from c r.exchanges (ring_start n size start r.from r.may_start r.is_new) r.run
+
+pub reached_ring : (n size start : ℕ) (c : Core) → IsReached n size start c → IsRing n start c
+reached_ring n size start c r = is_ring n size start c (reached_kept n size start c r)

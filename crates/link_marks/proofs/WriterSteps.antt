@@ -6,7 +6,7 @@ use Rattle.trace_model.specs.declared.limits.TheConstants.{LINK_FILLS}
 use Rattle.trace_model.specs.Links.{Link, normal_link, header_link, update_link}
 use Rattle.trace_model.specs.Frames.{owner, Phase, looking_next, opening, Frame, owned_update}
 use Rattle.trace_model.specs.Ring.{Core, link_into, links_with, page_at}
-use Rattle.trace_model.specs.Steps.{with_link, with_new_tail}
+use Rattle.trace_model.specs.Steps.{with_link, with_new_tail, with_released}
 use Rattle.link_marks.specs.KeptLinks.{Stands, MoversDiffer, PhaseKept, FramesKept, LinkKept, is_normal, is_header, is_update, LinksKept}
 use Rattle.link_marks.proofs.Positions.{link_here, link_else, page_turn}
 use Rattle.link_marks.proofs.FramePhases.{none_some, some_is, normal_ne_header, normal_ne_update, header_ne_update, Noted, Passed, Owned, knows_looking_next, relink_phase, map_frames, map_others, map_reader, after_set}
@@ -30,13 +30,13 @@ moved_link n links links' order head frames f same (is_update lost sum e st) = i
 
 pub claims_kept : (n : ℕ) (c : Core) (frame : Frame) (below : List Frame) (noted page lost : ℕ) → LinksKept n c → c.frames ≡ frame ∷ below → owned_update frame.phase ≡ None → Noted n c.done c.opened noted → noted ≡ c.opened → lost + n ≡ noted
     → link_into n c.links noted ≡ header_link page lost
-    → LinksKept n (record (with_link n c noted (update_link page lost)) { head = c.head + 1; frames = record { kind = frame.kind; phase = looking_next owner noted page } ∷ below })
+    → LinksKept n (record (with_link n c noted (update_link page lost)) { head = c.head + 1; frames = record frame { phase = looking_next owner noted page } ∷ below })
 claims_kept n c frame below noted page lost k top none facts now sum at =
     let some_pages = k.some_pages in let wide = k.positions in let unread = k.head_le in let behind = k.done_lt in let within = k.opened_le in
     let (open_yet, begun_yet, room, small) = facts in
     let (is, page_is, head_at) = header_inside n c k noted page lost (omega arith) (omega arith) sum at in
     let new : Link = update_link page lost in
-    let frames : List Frame = record { kind = frame.kind; phase = looking_next owner noted page } ∷ below in
+    let frames : List Frame = record frame { phase = looking_next owner noted page } ∷ below in
     let stands : Stands frames (c.head + n) = inl (ap Some (let e : noted ≡ c.head + n = omega arith in e)) in
     let stays = λ (g : ℕ) (st : Stands c.frames g). let it : Stands frames g = ⊎_elim (λ e. absurd (none_some (sym none ∙ e))) (λ b. inr b) (stands_top n c frame below k top g st) in it in
     let here : link_into n (links_with n c.links noted new) noted ≡ new = link_here n c.links noted new (omega arith) wide in
@@ -68,6 +68,9 @@ claims_kept n c frame below noted page lost k top none facts now sum at =
         below_differ n c frame below k top,
       );
       hint_le = let le = k.hint_le in omega arith;
+      seen_le = k.seen_le;
+      wish_le = k.wish_le;
+      spare_fits = k.spare_fits;
       reader = map_reader n c.links (links_with n c.links noted new) c.order c.spare_link c.head (c.head + 1) c.done c.done c.reader.hint c.reader.phase (omega arith)
           (λ p f seen. let it = seen.fill_is in let le = k.hint_le in record { fill_is = seen.fill_is; stays = λ e. absurd (omega arith) })
           k.reader;
@@ -99,6 +102,9 @@ marks_kept n c lost next k below_head open_yet at =
           k.frames;
       movers = k.movers;
       hint_le = k.hint_le;
+      seen_le = k.seen_le;
+      wish_le = k.wish_le;
+      spare_fits = k.spare_fits;
       reader = map_reader n c.links (links_with n c.links (suc lost) new) c.order c.spare_link c.head c.head c.done c.done c.reader.hint c.reader.phase (omega arith)
           (λ p f seen. record { fill_is = seen.fill_is; stays = λ e. absurd (normal_ne_header next (suc lost) p f (sym at ∙ ap (link_into n c.links) (is ∙ sym e) ∙ seen.stays e)) })
           k.reader;
@@ -120,12 +126,12 @@ pub clears_kept : (n : ℕ) (c : Core) (frame : Frame) (below : List Frame) (not
     → PhaseKept n (links_with n c.links noted (normal_link page noted)) c.order c.head c.done c.opened (opening noted page)
     → ((seen : ℕ) → link_into n c.links (suc lost) ≢ normal_link seen (suc lost))
     → lost + n ≡ noted → link_into n c.links noted ≡ update_link page lost
-    → LinksKept n (record (with_link n c noted (normal_link page noted)) { frames = record { kind = frame.kind; phase = opening noted page } ∷ below })
+    → LinksKept n (record (with_link n c noted (normal_link page noted)) { frames = record frame { phase = opening noted page } ∷ below })
 clears_kept n c frame below noted page lost k top own passed facts is_set sum at =
     let some_pages = k.some_pages in let wide = k.positions in let unread = k.head_le in
     let (open_yet, inside, page_is) = passed in
     let new : Link = normal_link page noted in
-    let frames : List Frame = record { kind = frame.kind; phase = opening noted page } ∷ below in
+    let frames : List Frame = record frame { phase = opening noted page } ∷ below in
     let here : link_into n (links_with n c.links noted new) noted ≡ new = link_here n c.links noted new (omega arith) wide in
     let stays = λ (g : ℕ) (ne : g ≢ lost + n) (st : Stands c.frames g). let it : Stands frames g = ⊎_elim (λ e. absurd (ne (sym (some_is noted g (sym own ∙ e)) ∙ sym sum))) (λ b. inr b) (stands_top n c frame below k top g st) in it in record {
       some_pages = k.some_pages;
@@ -150,6 +156,9 @@ clears_kept n c frame below noted page lost k top own passed facts is_set sum at
       );
       movers = (λ f is_f st. absurd (none_some is_f), below_differ n c frame below k top);
       hint_le = k.hint_le;
+      seen_le = k.seen_le;
+      wish_le = k.wish_le;
+      spare_fits = k.spare_fits;
       reader = map_reader n c.links (links_with n c.links noted new) c.order c.spare_link c.head c.head c.done c.done c.reader.hint c.reader.phase (omega arith)
           (λ p f seen. record { fill_is = seen.fill_is; stays = λ e. after_set n c.links noted f (update_link page lost) new (header_link p f) at (λ same. header_ne_update p f page lost (sym same)) (seen.stays e) })
           k.reader;
@@ -180,13 +189,16 @@ begun_kept n c page k room small = record {
   frames = map_frames n c.links c.links c.order c.order c.head c.head c.done c.done c.opened (c.opened + 1) c.frames (opened_phase n c.links c.order c.head c.done c.opened) k.frames;
   movers = k.movers;
   hint_le = k.hint_le;
+  seen_le = k.seen_le;
+  wish_le = k.wish_le;
+  spare_fits = k.spare_fits;
   reader = k.reader;
 }
 
 -- ---- the release of a fill: the frame stands alone
 
 pub released_kept : (n : ℕ) (c : Core) (frames : List Frame) → LinksKept n c → c.done + 1 < c.opened → ((f : ℕ) → Stands c.frames f → ⊥) → FramesKept n c.links c.order c.head (c.done + 1) c.opened frames → MoversDiffer frames
-    → LinksKept n (record c { done = c.done + 1; frames = frames })
+    → LinksKept n (record (with_released c) { frames = frames })
 released_kept n c frames k more none facts differ = record {
   some_pages = k.some_pages;
   positions = k.positions;
@@ -199,5 +211,8 @@ released_kept n c frames k more none facts differ = record {
   frames = facts;
   movers = differ;
   hint_le = k.hint_le;
+  seen_le = let le = k.seen_le in omega arith;
+  wish_le = let le = k.wish_le in omega arith;
+  spare_fits = k.spare_fits;
   reader = map_reader n c.links c.links c.order c.spare_link c.head c.head c.done (c.done + 1) c.reader.hint c.reader.phase (omega arith) (λ page fill seen. seen) k.reader;
 }

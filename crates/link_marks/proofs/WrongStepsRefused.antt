@@ -1,15 +1,18 @@
 -- The wrong steps make no rings.
-use Rattle.std.proofs.Common.{◌≡◌, ℕ, suc, ◌+◌, ◌<◌, ◌≤◌, List, [], length, map, Option, Some, refl, ap, ⊎_elim, arith}
+use Rattle.std.proofs.Common.{◌≡◌, ℕ, suc, ◌+◌, ◌<◌, ◌≤◌, true, false, List, [], length, map, Option, Some, refl, ap, ⊎_elim, arith}
 use Rattle.std.specs.List.{slice_get}
 use Rattle.trace_model.specs.declared.limits.TheConstants.{LINK_FILLS}
 use Rattle.trace_model.specs.Record.{Record}
 use Rattle.trace_model.specs.Links.{Link, normal_link, update_link, mark_code}
 use Rattle.trace_model.specs.Ring.{Taken, Core, link_into, page_at, IsStart, IsRing, IsBehindHead, told, moved, IsAtHead, marked, owed}
-use Rattle.trace_model.specs.Steps.{Exchange}
-use Rattle.trace_model.specs.Frames.{for_record, owner, looking_next}
-use Rattle.link_marks.specs.WrongSteps.{to_free_positions, with_head_lost, to_open_tail, with_tail_taken, to_helped_move, with_update_cleared, to_passed_mark, with_second_head, to_late_swap, with_late_swap, to_inner_end, with_page_closed, IsWrongStep, LosesWhileAPositionIsFree, TakesTheTail, HelperClearsTheUpdate, TwoHeads, SwapIgnoresTheFill, InnerEndPublishes}
+use Rattle.trace_model.specs.History.{wished}
+use Rattle.trace_model.specs.Packing.{IsPacked}
+use Rattle.trace_model.specs.Steps.{Exchange, with_action}
+use Rattle.trace_model.specs.Frames.{for_record, waiting, owner, looking_next}
+use Rattle.link_marks.specs.WrongSteps.{to_free_positions, with_head_lost, to_open_tail, with_tail_taken, to_helped_move, with_update_cleared, to_passed_mark, with_second_head, to_late_swap, with_late_swap, to_inner_end, with_page_closed, to_unasked_end, with_page_begun, to_empty_page, with_empty_page_left, IsWrongStep, IsUnpackedStep, ClosesWithoutAWish, WishClosesAnEmptyPage, LosesWhileAPositionIsFree, TakesTheTail, HelperClearsTheUpdate, TwoHeads, SwapIgnoresTheFill, InnerEndPublishes}
 use Rattle.link_marks.proofs.FramePhases.{none_some}
 use Rattle.link_marks.proofs.RingsKept.{ring_start, ring_step, ring_run, is_ring}
+use Rattle.link_marks.proofs.PackedRuns.{runs_packed}
 use Rattle.link_marks.proofs.StepFunction.{run_of}
 use Rattle.link_marks.proofs.StepFunctionSound.{event_in, answer_in, Gives, run_sound}
 use Rattle.link_marks.proofs.ExamplesRun.{two_pages, four_pages, two_start, four_start, last_from}
@@ -22,8 +25,8 @@ refused : (n size : ℕ) (start : Core) (exchanges : List Exchange) (wrong : Cor
 refused n size start exchanges wrong some fits is gives breaks =
     let before = last_from n size start exchanges in
     let run = run_sound n size start before exchanges gives in
-    let kept = ring_run n size 0 start before exchanges (ring_start n 0 start record { some_pages = some; numbers_left = fits } is) run in
-    (start, before, is, run, breaks, λ event answer step. breaks (is_ring n 0 (wrong before) (ring_step n size 0 before event answer (wrong before) kept step)))
+    let kept = ring_run n size 0 start before exchanges (ring_start n size 0 start record { some_pages = some; numbers_left = fits } is) run in
+    (start, before, is, run, breaks, λ event answer step. breaks (is_ring n size 0 (wrong before) (ring_step n size 0 before event answer (wrong before) kept step)))
 
 same_code : (a b : Link) → a ≡ b → mark_code a.mark ≡ mark_code b.mark
 same_code a b e = ap (λ (l : Link). mark_code l.mark) e
@@ -45,7 +48,7 @@ cleared = with_update_cleared (last_from 2 32 two_pages to_helped_move)
 
 -- the frame below has still set that UPDATE
 cleared_breaks : IsBehindHead 2 cleared 2 → ⊥
-cleared_breaks (told e none) = none 1 (record { kind = for_record 3 28; phase = looking_next owner 2 0 }, refl, refl)
+cleared_breaks (told e none) = none 1 (record { kind = for_record 3 28; state = waiting; phase = looking_next owner 2 0 }, refl, refl)
 cleared_breaks (moved lost sum e by) = let z : ◌≡◌ {A = ℕ} 0 2 = same_code (link_into 2 cleared.links 2) (update_link 0 lost) e in omega arith
 
 pub helper_clears_the_update : HelperClearsTheUpdate
@@ -77,3 +80,28 @@ inner_end_publishes = refused 2 32 two_pages to_inner_end with_page_closed (omeg
   where
     breaks : IsRing 2 0 (with_page_closed (last_from 2 32 two_pages to_inner_end)) → ⊥
     breaks r = let (behind, e) = r.closed in let z : 0 ≡ suc (suc (length behind)) = ap (λ (l : List Record). length l) e in omega arith
+
+-- ---- what isn't packed
+
+-- where what was done isn't packed, no step makes it
+unpacked : (n size : ℕ) (start : Core) (exchanges : List Exchange) (wrong : Core → Core) → 2 ≤ n → 0 + 1 + n ≤ LINK_FILLS → IsStart n 0 start
+    → Gives (run_of n size start (map event_in exchanges)) (map answer_in exchanges) (last_from n size start exchanges)
+    → (IsPacked (wrong (last_from n size start exchanges)).history size → ⊥)
+    → IsUnpackedStep n size exchanges wrong
+unpacked n size start exchanges wrong some fits is gives breaks =
+    let before = last_from n size start exchanges in
+    let run = run_sound n size start before exchanges gives in
+    let kept = ring_run n size 0 start before exchanges (ring_start n size 0 start record { some_pages = some; numbers_left = fits } is) run in
+    (start, before, is, run, breaks, λ event answer step. breaks (runs_packed n size 0 (wrong before) (ring_step n size 0 before event answer (wrong before) kept step)))
+
+pub closes_without_a_wish : ClosesWithoutAWish
+closes_without_a_wish = unpacked 2 32 two_pages to_unasked_end with_page_begun (omega arith) (omega arith) two_start (refl, refl) breaks
+  where
+    breaks : IsPacked (with_page_begun (last_from 2 32 two_pages to_unasked_end)).history 32 → ⊥
+    breaks packed = let wrong : false ≡ true = packed.asked (last_from 2 32 two_pages to_unasked_end).history [] refl refl in cc
+
+pub wish_closes_an_empty_page : WishClosesAnEmptyPage
+wish_closes_an_empty_page = unpacked 2 32 two_pages to_empty_page with_empty_page_left (omega arith) (omega arith) two_start (refl, refl) breaks
+  where
+    breaks : IsPacked (with_empty_page_left (last_from 2 32 two_pages to_empty_page)).history 32 → ⊥
+    breaks packed = packed.begins (with_action (last_from 2 32 two_pages to_empty_page) wished).history [] refl refl

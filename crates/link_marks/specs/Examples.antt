@@ -4,7 +4,7 @@ use Rattle.std.specs.Prelude.{◌≡◌, ℕ, List, [], ◌∷◌, ◌++◌, len
 use Rattle.trace_model.specs.Record.{Record}
 use Rattle.trace_model.specs.History.{Reservation, committed_records}
 use Rattle.trace_model.specs.Ring.{Core, IsStart}
-use Rattle.trace_model.specs.Steps.{pushes, pushes_close, steps, ends, reads, Answer, pushed, going, reserved_as, pending, full, gone, reading, empty, moving, swapped, Exchange, Run}
+use Rattle.trace_model.specs.Steps.{pushes, pushes_close, steps, ends, reads, wishes, Answer, pushed, going, reserved_as, pending, full, gone, reading, empty, moving, swapped, wished_for, Exchange, Run}
 
 -- ---- what is asked and answered
 
@@ -31,6 +31,10 @@ ending payload answer = record { event = ends payload; answer = answer } ∷ []
 -- the reader makes as many steps as these answers
 abbrev pub taking : List Answer → List Exchange
 taking answers = map (λ answer. record { event = reads; answer = answer }) answers
+
+-- the reader wishes for the page of this fill
+abbrev pub wishing_for : ℕ → List Exchange
+wishing_for fill = record { event = wishes; answer = wished_for fill } ∷ []
 
 -- ---- records
 
@@ -60,12 +64,22 @@ taken_as fill first missed records = swapped record {
 
 -- ---- events that stand for one line of a script
 
--- a record that fits in the tail page, written from its push to its end
+-- a record that fits in the tail page, written from its push on by a frame that then finds no wish and is gone
 abbrev pub writing : (moment : ℕ) → List ℕ → (number : ℕ) → List Exchange
 writing moment payload number =
     pushing moment (length payload)
     ++ stepping (reserved_as number ∷ [])
     ++ ending payload full
+    ++ stepping (gone ∷ [])
+
+-- the same where the reader wishes for the page: the frame finds that, looks, opens the next page, and closes the
+-- one that was wished for
+abbrev pub writing_for_wish : (moment : ℕ) → List ℕ → (number : ℕ) → List Exchange
+writing_for_wish moment payload number =
+    pushing moment (length payload)
+    ++ stepping (reserved_as number ∷ [])
+    ++ ending payload full
+    ++ stepping (after_going 4 gone)
 
 -- a record that is written on a new page, where a position is free: it notes the need, looks, opens the page
 -- and reserves; and closes the page in front
@@ -74,7 +88,7 @@ writing_on_free moment payload number =
     pushing moment (length payload)
     ++ stepping (after_going 3 (reserved_as number))
     ++ ending payload full
-    ++ stepping (gone ∷ [])
+    ++ stepping (going ∷ gone ∷ [])
 
 -- the same in a full ring, whose head it moves: it notes the need, looks, claims the head, looks at the next
 -- link, marks it, clears its UPDATE, opens the page and reserves
@@ -83,11 +97,15 @@ writing_over_head moment payload number =
     pushing moment (length payload)
     ++ stepping (after_going 7 (reserved_as number))
     ++ ending payload full
-    ++ stepping (gone ∷ [])
+    ++ stepping (going ∷ gone ∷ [])
 
--- a close frame that begins a page and leaves, which is its last step or not
-abbrev pub closing : Answer → List Exchange
-closing answer = pushing_close ++ stepping (going ∷ going ∷ answer ∷ [])
+-- a close frame that begins a page and leaves, with a frame below it
+abbrev pub closing_above : List Exchange
+closing_above = pushing_close ++ stepping (going ∷ going ∷ gone ∷ [])
+
+-- the same with none below it: it closes the page in front, and finds no wish
+abbrev pub closing : List Exchange
+closing = pushing_close ++ stepping (after_going 4 gone)
 
 -- a take from its begin on that finds the head's HEADER at once
 abbrev pub take_of : Answer → List Exchange
@@ -107,7 +125,7 @@ IsExample n size exchanges committed = (start : Core)
 abbrev pub first_record : List Exchange
 first_record =
     writing 100 (1 ∷ 2 ∷ 3 ∷ 4 ∷ []) 0
-    ++ closing going ++ stepping (gone ∷ [])
+    ++ closing
     ++ take_of (taken_as 0 0 0 (at 100 (1 ∷ 2 ∷ 3 ∷ 4 ∷ []) ∷ []))
 
 abbrev pub FirstRecord : Type 0
@@ -119,9 +137,9 @@ abbrev pub nested_writer : List Exchange
 nested_writer =
     pushing 10 4 ++ stepping (reserved_as 0 ∷ [])
     ++ pushing 20 4 ++ stepping (reserved_as 1 ∷ []) ++ ending (four 187) pending
-    ++ closing gone
+    ++ closing_above
     ++ taking (reading ∷ empty 0 ∷ [])
-    ++ ending (four 170) full ++ stepping (gone ∷ [])
+    ++ ending (four 170) full ++ stepping (going ∷ gone ∷ [])
     ++ take_of (taken_as 0 0 0 (at 10 (four 170) ∷ at 20 (four 187) ∷ []))
 
 abbrev pub NestedWriter : Type 0
@@ -133,8 +151,8 @@ abbrev pub inner_reserves_first : List Exchange
 inner_reserves_first =
     pushing 10 4
     ++ pushing 20 4 ++ stepping (reserved_as 0 ∷ []) ++ ending (four 187) pending
-    ++ stepping (reserved_as 1 ∷ []) ++ ending (four 170) full
-    ++ closing going ++ stepping (gone ∷ [])
+    ++ stepping (reserved_as 1 ∷ []) ++ ending (four 170) full ++ stepping (gone ∷ [])
+    ++ closing
     ++ take_of (taken_as 0 0 0 (at 20 (four 187) ∷ at 20 (four 170) ∷ []))
 
 abbrev pub InnerReservesFirst : Type 0
@@ -151,7 +169,7 @@ halted_head_move =
     ++ taking (moving 1 ∷ []) ++ taking (moving 1 ∷ [])
     ++ stepping (going ∷ going ∷ [])
     ++ taking (reading ∷ empty 1 ∷ [])
-    ++ stepping (going ∷ going ∷ reserved_as 2 ∷ []) ++ ending (all 3) full ++ stepping (gone ∷ [])
+    ++ stepping (going ∷ going ∷ reserved_as 2 ∷ []) ++ ending (all 3) full ++ stepping (going ∷ gone ∷ [])
     ++ take_of (taken_as 1 1 1 (at 2 (all 2) ∷ []))
 
 abbrev pub HaltedHeadMove : Type 0
@@ -170,7 +188,7 @@ helpers_at_the_head =
     ++ pushing 7 28 ++ stepping (after_going 7 (reserved_as 5)) ++ ending (all 7) pending
     ++ stepping (going ∷ going ∷ going ∷ [])
     ++ stepping (after_going 7 (reserved_as 6)) ++ ending (all 5) full
-    ++ stepping (going ∷ going ∷ gone ∷ [])
+    ++ stepping (after_going 3 gone)
     ++ taking (reading ∷ reading ∷ reading ∷ []) ++ take_of (taken_as 3 3 3 (at 4 (all 4) ∷ []))
     ++ take_of (taken_as 4 4 0 (at 6 (all 6) ∷ []))
     ++ take_of (taken_as 5 5 0 (at 7 (all 7) ∷ []))
@@ -194,3 +212,31 @@ late_swap =
 
 abbrev pub LateSwap : Type 0
 LateSwap = IsExample 2 32 late_swap (at 1 (all 1) ∷ at 2 (all 2) ∷ at 3 (all 3) ∷ at 4 (all 4) ∷ [])
+
+-- A record is written, a take finds nothing, and the reader wishes for the page. Until the next end a take still
+-- finds nothing; then a second record is written, and a take gets both.
+abbrev pub wish_answered : List Exchange
+wish_answered =
+    writing 1 (1 ∷ 2 ∷ 3 ∷ 4 ∷ []) 0
+    ++ taking (reading ∷ empty 0 ∷ []) ++ wishing_for 0 ++ taking (reading ∷ empty 0 ∷ [])
+    ++ writing_for_wish 2 (5 ∷ 6 ∷ 7 ∷ 8 ∷ []) 1
+    ++ take_of (taken_as 0 0 0 (at 1 (1 ∷ 2 ∷ 3 ∷ 4 ∷ []) ∷ at 2 (5 ∷ 6 ∷ 7 ∷ 8 ∷ []) ∷ []))
+
+abbrev pub WishAnswered : Type 0
+WishAnswered = IsExample 2 32 wish_answered (at 1 (1 ∷ 2 ∷ 3 ∷ 4 ∷ []) ∷ at 2 (5 ∷ 6 ∷ 7 ∷ 8 ∷ []) ∷ [])
+
+-- The reader wishes for the first page. A frame writes a record, is ended, and is interrupted before it looks for a
+-- wish: the second frame's end doesn't answer it, and a take finds nothing. The outermost one does, and a take gets
+-- both records.
+abbrev pub wish_waits_for_the_outermost : List Exchange
+wish_waits_for_the_outermost =
+    wishing_for 0
+    ++ pushing 1 4 ++ stepping (reserved_as 0 ∷ []) ++ ending (1 ∷ 2 ∷ 3 ∷ 4 ∷ []) full
+    ++ pushing 2 4 ++ stepping (reserved_as 1 ∷ []) ++ ending (5 ∷ 6 ∷ 7 ∷ 8 ∷ []) pending
+    ++ taking (reading ∷ empty 0 ∷ [])
+    ++ stepping (after_going 4 gone)
+    ++ take_of (taken_as 0 0 0 (at 1 (1 ∷ 2 ∷ 3 ∷ 4 ∷ []) ∷ at 2 (5 ∷ 6 ∷ 7 ∷ 8 ∷ []) ∷ []))
+
+abbrev pub WishWaitsForTheOutermost : Type 0
+WishWaitsForTheOutermost =
+    IsExample 2 32 wish_waits_for_the_outermost (at 1 (1 ∷ 2 ∷ 3 ∷ 4 ∷ []) ∷ at 2 (5 ∷ 6 ∷ 7 ∷ 8 ∷ []) ∷ [])

@@ -1,9 +1,9 @@
 -- The laws of what a ring's frames did, and of the partition of its records, as statements: each is a clause
 -- of a function of src/laws/histories.rt.
-use Rattle.std.specs.Prelude.{◌≡◌, ◌≢◌, ℕ, ◌+◌, ◌-◌, ◌*◌, ◌^◌, ◌<◌, ◌≤◌, List, [], ◌++◌, length, map, take, drop, flat_map, Some, slice_get, slice_index_or}
+use Rattle.std.specs.Prelude.{◌≡◌, ◌≢◌, ℕ, ◌+◌, ◌-◌, ◌*◌, ◌^◌, ◌<◌, ◌≤◌, List, [], ◌++◌, length, map, drop, flat_map, Some, slice_get}
 use Rattle.trace_model.specs.declared.limits.TheConstants.{MAX_SIZE}
 use Rattle.trace_model.specs.Record.{Record}
-use Rattle.trace_model.specs.History.{Action, IsHistory, Reservation, reserved_records, settled_prefix, as_record, committed_records}
+use Rattle.trace_model.specs.History.{Action, IsHistory, Reservation, reserved_records, as_record, committed_records}
 use Rattle.trace_model.specs.Packing.{fills_of, IsPacked}
 use Rattle.trace_model.specs.Partition.{IsPartition}
 use Rattle.trace_model.specs.Ring.{Taken, Core, first_of_fill, AreFillsOf}
@@ -20,13 +20,6 @@ RunsAreHistories = (n size start : ℕ) (c : Core) → IsRingKept n size start c
 -- empty, by a close frame or for a record that doesn't fit
 abbrev pub RunsArePacked : Type 0
 RunsArePacked = (n size start : ℕ) (c : Core) → IsRingKept n size start c → IsPacked c.history size
-
--- in a packed history every fill but the last holds a record
-abbrev pub PackedFillsAreFull : Type 0
-PackedFillsAreFull = (history : List Action) (size k : ℕ)
-    → IsPacked history size
-    → k + 1 < length (fills_of history)
-    → slice_index_or (fills_of history) k [] ≢ []
 
 -- each record takes 8 bytes at least, and so many fills were begun: so many records at most were reserved
 abbrev pub RecordsAreFew : Type 0
@@ -50,15 +43,6 @@ abbrev pub TakenHoldRecords : Type 0
 TakenHoldRecords = (n size start : ℕ) (c : Core) → IsRingKept n size start c → HoldRecords c.reader.taken
 
 -- ---- the partition
-
--- how many records of a history are committed
-abbrev pub committed_count : List Action → ℕ
-committed_count history = length (reserved_records (settled_prefix history))
-
--- whatever the frames did, the committed records are the first ones that were reserved, as they are by now
-abbrev pub CommittedIsPrefix : Type 0
-CommittedIsPrefix = (history : List Action)
-    → map as_record (take (committed_count history) (reserved_records history)) ≡ committed_records history
 
 -- the fills that the reader took are, with the records that were lost between, the committed records up to a
 -- rest; and each has as its first number the count of all records in front of it

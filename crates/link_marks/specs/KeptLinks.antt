@@ -130,6 +130,10 @@ ReaderKept n links order spare_link head done hint (swapping page fill) =
     × (fill < done)
     × (spare_link ≡ header_link (page_at n order (suc fill)) (suc fill))
 
+-- the link tells one of the n + 1 pages, and a fill that has a number
+abbrev pub FitsRing : ℕ → Link → Type 0
+FitsRing n l = (l.page < n + 1) × (l.fill < LINK_FILLS)
+
 -- What every step keeps of links, counts, frames and the reader, who has seen no more fills closed than are, and
 -- wishes for none but the one behind those.
 pub record LinksKept (n : ℕ) (c : Core) : Type 0 where
@@ -146,4 +150,5 @@ pub record LinksKept (n : ℕ) (c : Core) : Type 0 where
   pub hint_le : c.reader.hint ≤ c.head
   pub seen_le : c.reader.seen ≤ c.done
   pub wish_le : c.wish ≤ c.done + 1
+  pub spare_fits : FitsRing n c.spare_link
   pub reader : ReaderKept n c.links c.order c.spare_link c.head c.done c.reader.hint c.reader.phase

@@ -1,9 +1,11 @@
 -- Wrong steps: what each would make of a state that a run from a new ring reaches.
 use Rattle.std.specs.Prelude.{ℕ, ◌+◌, List, [], ◌∷◌, ◌++◌}
+use Rattle.trace_model.specs.History.{wished}
+use Rattle.trace_model.specs.Packing.{IsPacked}
 use Rattle.trace_model.specs.Links.{normal_link, header_link}
 use Rattle.trace_model.specs.Ring.{Core, IsStart, IsRing}
-use Rattle.trace_model.specs.Steps.{Event, Answer, going, reserved_as, pending, gone, reading, with_link, after_swap, Step, Exchange, Run}
-use Rattle.link_marks.specs.Examples.{pushing, stepping, after_going, ending, taking, all, four, writing, writing_on_free, writing_over_head, closing}
+use Rattle.trace_model.specs.Steps.{Event, Answer, going, reserved_as, pending, full, reading, with_action, with_link, with_new_tail, after_swap, Step, Exchange, Run}
+use Rattle.link_marks.specs.Examples.{pushing, stepping, after_going, ending, taking, all, four, writing, writing_on_free, writing_over_head, closing_above, wishing_for, pushing_close}
 
 -- These exchanges lead from a new ring of n positions to a state. What the wrong step makes of it is no ring; and
 -- no event and no answer make it.
@@ -99,7 +101,7 @@ abbrev pub to_inner_end : List Exchange
 to_inner_end =
     pushing 10 4 ++ stepping (reserved_as 0 ∷ [])
     ++ pushing 20 4 ++ stepping (reserved_as 1 ∷ []) ++ ending (four 187) pending
-    ++ closing gone
+    ++ closing_above
 
 -- the page in front is closed
 abbrev pub with_page_closed : Core → Core
@@ -107,3 +109,37 @@ with_page_closed c = record c { done = c.done + 1 }
 
 abbrev pub InnerEndPublishes : Type 0
 InnerEndPublishes = IsWrongStep 2 32 to_inner_end with_page_closed
+
+-- ---- fills that are begun for no wish
+
+-- These exchanges lead from a new ring of n positions to a state. What the wrong step makes of it isn't packed in
+-- pages; and no event and no answer make it.
+abbrev pub IsUnpackedStep : (n size : ℕ) → List Exchange → (Core → Core) → Type 0
+IsUnpackedStep n size exchanges wrong =
+    (start before : Core)
+    × IsStart n 0 start
+    × Run n size start exchanges before
+    × (IsPacked (wrong before).history size → ⊥)
+    × ((event : Event) (answer : Answer) → Step n size before event answer (wrong before) → ⊥)
+
+-- a frame was ended and looks for a wish, and the reader has none
+abbrev pub to_unasked_end : List Exchange
+to_unasked_end = pushing 1 4 ++ stepping (reserved_as 0 ∷ []) ++ ending (four 1) full
+
+-- it begins the next page all the same
+abbrev pub with_page_begun : Core → Core
+with_page_begun c = with_new_tail c 1
+
+abbrev pub ClosesWithoutAWish : Type 0
+ClosesWithoutAWish = IsUnpackedStep 2 32 to_unasked_end with_page_begun
+
+-- the reader wishes for a page without a record, and a close frame that has nothing to do looks for the wish
+abbrev pub to_empty_page : List Exchange
+to_empty_page = wishing_for 0 ++ pushing_close ++ stepping (going ∷ [])
+
+-- it takes the wish, and begins the next page
+abbrev pub with_empty_page_left : Core → Core
+with_empty_page_left c = with_new_tail (with_action c wished) 1
+
+abbrev pub WishClosesAnEmptyPage : Type 0
+WishClosesAnEmptyPage = IsUnpackedStep 2 32 to_empty_page with_empty_page_left

@@ -5,6 +5,7 @@ use Rattle.std.proofs.lemmas.List.Elements.{All-from_recursion}
 use Rattle.trace_model.specs.Words.{slot_len, padded}
 use Rattle.trace_model.specs.History.{Action, push, push_close, open_fill, reserve, leave, wished, Reservation, IsWritten, PushedFrame, record_frame, close_frame, WriterState, reservation_for, records_with_payload, after_reserve, records_after_leave, after_action, writer_after, reserved_records, settled_prefix, MayAct, IsHistory}
 use Rattle.trace_model.proofs.Lengths.{length-padded}
+use Rattle.trace_model.proofs.NextRecords.{length-records_with_payload}
 use Rattle.trace_model.proofs.HistoryPrefixes.{none_stands, settled_within}
 use Rattle.trace_model.proofs.Allowed.{AreAllowed, allowed-IsHistory, AreAllowed-front}
 
@@ -47,13 +48,6 @@ StandsAt-finished zero payload (x ∷ records) zero r h = inl (x, refl, h, refl)
 StandsAt-finished zero payload (x ∷ records) (suc k) r h = inr (λ e. omega arith, h)
 StandsAt-finished (suc number) payload (x ∷ records) zero r h = inr (λ e. omega arith, h)
 StandsAt-finished (suc number) payload (x ∷ records) (suc k) r h = IsFinished-cons number payload x records k r (StandsAt-finished number payload records k r h)
-
-length-records_with_payload : (number : Option ℕ) (payload : Option (List ℕ)) (records : List Reservation) → length (records_with_payload number payload records) ≡ length records
-length-records_with_payload None payload records = refl
-length-records_with_payload (Some number) None records = refl
-length-records_with_payload (Some number) (Some payload) [] = refl
-length-records_with_payload (Some zero) (Some payload) (r ∷ records) = refl
-length-records_with_payload (Some (suc number)) (Some payload) (r ∷ records) = ap suc (length-records_with_payload (Some number) (Some payload) records)
 
 -- ---- what the stack and the records keep
 

@@ -26,3 +26,12 @@ pub mod Genuine
 pub mod Collections
 pub mod Listings
 pub mod ListingsMade
+-- histories, their committed records and their fills
+pub mod NextRecords
+pub mod Committed
+pub mod FillCuts
+pub mod FillFirsts
+pub mod FillsJoined
+pub mod FillSizes
+pub mod PackedHistories
+pub mod FullFills

@@ -1,6 +1,6 @@
 //! Worked examples of a ring, and steps that are wrong.
-ghost use Rattle.link_marks.specs.Examples.{FirstRecord, HaltedHeadMove, HelpersAtTheHead, InnerReservesFirst, LateSwap, NestedWriter};
-ghost use Rattle.link_marks.specs.WrongSteps.{HelperClearsTheUpdate, InnerEndPublishes, LosesWhileAPositionIsFree, SwapIgnoresTheFill, TakesTheTail, TwoHeads};
+ghost use Rattle.link_marks.specs.Examples.{FirstRecord, HaltedHeadMove, HelpersAtTheHead, InnerReservesFirst, LateSwap, NestedWriter, WishAnswered, WishWaitsForTheOutermost};
+ghost use Rattle.link_marks.specs.WrongSteps.{ClosesWithoutAWish, HelperClearsTheUpdate, InnerEndPublishes, LosesWhileAPositionIsFree, SwapIgnoresTheFill, TakesTheTail, TwoHeads, WishClosesAnEmptyPage};
 
 /// The worked examples are runs of steps from the new ring.
 pub fn examples_are_runs()
@@ -10,6 +10,8 @@ pub fn examples_are_runs()
     ensures halted_head_move { HaltedHeadMove }
     ensures helpers_at_the_head { HelpersAtTheHead }
     ensures late_swap { LateSwap }
+    ensures wish_answered { WishAnswered }
+    ensures wish_waits_for_the_outermost { WishWaitsForTheOutermost }
 {}
 
 /// Wrong steps make no rings, so none of them is a step.
@@ -20,4 +22,11 @@ pub fn wrong_steps_are_refused()
     ensures two_heads { TwoHeads }
     ensures swap_ignores_the_fill { SwapIgnoresTheFill }
     ensures inner_end_publishes { InnerEndPublishes }
+{}
+
+/// A frame that begins a page for the reader where it has no wish, or where the page holds no record, makes
+/// what isn't packed in pages, so neither is a step.
+pub fn wrong_closes_are_refused()
+    ensures closes_without_a_wish { ClosesWithoutAWish }
+    ensures wish_closes_an_empty_page { WishClosesAnEmptyPage }
 {}

@@ -1,32 +1,29 @@
 //! Laws of what a ring's frames did, and of the partition of its records.
-ghost use Rattle.link_marks.specs.HistoryLaws.{CommittedIsPrefix, PackedFillsAreFull, RecordNumbersFit, RecordsAreFew, RestIsUnread, RunsAreHistories, RunsArePacked, TakenAreFills, TakenHoldRecords, TakenPartitionCommitted};
+ghost use Rattle.link_marks.specs.HistoryLaws.{RecordNumbersFit, RecordsAreFew, RestIsUnread, RunsAreHistories, RunsArePacked, TakenAreFills, TakenHoldRecords, TakenPartitionCommitted};
 
-/// After every run what the frames did is a history: each action is one that the stack allowed.
+/// What the frames did is a history: each action is one that the stack allowed.
 pub fn runs_are_histories()
     ensures histories { RunsAreHistories }
 {}
 
-/// After every run the fills have room in their pages, and each was begun where one had to be: behind one
-/// that isn't empty, by a close frame or for a record that doesn't fit; so only the last can be empty, and
-/// the reader takes no empty page.
+/// The fills have room in their pages, and each was begun where one had to be: behind one that isn't empty, for
+/// a record that doesn't fit, by a close frame or for the reader's wish; so only the last can be empty, and the
+/// reader takes no empty page.
 pub fn runs_are_packed()
     ensures packed { RunsArePacked }
-    ensures full { PackedFillsAreFull }
     ensures taken { TakenHoldRecords }
 {}
 
-/// Each record takes 8 bytes of a page at least, so after every run the fills that were begun bound how many
-/// records were reserved; and as fills have numbers below `LINK_FILLS`, all records have ones below 2^61.
+/// Each record takes 8 bytes of a page at least, so the fills that were begun bound how many records were reserved;
+/// and as fills have numbers below `LINK_FILLS`, all records have ones below 2^61.
 pub fn record_numbers_fit()
     ensures few { RecordsAreFew }
     ensures fit { RecordNumbersFit }
 {}
 
-/// The committed records are the first of the reserved ones; and after every run the fills that the reader
-/// took are, with the records lost between, a partition of the committed records up to a rest. Each is a whole
-/// fill, under its own number and with its own first record's number, and the numbers rise.
+/// The fills that the reader took are, with the records lost between, a partition of the committed records up to
+/// a rest. Each is a whole fill, under its own number and with its own first record's number, and the numbers rise.
 pub fn taken_fills_partition_committed()
-    ensures prefix { CommittedIsPrefix }
     ensures partition { TakenPartitionCommitted }
     ensures fills { TakenAreFills }
     ensures rest { RestIsUnread }

@@ -1,6 +1,7 @@
 //! Laws over histories of frames.
 ghost use Rattle.std.specs.Prelude.{List, All};
 ghost use Rattle.trace_model.specs.History.{Action, IsHistory, IsWritten, committed_records, reserved_records, settled_prefix};
+ghost use Rattle.trace_model.specs.HistoryLaws.{CommittedIsPrefix};
 ghost use Rattle.trace_model.specs.Record.{IsRecord};
 ghost use Rattle.trace_model.specs.Sublist.{IsPrefix};
 
@@ -9,6 +10,12 @@ ghost use Rattle.trace_model.specs.Sublist.{IsPrefix};
 pub fn committed_is_a_prefix()
     ensures { (history : List Action)
         → IsPrefix (reserved_records (settled_prefix history)) (reserved_records history) }
+{}
+
+/// Read as they are by now, the first of the reserved records are the committed ones: what is committed stays
+/// as it is, whatever the frames do.
+pub fn committed_records_stay()
+    ensures stay { CommittedIsPrefix }
 {}
 
 /// Each committed record of a history fills whole words.

@@ -3,24 +3,24 @@ use Rattle.std.proofs.Common.{◌≡◌, ◌≢◌, ℕ, ◌+◌, ◌<◌, ◌�
 use Rattle.std.proofs.lemmas.List.{length-map}
 use mathlib.Core.Logic.{dite}
 use native.Mathlib.Decide.{ℕ_discrete}
-use Rattle.trace_model.specs.History.{Action, push, push_close, open_fill, reserve, leave, Reservation, Frame, record_frame, close_frame, after_action, writer_after, reserved_records}
+use Rattle.trace_model.specs.History.{Action, push, push_close, open_fill, reserve, leave, wished, Reservation, PushedFrame, record_frame, close_frame, after_action, writer_after, reserved_records}
 use Rattle.trace_model.specs.Packing.{opens_of, cut_from, fills_of, tail_of, IsPacked}
-use Rattle.link_marks.specs.KeptContents.{IsRising}
-use Rattle.link_marks.proofs.FillCuts.{length-cut_from, IsRising-more, IsRising-snoc, reserved_before, opened_before, opens_of-push, opens_of-push_close, opens_of-reserve, opens_of-leave, opens_of-open_fill}
-use Rattle.link_marks.proofs.ContentSteps.{records_snoc}
-use Rattle.link_marks.proofs.PackedHistories.{plain, plain-finished, cut-plain, plain_nil, tail_is}
+use Rattle.trace_model.specs.Fitting.{IsRising}
+use Rattle.trace_model.proofs.FillCuts.{length-cut_from, IsRising-more, IsRising-snoc, reserved_before, opened_before, opens_of-push, opens_of-push_close, opens_of-reserve, opens_of-leave, opens_of-wished, opens_of-open_fill}
+use Rattle.trace_model.proofs.NextRecords.{records_snoc}
+use Rattle.trace_model.proofs.PackedHistories.{plain, plain-finished, cut-plain, plain_nil, tail_is}
 
 -- what an action makes of the records: one more of them, or the same but for bytes
 abbrev Grown : List Reservation → List Reservation → Type 0
 Grown xs ys = (map plain ys ≡ map plain xs) ⊎ ((s : Reservation) × (ys ≡ xs ++ s ∷ []))
 
-grown_reserve : (stack : List Frame) (xs : List Reservation) → Grown xs (after_action stack xs reserve).records
+grown_reserve : (stack : List PushedFrame) (xs : List Reservation) → Grown xs (after_action stack xs reserve).records
 grown_reserve [] xs = inl refl
 grown_reserve (record_frame moment len None ∷ stack) xs = inr (_, refl)
 grown_reserve (record_frame moment len (Some number) ∷ stack) xs = inl refl
 grown_reserve (close_frame ∷ stack) xs = inl refl
 
-grown_leave : (stack : List Frame) (xs : List Reservation) (payload : Option (List ℕ)) → Grown xs (after_action stack xs (leave payload)).records
+grown_leave : (stack : List PushedFrame) (xs : List Reservation) (payload : Option (List ℕ)) → Grown xs (after_action stack xs (leave payload)).records
 grown_leave [] xs payload = inl refl
 grown_leave (record_frame moment len number ∷ stack) xs payload = inl (plain-finished number payload xs)
 grown_leave (close_frame ∷ stack) xs payload = inl refl
@@ -66,6 +66,7 @@ full_act h open_fill begins k = subst (λ (l : List ℕ). AreFull l (reserved_re
     (full_opened (opens_of h) (reserved_records h) (λ none. begins refl (tail_is h ∙ none)) k))
 full_act h reserve begins k = full_acts h reserve (opens_of-reserve h) (grown_reserve (writer_after h).stack (writer_after h).records) k
 full_act h (leave payload) begins k = full_acts h (leave payload) (opens_of-leave h payload) (grown_leave (writer_after h).stack (writer_after h).records payload) k
+full_act h wished begins k = full_acts h wished (opens_of-wished h) (inl refl) k
 
 -- behind a front in which it is so
 full_behind : (front behind : List Action) → ((f b : List Action) → front ++ behind ≡ f ++ open_fill ∷ b → tail_of f ≢ []) → FullIn front → FullIn (front ++ behind)

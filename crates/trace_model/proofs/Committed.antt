@@ -1,15 +1,15 @@
 -- The committed records are a prefix of the reserved ones, whatever the frames did.
 use Rattle.std.proofs.Common.{◌≡◌, ℕ, zero, suc, ◌<◌, ◌≤◌, ◌⊎◌, Bool, true, false, cond, List, [], ◌∷◌, ◌++◌, length, get_or, take, map, Option, Some, None, refl, sym, ap, ◌∙◌, subst, inl, inr, ⊎_elim, arith, length-append, append_assoc, append-nil}
+use Rattle.std.proofs.lemmas.Option.{none-some, same_Some}
 use Rattle.std.proofs.lemmas.Bool.{cond-true, cond-false}
 use Rattle.std.proofs.lemmas.List.{take-append-le, take_all}
 use Rattle.std.proofs.Math.ListN.{get_or-append}
-use Rattle.trace_model.specs.History.{Action, push, push_close, open_fill, reserve, leave, Reservation, Frame, record_frame, close_frame, WriterState, after_action, writer_after, reserved_records, is_settled, settled_prefix_within, settled_prefix, as_record, records_with_payload}
+use Rattle.trace_model.specs.History.{Action, push, push_close, open_fill, reserve, leave, wished, Reservation, PushedFrame, record_frame, close_frame, WriterState, after_action, writer_after, reserved_records, is_settled, settled_prefix_within, settled_prefix, as_record, records_with_payload}
 use Rattle.trace_model.specs.Packing.{opens_of}
-use Rattle.link_marks.specs.KeptContents.{IsRising}
-use Rattle.link_marks.proofs.FramePhases.{some_is, none_some}
-use Rattle.link_marks.proofs.Histories.{writer_snoc}
-use Rattle.link_marks.proofs.FillCuts.{length-records_with_payload, IsRising-least, opens_at, opens_more}
-use Rattle.link_marks.proofs.ContentSteps.{records_snoc}
+use Rattle.trace_model.proofs.HistoryPrefixes.{none_stands}
+use Rattle.trace_model.proofs.NextAction.{writer_snoc}
+use Rattle.trace_model.proofs.NextRecords.{records_snoc, length_after_action}
+use Rattle.trace_model.proofs.FillCuts.{opens_at, opens_more}
 
 either_way : (b : Bool) → (b ≡ true) ⊎ (b ≡ false)
 either_way true = inl refl
@@ -29,22 +29,15 @@ settled_more h a =
     ap (λ (m : ℕ). settled_prefix_within m (h ++ a ∷ [])) len
     ∙ (λ i. cond (is_settled (whole i)) (whole i) (within_append (length h) h (a ∷ []) (let l : length h ≤ length h = omega arith in l) i))
 
-pub settled_stack : (h : List Action) → is_settled h ≡ true → (writer_after h).stack ≡ []
-settled_stack h t = by_stack (writer_after h).stack refl
-  where
-    by_stack : (s : List Frame) → (writer_after h).stack ≡ s → (writer_after h).stack ≡ []
-    by_stack [] e = e
-    by_stack (f ∷ s) e = absurd (let bad = rw e at t in cc)
-
 -- ---- the prefix that is committed
 
 -- the number of a frame's record
-abbrev pub number_with : Frame → Option ℕ
+abbrev pub number_with : PushedFrame → Option ℕ
 number_with (record_frame moment len number) = number
 number_with close_frame = None
 
 -- no frame of these has a record among the first ones
-abbrev pub Behind : ℕ → List Frame → Type 0
+abbrev pub Behind : ℕ → List PushedFrame → Type 0
 Behind least [] = Unit {0}
 Behind least (f ∷ stack) = ((k : ℕ) → number_with f ≡ Some k → least ≤ k) × Behind least stack
 
@@ -59,9 +52,9 @@ take_unfinished least (Some k) None xs low = refl
 take_unfinished least (Some k) (Some p) [] low = refl
 take_unfinished zero (Some k) (Some p) (x ∷ xs) low = refl
 take_unfinished (suc least) (Some zero) (Some p) (x ∷ xs) low = let bad = low 0 refl in absurd (omega arith)
-take_unfinished (suc least) (Some (suc k)) (Some p) (x ∷ xs) low = ap (λ (l : List Reservation). x ∷ l) (take_unfinished least (Some k) (Some p) xs (λ j e. let same : k ≡ j = some_is k j e in let le = low (suc k) refl in omega arith))
+take_unfinished (suc least) (Some (suc k)) (Some p) (x ∷ xs) low = ap (λ (l : List Reservation). x ∷ l) (take_unfinished least (Some k) (Some p) xs (λ j e. let same : k ≡ j = same_Some k j e in let le = low (suc k) refl in omega arith))
 
-pub take_after_action : (least : ℕ) (stack : List Frame) (xs : List Reservation) (a : Action) → least ≤ length xs → Behind least stack → take least (after_action stack xs a).records ≡ take least xs
+pub take_after_action : (least : ℕ) (stack : List PushedFrame) (xs : List Reservation) (a : Action) → least ≤ length xs → Behind least stack → take least (after_action stack xs a).records ≡ take least xs
 take_after_action least stack xs (push moment len) le b = refl
 take_after_action least stack xs push_close le b = refl
 take_after_action least stack xs open_fill le b = refl
@@ -72,29 +65,19 @@ take_after_action least (close_frame ∷ stack) xs reserve le b = refl
 take_after_action least [] xs (leave payload) le b = refl
 take_after_action least (record_frame moment len number ∷ stack) xs (leave payload) le b = take_unfinished least number payload xs b.0
 take_after_action least (close_frame ∷ stack) xs (leave payload) le b = refl
+take_after_action least stack xs wished le b = refl
 
-pub length_after_action : (stack : List Frame) (xs : List Reservation) (a : Action) → length xs ≤ length (after_action stack xs a).records
-length_after_action stack xs (push moment len) = omega arith
-length_after_action stack xs push_close = omega arith
-length_after_action stack xs open_fill = omega arith
-length_after_action [] xs reserve = omega arith
-length_after_action (record_frame moment len None ∷ stack) xs reserve = omega (arith, length-append {A = Reservation})
-length_after_action (record_frame moment len (Some k) ∷ stack) xs reserve = omega arith
-length_after_action (close_frame ∷ stack) xs reserve = omega arith
-length_after_action [] xs (leave payload) = omega arith
-length_after_action (record_frame moment len number ∷ stack) xs (leave payload) = omega (arith, length-records_with_payload number payload xs)
-length_after_action (close_frame ∷ stack) xs (leave payload) = omega arith
-
-behind_after_action : (least : ℕ) (stack : List Frame) (xs : List Reservation) (a : Action) → least ≤ length xs → Behind least stack → Behind least (after_action stack xs a).stack
-behind_after_action least stack xs (push moment len) le b = ((λ k e. absurd (none_some e)), b)
-behind_after_action least stack xs push_close le b = ((λ k e. absurd (none_some e)), b)
+behind_after_action : (least : ℕ) (stack : List PushedFrame) (xs : List Reservation) (a : Action) → least ≤ length xs → Behind least stack → Behind least (after_action stack xs a).stack
+behind_after_action least stack xs (push moment len) le b = ((λ k e. absurd (none-some k e)), b)
+behind_after_action least stack xs push_close le b = ((λ k e. absurd (none-some k e)), b)
 behind_after_action least stack xs open_fill le b = b
 behind_after_action least [] xs reserve le b = tt
-behind_after_action least (record_frame moment len None ∷ stack) xs reserve le b = ((λ k e. let same : length xs ≡ k = some_is (length xs) k e in omega arith), b.1)
+behind_after_action least (record_frame moment len None ∷ stack) xs reserve le b = ((λ k e. let same : length xs ≡ k = same_Some (length xs) k e in omega arith), b.1)
 behind_after_action least (record_frame moment len (Some n) ∷ stack) xs reserve le b = b
 behind_after_action least (close_frame ∷ stack) xs reserve le b = b
 behind_after_action least [] xs (leave payload) le b = tt
 behind_after_action least (f ∷ stack) xs (leave payload) le b = b.1
+behind_after_action least stack xs wished le b = b
 
 committed_more : (h : List Action) (a : Action) → CommittedAt (settled_prefix h) h → CommittedAt (settled_prefix (h ++ a ∷ [])) (h ++ a ∷ [])
 committed_more h a k = ⊎_elim settled unsettled (either_way (is_settled (h ++ a ∷ [])))
@@ -103,7 +86,7 @@ committed_more h a k = ⊎_elim settled unsettled (either_way (is_settled (h ++ 
     settled t = subst (λ (f : List Action). CommittedAt f (h ++ a ∷ [])) (sym (settled_more h a ∙ cond-true _ _ _ t)) record {
       agrees = ap (map as_record) (take_all (length (reserved_records (h ++ a ∷ []))) (reserved_records (h ++ a ∷ [])) (omega arith));
       within = omega arith;
-      behind = subst (Behind (length (reserved_records (h ++ a ∷ [])))) (sym (settled_stack (h ++ a ∷ []) t)) tt;
+      behind = subst (Behind (length (reserved_records (h ++ a ∷ [])))) (sym (none_stands (h ++ a ∷ []) t)) tt;
     }
 
     unsettled : is_settled (h ++ a ∷ []) ≡ false → CommittedAt (settled_prefix (h ++ a ∷ [])) (h ++ a ∷ [])
@@ -147,8 +130,3 @@ committed_len-more h a = ⊎_elim
 pub first_more : (h : List Action) (a : Action) (i : ℕ) → i ≤ length (opens_of h) → get_or (0 ∷ opens_of h) i 0 ≤ committed_len h → get_or (0 ∷ opens_of (h ++ a ∷ [])) i 0 ≤ committed_len (h ++ a ∷ [])
 first_more h a i low le = let more = committed_len-more h a in
     let e = ap (λ (l : List ℕ). get_or (0 ∷ l) i 0) (opens_more [] h a) ∙ get_or-append (0 ∷ opens_of h) (opens_at h a) 0 i (let l : i < suc (length (opens_of h)) = omega arith in l) in omega arith
-
-pub first_below : (from : ℕ) (cuts : List ℕ) (to i : ℕ) → i ≤ length cuts → IsRising from cuts to → get_or (from ∷ cuts) i 0 ≤ to
-first_below from cuts to zero low r = IsRising-least from cuts to r
-first_below from [] to (suc i) low r = absurd (omega arith)
-first_below from (cut ∷ cuts) to (suc i) low r = first_below cut cuts to i (omega arith) r.1

@@ -5,11 +5,11 @@ use Rattle.std.proofs.lemmas.List.{drop-take, drop-append-le, take-append-le, ta
 use Rattle.std.proofs.lemmas.Bool.{cond_both, cond-true, cond-false, le-ltb, lt-ltb}
 use mathlib.Core.Logic.{dite}
 use native.Mathlib.Decide.{dec_le}
-use Rattle.trace_model.specs.History.{Action, push, push_close, open_fill, reserve, leave, Reservation, records_with_payload, reserved_records}
+use Rattle.trace_model.specs.History.{Action, push, push_close, open_fill, reserve, leave, wished, Reservation, records_with_payload, reserved_records}
 use Rattle.trace_model.specs.Packing.{opens_behind, opens_of, cut_from}
 use Rattle.trace_model.specs.Ring.{Held}
 use Rattle.trace_model.specs.Steps.{held_with_payload}
-use Rattle.link_marks.specs.KeptContents.{IsRising}
+use Rattle.trace_model.specs.Fitting.{IsRising}
 
 -- ---- the cuts
 
@@ -45,6 +45,7 @@ opens_at front push_close = []
 opens_at front open_fill = length (reserved_records front) ∷ []
 opens_at front reserve = []
 opens_at front (leave payload) = []
+opens_at front wished = []
 
 opens_step : (front : List Action) (a : Action) (behind : List Action) → opens_behind front (a ∷ behind) ≡ opens_at front a ++ opens_behind (front ++ a ∷ []) behind
 unfolding opens_at
@@ -53,6 +54,7 @@ opens_step front push_close behind = refl
 opens_step front open_fill behind = refl
 opens_step front reserve behind = refl
 opens_step front (leave payload) behind = refl
+opens_step front wished behind = refl
 
 pub opens_more : (front h : List Action) (a : Action) → opens_behind front (h ++ a ∷ []) ≡ opens_behind front h ++ opens_at (front ++ h) a
 opens_more front [] a = opens_step front a [] ∙ append-nil (opens_at front a) ∙ ap (λ (x : List Action). opens_at x a) (sym (append-nil front))
@@ -77,6 +79,10 @@ opens_of-reserve h = opens_more [] h reserve ∙ append-nil (opens_of h)
 pub opens_of-leave : (h : List Action) (payload : Option (List ℕ)) → opens_of (h ++ leave payload ∷ []) ≡ opens_of h
 unfolding opens_at
 opens_of-leave h payload = opens_more [] h (leave payload) ∙ append-nil (opens_of h)
+
+pub opens_of-wished : (h : List Action) → opens_of (h ++ wished ∷ []) ≡ opens_of h
+unfolding opens_at
+opens_of-wished h = opens_more [] h wished ∙ append-nil (opens_of h)
 
 pub opens_of-open_fill : (h : List Action) → opens_of (h ++ open_fill ∷ []) ≡ opens_of h ++ length (reserved_records h) ∷ []
 unfolding opens_at
@@ -107,13 +113,6 @@ opened_last from [] xs = drop_all (length xs) xs (omega arith)
 opened_last from (cut ∷ cuts) xs = opened_last cut cuts xs
 
 -- ---- an end: the record with its bytes, in its fill
-
-pub length-records_with_payload : (number : Option ℕ) (payload : Option (List ℕ)) (xs : List Reservation) → length (records_with_payload number payload xs) ≡ length xs
-length-records_with_payload None payload xs = refl
-length-records_with_payload (Some k) None xs = refl
-length-records_with_payload (Some k) (Some p) [] = refl
-length-records_with_payload (Some zero) (Some p) (x ∷ xs) = refl
-length-records_with_payload (Some (suc k)) (Some p) (x ∷ xs) = ap suc (length-records_with_payload (Some k) (Some p) xs)
 
 -- the records from an index on, or none of it, that an end changes
 abbrev finished_from : ℕ → ℕ → List ℕ → List Reservation → List Reservation

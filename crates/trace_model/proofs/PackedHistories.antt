@@ -1,18 +1,19 @@
 -- What was done stays packed by one more action: the fills have room, and the action was allowed.
 use Rattle.std.proofs.Common.{◌≡◌, ◌≢◌, ℕ, zero, suc, ◌+◌, ◌-◌, ◌^◌, ◌<◌, ◌≤◌, ◌⊎◌, true, false, max, List, [], ◌∷◌, ◌++◌, length, get_or, take, drop, map, Option, Some, None, refl, sym, ap, ◌∙◌, subst, inl, inr, ⊎_elim, arith, append_assoc, length-append}
-use Rattle.std.specs.Prelude.{nat_lt, nat_le, if◌then◌else◌}
+use Rattle.std.specs.Prelude.{nat_lt, nat_le, if◌then◌else◌, Bool, IsTrue}
+use Rattle.std.proofs.lemmas.List.Sums.{fold-append}
+use Rattle.std.proofs.lemmas.Option.{none-some, same_Some}
 use Rattle.std.proofs.lemmas.Bool.{cond_both}
 use Rattle.std.proofs.lemmas.List.{map_push}
 use mathlib.Core.Logic.{dite}
 use native.Mathlib.Decide.{ℕ_discrete, dec_le}
 use Rattle.trace_model.specs.Words.{slot_len, encoded_len}
-use Rattle.trace_model.specs.History.{Action, push, push_close, open_fill, reserve, leave, Reservation, Frame, record_frame, close_frame, last_moment, reservation_for, records_with_payload, writer_after, reserved_records}
-use Rattle.trace_model.specs.Packing.{opens_of, cut_from, fills_of, tail_of, len_behind, fill_len, FitsBehind, next_reservation_of, next_reservation, Closes, IsPacked}
-use Rattle.trace_model.specs.Frames.{Kind, for_record, for_close}
+use Rattle.trace_model.specs.History.{Action, push, push_close, open_fill, reserve, leave, wished, Reservation, PushedFrame, record_frame, close_frame, last_moment, reservation_for, records_with_payload, writer_after, reserved_records}
+use Rattle.trace_model.specs.Packing.{opens_of, cut_from, fills_of, tail_of, len_behind, fill_len, FitsBehind, next_reservation_of, next_reservation, is_wished, MayCloseTail, IsPacked}
+use Rattle.trace_model.specs.Frames.{Kind, for_record, for_close, FrameState, waiting, reserved, left, pushed_onto}
+use Rattle.trace_model.specs.Fitting.{IsRising, tail_at, HaveRoom, IsFit, AreFit, FitsPage, NeedsFill}
 use Rattle.trace_model.proofs.Lengths.{slot_len_ge_four, slot_len-slot_len}
-use Rattle.link_marks.specs.KeptContents.{IsRising}
-use Rattle.link_marks.proofs.FramePhases.{none_some}
-use Rattle.link_marks.proofs.FillCuts.{length-cut_from, reserved_before, reserved_last, opened_before, opened_last}
+use Rattle.trace_model.proofs.FillCuts.{length-cut_from, reserved_before, reserved_last, opened_before, opened_last}
 
 -- ---- a record without its bytes
 
@@ -63,9 +64,6 @@ fill_len-alike cuts xs ys i same = sym (fill_len-plain (get_or (cut_from 0 cuts 
 
 -- ---- the tail
 
-abbrev pub tail_at : List ℕ → List Reservation → List Reservation
-tail_at cuts xs = get_or (cut_from 0 cuts xs) (length cuts) []
-
 cut-past : (from : ℕ) (cuts : List ℕ) (xs : List Reservation) (i : ℕ) → length cuts < i → get_or (cut_from from cuts xs) i [] ≡ []
 cut-past from [] xs zero past = absurd (omega arith)
 cut-past from [] xs (suc i) past = refl
@@ -108,19 +106,36 @@ fill_more (x ∷ xs) s moment moment' len = add_le (encoded_len x.len 0 true) _ 
 
 -- ---- what the frame on top wants
 
-pub wanted_record : (h : List Action) (moment len : ℕ) (below : List Frame) → (writer_after h).stack ≡ record_frame moment len None ∷ below → next_reservation h ≡ Some (reservation_for moment len (reserved_records h))
-wanted_record h moment len below e = ap (λ (s : List Frame). next_reservation_of s (reserved_records h)) e
+pub wanted_record : (h : List Action) (moment len : ℕ) (below : List PushedFrame) → (writer_after h).stack ≡ record_frame moment len None ∷ below → next_reservation h ≡ Some (reservation_for moment len (reserved_records h))
+wanted_record h moment len below e = ap (λ (s : List PushedFrame). next_reservation_of s (reserved_records h)) e
 
-pub wanted_close : (h : List Action) (below : List Frame) → (writer_after h).stack ≡ close_frame ∷ below → next_reservation h ≡ None
-wanted_close h below e = ap (λ (s : List Frame). next_reservation_of s (reserved_records h)) e
+pub wanted_close : (h : List Action) (below : List PushedFrame) → (writer_after h).stack ≡ close_frame ∷ below → next_reservation h ≡ None
+wanted_close h below e = ap (λ (s : List PushedFrame). next_reservation_of s (reserved_records h)) e
 
-pub closes_close : (h : List Action) (below : List Frame) → (writer_after h).stack ≡ close_frame ∷ below → Closes (writer_after h).stack
-closes_close h below e = subst Closes (sym e) tt
+pub wanted_none : (h : List Action) → (writer_after h).stack ≡ [] → next_reservation h ≡ None
+wanted_none h e = ap (λ (s : List PushedFrame). next_reservation_of s (reserved_records h)) e
+
+-- ---- whether the reader's wish was found
+
+pub is_wished-push : (h : List Action) (moment len : ℕ) → is_wished (h ++ push moment len ∷ []) ≡ is_wished h
+is_wished-push h moment len = fold-append _ false h (push moment len ∷ [])
+
+pub is_wished-push_close : (h : List Action) → is_wished (h ++ push_close ∷ []) ≡ is_wished h
+is_wished-push_close h = fold-append _ false h (push_close ∷ [])
+
+pub is_wished-open_fill : (h : List Action) → is_wished (h ++ open_fill ∷ []) ≡ false
+is_wished-open_fill h = fold-append _ false h (open_fill ∷ [])
+
+pub is_wished-reserve : (h : List Action) → is_wished (h ++ reserve ∷ []) ≡ is_wished h
+is_wished-reserve h = fold-append _ false h (reserve ∷ [])
+
+pub is_wished-leave : (h : List Action) (payload : Option (List ℕ)) → is_wished (h ++ leave payload ∷ []) ≡ is_wished h
+is_wished-leave h payload = fold-append _ false h (leave payload ∷ [])
+
+pub is_wished-wished : (h : List Action) → is_wished (h ++ wished ∷ []) ≡ true
+is_wished-wished h = fold-append _ false h (wished ∷ [])
 
 -- ---- the fills have room
-
-abbrev pub HaveRoom : ℕ → List ℕ → List Reservation → Type 0
-HaveRoom size cuts xs = (i : ℕ) → fill_len (get_or (cut_from 0 cuts xs) i []) ≤ size
 
 pub room_none : (size : ℕ) → HaveRoom size [] []
 room_none size zero = omega arith
@@ -128,6 +143,10 @@ room_none size (suc i) = omega arith
 
 pub room_alike : (size : ℕ) (cuts : List ℕ) (xs ys : List Reservation) → map plain ys ≡ map plain xs → HaveRoom size cuts xs → HaveRoom size cuts ys
 room_alike size cuts xs ys same room i = let e = fill_len-alike cuts xs ys i same in let low = room i in omega arith
+
+-- by equations of the cuts and of the records but for their bytes
+pub refilled : (size : ℕ) (cuts cuts' : List ℕ) (xs xs' : List Reservation) → cuts' ≡ cuts → map plain xs' ≡ map plain xs → HaveRoom size cuts xs → HaveRoom size cuts' xs'
+refilled size cuts cuts' xs xs' a b room = subst (λ (l : List ℕ). HaveRoom size l xs') (sym a) (room_alike size cuts xs xs' b room)
 
 -- behind the last fill there is none
 room_past : (size : ℕ) (cuts : List ℕ) (xs : List Reservation) (i : ℕ) → length cuts < i → fill_len (get_or (cut_from 0 cuts xs) i []) ≤ size
@@ -148,17 +167,6 @@ room_opened size cuts xs room i = dite (dec_le i (length cuts))
     (λ ne. room_past size (cuts ++ length xs ∷ []) xs i (omega (arith, length-append cuts (length xs ∷ [])))))
 
 -- ---- each action was allowed
-
--- what an action asks of the fills in front of it
-abbrev pub IsFit : ℕ → List Action → Action → Type 0
-IsFit size front (push moment len) = Unit {0}
-IsFit size front push_close = Unit {0}
-IsFit size front open_fill = (tail_of front ≢ []) × ((r : Reservation) → next_reservation front ≡ Some r → FitsBehind size (tail_of front) r → ⊥) × (next_reservation front ≡ None → Closes (writer_after front).stack)
-IsFit size front reserve = (r : Reservation) → next_reservation front ≡ Some r → FitsBehind size (tail_of front) r
-IsFit size front (leave payload) = Unit {0}
-
-abbrev pub AreFit : ℕ → List Action → Type 0
-AreFit size h = (front behind : List Action) (a : Action) → h ≡ front ++ a ∷ behind → IsFit size front a
 
 first_is : (a b : Action) (xs ys : List Action) → ◌≡◌ {A = List Action} (a ∷ xs) (b ∷ ys) → a ≡ b
 first_is a b xs ys e = cc
@@ -195,29 +203,24 @@ is_packed size h room fit = record {
 
 -- ---- what a frame that is about to open a fill still needs
 
--- a record that a frame was pushed for has room in an empty page
-abbrev pub FitsPage : ℕ → Kind → Type 0
-FitsPage size (for_record moment len) = encoded_len len 0 true ≤ size
-FitsPage size for_close = Unit {0}
-
--- the tail has no room for the frame's record, or holds a record that it is to close
-abbrev pub NeedsFill : ℕ → List ℕ → List Reservation → Kind → Type 0
-NeedsFill size cuts xs (for_record moment len) = FitsBehind size (tail_at cuts xs) (reservation_for moment len xs) → ⊥
-NeedsFill size cuts xs for_close = tail_at cuts xs ≢ []
-
 pub plain_nil : (xs : List Reservation) → map plain xs ≡ [] → xs ≡ []
 plain_nil [] e = refl
 plain_nil (x ∷ xs) e = cc
 
-pub needs_alike : (size : ℕ) (cuts : List ℕ) (xs ys : List Reservation) (kind : Kind) → map plain ys ≡ map plain xs → NeedsFill size cuts xs kind → NeedsFill size cuts ys kind
-needs_alike size cuts xs ys (for_record moment len) same needs = λ fits. needs (
+tail_holds_alike : (cuts : List ℕ) (xs ys : List Reservation) → map plain ys ≡ map plain xs → tail_at cuts xs ≢ [] → tail_at cuts ys ≢ []
+tail_holds_alike cuts xs ys same holds none = holds (plain_nil (tail_at cuts xs) (sym (cut-plain 0 cuts xs (length cuts)) ∙ ap (λ (l : List Reservation). tail_at cuts l) (sym same) ∙ cut-plain 0 cuts ys (length cuts) ∙ ap (map plain) none))
+
+pub needs_alike : (size : ℕ) (cuts : List ℕ) (xs ys : List Reservation) (found : Bool) (kind : Kind) (state : FrameState) → map plain ys ≡ map plain xs → NeedsFill size cuts xs found kind state → NeedsFill size cuts ys found kind state
+needs_alike size cuts xs ys found (for_record moment len) waiting same needs = λ fits. needs (
     let tails : map plain (tail_at cuts ys) ≡ map plain (tail_at cuts xs) = sym (cut-plain 0 cuts ys (length cuts)) ∙ ap (λ (l : List Reservation). tail_at cuts l) same ∙ cut-plain 0 cuts xs (length cuts) in
     let lasts : last_moment ys ≡ last_moment xs = sym (last_moment-plain ys) ∙ ap last_moment same ∙ last_moment-plain xs in
     let whole : map plain (tail_at cuts ys ++ reservation_for moment len ys ∷ []) ≡ map plain (tail_at cuts xs ++ reservation_for moment len xs ∷ []) =
     map_push plain (tail_at cuts ys) (reservation_for moment len ys) ∙ (λ i. tails i ++ record { moment = max moment (lasts i); len = slot_len len; bytes = None } ∷ []) ∙ sym (map_push plain (tail_at cuts xs) (reservation_for moment len xs)) in
     let e = sym (fill_len-plain (tail_at cuts ys ++ reservation_for moment len ys ∷ [])) ∙ ap fill_len whole ∙ fill_len-plain (tail_at cuts xs ++ reservation_for moment len xs ∷ []) in
     subst (λ (k : ℕ). k ≤ size) e fits)
-needs_alike size cuts xs ys for_close same needs = λ none. needs (plain_nil (tail_at cuts xs) (sym (cut-plain 0 cuts xs (length cuts)) ∙ ap (λ (l : List Reservation). tail_at cuts l) (sym same) ∙ cut-plain 0 cuts ys (length cuts) ∙ ap (map plain) none))
+needs_alike size cuts xs ys found for_close waiting same needs = tail_holds_alike cuts xs ys same needs
+needs_alike size cuts xs ys found kind (reserved number) same needs = needs
+needs_alike size cuts xs ys found kind left same needs = (tail_holds_alike cuts xs ys same needs.0, needs.1)
 
 le_on : {size : ℕ} (a b : ℕ) → a ≤ b → b ≤ size → a ≤ size
 le_on a b le le' = omega arith
@@ -226,25 +229,28 @@ snoc_some : (xs : List Reservation) (r : Reservation) → xs ++ r ∷ [] ≢ []
 snoc_some [] r e = cc
 snoc_some (x ∷ xs) r e = cc
 
-pub needs_reserved : (size : ℕ) (cuts : List ℕ) (xs : List Reservation) (s : Reservation) (kind : Kind) → IsRising 0 cuts (length xs) → NeedsFill size cuts xs kind → NeedsFill size cuts (xs ++ s ∷ []) kind
-needs_reserved size cuts xs s (for_record moment len) rising needs = λ fits. needs (
+tail_holds_reserved : (cuts : List ℕ) (xs : List Reservation) (s : Reservation) → IsRising 0 cuts (length xs) → tail_at cuts (xs ++ s ∷ []) ≢ []
+tail_holds_reserved cuts xs s rising none = snoc_some (tail_at cuts xs) s (sym (reserved_last 0 cuts xs s rising) ∙ none)
+
+pub needs_reserved : (size : ℕ) (cuts : List ℕ) (xs : List Reservation) (s : Reservation) (found : Bool) (kind : Kind) (state : FrameState) → IsRising 0 cuts (length xs) → NeedsFill size cuts xs found kind state → NeedsFill size cuts (xs ++ s ∷ []) found kind state
+needs_reserved size cuts xs s found (for_record moment len) waiting rising needs = λ fits. needs (
     let more = fill_more (tail_at cuts xs) s (max moment (last_moment xs)) (max moment (last_moment (xs ++ s ∷ []))) (slot_len len) in
     let behind : tail_at cuts (xs ++ s ∷ []) ++ reservation_for moment len (xs ++ s ∷ []) ∷ [] ≡ tail_at cuts xs ++ (s ∷ reservation_for moment len (xs ++ s ∷ []) ∷ []) =
     ap (λ (l : List Reservation). l ++ reservation_for moment len (xs ++ s ∷ []) ∷ []) (reserved_last 0 cuts xs s rising) ∙ append_assoc (tail_at cuts xs) (s ∷ []) (reservation_for moment len (xs ++ s ∷ []) ∷ []) in
     le_on _ _ more (subst (λ (l : List Reservation). fill_len l ≤ size) behind fits))
-needs_reserved size cuts xs s for_close rising needs = λ none. snoc_some (tail_at cuts xs) s (sym (reserved_last 0 cuts xs s rising) ∙ none)
+needs_reserved size cuts xs s found for_close waiting rising needs = tail_holds_reserved cuts xs s rising
+needs_reserved size cuts xs s found kind (reserved number) rising needs = needs
+needs_reserved size cuts xs s found kind left rising needs = (tail_holds_reserved cuts xs s rising, needs.1)
 
--- so the fill may be opened
-pub some_reservation : (a b : Reservation) → Some a ≡ Some b → a ≡ b
-some_reservation a b e = cc
+-- ---- so the fill may be opened
 
-pub fit_open_record : (size : ℕ) (h : List Action) (moment len : ℕ) (below : List Frame) → (writer_after h).stack ≡ record_frame moment len None ∷ below → FitsPage size (for_record moment len)
-    → NeedsFill size (opens_of h) (reserved_records h) (for_record moment len)
+fit_open_record : (size : ℕ) (h : List Action) (moment len : ℕ) (below : List PushedFrame) → (writer_after h).stack ≡ record_frame moment len None ∷ below → FitsPage size (for_record moment len)
+    → (FitsBehind size (tail_at (opens_of h) (reserved_records h)) (reservation_for moment len (reserved_records h)) → ⊥)
     → IsFit size h open_fill
 fit_open_record size h moment len below stack fits needs = (
   λ none. needs (subst (λ (l : List Reservation). FitsBehind size l (reservation_for moment len (reserved_records h))) (sym (sym (tail_is h) ∙ none)) (alone_fits fits)),
-  λ r is fits. needs (subst (λ (l : List Reservation). FitsBehind size l (reservation_for moment len (reserved_records h))) (tail_is h) (subst (FitsBehind size (tail_of h)) (some_reservation r (reservation_for moment len (reserved_records h)) (sym is ∙ wanted_record h moment len below stack)) fits)),
-  λ is. absurd (none_some (sym is ∙ wanted_record h moment len below stack)),
+  λ r is fits. needs (subst (λ (l : List Reservation). FitsBehind size l (reservation_for moment len (reserved_records h))) (tail_is h) (subst (FitsBehind size (tail_of h)) (same_Some r (reservation_for moment len (reserved_records h)) (sym is ∙ wanted_record h moment len below stack)) fits)),
+  λ is. absurd (none-some _ (sym is ∙ wanted_record h moment len below stack)),
 )
   where
     alone_fits : encoded_len len 0 true ≤ size → FitsBehind size [] (reservation_for moment len (reserved_records h))
@@ -253,9 +259,25 @@ fit_open_record size h moment len below stack fits needs = (
         plus_none : (k : ℕ) → k ≤ size → k + 0 ≤ size
         plus_none k le = omega arith
 
-pub fit_open_close : (size : ℕ) (h : List Action) (below : List Frame) → (writer_after h).stack ≡ close_frame ∷ below → NeedsFill size (opens_of h) (reserved_records h) for_close → IsFit size h open_fill
+fit_open_close : (size : ℕ) (h : List Action) (below : List PushedFrame) → (writer_after h).stack ≡ close_frame ∷ below → tail_at (opens_of h) (reserved_records h) ≢ [] → IsFit size h open_fill
 fit_open_close size h below stack needs = (
   λ none. needs (sym (tail_is h) ∙ none),
-  λ r is fits. none_some (sym (wanted_close h below stack) ∙ is),
-  λ is. closes_close h below stack,
+  λ r is fits. none-some r (sym (wanted_close h below stack) ∙ is),
+  λ is. subst (MayCloseTail h) (sym stack) tt,
 )
+
+fit_open_wished : (size : ℕ) (h : List Action) → (writer_after h).stack ≡ [] → tail_at (opens_of h) (reserved_records h) ≢ [] → IsTrue (is_wished h) → IsFit size h open_fill
+fit_open_wished size h stack needs found = (
+  λ none. needs (sym (tail_is h) ∙ none),
+  λ r is fits. none-some r (sym (wanted_none h stack) ∙ is),
+  λ is. subst (MayCloseTail h) (sym stack) found,
+)
+
+-- a frame on top of these opens the fill that it needs
+pub fit_open : (size : ℕ) (h : List Action) (kind : Kind) (state : FrameState) (below : List PushedFrame) → (writer_after h).stack ≡ pushed_onto kind state below → (state ≡ left → below ≡ []) → FitsPage size kind
+    → NeedsFill size (opens_of h) (reserved_records h) (is_wished h) kind state
+    → IsFit size h open_fill
+fit_open size h (for_record moment len) waiting below stack alone fits needs = fit_open_record size h moment len below stack fits needs
+fit_open size h for_close waiting below stack alone fits needs = fit_open_close size h below stack needs
+fit_open size h kind (reserved number) below stack alone fits needs = absurd needs
+fit_open size h kind left below stack alone fits needs = fit_open_wished size h (stack ∙ alone refl) needs.0 needs.1

@@ -1,0 +1,35 @@
+-- The reserved records behind one more action.
+use Rattle.std.proofs.Common.{◌≡◌, ℕ, zero, suc, ◌≤◌, List, [], ◌∷◌, ◌++◌, length, take, Option, Some, None, refl, ap, ◌∙◌, arith, length-append}
+use Rattle.trace_model.specs.History.{Action, push, push_close, open_fill, reserve, leave, wished, Reservation, PushedFrame, record_frame, close_frame, WriterState, reservation_for, records_with_payload, records_after_leave, after_action, writer_after, reserved_records}
+use Rattle.trace_model.proofs.NextAction.{writer_snoc}
+
+pub records_snoc : (h : List Action) (a : Action) → reserved_records (h ++ a ∷ []) ≡ (after_action (writer_after h).stack (writer_after h).records a).records
+records_snoc h a = ap (λ (w : WriterState). w.records) (writer_snoc h a)
+
+pub records_left : (h : List Action) (f : PushedFrame) (stack : List PushedFrame) (payload : Option (List ℕ)) → (writer_after h).stack ≡ f ∷ stack → reserved_records (h ++ leave payload ∷ []) ≡ records_after_leave f payload (reserved_records h)
+records_left h f stack payload e = records_snoc h (leave payload) ∙ ap (λ (s : List PushedFrame). (after_action s (writer_after h).records (leave payload)).records) e
+
+pub records_reserved : (h : List Action) (moment len : ℕ) (stack : List PushedFrame) → (writer_after h).stack ≡ record_frame moment len None ∷ stack → reserved_records (h ++ reserve ∷ []) ≡ reserved_records h ++ reservation_for moment len (reserved_records h) ∷ []
+records_reserved h moment len stack e = records_snoc h reserve ∙ ap (λ (s : List PushedFrame). (after_action s (writer_after h).records reserve).records) e
+
+-- ---- how many they are
+
+pub length-records_with_payload : (number : Option ℕ) (payload : Option (List ℕ)) (xs : List Reservation) → length (records_with_payload number payload xs) ≡ length xs
+length-records_with_payload None payload xs = refl
+length-records_with_payload (Some k) None xs = refl
+length-records_with_payload (Some k) (Some p) [] = refl
+length-records_with_payload (Some zero) (Some p) (x ∷ xs) = refl
+length-records_with_payload (Some (suc k)) (Some p) (x ∷ xs) = ap suc (length-records_with_payload (Some k) (Some p) xs)
+
+pub length_after_action : (stack : List PushedFrame) (xs : List Reservation) (a : Action) → length xs ≤ length (after_action stack xs a).records
+length_after_action stack xs (push moment len) = omega arith
+length_after_action stack xs push_close = omega arith
+length_after_action stack xs open_fill = omega arith
+length_after_action [] xs reserve = omega arith
+length_after_action (record_frame moment len None ∷ stack) xs reserve = omega (arith, length-append {A = Reservation})
+length_after_action (record_frame moment len (Some k) ∷ stack) xs reserve = omega arith
+length_after_action (close_frame ∷ stack) xs reserve = omega arith
+length_after_action [] xs (leave payload) = omega arith
+length_after_action (record_frame moment len number ∷ stack) xs (leave payload) = omega (arith, length-records_with_payload number payload xs)
+length_after_action (close_frame ∷ stack) xs (leave payload) = omega arith
+length_after_action stack xs wished = omega arith
