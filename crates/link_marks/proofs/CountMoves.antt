@@ -130,7 +130,7 @@ losses_need_a_full_ring n size start c event answer after r step = moves n size 
 
 pub closes_need_no_frame : ClosesNeedNoFrame
 closes_need_no_frame n size start c event answer after r step =
-    ⊎_elim (λ same. inl (ap (λ (w : Window). w.done) same.0)) (λ one. by_what one.0 one.1.step) (step_owed n size start c event answer after r.links r.history step).window
+    ⊎_elim (λ same. inl (ap (λ (w : Window). w.done) same.0)) (λ one. by_what one.0 one.1.step) (step_owed n size start c event answer after r.links r.stack r.history step).window
   where
     by_what : (what : Happening) → WindowStep n c.history (window_of c) what (window_of after) → DoneMoves c after
     by_what opened_one w = inl (ap (λ (v : Window). v.done) w.after_is)

@@ -12,7 +12,6 @@ pub mod HistorySteps
 pub mod Happenings
 pub mod PageChanges
 pub mod ContentSteps
-pub mod OpenPageSteps
 pub mod ClosedSteps
 -- the partition of the records, and the invariant as a whole
 pub mod PartitionLemmas
@@ -37,7 +36,7 @@ pub mod RecordCounts
 -- the step as a function: it gives the steps and no others; the head and the count of closed fills move by it
 pub mod StepFunction
 pub mod StepFunctionSound
-pub mod StepsReady
+pub mod ProgressSteps
 pub mod StepsGiven
 pub mod StepsDetermined
 pub mod OneNewRing

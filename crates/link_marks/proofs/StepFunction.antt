@@ -2,12 +2,12 @@
 use Rattle.std.proofs.Common.{ℕ, suc, ◌+◌, ◌-◌, Bool, true, false, if◌then◌else◌, ◌==◌, nat_lt, nat_le, List, [], ◌∷◌, ◌++◌, length, Option, Some, None}
 use Rattle.trace_model.specs.declared.limits.TheConstants.{MAX_FRAMES, MOMENT_LIMIT, LINK_FILLS}
 use Rattle.trace_model.specs.Words.{encoded_len, slot_len}
-use Rattle.trace_model.specs.History.{Reservation, push, push_close, reserve, reservation_for, reserved_records}
-use Rattle.trace_model.specs.Packing.{fill_len}
+use Rattle.trace_model.specs.History.{Reservation, push, push_close, wished, reserved_records}
+use Rattle.trace_model.specs.Packing.{fill_len, tail_of}
 use Rattle.trace_model.specs.Links.{Mark, normal, header, update, Link, normal_link, header_link, update_link}
-use Rattle.trace_model.specs.Frames.{Kind, for_record, for_close, Role, owner, helper, Phase, reserving, looking, claiming, looking_next, marking, clearing, opening, reserved, releasing, Frame, too_deep, too_long, late_moment, crowded, worn, no_frame, not_reserved}
-use Rattle.trace_model.specs.Ring.{ReaderPhase, loading_link, loading_done, storing_link, swapping, Core, link_into, page_at}
-use Rattle.trace_model.specs.Steps.{Event, pushes, pushes_close, steps, ends, reads, Answer, pushed, going, reserved_as, gone, refused, reading, empty, moving, swapped, with_action, in_phase, with_link, with_held, contents_of, tail_page, leave_answer, after_leave, after_begin, begin_answer, after_next, with_new_tail, reader_at, taken_fill, after_swap, end_answer}
+use Rattle.trace_model.specs.Frames.{Kind, for_record, for_close, FrameState, waiting, reserved, left, Role, owner, helper, Phase, idle, looking, claiming, looking_next, marking, clearing, opening, releasing, wishing, Frame, too_deep, too_long, late_moment, crowded, worn, no_frame, not_reserved}
+use Rattle.trace_model.specs.Ring.{ReaderPhase, loading_link, loading_done, storing_link, swapping, Core, link_into}
+use Rattle.trace_model.specs.Steps.{Event, pushes, pushes_close, steps, ends, reads, wishes, Answer, pushed, going, reserved_as, gone, refused, reading, empty, moving, swapped, wished_for, with_action, in_phase, in_reserved, with_link, with_frame, new_reservation, with_reservation, with_released, with_head_claimed, with_wish, leave_answer, after_leave, after_begin, begin_answer, after_next, with_new_tail, reader_at, reader_saw, next_header, taken_fill, after_swap, end_answer}
 
 pub record Outcome : Type 0 where
   pub answer : Answer
@@ -35,7 +35,7 @@ same_link a b = if same_mark a.mark b.mark then (if a.page == b.page then a.fill
 -- ---- the steps of a frame
 
 abbrev pub anew : Core → Frame → List Frame → Option Outcome
-anew c frame below = gives (begin_answer frame.kind c below) (after_begin frame.kind c frame below)
+anew c frame below = gives (begin_answer frame.kind frame.state below) (after_begin frame.kind frame.state c frame below)
 
 abbrev pub goes_on : Core → Frame → List Frame → Phase → Option Outcome
 goes_on c frame below phase = gives going (in_phase c frame below phase)
@@ -45,20 +45,20 @@ needs_page n c frame below =
     if c.opened == (c.done + n) then gives (refused crowded) (after_leave c frame below None)
     else (if nat_lt (c.opened + n) LINK_FILLS then goes_on c frame below (looking c.opened) else gives (refused worn) (after_leave c frame below None))
 
-abbrev pub record_len : ℕ → Core → ℕ → ℕ → ℕ
-record_len n c moment len = fill_len ((contents_of c (tail_page n c)).records ++ reservation_for moment len (reserved_records c.history) ∷ [])
+abbrev pub record_len : Core → ℕ → ℕ → ℕ
+record_len c moment len = fill_len (tail_of c.history ++ new_reservation c moment len ∷ [])
 
-abbrev pub reserves_in : ℕ → Core → Frame → List Frame → ℕ → ℕ → Option Outcome
-reserves_in n c frame below moment len = gives (reserved_as (length (reserved_records c.history)))
-    (in_phase (with_action (with_held c (tail_page n c) record { first = (contents_of c (tail_page n c)).first; records = (contents_of c (tail_page n c)).records ++ reservation_for moment len (reserved_records c.history) ∷ [] }) reserve) frame below (reserved (length (reserved_records c.history))))
+abbrev pub reserves_in : Core → Frame → List Frame → ℕ → ℕ → Option Outcome
+reserves_in c frame below moment len = gives (reserved_as (length (reserved_records c.history)))
+    (in_reserved (with_reservation c (new_reservation c moment len)) frame below (length (reserved_records c.history)))
 
 abbrev pub close_of : ℕ → Core → Frame → List Frame → List Reservation → Option Outcome
-close_of n c frame below [] = gives (leave_answer c below) (after_leave c frame below None)
+close_of n c frame below [] = gives (leave_answer below) (after_leave c frame below None)
 close_of n c frame below (r ∷ records) = needs_page n c frame below
 
 abbrev pub reserve_of : ℕ → ℕ → Core → Frame → List Frame → Kind → Option Outcome
-reserve_of n size c frame below (for_record moment len) = if nat_le (record_len n c moment len) size then reserves_in n c frame below moment len else needs_page n c frame below
-reserve_of n size c frame below for_close = close_of n c frame below (contents_of c (tail_page n c)).records
+reserve_of n size c frame below (for_record moment len) = if nat_le (record_len c moment len) size then reserves_in c frame below moment len else needs_page n c frame below
+reserve_of n size c frame below for_close = close_of n c frame below (tail_of c.history)
 
 abbrev pub look_at : ℕ → Core → Frame → List Frame → ℕ → Link → Mark → Option Outcome
 look_at n c frame below noted l normal = if l.fill == noted then goes_on c frame below (opening noted l.page) else None
@@ -72,7 +72,7 @@ look_of n c frame below noted =
 abbrev pub claim_of : ℕ → Core → Frame → List Frame → (noted page : ℕ) → Option Outcome
 claim_of n c frame below noted page =
     if noted == c.opened then (if nat_le n noted then (if same_link (link_into n c.links noted) (header_link page (noted - n))
-    then gives going (in_phase (record (with_link n c noted (update_link page (noted - n))) { head = c.head + 1 }) frame below (looking_next owner noted page))
+    then gives going (in_phase (with_head_claimed n c noted page (noted - n)) frame below (looking_next owner noted page))
     else goes_on c frame below (looking noted)) else goes_on c frame below (looking noted)) else anew c frame below
 
 abbrev pub next_at : ℕ → Core → Frame → List Frame → Role → (noted page : ℕ) → Link → Option Outcome
@@ -100,24 +100,43 @@ clear_of n c frame below noted page =
 
 abbrev pub open_of : Core → Frame → List Frame → (noted page : ℕ) → Option Outcome
 open_of c frame below noted page =
-    if noted == c.opened then gives (begin_answer frame.kind (with_new_tail c page) below) (after_begin frame.kind (with_new_tail c page) frame below) else anew c frame below
+    if noted == c.opened then gives (begin_answer frame.kind frame.state below) (after_begin frame.kind frame.state (with_new_tail c page) frame below) else anew c frame below
 
-abbrev pub release_of : Core → List Frame → Option Outcome
-release_of c [] =
-    if (c.done + 2) == c.opened then gives gone (record c { done = c.done + 1; frames = [] })
-    else (if nat_lt (c.done + 2) c.opened then gives going (record c { done = c.done + 1 }) else None)
-release_of c (next ∷ below) = None
+abbrev pub release_of : Core → Frame → List Frame → Option Outcome
+release_of c frame [] =
+    if (c.done + 2) == c.opened then gives going (in_phase (with_released c) frame [] wishing)
+    else (if nat_lt (c.done + 2) c.opened then gives going (with_released c) else None)
+release_of c frame (next ∷ below) = None
+
+abbrev pub is_empty : List Reservation → Bool
+is_empty [] = true
+is_empty (r ∷ records) = false
+
+abbrev pub is_granted : ℕ → Core → Bool
+is_granted n c = if c.wish == c.opened then (if is_empty (tail_of c.history) then false else nat_lt (c.opened + n) LINK_FILLS) else false
+
+abbrev pub wish_of : ℕ → Core → Frame → List Frame → Option Outcome
+wish_of n c frame [] =
+    if is_granted n c then gives going (in_phase (with_action c wished) frame [] (looking c.opened))
+    else (if (c.done + 1) == c.opened then gives gone (record c { frames = [] })
+    else (if nat_lt (c.done + 1) c.opened then goes_on c frame [] releasing else None))
+wish_of n c frame (next ∷ below) = None
+
+abbrev pub idle_of : ℕ → ℕ → Core → Frame → List Frame → FrameState → Option Outcome
+idle_of n size c frame below waiting = reserve_of n size c frame below frame.kind
+idle_of n size c frame below (reserved number) = gives (reserved_as number) c
+idle_of n size c frame below left = None
 
 abbrev pub frame_of : ℕ → ℕ → Core → Frame → List Frame → Phase → Option Outcome
-frame_of n size c frame below reserving = reserve_of n size c frame below frame.kind
+frame_of n size c frame below idle = idle_of n size c frame below frame.state
 frame_of n size c frame below (looking noted) = look_of n c frame below noted
 frame_of n size c frame below (claiming noted page) = claim_of n c frame below noted page
 frame_of n size c frame below (looking_next role noted page) = next_of n c frame below role noted page
 frame_of n size c frame below (marking role noted page next) = mark_of n c frame below role noted page next
 frame_of n size c frame below (clearing noted page) = clear_of n c frame below noted page
 frame_of n size c frame below (opening noted page) = open_of c frame below noted page
-frame_of n size c frame below (reserved number) = gives (reserved_as number) c
-frame_of n size c frame below releasing = release_of c below
+frame_of n size c frame below releasing = release_of c frame below
+frame_of n size c frame below wishing = wish_of n c frame below
 
 -- ---- the steps of the reader
 
@@ -130,8 +149,8 @@ load_at n c l normal =
 
 abbrev pub read_of : ℕ → Core → ReaderPhase → Option Outcome
 read_of n c loading_link = load_at n c (link_into n c.links c.reader.hint) (link_into n c.links c.reader.hint).mark
-read_of n c (loading_done page fill) = if nat_le c.done fill then gives (empty c.done) (reader_at c loading_link c.reader.hint) else gives reading (reader_at c (storing_link page fill) c.reader.hint)
-read_of n c (storing_link page fill) = gives reading (record (reader_at c (swapping page fill) c.reader.hint) { spare_link = header_link (page_at n c.order (suc fill)) (suc fill) })
+read_of n c (loading_done page fill) = if nat_le c.done fill then gives (empty c.done) (reader_saw c loading_link) else gives reading (reader_saw c (storing_link page fill))
+read_of n c (storing_link page fill) = gives reading (record (reader_at c (swapping page fill) c.reader.hint) { spare_link = next_header n c fill })
 read_of n c (swapping page fill) =
     if same_link (link_into n c.links fill) (header_link page fill) then gives (swapped (taken_fill c page fill)) (after_swap n c page fill) else gives reading (reader_at c loading_link (suc fill))
 
@@ -143,12 +162,12 @@ too_long_for size len = if nat_lt size len then true else nat_lt size (encoded_l
 abbrev pub push_of : ℕ → Core → (moment len : ℕ) → Option Outcome
 push_of size c moment len =
     if nat_lt (length c.frames) MAX_FRAMES then (if too_long_for size len then gives (refused too_long) c else (if nat_lt moment MOMENT_LIMIT
-    then gives pushed (with_action (record c { frames = record { kind = for_record moment len; phase = reserving } ∷ c.frames }) (push moment len))
+    then gives pushed (with_action (with_frame c (for_record moment len)) (push moment len))
     else gives (refused late_moment) c)) else gives (refused too_deep) c
 
 abbrev pub close_push_of : Core → Option Outcome
 close_push_of c =
-    if nat_lt (length c.frames) MAX_FRAMES then gives pushed (with_action (record c { frames = record { kind = for_close; phase = reserving } ∷ c.frames }) push_close) else gives (refused too_deep) c
+    if nat_lt (length c.frames) MAX_FRAMES then gives pushed (with_action (with_frame c for_close) push_close) else gives (refused too_deep) c
 
 abbrev pub steps_of : ℕ → ℕ → Core → List Frame → Option Outcome
 steps_of n size c [] = gives (refused no_frame) c
@@ -159,20 +178,14 @@ abbrev pub full_end : Core → Frame → List Frame → List ℕ → Kind → Op
 full_end c frame below payload (for_record moment len) = if slot_len (length payload) == slot_len len then gives (end_answer below) (after_leave c frame below (Some payload)) else None
 full_end c frame below payload for_close = None
 
-abbrev pub end_in : Core → Frame → List Frame → List ℕ → Phase → Option Outcome
-end_in c frame below payload reserving = gives (refused not_reserved) c
-end_in c frame below payload (looking noted) = gives (refused not_reserved) c
-end_in c frame below payload (claiming noted page) = gives (refused not_reserved) c
-end_in c frame below payload (looking_next role noted page) = gives (refused not_reserved) c
-end_in c frame below payload (marking role noted page next) = gives (refused not_reserved) c
-end_in c frame below payload (clearing noted page) = gives (refused not_reserved) c
-end_in c frame below payload (opening noted page) = gives (refused not_reserved) c
+abbrev pub end_in : Core → Frame → List Frame → List ℕ → FrameState → Option Outcome
+end_in c frame below payload waiting = gives (refused not_reserved) c
 end_in c frame below payload (reserved number) = full_end c frame below payload frame.kind
-end_in c frame below payload releasing = gives (refused not_reserved) c
+end_in c frame below payload left = gives (refused not_reserved) c
 
 abbrev pub end_of : Core → List ℕ → List Frame → Option Outcome
 end_of c payload [] = gives (refused no_frame) c
-end_of c payload (frame ∷ below) = end_in c frame below payload frame.phase
+end_of c payload (frame ∷ below) = end_in c frame below payload frame.state
 
 abbrev pub step_of : ℕ → ℕ → Core → Event → Option Outcome
 step_of n size c (pushes moment len) = push_of size c moment len
@@ -180,6 +193,7 @@ step_of n size c pushes_close = close_push_of c
 step_of n size c steps = steps_of n size c c.frames
 step_of n size c (ends payload) = end_of c payload c.frames
 step_of n size c reads = read_of n c c.reader.phase
+step_of n size c wishes = gives (wished_for c.reader.seen) (with_wish c)
 
 -- what events lead to, and what they are answered
 pub record Ran : Type 0 where

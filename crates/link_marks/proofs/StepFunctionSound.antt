@@ -3,12 +3,13 @@ use Rattle.std.proofs.Common.{◌≡◌, ◌≢◌, ℕ, suc, ◌+◌, ◌-◌, 
 use Rattle.std.proofs.lemmas.Bool.{ltb-true, ltb-false, leb-true, leb-false, eqb-true, eqb-false, eq-eqb, both_ways}
 use Rattle.trace_model.specs.declared.limits.TheConstants.{MAX_FRAMES, MOMENT_LIMIT, LINK_FILLS}
 use Rattle.trace_model.specs.Words.{encoded_len, slot_len}
-use Rattle.trace_model.specs.History.{Reservation, reservation_for, reserved_records}
+use Rattle.trace_model.specs.History.{Reservation}
+use Rattle.trace_model.specs.Packing.{tail_of}
 use Rattle.trace_model.specs.Links.{Mark, normal, header, update, Link, normal_link, header_link, update_link}
-use Rattle.trace_model.specs.Frames.{Kind, for_record, for_close, Role, owner, helper, Phase, reserving, looking, claiming, looking_next, marking, clearing, opening, reserved, releasing, Frame, too_deep, too_long, late_moment}
+use Rattle.trace_model.specs.Frames.{Kind, for_record, for_close, FrameState, waiting, reserved, left, number_of, Role, owner, helper, Phase, idle, looking, claiming, looking_next, marking, clearing, opening, releasing, wishing, Frame, too_deep, too_long, late_moment}
 use Rattle.trace_model.specs.Ring.{ReaderPhase, loading_link, loading_done, storing_link, swapping, Core, link_into}
-use Rattle.trace_model.specs.Steps.{Event, pushes, pushes_close, steps, ends, reads, Answer, contents_of, tail_page, number_in, GoesOn, NeedsPage, BeginsAnew, ReserveStep, reserves, finds_nothing, is_crowded, is_worn, notes, LookStep, look_late, sees_free, sees_header, sees_update, ClaimStep, claim_late, claims, claim_fails, NextStep, next_late, sees_normal, sees_other, MarkStep, mark_late, marks, mark_fails, ClearStep, clears, OpenStep, open_late, opens, ReleaseStep, releases, releases_last, FrameStep, LoadStep, loads_header, loads_update, loads_owed, loads_passed, LoadDoneStep, finds_none, finds_closed, SwapStep, swaps, swap_fails, ReadStep, IsTooLong, all_stand, has_no_room, comes_late, Step, push_step, push_refused, close_step, close_refused, frame_step, frame_lacks, end_step, end_lacks, end_early, read_step, Exchange, Run}
-use Rattle.link_marks.proofs.StepFunction.{Outcome, same_mark, same_link, anew, needs_page, record_len, close_of, reserve_of, look_at, look_of, claim_of, next_at, next_of, mark_at, mark_of, clear_of, open_of, release_of, frame_of, load_at, read_of, too_long_for, push_of, close_push_of, steps_of, full_end, end_in, end_of, step_of, Ran, behind, run_of}
+use Rattle.trace_model.specs.Steps.{Event, pushes, pushes_close, steps, ends, reads, wishes, Answer, GoesOn, NeedsPage, BeginsAnew, ReserveStep, reserves, finds_nothing, is_crowded, is_worn, notes, LookStep, look_late, sees_free, sees_header, sees_update, ClaimStep, claim_late, claims, claim_fails, NextStep, next_late, sees_normal, sees_other, MarkStep, mark_late, marks, mark_fails, ClearStep, clears, OpenStep, open_late, opens, ReleaseStep, releases, releases_last, IsGranted, WishStep, grants, closes_more, goes_away, IdleStep, FrameStep, LoadStep, loads_header, loads_update, loads_owed, loads_passed, LoadDoneStep, finds_none, finds_closed, SwapStep, swaps, swap_fails, ReadStep, IsTooLong, all_stand, has_no_room, comes_late, Step, push_step, push_refused, close_step, close_refused, frame_step, frame_lacks, end_step, end_lacks, end_early, read_step, wish_step, Exchange, Run}
+use Rattle.link_marks.proofs.StepFunction.{Outcome, same_mark, same_link, anew, needs_page, record_len, close_of, reserve_of, look_at, look_of, claim_of, next_at, next_of, mark_at, mark_of, clear_of, open_of, release_of, is_empty, is_granted, wish_of, idle_of, frame_of, load_at, read_of, too_long_for, push_of, close_push_of, steps_of, full_end, end_in, end_of, step_of, Ran, behind, run_of}
 
 -- what an outcome says, where there is one
 abbrev pub Sound : (Answer → Core → Type 0) → Option Outcome → Type 0
@@ -73,22 +74,22 @@ cons_not_nil r rs e = let z = ap (λ (l : List Reservation). length l) e in omeg
 -- ---- the steps of a frame
 
 module _ (n size : ℕ) (c : Core) (frame : Frame) (below : List Frame) where
-  needs_page_sound : NeedsPage n size c frame.kind → Sound (ReserveStep n size c frame below) (needs_page n c frame below)
+  needs_page_sound : NeedsPage size c frame.kind → Sound (ReserveStep n size c frame below) (needs_page n c frame below)
   needs_page_sound needs = by_if (ReserveStep n size c frame below) (c.opened == (c.done + n)) _ _
       (λ e. is_crowded needs (eqb-true c.opened (c.done + n) e) refl refl)
       (λ e. by_if (ReserveStep n size c frame below) (nat_lt (c.opened + n) LINK_FILLS) _ _
       (λ s. notes needs (eqb-false c.opened (c.done + n) e) (ltb-true (c.opened + n) LINK_FILLS s) refl refl)
       (λ s. is_worn needs (eqb-false c.opened (c.done + n) e) (ltb-false (c.opened + n) LINK_FILLS s) refl refl))
 
-  close_sound : frame.kind ≡ for_close → (records : List Reservation) → (contents_of c (tail_page n c)).records ≡ records → Sound (ReserveStep n size c frame below) (close_of n c frame below records)
+  close_sound : frame.kind ≡ for_close → (records : List Reservation) → tail_of c.history ≡ records → Sound (ReserveStep n size c frame below) (close_of n c frame below records)
   close_sound e [] is = finds_nothing e is refl refl
-  close_sound e (r ∷ records) is = needs_page_sound (subst (NeedsPage n size c) (sym e) (λ none. cons_not_nil r records (sym is ∙ none)))
+  close_sound e (r ∷ records) is = needs_page_sound (subst (NeedsPage size c) (sym e) (λ none. cons_not_nil r records (sym is ∙ none)))
 
   reserve_sound : (kind : Kind) → frame.kind ≡ kind → Sound (ReserveStep n size c frame below) (reserve_of n size c frame below kind)
-  reserve_sound (for_record moment len) e = by_if (ReserveStep n size c frame below) (nat_le (record_len n c moment len) size) _ _
-      (λ fits. reserves moment len (reservation_for moment len (reserved_records c.history)) e refl (leb-true (record_len n c moment len) size fits) refl refl)
-      (λ lacks. needs_page_sound (subst (NeedsPage n size c) (sym e) (λ fits. let more = leb-false (record_len n c moment len) size lacks in omega arith)))
-  reserve_sound for_close e = close_sound e (contents_of c (tail_page n c)).records refl
+  reserve_sound (for_record moment len) e = by_if (ReserveStep n size c frame below) (nat_le (record_len c moment len) size) _ _
+      (λ fits. reserves moment len _ e refl (leb-true (record_len c moment len) size fits) refl refl)
+      (λ lacks. needs_page_sound (subst (NeedsPage size c) (sym e) (λ fits. let more = leb-false (record_len c moment len) size lacks in omega arith)))
+  reserve_sound for_close e = close_sound e (tail_of c.history) refl
 
   anew_is : (noted : ℕ) → noted ≢ c.opened → Sound (BeginsAnew c frame below noted) (anew c frame below)
   anew_is noted other = record { passed = other; answer_is = refl; after_is = refl }
@@ -154,22 +155,63 @@ module _ (n size : ℕ) (c : Core) (frame : Frame) (below : List Frame) where
       (λ e. opens (eqb-true noted c.opened e) refl refl)
       (λ e. open_late (anew_is noted (eqb-false noted c.opened e)))
 
-release_sound : (c : Core) (frame : Frame) (below : List Frame) → Sound (ReleaseStep c frame below) (release_of c below)
+release_sound : (c : Core) (frame : Frame) (below : List Frame) → Sound (ReleaseStep c frame below) (release_of c frame below)
 release_sound c frame [] = by_if (ReleaseStep c frame []) ((c.done + 2) == c.opened) _ _
     (λ e. releases_last refl (eqb-true (c.done + 2) c.opened e) refl refl)
     (λ e. by_if (ReleaseStep c frame []) (nat_lt (c.done + 2) c.opened) _ _ (λ more. releases refl (ltb-true (c.done + 2) c.opened more) refl refl) (λ none. tt))
 release_sound c frame (next ∷ below) = tt
 
+not_empty : (records : List Reservation) → is_empty records ≡ false → records ≢ []
+not_empty [] e none = both_ways true e refl
+not_empty (r ∷ records) e none = cons_not_nil r records none
+
+is_none : (records : List Reservation) → is_empty records ≡ true → records ≡ []
+is_none [] e = refl
+is_none (r ∷ records) e = absurd (both_ways false refl e)
+
+pub granted_true : (n : ℕ) (c : Core) → is_granted n c ≡ true → IsGranted n c
+granted_true n c e = by_wish (c.wish == c.opened) refl e
+  where
+    by_tail : (b : Bool) → c.wish ≡ c.opened → is_empty (tail_of c.history) ≡ b → (if b then false else nat_lt (c.opened + n) LINK_FILLS) ≡ true → IsGranted n c
+    by_tail true asks is t = absurd (both_ways false refl t)
+    by_tail false asks is t = record { asks_tail = asks; holds_record = not_empty (tail_of c.history) is; numbers_left = ltb-true (c.opened + n) LINK_FILLS t }
+    by_wish : (b : Bool) → (c.wish == c.opened) ≡ b → (if b then (if is_empty (tail_of c.history) then false else nat_lt (c.opened + n) LINK_FILLS) else false) ≡ true → IsGranted n c
+    by_wish true is t = by_tail (is_empty (tail_of c.history)) (eqb-true c.wish c.opened is) refl t
+    by_wish false is t = absurd (both_ways false refl t)
+
+pub granted_false : (n : ℕ) (c : Core) → is_granted n c ≡ false → IsGranted n c → ⊥
+granted_false n c e g = by_wish (c.wish == c.opened) refl e
+  where
+    by_tail : (b : Bool) → is_empty (tail_of c.history) ≡ b → (if b then false else nat_lt (c.opened + n) LINK_FILLS) ≡ false → ⊥
+    by_tail true is t = g.holds_record (is_none (tail_of c.history) is)
+    by_tail false is t = let numbers = g.numbers_left in let last = ltb-false (c.opened + n) LINK_FILLS t in omega arith
+    by_wish : (b : Bool) → (c.wish == c.opened) ≡ b → (if b then (if is_empty (tail_of c.history) then false else nat_lt (c.opened + n) LINK_FILLS) else false) ≡ false → ⊥
+    by_wish true is t = by_tail (is_empty (tail_of c.history)) refl t
+    by_wish false is t = eqb-false c.wish c.opened is g.asks_tail
+
+wish_sound : (n : ℕ) (c : Core) (frame : Frame) (below : List Frame) → Sound (WishStep n c frame below) (wish_of n c frame below)
+wish_sound n c frame [] = by_if (WishStep n c frame []) (is_granted n c) _ _
+    (λ e. grants refl (granted_true n c e) refl refl)
+    (λ e. by_if (WishStep n c frame []) ((c.done + 1) == c.opened) _ _
+    (λ last. goes_away refl (granted_false n c e) (eqb-true (c.done + 1) c.opened last) refl refl)
+    (λ some. by_if (WishStep n c frame []) (nat_lt (c.done + 1) c.opened) _ _ (λ more. closes_more refl (granted_false n c e) (ltb-true (c.done + 1) c.opened more) refl refl) (λ none. tt)))
+wish_sound n c frame (next ∷ below) = tt
+
+idle_sound : (n size : ℕ) (c : Core) (frame : Frame) (below : List Frame) (state : FrameState) → Sound (IdleStep n size c frame below state) (idle_of n size c frame below state)
+idle_sound n size c frame below waiting = reserve_sound n size c frame below frame.kind refl
+idle_sound n size c frame below (reserved number) = (refl, refl)
+idle_sound n size c frame below left = tt
+
 frame_sound : (n size : ℕ) (c : Core) (frame : Frame) (below : List Frame) (phase : Phase) → Sound (FrameStep n size c frame below phase) (frame_of n size c frame below phase)
-frame_sound n size c frame below reserving = reserve_sound n size c frame below frame.kind refl
+frame_sound n size c frame below idle = idle_sound n size c frame below frame.state
 frame_sound n size c frame below (looking noted) = look_sound n size c frame below noted
 frame_sound n size c frame below (claiming noted page) = claim_sound n size c frame below noted page
 frame_sound n size c frame below (looking_next role noted page) = next_sound n size c frame below role noted page
 frame_sound n size c frame below (marking role noted page next) = mark_sound n size c frame below role noted page next
 frame_sound n size c frame below (clearing noted page) = clear_sound n size c frame below noted page
 frame_sound n size c frame below (opening noted page) = open_sound n size c frame below noted page
-frame_sound n size c frame below (reserved number) = (refl, refl)
 frame_sound n size c frame below releasing = release_sound c frame below
+frame_sound n size c frame below wishing = wish_sound n c frame below
 
 -- ---- the steps of the reader
 
@@ -230,25 +272,19 @@ steps_sound n size c (frame ∷ below) top = sound_as (FrameStep n size c frame 
     (λ answer after step. frame_step frame below refl top step) (frame_sound n size c frame below frame.phase)
 
 module _ (n size : ℕ) (c : Core) (payload : List ℕ) where
-  full_end_sound : (frame : Frame) (below : List Frame) (number : ℕ) (kind : Kind) → c.frames ≡ frame ∷ below → frame.phase ≡ reserved number → frame.kind ≡ kind → Sound (Step n size c (ends payload)) (full_end c frame below payload kind)
+  full_end_sound : (frame : Frame) (below : List Frame) (number : ℕ) (kind : Kind) → c.frames ≡ frame ∷ below → frame.state ≡ reserved number → frame.kind ≡ kind → Sound (Step n size c (ends payload)) (full_end c frame below payload kind)
   full_end_sound frame below number (for_record moment len) top at is = by_if (Step n size c (ends payload)) (slot_len (length payload) == slot_len len) _ _
       (λ e. end_step payload frame below number moment len refl top at is (eqb-true (slot_len (length payload)) (slot_len len) e) refl refl) (λ e. tt)
   full_end_sound frame below number for_close top at is = tt
 
-  end_in_sound : (frame : Frame) (below : List Frame) (phase : Phase) → c.frames ≡ frame ∷ below → frame.phase ≡ phase → Sound (Step n size c (ends payload)) (end_in c frame below payload phase)
-  end_in_sound frame below reserving top at = end_early payload frame below refl top (ap number_in at) refl refl
-  end_in_sound frame below (looking noted) top at = end_early payload frame below refl top (ap number_in at) refl refl
-  end_in_sound frame below (claiming noted page) top at = end_early payload frame below refl top (ap number_in at) refl refl
-  end_in_sound frame below (looking_next role noted page) top at = end_early payload frame below refl top (ap number_in at) refl refl
-  end_in_sound frame below (marking role noted page next) top at = end_early payload frame below refl top (ap number_in at) refl refl
-  end_in_sound frame below (clearing noted page) top at = end_early payload frame below refl top (ap number_in at) refl refl
-  end_in_sound frame below (opening noted page) top at = end_early payload frame below refl top (ap number_in at) refl refl
+  end_in_sound : (frame : Frame) (below : List Frame) (state : FrameState) → c.frames ≡ frame ∷ below → frame.state ≡ state → Sound (Step n size c (ends payload)) (end_in c frame below payload state)
+  end_in_sound frame below waiting top at = end_early payload frame below refl top (ap number_of at) refl refl
   end_in_sound frame below (reserved number) top at = full_end_sound frame below number frame.kind top at refl
-  end_in_sound frame below releasing top at = end_early payload frame below refl top (ap number_in at) refl refl
+  end_in_sound frame below left top at = end_early payload frame below refl top (ap number_of at) refl refl
 
   end_sound : (frames : List Frame) → c.frames ≡ frames → Sound (Step n size c (ends payload)) (end_of c payload frames)
   end_sound [] none = end_lacks payload refl none refl refl
-  end_sound (frame ∷ below) top = end_in_sound frame below frame.phase top refl
+  end_sound (frame ∷ below) top = end_in_sound frame below frame.state top refl
 
 pub step_sound : (n size : ℕ) (c : Core) (event : Event) → Sound (Step n size c event) (step_of n size c event)
 step_sound n size c (pushes moment len) = push_sound n size c moment len
@@ -256,6 +292,7 @@ step_sound n size c pushes_close = close_push_sound n size c
 step_sound n size c steps = steps_sound n size c c.frames refl
 step_sound n size c (ends payload) = end_sound n size c payload c.frames refl
 step_sound n size c reads = sound_as (ReadStep n c c.reader.phase) (Step n size c reads) (read_of n c c.reader.phase) (λ answer after step. read_step refl step) (read_sound n c c.reader.phase)
+step_sound n size c wishes = wish_step refl refl refl
 
 -- ---- runs
 

@@ -3,16 +3,16 @@ use Rattle.std.proofs.Common.{◌≡◌, ◌≢◌, ℕ, suc, ◌+◌, ◌-◌, 
 use Rattle.std.proofs.lemmas.Bool.{ltb-false, leb-true, lt-ltb, le-ltb, le-leb, lt-leb, eq-eqb, ne_eqb}
 use Rattle.trace_model.specs.declared.limits.TheConstants.{MAX_FRAMES, MOMENT_LIMIT, LINK_FILLS}
 use Rattle.trace_model.specs.Words.{encoded_len, slot_len}
-use Rattle.trace_model.specs.History.{Reservation, reserve, reserved_records}
-use Rattle.trace_model.specs.Packing.{FitsBehind}
+use Rattle.trace_model.specs.History.{Reservation, wished, reserved_records}
+use Rattle.trace_model.specs.Packing.{FitsBehind, tail_of}
 use Rattle.trace_model.specs.Links.{Link, normal_link, header_link, update_link}
-use Rattle.trace_model.specs.Frames.{Kind, for_record, for_close, Role, owner, helper, Phase, reserving, looking, claiming, looking_next, marking, clearing, opening, reserved, releasing, Frame, Refusal, not_reserved}
+use Rattle.trace_model.specs.Frames.{Kind, for_record, for_close, FrameState, waiting, reserved, left, number_of, Role, owner, helper, Phase, idle, looking, claiming, looking_next, marking, clearing, opening, releasing, wishing, Frame, Refusal, not_reserved}
 use Rattle.trace_model.specs.Ring.{ReaderPhase, loading_link, loading_done, storing_link, swapping, Core, link_into}
-use Rattle.trace_model.specs.Steps.{Event, Answer, going, refused, with_action, with_held, with_link, in_phase, reader_at, contents_of, tail_page, number_in, NeedsPage, BeginsAnew, ReserveStep, reserves, finds_nothing, is_crowded, is_worn, notes, LookStep, look_late, sees_free, sees_header, sees_update, ClaimStep, claim_late, claims, claim_fails, NextStep, next_late, sees_normal, sees_other, MarkStep, mark_late, marks, mark_fails, ClearStep, clears, OpenStep, open_late, opens, ReleaseStep, releases, releases_last, FrameStep, LoadStep, loads_header, loads_update, loads_owed, loads_passed, LoadDoneStep, finds_none, finds_closed, SwapStep, swaps, swap_fails, ReadStep, after_next, IsTooLong, PushRefused, all_stand, has_no_room, comes_late, Run, Step, push_step, push_refused, close_step, close_refused, frame_step, frame_lacks, end_step, end_lacks, end_early, read_step}
+use Rattle.trace_model.specs.Steps.{Event, Answer, going, refused, with_action, with_released, with_head_claimed, with_link, with_reservation, in_phase, in_reserved, reader_at, NeedsPage, BeginsAnew, ReserveStep, reserves, finds_nothing, is_crowded, is_worn, notes, LookStep, look_late, sees_free, sees_header, sees_update, ClaimStep, claim_late, claims, claim_fails, NextStep, next_late, sees_normal, sees_other, MarkStep, mark_late, marks, mark_fails, ClearStep, clears, OpenStep, open_late, opens, ReleaseStep, releases, releases_last, IsGranted, WishStep, grants, closes_more, goes_away, IdleStep, FrameStep, LoadStep, loads_header, loads_update, loads_owed, loads_passed, LoadDoneStep, finds_none, finds_closed, SwapStep, swaps, swap_fails, ReadStep, after_next, IsTooLong, PushRefused, all_stand, has_no_room, comes_late, Run, Step, push_step, push_refused, close_step, close_refused, frame_step, frame_lacks, end_step, end_lacks, end_early, read_step, wish_step}
 use Rattle.link_marks.specs.RingLaws.{StepsAreDetermined, events_of, RunsAreDetermined}
 use Rattle.link_marks.proofs.FramePhases.{none_some}
-use Rattle.link_marks.proofs.StepFunction.{Outcome, gives, same_link, anew, goes_on, needs_page, record_len, close_of, reserve_of, look_at, look_of, claim_of, next_at, next_of, mark_at, mark_of, clear_of, open_of, release_of, frame_of, load_at, read_of, too_long_for, push_of, steps_of, full_end, end_in, end_of, step_of}
-use Rattle.link_marks.proofs.StepFunctionSound.{same_link_true, same_link_refl, too_long_true}
+use Rattle.link_marks.proofs.StepFunction.{Outcome, gives, same_link, anew, goes_on, needs_page, record_len, close_of, reserve_of, look_at, look_of, claim_of, next_at, next_of, mark_at, mark_of, clear_of, open_of, release_of, is_granted, wish_of, idle_of, frame_of, load_at, read_of, too_long_for, push_of, steps_of, full_end, end_in, end_of, step_of}
+use Rattle.link_marks.proofs.StepFunctionSound.{same_link_true, same_link_refl, granted_true, granted_false, too_long_true}
 
 -- what is computed is this answer and this state
 abbrev pub Is : Option Outcome → Answer → Core → Type 0
@@ -46,15 +46,15 @@ module _ (n size : ℕ) (c : Core) (frame : Frame) (below : List Frame) (answer 
   close_is [] some = absurd (some refl)
   close_is (r ∷ records) some = refl
 
-  needs_is : (kind : Kind) → NeedsPage n size c kind → reserve_of n size c frame below kind ≡ needs_page n c frame below
-  needs_is (for_record moment len) needs = if_no (nat_le (record_len n c moment len) size) _ _ (not_true (nat_le (record_len n c moment len) size) (λ e. needs (leb-true (record_len n c moment len) size e)))
-  needs_is for_close needs = close_is (contents_of c (tail_page n c)).records needs
+  needs_is : (kind : Kind) → NeedsPage size c kind → reserve_of n size c frame below kind ≡ needs_page n c frame below
+  needs_is (for_record moment len) needs = if_no (nat_le (record_len c moment len) size) _ _ (not_true (nat_le (record_len c moment len) size) (λ e. needs (leb-true (record_len c moment len) size e)))
+  needs_is for_close needs = close_is (tail_of c.history) needs
 
   reserve_is : ReserveStep n size c frame below answer after → Is (reserve_of n size c frame below frame.kind) answer after
   reserve_is (reserves moment len r kind r_is fits a is) =
       ap (reserve_of n size c frame below) kind
-      ∙ if_yes (nat_le (record_len n c moment len) size) _ _ (le-leb (record_len n c moment len) size (subst (FitsBehind size (contents_of c (tail_page n c)).records) r_is fits))
-      ∙ here _ answer _ after a (is ∙ ap (λ (res : Reservation). in_phase (with_action (with_held c (tail_page n c) record { first = (contents_of c (tail_page n c)).first; records = (contents_of c (tail_page n c)).records ++ res ∷ [] }) reserve) frame below (reserved (length (reserved_records c.history)))) r_is)
+      ∙ if_yes (nat_le (record_len c moment len) size) _ _ (le-leb (record_len c moment len) size (subst (FitsBehind size (tail_of c.history)) r_is fits))
+      ∙ here _ answer _ after a (is ∙ ap (λ (res : Reservation). in_reserved (with_reservation c res) frame below (length (reserved_records c.history))) r_is)
   reserve_is (finds_nothing kind none a is) = ap (reserve_of n size c frame below) kind ∙ ap (close_of n c frame below) none ∙ here _ answer _ after a is
   reserve_is (is_crowded needs full a is) = needs_is frame.kind needs ∙ if_yes (c.opened == (c.done + n)) _ _ (eq-eqb c.opened (c.done + n) full) ∙ here _ answer _ after a is
   reserve_is (is_worn needs room last a is) =
@@ -85,12 +85,12 @@ module _ (n size : ℕ) (c : Core) (frame : Frame) (below : List Frame) (answer 
       if_yes (noted == c.opened) _ _ (eq-eqb noted c.opened now)
       ∙ if_yes (nat_le n noted) _ _ (le-leb n noted (omega arith))
       ∙ if_yes (same_link (link_into n c.links noted) (header_link page (noted - n))) _ _ (same_yes (link_into n c.links noted) (header_link page (noted - n)) (at ∙ ap (header_link page) fill))
-      ∙ here _ answer _ after a (is ∙ ap (λ (f : ℕ). in_phase (record (with_link n c noted (update_link page f)) { head = c.head + 1 }) frame below (looking_next owner noted page)) fill)
+      ∙ here _ answer _ after a (is ∙ ap (λ (f : ℕ). in_phase (with_head_claimed n c noted page f) frame below (looking_next owner noted page)) fill)
   claim_is noted page (claim_fails now other a is) =
       if_yes (noted == c.opened) _ _ (eq-eqb noted c.opened now) ∙ by_turn (nat_le n noted) refl
     where
       by_turn : (b : Bool) → nat_le n noted ≡ b
-          → Is (if b then (if same_link (link_into n c.links noted) (header_link page (noted - n)) then gives going (in_phase (record (with_link n c noted (update_link page (noted - n))) { head = c.head + 1 }) frame below (looking_next owner noted page)) else goes_on c frame below (looking noted)) else goes_on c frame below (looking noted)) answer after
+          → Is (if b then (if same_link (link_into n c.links noted) (header_link page (noted - n)) then gives going (in_phase (with_head_claimed n c noted page (noted - n)) frame below (looking_next owner noted page)) else goes_on c frame below (looking noted)) else goes_on c frame below (looking noted)) answer after
       by_turn true e = let le = leb-true n noted e in
           if_no (same_link (link_into n c.links noted) (header_link page (noted - n))) _ _ (same_no (link_into n c.links noted) (header_link page (noted - n)) (other (noted - n) (omega arith))) ∙ here _ answer _ after a is
       by_turn false e = here _ answer _ after a is
@@ -148,21 +148,43 @@ module _ (n size : ℕ) (c : Core) (frame : Frame) (below : List Frame) (answer 
   open_is noted page (open_late step) = if_no (noted == c.opened) _ _ (ne_eqb noted c.opened step.passed) ∙ anew_is noted step
   open_is noted page (opens now a is) = if_yes (noted == c.opened) _ _ (eq-eqb noted c.opened now) ∙ here _ answer _ after a is
 
-  release_is : ReleaseStep c frame below answer after → Is (release_of c below) answer after
+  release_is : ReleaseStep c frame below answer after → Is (release_of c frame below) answer after
   release_is (releases alone more a is) =
-      ap (release_of c) alone ∙ if_no ((c.done + 2) == c.opened) _ _ (ne_eqb (c.done + 2) c.opened (λ e. omega arith)) ∙ if_yes (nat_lt (c.done + 2) c.opened) _ _ (lt-ltb (c.done + 2) c.opened more) ∙ here _ answer _ after a is
-  release_is (releases_last alone last a is) = ap (release_of c) alone ∙ if_yes ((c.done + 2) == c.opened) _ _ (eq-eqb (c.done + 2) c.opened last) ∙ here _ answer _ after a is
+      ap (release_of c frame) alone ∙ if_no ((c.done + 2) == c.opened) _ _ (ne_eqb (c.done + 2) c.opened (λ e. omega arith)) ∙ if_yes (nat_lt (c.done + 2) c.opened) _ _ (lt-ltb (c.done + 2) c.opened more) ∙ here _ answer _ after a is
+  release_is (releases_last alone last a is) = ap (release_of c frame) alone ∙ if_yes ((c.done + 2) == c.opened) _ _ (eq-eqb (c.done + 2) c.opened last)
+      ∙ here _ answer _ after a (is ∙ ap (λ (fs : List Frame). in_phase (with_released c) frame fs wishing) alone)
+
+  denied_is : (IsGranted n c → ⊥) → is_granted n c ≡ false
+  denied_is denied = not_true (is_granted n c) (λ e. denied (granted_true n c e))
+
+  granted_is : (b : Bool) → is_granted n c ≡ b → IsGranted n c → is_granted n c ≡ true
+  granted_is true e granted = e
+  granted_is false e granted = absurd (granted_false n c e granted)
+
+  wish_is : WishStep n c frame below answer after → Is (wish_of n c frame below) answer after
+  wish_is (grants alone granted a is) = ap (wish_of n c frame) alone ∙ if_yes (is_granted n c) _ _ (granted_is (is_granted n c) refl granted)
+      ∙ here _ answer _ after a (is ∙ ap (λ (fs : List Frame). in_phase (with_action c wished) frame fs (looking c.opened)) alone)
+  wish_is (closes_more alone denied more a is) = ap (wish_of n c frame) alone ∙ if_no (is_granted n c) _ _ (denied_is denied)
+      ∙ if_no ((c.done + 1) == c.opened) _ _ (ne_eqb (c.done + 1) c.opened (λ e. omega arith)) ∙ if_yes (nat_lt (c.done + 1) c.opened) _ _ (lt-ltb (c.done + 1) c.opened more)
+      ∙ here _ answer _ after a (is ∙ ap (λ (fs : List Frame). in_phase c frame fs releasing) alone)
+  wish_is (goes_away alone denied last a is) = ap (wish_of n c frame) alone ∙ if_no (is_granted n c) _ _ (denied_is denied)
+      ∙ if_yes ((c.done + 1) == c.opened) _ _ (eq-eqb (c.done + 1) c.opened last) ∙ here _ answer _ after a is
+
+  idle_is : (state : FrameState) → IdleStep n size c frame below state answer after → Is (idle_of n size c frame below state) answer after
+  idle_is waiting step = reserve_is step
+  idle_is (reserved number) step = here _ answer _ after step.0 step.1
+  idle_is left step = absurd step
 
   frame_is : (phase : Phase) → FrameStep n size c frame below phase answer after → Is (frame_of n size c frame below phase) answer after
-  frame_is reserving step = reserve_is step
+  frame_is idle step = idle_is frame.state step
   frame_is (looking noted) step = look_is noted step
   frame_is (claiming noted page) step = claim_is noted page step
   frame_is (looking_next role noted page) step = next_is role noted page step
   frame_is (marking role noted page next) step = mark_is role noted page next step
   frame_is (clearing noted page) step = clear_is noted page step
   frame_is (opening noted page) step = open_is noted page step
-  frame_is (reserved number) step = here _ answer _ after step.0 step.1
   frame_is releasing step = release_is step
+  frame_is wishing step = wish_is step
 
 -- ---- the steps of the reader
 
@@ -210,16 +232,10 @@ refused_is size c moment len why (has_no_room few long) = if_yes (nat_lt (length
 refused_is size c moment len why (comes_late few short late) =
     if_yes (nat_lt (length c.frames) MAX_FRAMES) _ _ (lt-ltb (length c.frames) MAX_FRAMES few) ∙ if_no (too_long_for size len) _ _ (too_long_no size len short) ∙ if_no (nat_lt moment MOMENT_LIMIT) _ _ (le-ltb moment MOMENT_LIMIT late)
 
-early_is : (c : Core) (frame : Frame) (below : List Frame) (payload : List ℕ) (phase : Phase) → number_in phase ≡ None → end_in c frame below payload phase ≡ gives (refused not_reserved) c
-early_is c frame below payload reserving e = refl
-early_is c frame below payload (looking noted) e = refl
-early_is c frame below payload (claiming noted page) e = refl
-early_is c frame below payload (looking_next role noted page) e = refl
-early_is c frame below payload (marking role noted page next) e = refl
-early_is c frame below payload (clearing noted page) e = refl
-early_is c frame below payload (opening noted page) e = refl
+early_is : (c : Core) (frame : Frame) (below : List Frame) (payload : List ℕ) (state : FrameState) → number_of state ≡ None → end_in c frame below payload state ≡ gives (refused not_reserved) c
+early_is c frame below payload waiting e = refl
 early_is c frame below payload (reserved number) e = absurd (none_some (sym e))
-early_is c frame below payload releasing e = refl
+early_is c frame below payload left e = refl
 
 step_is : (n size : ℕ) (c : Core) (event : Event) (answer : Answer) (after : Core) → Step n size c event answer after → Is (step_of n size c event) answer after
 step_is n size c event answer after (push_step moment len e few short early a is) =
@@ -234,8 +250,9 @@ step_is n size c event answer after (end_step payload frame below number moment 
     ap (step_of n size c) e ∙ ap (end_of c payload) top ∙ ap (end_in c frame below payload) at ∙ ap (full_end c frame below payload) kind
     ∙ if_yes (slot_len (length payload) == slot_len len) _ _ (eq-eqb (slot_len (length payload)) (slot_len len) size_is) ∙ here _ answer _ after a is
 step_is n size c event answer after (end_lacks payload e none a is) = ap (step_of n size c) e ∙ ap (end_of c payload) none ∙ here _ answer _ after a is
-step_is n size c event answer after (end_early payload frame below e top none a is) = ap (step_of n size c) e ∙ ap (end_of c payload) top ∙ early_is c frame below payload frame.phase none ∙ here _ answer _ after a is
+step_is n size c event answer after (end_early payload frame below e top none a is) = ap (step_of n size c) e ∙ ap (end_of c payload) top ∙ early_is c frame below payload frame.state none ∙ here _ answer _ after a is
 step_is n size c event answer after (read_step e step) = ap (step_of n size c) e ∙ read_is n c answer after c.reader.phase step
+step_is n size c event answer after (wish_step e a is) = ap (step_of n size c) e ∙ here _ answer _ after a is
 
 abbrev answer_or : Answer → Option Outcome → Answer
 answer_or d None = d

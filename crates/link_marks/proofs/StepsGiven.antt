@@ -1,4 +1,4 @@
--- The function that computes a step gives one from every state that a run reaches.
+-- The function that computes a step gives one from every state that has what steps keep.
 use Rattle.std.proofs.Common.{◌≡◌, ℕ, suc, ◌+◌, ◌-◌, ◌%◌, ◌<◌, ◌≤◌, Bool, true, false, if◌then◌else◌, ◌==◌, nat_lt, nat_le, List, [], ◌∷◌, length, get_or, Option, Some, None, refl, sym, ap, ◌∙◌, subst, mod-lt, mod-eq_of_lt, arith}
 use Rattle.std.proofs.lemmas.Bool.{ltb-false, leb-false, eqb-true, eqb-false}
 use mathlib.Core.Logic.{dite}
@@ -6,19 +6,21 @@ use native.Mathlib.Decide.{ℕ_discrete}
 use Rattle.trace_model.specs.declared.limits.TheConstants.{MAX_FRAMES, MOMENT_LIMIT, LINK_FILLS}
 use Rattle.trace_model.specs.Words.{slot_len}
 use Rattle.trace_model.specs.History.{Reservation}
+use Rattle.trace_model.specs.Packing.{tail_of}
 use Rattle.trace_model.specs.Links.{Mark, normal, header, update, Link, normal_link, header_link, update_link}
-use Rattle.trace_model.specs.Frames.{Kind, for_record, for_close, Role, owner, helper, Phase, reserving, looking, claiming, looking_next, marking, clearing, opening, reserved, releasing, Frame}
+use Rattle.trace_model.specs.Frames.{Kind, for_record, for_close, FrameState, waiting, reserved, left, Role, owner, helper, Phase, idle, looking, claiming, looking_next, marking, clearing, opening, releasing, wishing, Frame}
 use Rattle.trace_model.specs.Ring.{ReaderPhase, loading_link, loading_done, storing_link, swapping, Core, link_into}
-use Rattle.trace_model.specs.Steps.{Event, pushes, pushes_close, steps, ends, reads, Answer, contents_of, tail_page, Step}
+use Rattle.trace_model.specs.Steps.{Event, pushes, pushes_close, steps, ends, reads, wishes, Answer, Step}
 use Rattle.link_marks.specs.KeptLinks.{PhaseKept, LinksKept}
+use Rattle.link_marks.specs.KeptStack.{IsForRecord, MayBeIn, FramesAgree, StackKept}
+use Rattle.link_marks.specs.KeptProgress.{PhaseAdvances, FramesAdvance, ProgressKept}
 use Rattle.link_marks.specs.RingLaws.{MayAsk, EachEventIsAStep}
 use Rattle.link_marks.proofs.Positions.{at_position, link_turn}
 use Rattle.link_marks.proofs.LinkFills.{normal_tells, header_tells, update_tells, owned_by}
 use Rattle.link_marks.proofs.FrameChanges.{top_kept}
-use Rattle.link_marks.proofs.RingsKept.{ring_start, reached_kept}
-use Rattle.link_marks.proofs.StepFunction.{Outcome, same_link, needs_page, record_len, close_of, reserve_of, look_at, look_of, claim_of, next_at, next_of, mark_at, mark_of, clear_of, open_of, release_of, frame_of, load_at, read_of, too_long_for, push_of, close_push_of, steps_of, full_end, end_in, end_of, step_of}
+use Rattle.link_marks.proofs.StackSteps.{top_agrees, releasing_left, wishing_left}
+use Rattle.link_marks.proofs.StepFunction.{Outcome, same_link, needs_page, record_len, close_of, reserve_of, look_at, look_of, claim_of, next_at, next_of, mark_at, mark_of, clear_of, open_of, release_of, is_granted, wish_of, idle_of, frame_of, load_at, read_of, too_long_for, push_of, close_push_of, steps_of, full_end, end_in, end_of, step_of}
 use Rattle.link_marks.proofs.StepFunctionSound.{Sound, step_sound, link_is, same_link_false}
-use Rattle.link_marks.proofs.StepsReady.{IsForRecord, PhaseReady, StackReady, Ready, start_ready, run_ready}
 
 abbrev pub Given : Option Outcome → Type 0
 Given None = ⊥
@@ -30,7 +32,7 @@ given_if false x y holds fails = fails refl
 
 -- ---- the steps of a frame
 
-module _ (n size : ℕ) (c : Core) (frame : Frame) (below : List Frame) (k : LinksKept n c) (r : Ready n c) (top : c.frames ≡ frame ∷ below) where
+module _ (n size : ℕ) (c : Core) (frame : Frame) (below : List Frame) (k : LinksKept n c) (r : ProgressKept n c) (top : c.frames ≡ frame ∷ below) where
   needs_page_given : Given (needs_page n c frame below)
   needs_page_given = given_if (c.opened == (c.done + n)) _ _ (λ e. tt) (λ e. given_if (nat_lt (c.opened + n) LINK_FILLS) _ _ (λ s. tt) (λ s. tt))
 
@@ -39,8 +41,8 @@ module _ (n size : ℕ) (c : Core) (frame : Frame) (below : List Frame) (k : Lin
   close_given (res ∷ records) = needs_page_given
 
   reserve_given : (kind : Kind) → Given (reserve_of n size c frame below kind)
-  reserve_given (for_record moment len) = given_if (nat_le (record_len n c moment len) size) _ _ (λ e. tt) (λ e. needs_page_given)
-  reserve_given for_close = close_given (contents_of c (tail_page n c)).records
+  reserve_given (for_record moment len) = given_if (nat_le (record_len c moment len) size) _ _ (λ e. tt) (λ e. needs_page_given)
+  reserve_given for_close = close_given (tail_of c.history)
 
   look_at_given : (noted : ℕ) (mark : Mark) → noted ≡ c.opened → (link_into n c.links noted).mark ≡ mark → Given (look_at n c frame below noted (link_into n c.links noted) mark)
   look_at_given noted normal now is = let l = link_into n c.links noted in given_if (l.fill == noted) _ _ (λ e. tt) (λ e. eqb-false l.fill noted e (fill_is (link_is l normal l.page l.fill is refl refl)))
@@ -108,21 +110,32 @@ module _ (n size : ℕ) (c : Core) (frame : Frame) (below : List Frame) (k : Lin
   open_given : (noted page : ℕ) → Given (open_of c frame below noted page)
   open_given noted page = given_if (noted == c.opened) _ _ (λ e. tt) (λ e. tt)
 
-  release_given : (fs : List Frame) → fs ≡ [] → c.done + 1 < c.opened → Given (release_of c fs)
+  release_given : (fs : List Frame) → fs ≡ [] → c.done + 1 < c.opened → Given (release_of c frame fs)
   release_given [] alone more = given_if ((c.done + 2) == c.opened) _ _ (λ e. tt)
       (λ e. given_if (nat_lt (c.done + 2) c.opened) _ _ (λ s. tt) (λ s. let less = ltb-false (c.done + 2) c.opened s in let ne = eqb-false (c.done + 2) c.opened e in ne (omega arith)))
   release_given (next ∷ fs) alone more = let z = ap (λ (l : List Frame). length l) alone in absurd (omega arith)
 
-  frame_given : (phase : Phase) → PhaseKept n c.links c.order c.head c.done c.opened phase → PhaseReady n c.links c.head frame.kind below phase → Given (frame_of n size c frame below phase)
-  frame_given reserving kept ready = reserve_given frame.kind
-  frame_given (looking noted) kept ready = look_given noted
-  frame_given (claiming noted page) kept ready = claim_given noted page
-  frame_given (looking_next role noted page) kept ready = next_given role noted page ready
-  frame_given (marking role noted page next) kept ready = mark_given role noted page next ready
-  frame_given (clearing noted page) kept ready = clear_given noted page kept
-  frame_given (opening noted page) kept ready = open_given noted page
-  frame_given (reserved number) kept ready = tt
-  frame_given releasing kept ready = release_given below ready (kept.releases refl)
+  wish_given : (fs : List Frame) → fs ≡ [] → Given (wish_of n c frame fs)
+  wish_given [] alone = let behind = k.done_lt in given_if (is_granted n c) _ _ (λ e. tt) (λ e. given_if ((c.done + 1) == c.opened) _ _ (λ last. tt)
+      (λ some. given_if (nat_lt (c.done + 1) c.opened) _ _ (λ more. tt) (λ none. let less = ltb-false (c.done + 1) c.opened none in let ne = eqb-false (c.done + 1) c.opened some in ne (omega arith))))
+  wish_given (next ∷ fs) alone = let z = ap (λ (l : List Frame). length l) alone in absurd (omega arith)
+
+  -- a frame that rests hasn't left
+  idle_given : (state : FrameState) → MayBeIn frame.kind state idle → Given (idle_of n size c frame below state)
+  idle_given waiting may = reserve_given frame.kind
+  idle_given (reserved number) may = tt
+  idle_given left may = may refl
+
+  frame_given : (phase : Phase) → PhaseKept n c.links c.order c.head c.done c.opened phase → PhaseAdvances n c.links c.head phase → MayBeIn frame.kind frame.state phase → (frame.state ≡ left → below ≡ []) → Given (frame_of n size c frame below phase)
+  frame_given idle kept advances may alone = idle_given frame.state may
+  frame_given (looking noted) kept advances may alone = look_given noted
+  frame_given (claiming noted page) kept advances may alone = claim_given noted page
+  frame_given (looking_next role noted page) kept advances may alone = next_given role noted page advances
+  frame_given (marking role noted page next) kept advances may alone = mark_given role noted page next advances
+  frame_given (clearing noted page) kept advances may alone = clear_given noted page kept
+  frame_given (opening noted page) kept advances may alone = open_given noted page
+  frame_given releasing kept advances may alone = release_given below (alone (releasing_left frame.kind frame.state releasing refl may)) (kept.releases refl)
+  frame_given wishing kept advances may alone = wish_given below (alone (wishing_left frame.kind frame.state wishing refl may))
 
 -- ---- the steps of the reader
 
@@ -161,46 +174,39 @@ push_given size c moment len = given_if (nat_lt (length c.frames) MAX_FRAMES) _ 
 close_push_given : (c : Core) → Given (close_push_of c)
 close_push_given c = given_if (nat_lt (length c.frames) MAX_FRAMES) _ _ (λ few. tt) (λ many. tt)
 
-steps_given : (n size : ℕ) (c : Core) (frames : List Frame) → LinksKept n c → Ready n c → c.frames ≡ frames → Given (steps_of n size c frames)
-steps_given n size c [] k r none = tt
-steps_given n size c (frame ∷ below) k r top =
-    frame_given n size c frame below k r top frame.phase (top_kept n c frame below k top) (subst (StackReady n c.links c.head) top r.stack).0
+steps_given : (n size : ℕ) (c : Core) (frames : List Frame) → LinksKept n c → StackKept c → ProgressKept n c → c.frames ≡ frames → Given (steps_of n size c frames)
+steps_given n size c [] k q r none = tt
+steps_given n size c (frame ∷ below) k q r top = let agree = top_agrees c frame below top q in
+    frame_given n size c frame below k r top frame.phase (top_kept n c frame below k top) (subst (FramesAdvance n c.links c.head) top r.advance).0 agree.0 agree.1
 
 full_end_given : (c : Core) (frame : Frame) (below : List Frame) (payload : List ℕ) (kind : Kind) → IsForRecord kind → ((moment len : ℕ) → kind ≡ for_record moment len → slot_len (length payload) ≡ slot_len len) → Given (full_end c frame below payload kind)
 full_end_given c frame below payload (for_record moment len) is fits = given_if (slot_len (length payload) == slot_len len) _ _ (λ e. tt) (λ e. eqb-false (slot_len (length payload)) (slot_len len) e (fits moment len refl))
 full_end_given c frame below payload for_close is fits = absurd is
 
-end_in_given : (n : ℕ) (c : Core) (frame : Frame) (below : List Frame) (payload : List ℕ) (phase : Phase) → PhaseReady n c.links c.head frame.kind below phase → frame.phase ≡ phase
-    → ((number moment len : ℕ) → frame.phase ≡ reserved number → frame.kind ≡ for_record moment len → slot_len (length payload) ≡ slot_len len)
-    → Given (end_in c frame below payload phase)
-end_in_given n c frame below payload reserving r at fits = tt
-end_in_given n c frame below payload (looking noted) r at fits = tt
-end_in_given n c frame below payload (claiming noted page) r at fits = tt
-end_in_given n c frame below payload (looking_next role noted page) r at fits = tt
-end_in_given n c frame below payload (marking role noted page next) r at fits = tt
-end_in_given n c frame below payload (clearing noted page) r at fits = tt
-end_in_given n c frame below payload (opening noted page) r at fits = tt
-end_in_given n c frame below payload (reserved number) r at fits = full_end_given c frame below payload frame.kind r (λ moment len kind. fits number moment len at kind)
-end_in_given n c frame below payload releasing r at fits = tt
+end_in_given : (c : Core) (frame : Frame) (below : List Frame) (payload : List ℕ) (state : FrameState) → MayBeIn frame.kind state frame.phase → frame.state ≡ state
+    → ((number moment len : ℕ) → frame.state ≡ reserved number → frame.kind ≡ for_record moment len → slot_len (length payload) ≡ slot_len len)
+    → Given (end_in c frame below payload state)
+end_in_given c frame below payload waiting may at fits = tt
+end_in_given c frame below payload (reserved number) may at fits = full_end_given c frame below payload frame.kind may.0 (λ moment len kind. fits number moment len at kind)
+end_in_given c frame below payload left may at fits = tt
 
-end_given : (n : ℕ) (c : Core) (payload : List ℕ) (frames : List Frame) → Ready n c → c.frames ≡ frames → MayAsk c (ends payload) → Given (end_of c payload frames)
-end_given n c payload [] r none may = tt
-end_given n c payload (frame ∷ below) r top may =
-    end_in_given n c frame below payload frame.phase (subst (StackReady n c.links c.head) top r.stack).0 refl (λ number moment len at kind. may frame below number moment len top at kind)
+end_given : (c : Core) (payload : List ℕ) (frames : List Frame) → StackKept c → c.frames ≡ frames → MayAsk c (ends payload) → Given (end_of c payload frames)
+end_given c payload [] q none ask = tt
+end_given c payload (frame ∷ below) q top ask =
+    end_in_given c frame below payload frame.state (top_agrees c frame below top q).0 refl (λ number moment len at kind. ask frame below number moment len top at kind)
 
-step_given : (n size : ℕ) (c : Core) (event : Event) → LinksKept n c → Ready n c → MayAsk c event → Given (step_of n size c event)
-step_given n size c (pushes moment len) k r may = push_given size c moment len
-step_given n size c pushes_close k r may = close_push_given c
-step_given n size c steps k r may = steps_given n size c c.frames k r refl
-step_given n size c (ends payload) k r may = end_given n c payload c.frames r refl may
-step_given n size c reads k r may = read_given n c k c.reader.phase
+step_given : (n size : ℕ) (c : Core) (event : Event) → LinksKept n c → StackKept c → ProgressKept n c → MayAsk c event → Given (step_of n size c event)
+step_given n size c (pushes moment len) k q r ask = push_given size c moment len
+step_given n size c pushes_close k q r ask = close_push_given c
+step_given n size c steps k q r ask = steps_given n size c c.frames k q r refl
+step_given n size c (ends payload) k q r ask = end_given c payload c.frames q refl ask
+step_given n size c reads k q r ask = read_given n c k c.reader.phase
+step_given n size c wishes k q r ask = tt
 
 is_step : (n size : ℕ) (c : Core) (event : Event) (o : Option Outcome) → Given o → Sound (Step n size c event) o → (answer : Answer) × (after : Core) × Step n size c event answer after
 is_step n size c event None given sound = absurd given
 is_step n size c event (Some o) given sound = (o.answer, o.after, sound)
 
 pub each_event_is_a_step : EachEventIsAStep
-each_event_is_a_step n size start c event r may =
-    let first = ring_start n start r.from r.may_start r.is_new in
-    let ready = run_ready n size r.from c r.exchanges first.links (start_ready n start r.from r.is_new) r.run in
-    is_step n size c event (step_of n size c event) (step_given n size c event (reached_kept n size start c r).links ready may) (step_sound n size c event)
+each_event_is_a_step n size start c event r ask =
+    is_step n size c event (step_of n size c event) (step_given n size c event r.links r.stack r.progress ask) (step_sound n size c event)

@@ -4,7 +4,7 @@ use Rattle.link_marks.proofs.laws.windows.steps_move_window.Goals as goal
 
 pub returns : goal.returns
 returns c = record {
-  window = λ n size start core event answer after r step. (step_owed n size start core event answer after r.links r.history step).window;
+  window = λ n size start core event answer after r step. (step_owed n size start core event answer after r.links r.stack r.history step).window;
   one = one_happening;
   none = nothing_happens;
 }
