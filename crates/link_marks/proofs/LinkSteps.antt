@@ -140,7 +140,7 @@ module _ (n size : ℕ) (c : Core) (frame : Frame) (below : List Frame) (k : Lin
   -- a wish that is granted is for the first fill that isn't closed, which is the tail
   wish_kept : (answer : Answer) (after : Core) → frame.phase ≡ wishing → WishStep n c frame below answer after → LinksKept n after
   wish_kept answer after same (grants alone granted a is) =
-      let some_pages = k.some_pages in let behind = k.done_lt in let le = k.wish_le in let asks = granted.asks_tail in
+      let some_pages = k.some_pages in let behind = k.done_lt in let le = k.wish_le in let seen = k.seen_le in let asks = granted.asks_tail in
       subst (LinksKept n) (sym is) (rephased n c frame below k top (record frame { phase = looking c.opened }) c.held (c.history ++ wished ∷ [])
       (knows_looking n c.links c.order c.head c.done c.opened c.opened (behind, omega arith, omega arith, granted.numbers_left)) (sym (ap owned_update same)))
   wish_kept answer after same (closes_more alone denied more a is) =

@@ -13,8 +13,8 @@ use Rattle.link_marks.proofs.FramePhases.{normal_ne_update, normal_ne_header, he
 use Rattle.link_marks.proofs.LinkFills.{normal_tells, header_tells, update_tells, owned_by, fill_at, behind_closed}
 
 -- the reader goes on; the spare's link may be set
-pub reader_kept : (n : ℕ) (c : Core) (spare_link : Link) (reader : Reader) → LinksKept n c → reader.hint ≤ c.head → reader.seen ≤ c.done → FitsRing n spare_link → ReaderKept n c.links c.order spare_link c.head c.done reader.hint reader.phase → LinksKept n (record c { spare_link = spare_link; reader = reader })
-reader_kept n c spare_link reader k le seen fits facts = record {
+pub reader_kept : (n : ℕ) (c : Core) (spare_link : Link) (reader : Reader) → LinksKept n c → reader.hint ≤ c.head → reader.seen ≤ c.done → c.reader.seen ≤ reader.seen → FitsRing n spare_link → ReaderKept n c.links c.order spare_link c.head c.done reader.hint reader.phase → LinksKept n (record c { spare_link = spare_link; reader = reader })
+reader_kept n c spare_link reader k le seen later fits facts = record {
   some_pages = k.some_pages;
   positions = k.positions;
   apart = k.apart;
@@ -27,13 +27,13 @@ reader_kept n c spare_link reader k le seen fits facts = record {
   movers = k.movers;
   hint_le = le;
   seen_le = seen;
-  wish_le = k.wish_le;
+  wish_le = let wish = k.wish_le in omega arith;
   spare_fits = fits;
   reader = facts;
 }
 
 at_phase : (n : ℕ) (c : Core) (phase : ReaderPhase) (hint : ℕ) → LinksKept n c → hint ≤ c.head → ReaderKept n c.links c.order c.spare_link c.head c.done hint phase → LinksKept n (reader_at c phase hint)
-at_phase n c phase hint k le facts = reader_kept n c c.spare_link (record c.reader { phase = phase; hint = hint }) k le k.seen_le k.spare_fits facts
+at_phase n c phase hint k le facts = reader_kept n c c.spare_link (record c.reader { phase = phase; hint = hint }) k le k.seen_le (omega arith) k.spare_fits facts
 
 -- the reader wishes
 pub wished_kept : (n : ℕ) (c : Core) → LinksKept n c → LinksKept n (with_wish c)
@@ -50,7 +50,7 @@ wished_kept n c k = record {
   movers = k.movers;
   hint_le = k.hint_le;
   seen_le = k.seen_le;
-  wish_le = let le = k.seen_le in omega arith;
+  wish_le = omega arith;
   spare_fits = k.spare_fits;
   reader = k.reader;
 }
@@ -70,7 +70,7 @@ load_kept n c after answer k (loads_passed page fill least at more sum a is) = l
 
 -- the reader goes on, and has seen how many fills are closed
 saw_kept : (n : ℕ) (c : Core) (phase : ReaderPhase) → LinksKept n c → ReaderKept n c.links c.order c.spare_link c.head c.done c.reader.hint phase → LinksKept n (reader_saw c phase)
-saw_kept n c phase k facts = reader_kept n c c.spare_link (record c.reader { phase = phase; seen = c.done }) k k.hint_le (omega arith) k.spare_fits facts
+saw_kept n c phase k facts = reader_kept n c c.spare_link (record c.reader { phase = phase; seen = c.done }) k k.hint_le (omega arith) k.seen_le k.spare_fits facts
 
 pub load_done_kept : (n : ℕ) (c after : Core) (page fill : ℕ) (answer : Answer) → LinksKept n c → HasSeen n c.links c.head c.reader.hint page fill → LoadDoneStep c page fill answer after → LinksKept n after
 load_done_kept n c after page fill answer k seen (finds_none le a is) = subst (LinksKept n) (sym is) (saw_kept n c loading_link k tt)
@@ -83,7 +83,7 @@ next_fits n c fill k closed = let some_pages = k.some_pages in let behind = k.do
 
 pub store_kept : (n : ℕ) (c after : Core) (page fill : ℕ) (answer : Answer) → LinksKept n c → HasSeen n c.links c.head c.reader.hint page fill × (fill < c.done) → StoreStep n c page fill answer after → LinksKept n after
 store_kept n c after page fill answer k facts step =
-    subst (LinksKept n) (sym step.after_is) (reader_kept n c (next_header n c fill) (record c.reader { phase = swapping page fill }) k k.hint_le k.seen_le (next_fits n c fill k facts.1) (facts.0, facts.1, refl))
+    subst (LinksKept n) (sym step.after_is) (reader_kept n c (next_header n c fill) (record c.reader { phase = swapping page fill }) k k.hint_le k.seen_le (omega arith) (next_fits n c fill k facts.1) (facts.0, facts.1, refl))
 
 -- ---- the swap
 

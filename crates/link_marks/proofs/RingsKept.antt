@@ -17,9 +17,13 @@ use Rattle.link_marks.specs.RingKept.{IsRingKept}
 use Rattle.link_marks.specs.Reached.{MayStart, IsReached}
 use Rattle.link_marks.proofs.FramePhases.{none_some, normal_ne_update}
 use Rattle.link_marks.proofs.LinkFills.{owned_by}
-use Rattle.link_marks.proofs.FillCuts.{length-cut_from}
-use Rattle.link_marks.proofs.Committed.{committed_prefix}
+use Rattle.trace_model.proofs.FillCuts.{length-cut_from}
+use Rattle.trace_model.proofs.Committed.{committed_prefix}
 use Rattle.link_marks.proofs.LinkSteps.{step_kept}
+use Rattle.link_marks.proofs.StackSteps.{stack_start, stack_step}
+use Rattle.link_marks.proofs.ProgressSteps.{progress_start, progress_step}
+use Rattle.link_marks.proofs.OpenPageSteps.{open_pages_step}
+use Rattle.link_marks.proofs.PackedSteps.{packed_start, packs_step}
 use Rattle.link_marks.proofs.HistorySteps.{step_owed}
 use Rattle.link_marks.proofs.ContentSteps.{contents_step}
 use Rattle.link_marks.proofs.ClosedSteps.{closed_step}
@@ -28,7 +32,7 @@ use Rattle.link_marks.proofs.PartitionLemmas.{partition_rest, take_map}
 use Rattle.link_marks.specs.KeptPartition.{PartitionAt, pieces_of}
 use Rattle.trace_model.specs.Partition.{IsPartition}
 use Rattle.link_marks.proofs.PageChanges.{page_below}
-use Rattle.link_marks.proofs.NewRing.{start_kept, start_history}
+use Rattle.link_marks.proofs.NewRing.{start_kept, start_history, start_open_pages}
 
 -- ---- frames by their index on the stack
 
@@ -125,7 +129,7 @@ module _ (n size start : ℕ) (c : Core) (r : IsRingKept n size start c) where
     opened_le = r.links.opened_le;
     from_start = r.contents.from_start;
     begun = let count = r.contents.begun in let e = length-cut_from 0 (opens_of c.history) (reserved_records c.history) in let sum : c.opened ≡ start + length (fills_of c.history) = omega arith in sum;
-    wish_le = let wish = r.links.wish_le in let behind = r.links.done_lt in omega arith;
+    wish_le = let wish = r.links.wish_le in let seen = r.links.seen_le in let behind = r.links.done_lt in omega arith;
     behind_head = behind_head;
     at_head = at_head;
     contents = r.contents.each;

@@ -212,7 +212,7 @@ released_kept n c frames k more none facts differ = record {
   movers = differ;
   hint_le = k.hint_le;
   seen_le = let le = k.seen_le in omega arith;
-  wish_le = let le = k.wish_le in omega arith;
+  wish_le = k.wish_le;
   spare_fits = k.spare_fits;
   reader = map_reader n c.links c.links c.order c.spare_link c.head c.head c.done (c.done + 1) c.reader.hint c.reader.phase (omega arith) (λ page fill seen. seen) k.reader;
 }

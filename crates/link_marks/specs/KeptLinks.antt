@@ -149,6 +149,6 @@ pub record LinksKept (n : ℕ) (c : Core) : Type 0 where
   pub movers : MoversDiffer c.frames
   pub hint_le : c.reader.hint ≤ c.head
   pub seen_le : c.reader.seen ≤ c.done
-  pub wish_le : c.wish ≤ c.done + 1
+  pub wish_le : c.wish ≤ c.reader.seen + 1
   pub spare_fits : FitsRing n c.spare_link
   pub reader : ReaderKept n c.links c.order c.spare_link c.head c.done c.reader.hint c.reader.phase

@@ -1,5 +1,5 @@
 //! Laws of a ring's window: how the counts of fills move, and which fills are taken or lost.
-ghost use Rattle.link_marks.specs.WindowLaws.{ClosesNeedNoFrame, CountsRise, LossesNeedAFullRing, LostAreClosed, NoneIsTakenAndLost, NothingHappens, OneHappening, PassedAreTakenOrLost, RunsMoveWindow, StepsMoveWindow, TakenAreClosed};
+ghost use Rattle.link_marks.specs.WindowLaws.{ClosesNeedNoFrame, CountsRise, LossesNeedAFullRing, LostAreClosed, NoneIsTakenAndLost, NothingHappens, OneHappening, PassedAreTakenOrLost, RunsExtendDeeds, RunsMoveWindow, StepsMoveWindow, TakenAreClosed};
 
 /// Every step is one step of the window, the one that the history and the taken pages show, or leaves the
 /// window and what was taken as they were: so no fill is both taken and lost, and none is lost but a closed
@@ -11,9 +11,10 @@ pub fn steps_move_window()
 {}
 
 /// Every run from a new ring is a run of its window, which tells each action of the frames and each fill
-/// that the reader took; and its counts only rise.
+/// that the reader took; a longer run goes on from there; and its counts only rise.
 pub fn runs_move_window()
     ensures runs { RunsMoveWindow }
+    ensures extends { RunsExtendDeeds }
     ensures rises { CountsRise }
 {}
 
