@@ -1,14 +1,12 @@
 -- What each answer of a ring says of its state.
 use Rattle.std.proofs.Common.{◌≡◌, ℕ, suc, ◌+◌, ◌%◌, ◌<◌, ◌≤◌, List, [], ◌∷◌, ◌++◌, get_or, refl, sym, ap, ◌∙◌, subst, mod-lt, arith}
-use Rattle.std.specs.Prelude.{◌==◌}
-use Rattle.std.proofs.lemmas.Bool.{cond_both}
 use mathlib.Core.Logic.{dite}
 use native.Mathlib.Decide.{dec_le}
 use Rattle.trace_model.specs.declared.limits.TheConstants.{LINK_FILLS}
-use Rattle.trace_model.specs.Frames.{Kind, for_record, for_close, Phase, reserving, looking, claiming, looking_next, marking, clearing, opening, reserved, releasing, Frame, Refusal, too_deep, too_long, late_moment, crowded, worn, no_frame, not_reserved}
+use Rattle.trace_model.specs.Frames.{Kind, for_record, for_close, FrameState, waiting, reserved, left, Phase, idle, looking, claiming, looking_next, marking, clearing, opening, releasing, wishing, Frame, Refusal, too_deep, too_long, late_moment, crowded, worn, no_frame, not_reserved}
 use Rattle.trace_model.specs.Links.{Link, normal_link, update_link}
 use Rattle.trace_model.specs.Ring.{link_into, page_at, ReaderPhase, loading_link, loading_done, storing_link, swapping, Taken, Core}
-use Rattle.trace_model.specs.Steps.{Event, Answer, pushed, going, reserved_as, pending, full, gone, refused, reading, empty, moving, swapped, leave_answer, begin_answer, with_new_tail, BeginsAnew, reserves, finds_nothing, is_crowded, is_worn, notes, look_late, sees_free, sees_header, sees_update, claim_late, claims, claim_fails, next_late, sees_normal, sees_other, mark_late, marks, mark_fails, clears, open_late, opens, releases, releases_last, FrameStep, PushRefused, all_stand, has_no_room, comes_late, end_answer, Step, push_step, push_refused, close_step, close_refused, frame_step, frame_lacks, end_step, end_lacks, end_early, read_step, loads_header, loads_update, loads_owed, loads_passed, finds_none, finds_closed, swaps, swap_fails, ReadStep}
+use Rattle.trace_model.specs.Steps.{Event, Answer, pushed, going, reserved_as, pending, full, gone, refused, reading, empty, moving, swapped, wished_for, leave_answer, begin_answer, BeginsAnew, reserves, finds_nothing, is_crowded, is_worn, notes, look_late, sees_free, sees_header, sees_update, claim_late, claims, claim_fails, next_late, sees_normal, sees_other, mark_late, marks, mark_fails, clears, open_late, opens, releases, releases_last, grants, closes_more, goes_away, IdleStep, FrameStep, PushRefused, all_stand, has_no_room, comes_late, end_answer, Step, push_step, push_refused, close_step, close_refused, frame_step, frame_lacks, end_step, end_lacks, end_early, read_step, wish_step, loads_header, loads_update, loads_owed, loads_passed, finds_none, finds_closed, swaps, swap_fails, ReadStep}
 use Rattle.link_marks.specs.KeptLinks.{Stands, LinkKept, is_normal, is_header, is_update, ReaderKept}
 use Rattle.link_marks.specs.RingKept.{IsRingKept}
 use Rattle.link_marks.specs.AnswerLaws.{ArePassed, IsInTheWay}
@@ -41,6 +39,7 @@ Says n c none way took reading = Unit {0}
 Says n c none way took (empty done) = none done
 Says n c none way took (moving fill) = way fill
 Says n c none way took (swapped t) = took t
+Says n c none way took (wished_for fill) = Unit {0}
 
 module _ (n size : ℕ) (c : Core) (none : ℕ → Type 0) (way : ℕ → Type 0) (took : Taken → Type 0) where
   abbrev IsTrueOf : Answer → Type 0
@@ -49,23 +48,30 @@ module _ (n size : ℕ) (c : Core) (none : ℕ → Type 0) (way : ℕ → Type 0
   says : (answer a : Answer) → answer ≡ a → IsTrueOf a → IsTrueOf answer
   says answer a e t = subst IsTrueOf (sym e) t
 
-  leaves_true : (d : Core) (below : List Frame) → IsTrueOf (leave_answer d below)
-  leaves_true d [] = cond_both ((d.done + 1) == d.opened) gone going IsTrueOf (λ _. tt) (λ _. tt)
-  leaves_true d (next ∷ below) = tt
+  leaves_true : (below : List Frame) → IsTrueOf (leave_answer below)
+  leaves_true [] = tt
+  leaves_true (next ∷ below) = tt
 
-  begun_true : (kind : Kind) (d : Core) (below : List Frame) → IsTrueOf (begin_answer kind d below)
-  begun_true (for_record moment len) d below = tt
-  begun_true for_close d below = leaves_true d below
+  begun_true : (kind : Kind) (state : FrameState) (below : List Frame) → IsTrueOf (begin_answer kind state below)
+  begun_true (for_record moment len) waiting below = tt
+  begun_true for_close waiting below = leaves_true below
+  begun_true kind (reserved number) below = tt
+  begun_true kind left below = tt
 
   anew : (frame : Frame) (below : List Frame) (noted : ℕ) (answer : Answer) (after : Core) → BeginsAnew c frame below noted answer after → IsTrueOf answer
-  anew frame below noted answer after step = says answer (begin_answer frame.kind c below) step.answer_is (begun_true frame.kind c below)
+  anew frame below noted answer after step = says answer (begin_answer frame.kind frame.state below) step.answer_is (begun_true frame.kind frame.state below)
+
+  idle_true : (frame : Frame) (below : List Frame) (state : FrameState) (answer : Answer) (after : Core) → IdleStep n size c frame below state answer after → IsTrueOf answer
+  idle_true frame below waiting answer after (reserves moment len r kind r_is fits a is) = says answer _ a tt
+  idle_true frame below waiting answer after (finds_nothing kind nothing a is) = says answer (leave_answer below) a (leaves_true below)
+  idle_true frame below waiting answer after (is_crowded needs all a is) = says answer (refused crowded) a all
+  idle_true frame below waiting answer after (is_worn needs some last a is) = says answer (refused worn) a (last, some)
+  idle_true frame below waiting answer after (notes needs room small a is) = says answer going a tt
+  idle_true frame below (reserved number) answer after step = says answer (reserved_as number) step.0 tt
+  idle_true frame below left answer after step = absurd step
 
   frame_true : (frame : Frame) (below : List Frame) (phase : Phase) (answer : Answer) (after : Core) → FrameStep n size c frame below phase answer after → IsTrueOf answer
-  frame_true frame below reserving answer after (reserves moment len r kind r_is fits a is) = says answer _ a tt
-  frame_true frame below reserving answer after (finds_nothing kind nothing a is) = says answer (leave_answer c below) a (leaves_true c below)
-  frame_true frame below reserving answer after (is_crowded needs all a is) = says answer (refused crowded) a all
-  frame_true frame below reserving answer after (is_worn needs some last a is) = says answer (refused worn) a (last, some)
-  frame_true frame below reserving answer after (notes needs room small a is) = says answer going a tt
+  frame_true frame below idle answer after step = idle_true frame below frame.state answer after step
   frame_true frame below (looking noted) answer after (look_late step) = anew frame below noted answer after step
   frame_true frame below (looking noted) answer after (sees_free page now at a is) = says answer going a tt
   frame_true frame below (looking noted) answer after (sees_header page lost now sum at a is) = says answer going a tt
@@ -81,10 +87,12 @@ module _ (n size : ℕ) (c : Core) (none : ℕ → Type 0) (way : ℕ → Type 0
   frame_true frame below (marking role noted page next) answer after (mark_fails lost goes_on sum other a is) = says answer going a tt
   frame_true frame below (clearing noted page) answer after (clears lost sum at a is) = says answer going a tt
   frame_true frame below (opening noted page) answer after (open_late step) = anew frame below noted answer after step
-  frame_true frame below (opening noted page) answer after (opens now a is) = says answer (begin_answer frame.kind (with_new_tail c page) below) a (begun_true frame.kind (with_new_tail c page) below)
-  frame_true frame below (reserved number) answer after step = says answer (reserved_as number) step.0 tt
+  frame_true frame below (opening noted page) answer after (opens now a is) = says answer (begin_answer frame.kind frame.state below) a (begun_true frame.kind frame.state below)
   frame_true frame below releasing answer after (releases alone more a is) = says answer going a tt
-  frame_true frame below releasing answer after (releases_last alone last a is) = says answer gone a tt
+  frame_true frame below releasing answer after (releases_last alone last a is) = says answer going a tt
+  frame_true frame below wishing answer after (grants alone granted a is) = says answer going a tt
+  frame_true frame below wishing answer after (closes_more alone denied more a is) = says answer going a tt
+  frame_true frame below wishing answer after (goes_away alone denied last a is) = says answer gone a tt
 
   push_true : (moment len : ℕ) (why : Refusal) → PushRefused size c moment len why → Refused n c why
   push_true moment len why (all_stand many) = tt
@@ -106,6 +114,7 @@ module _ (n size : ℕ) (c : Core) (none : ℕ → Type 0) (way : ℕ → Type 0
   step_true event answer after reads (end_lacks payload e nothing a is) = says answer (refused no_frame) a tt
   step_true event answer after reads (end_early payload frame below e top nothing a is) = says answer (refused not_reserved) a tt
   step_true event answer after reads (read_step e step) = reads step
+  step_true event answer after reads (wish_step e a is) = says answer (wished_for c.reader.seen) a tt
 
 -- ---- of the reader
 
@@ -126,7 +135,7 @@ refusal_true n size c event answer after step = step_true n size c (λ d. Unit {
 pub crowded_right : (n size : ℕ) (c : Core) (event : Event) (after : Core) → Step n size c event (refused crowded) after → c.opened ≡ c.done + n
 crowded_right n size c event after step = refusal_true n size c event (refused crowded) after step
 
-pub worn_right : (n size start : ℕ) (c : Core) (event : Event) (after : Core) → IsRingKept n start c → Step n size c event (refused worn) after → (c.opened + n ≡ LINK_FILLS) × (c.opened ≡ c.done + n → ⊥)
+pub worn_right : (n size start : ℕ) (c : Core) (event : Event) (after : Core) → IsRingKept n size start c → Step n size c event (refused worn) after → (c.opened + n ≡ LINK_FILLS) × (c.opened ≡ c.done + n → ⊥)
 worn_right n size start c event after r step = let (last, some) = refusal_true n size c event (refused worn) after step in let fits = r.links.fits in (omega arith, some)
 
 -- the HEADER is owed by a move that stands
@@ -135,9 +144,9 @@ owed_by n links order head frames f page fill (is_normal e owed) at here = owed 
 owed_by n links order head frames f page fill (is_header e is) at here = absurd (normal_ne_header page fill (page_at n order f) f (sym at ∙ e))
 owed_by n links order head frames f page fill (is_update lost sum e st) at here = absurd (normal_ne_update page fill (page_at n order f) lost (sym at ∙ e))
 
-module _ (n start : ℕ) (c : Core) (r : IsRingKept n start c) where
+module _ (n size start : ℕ) (c : Core) (r : IsRingKept n size start c) where
   pub passed_below : (f : ℕ) → f ≤ c.head → ArePassed n start c f
-  passed_below f le g low high = (is_ring n start c r).lost g low (omega arith)
+  passed_below f le g low high = (is_ring n size start c r).lost g low (omega arith)
 
   -- a move of the head that stands is in the reader's way
   in_the_way : (lost fill : ℕ) → Stands c.frames (lost + n) → fill ≤ c.head → c.reader.hint ≤ fill → IsInTheWay n start c fill
@@ -176,7 +185,7 @@ module _ (n start : ℕ) (c : Core) (r : IsRingKept n start c) where
       in_the_way lost c.reader.hint st (omega arith) (omega arith)
 
   abbrev NoneSaid : Core → ℕ → Type 0
-  NoneSaid after d = (c.head ≡ d) × (c.done ≡ d) × (after.reader.taken ≡ c.reader.taken)
+  NoneSaid after d = (c.head ≡ d) × (c.done ≡ d) × (after.reader.taken ≡ c.reader.taken) × (after.reader.seen ≡ d) × (after.head ≡ c.head)
 
   abbrev WaySaid : Core → ℕ → Type 0
   WaySaid after f = IsInTheWay n start c f × (after.reader.taken ≡ c.reader.taken)
@@ -190,7 +199,7 @@ module _ (n start : ℕ) (c : Core) (r : IsRingKept n start c) where
   read_true loading_link answer after facts (loads_owed page at a is) = says n 0 c (NoneSaid after) (WaySaid after) (TookSaid after) answer (moving c.reader.hint) a (finds_owed page at, ap (λ (d : Core). d.reader.taken) is)
   read_true loading_link answer after facts (loads_passed page fill least at more sum a is) = says n 0 c (NoneSaid after) (WaySaid after) (TookSaid after) answer reading a tt
   read_true (loading_done page fill) answer after facts (finds_none le a is) = let fill_is = facts.fill_is in let low = r.links.hint_le in let unread = r.links.head_le in
-      says n 0 c (NoneSaid after) (WaySaid after) (TookSaid after) answer (empty c.done) a (omega arith, refl, ap (λ (d : Core). d.reader.taken) is)
+      says n 0 c (NoneSaid after) (WaySaid after) (TookSaid after) answer (empty c.done) a (omega arith, refl, (ap (λ (d : Core). d.reader.taken) is, (ap (λ (d : Core). d.reader.seen) is, ap (λ (d : Core). d.head) is)))
   read_true (loading_done page fill) answer after facts (finds_closed below a is) = says n 0 c (NoneSaid after) (WaySaid after) (TookSaid after) answer reading a tt
   read_true (storing_link page fill) answer after facts step = says n 0 c (NoneSaid after) (WaySaid after) (TookSaid after) answer reading step.answer_is tt
   read_true (swapping page fill) answer after facts (swaps at a is) =
@@ -200,15 +209,15 @@ module _ (n start : ℕ) (c : Core) (r : IsRingKept n start c) where
       says n 0 c (NoneSaid after) (WaySaid after) (TookSaid after) answer (swapped _) a (here, omega arith, ap (λ (d : Core). d.head) is, ap (λ (d : Core). d.reader.taken) is)
   read_true (swapping page fill) answer after facts (swap_fails at a is) = says n 0 c (NoneSaid after) (WaySaid after) (TookSaid after) answer reading a tt
 
-  pub all_true : (size : ℕ) (event : Event) (answer : Answer) (after : Core) → Step n size c event answer after → Says n c (NoneSaid after) (WaySaid after) (TookSaid after) answer
-  all_true size event answer after step = step_true n size c (NoneSaid after) (WaySaid after) (TookSaid after) event answer after (read_true c.reader.phase answer after r.links.reader) step
+  pub all_true : (event : Event) (answer : Answer) (after : Core) → Step n size c event answer after → Says n c (NoneSaid after) (WaySaid after) (TookSaid after) answer
+  all_true event answer after step = step_true n size c (NoneSaid after) (WaySaid after) (TookSaid after) event answer after (read_true c.reader.phase answer after r.links.reader) step
 
-pub empty_right : (n size start : ℕ) (c : Core) (event : Event) (done : ℕ) (after : Core) → IsRingKept n start c → Step n size c event (empty done) after
-    → (c.head ≡ done) × (c.done ≡ done) × ArePassed n start c done × (after.reader.taken ≡ c.reader.taken)
-empty_right n size start c event done after r step = let (a, b, same) = all_true n start c r size event (empty done) after step in (a, b, passed_below n start c r done (omega arith), same)
+pub empty_right : (n size start : ℕ) (c : Core) (event : Event) (done : ℕ) (after : Core) → IsRingKept n size start c → Step n size c event (empty done) after
+    → (c.head ≡ done) × (c.done ≡ done) × ArePassed n start c done × (after.reader.taken ≡ c.reader.taken) × (after.reader.seen ≡ done) × (after.head ≡ done)
+empty_right n size start c event done after r step = let (a, b, same, seen, head) = all_true n size start c r event (empty done) after step in (a, (b, (passed_below n size start c r done (omega arith), (same, (seen, head ∙ a)))))
 
-pub moving_right : (n size start : ℕ) (c : Core) (event : Event) (fill : ℕ) (after : Core) → IsRingKept n start c → Step n size c event (moving fill) after → IsInTheWay n start c fill × (after.reader.taken ≡ c.reader.taken)
-moving_right n size start c event fill after r step = all_true n start c r size event (moving fill) after step
+pub moving_right : (n size start : ℕ) (c : Core) (event : Event) (fill : ℕ) (after : Core) → IsRingKept n size start c → Step n size c event (moving fill) after → IsInTheWay n start c fill × (after.reader.taken ≡ c.reader.taken)
+moving_right n size start c event fill after r step = all_true n size start c r event (moving fill) after step
 
-pub swapped_right : (n size start : ℕ) (c : Core) (event : Event) (t : Taken) (after : Core) → IsRingKept n start c → Step n size c event (swapped t) after → (t.fill ≡ c.head) × (c.head < c.done) × (after.head ≡ c.head + 1) × (after.reader.taken ≡ c.reader.taken ++ t ∷ [])
-swapped_right n size start c event t after r step = all_true n start c r size event (swapped t) after step
+pub swapped_right : (n size start : ℕ) (c : Core) (event : Event) (t : Taken) (after : Core) → IsRingKept n size start c → Step n size c event (swapped t) after → (t.fill ≡ c.head) × (c.head < c.done) × (after.head ≡ c.head + 1) × (after.reader.taken ≡ c.reader.taken ++ t ∷ [])
+swapped_right n size start c event t after r step = all_true n size start c r event (swapped t) after step

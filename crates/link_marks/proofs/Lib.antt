@@ -42,6 +42,9 @@ pub mod StepsGiven
 pub mod StepsDetermined
 pub mod OneNewRing
 pub mod CountMoves
+-- the wish
+pub mod Tails
+pub mod WishSteps
 -- the worked examples and the wrong steps
 pub mod ExamplesRun
 pub mod WrongStepsRefused

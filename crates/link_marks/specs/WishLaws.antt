@@ -4,7 +4,7 @@ use Rattle.trace_model.specs.declared.limits.TheConstants.{LINK_FILLS}
 use Rattle.trace_model.specs.Packing.{tail_of}
 use Rattle.trace_model.specs.Frames.{reserved, wishing, Frame}
 use Rattle.trace_model.specs.Ring.{Core, first_of_fill}
-use Rattle.trace_model.specs.Steps.{Event, steps, ends, reads, wishes, Answer, gone, full, empty, wished_for, IsGranted, Step, Exchange, Run}
+use Rattle.trace_model.specs.Steps.{Event, steps, ends, reads, wishes, Answer, gone, full, wished_for, IsGranted, Step, Exchange, Run}
 use Rattle.link_marks.specs.RingKept.{IsRingKept}
 use Rattle.link_marks.specs.WindowLaws.{HeadIsLost}
 
@@ -18,26 +18,24 @@ WishesAreHeld = (n size start : ℕ) (c : Core) (answer : Answer) (after : Core)
     × (after ≡ record c { wish = c.reader.seen + 1 })
     × (c.reader.seen ≤ c.done)
 
--- a frame leaves the stack by its look for a wish alone; and where the reader's wish is for the tail, that holds no
+-- the last frame leaves the stack by its look for a wish alone; and where the reader's wish is for the tail, that holds no
 -- record or is the last fill
 abbrev pub GoneHasLooked : Type 0
-GoneHasLooked = (n size start : ℕ) (c : Core) (event : Event) (answer : Answer) (after : Core)
-    (frame : Frame)
-    → IsRingKept n size start c
-    → c.frames ≡ frame ∷ []
+GoneHasLooked = (n size : ℕ) (c : Core) (event : Event) (answer : Answer) (after : Core) (frame : Frame) (below : List Frame)
+    → c.frames ≡ frame ∷ below
     → Step n size c event answer after
     → after.frames ≡ []
-    → (frame.phase ≡ wishing)
+    → (below ≡ [])
+    × (frame.phase ≡ wishing)
     × (answer ≡ gone)
     × (c.wish ≡ c.done + 1 → (tail_of c.history ≡ []) ⊎ (LINK_FILLS ≤ c.opened + n))
 
 -- So a wish for the first fill that isn't closed is answered by the next outermost end that finds a record in the
--- tail, the last fill aside: when that frame is gone, the fill is closed.
+-- tail, the last fill aside: when no frame stands any more, the fill is closed.
 abbrev pub WishesAreAnswered : Type 0
-WishesAreAnswered = (n size start : ℕ) (c after : Core) (exchanges : List Exchange) (frame : Frame)
+WishesAreAnswered = (n size start : ℕ) (c after : Core) (exchanges : List Exchange)
     → IsRingKept n size start c
-    → c.frames ≡ frame ∷ []
-    → frame.phase ≡ wishing
+    → c.frames ≢ []
     → c.wish ≡ c.done + 1
     → tail_of c.history ≢ []
     → c.opened + n < LINK_FILLS
@@ -57,15 +55,9 @@ EndsOnTheWishedPage = (n size start : ℕ) (c : Core) (payload : List ℕ) (afte
     → (first_of_fill c.history start c.done ≤ number)
     × (number < first_of_fill c.history start c.done + length (tail_of c.history))
 
--- behind an answer that nothing closed is unread, the reader has seen no more fills closed than are taken or lost
-abbrev pub EmptySeesTheHead : Type 0
-EmptySeesTheHead = (n size start : ℕ) (c : Core) (event : Event) (done : ℕ) (after : Core)
-    → IsRingKept n size start c
-    → Step n size c event (empty done) after
-    → (after.reader.seen ≡ done) × (after.head ≡ done)
-
--- A wish right behind that answer loses no fill: from where it is granted, no fill is lost until the next one is
--- begun, and that is begun behind a ring that isn't full.
+-- A wish right behind an answer that nothing closed is unread loses no fill: there the reader has seen no more fills
+-- closed than are taken or lost, and that stays so until it looks again. From where such a wish is granted, no fill is
+-- lost until the next one is begun, which is so behind a ring that isn't full.
 abbrev pub WishBehindEmptyLosesNone : Type 0
 WishBehindEmptyLosesNone = (n size start : ℕ) (c between : Core) (exchanges : List Exchange)
     (event : Event) (answer : Answer) (after : Core)

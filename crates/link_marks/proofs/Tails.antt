@@ -1,0 +1,60 @@
+-- A tail that holds a record holds one until the next fill is begun.
+use Rattle.std.proofs.Common.{◌≡◌, ◌≢◌, ℕ, ◌+◌, ◌≤◌, false, List, [], ◌∷◌, ◌++◌, length, Option, Some, None, sym, ap, ◌∙◌, subst, arith, append_assoc, append-nil}
+use Rattle.trace_model.specs.History.{Action, push, push_close, open_fill, reserve, leave, wished, Reservation, PushedFrame, record_frame, close_frame, reservation_for, after_action, writer_after, reserved_records}
+use Rattle.trace_model.specs.Packing.{opens_of, tail_of}
+use Rattle.trace_model.specs.Fitting.{IsRising, tail_at}
+use Rattle.trace_model.specs.Frames.{for_close, waiting}
+use Rattle.trace_model.specs.Window.{Window, Deed, acts, closes, takes, loses, actions_of, opened_one, released_one, took_one, lost_one, window_after, WindowRunFrom}
+use Rattle.trace_model.proofs.FillCuts.{IsRising-more, opens_of-push, opens_of-push_close, opens_of-reserve, opens_of-leave, opens_of-wished}
+use Rattle.trace_model.proofs.NextRecords.{records_snoc, length_after_action}
+use Rattle.trace_model.proofs.PackedHistories.{plain-finished, tail_is, needs_alike, needs_reserved}
+use Rattle.link_marks.proofs.WindowRuns.{run_rises}
+
+tail_after : (cuts : List ℕ) (stack : List PushedFrame) (xs : List Reservation) (a : Action) → IsRising 0 cuts (length xs) → tail_at cuts xs ≢ [] → tail_at cuts (after_action stack xs a).records ≢ []
+tail_after cuts stack xs (push moment len) rising some = some
+tail_after cuts stack xs push_close rising some = some
+tail_after cuts stack xs open_fill rising some = some
+tail_after cuts [] xs reserve rising some = some
+tail_after cuts (record_frame moment len None ∷ stack) xs reserve rising some = needs_reserved 0 cuts xs (reservation_for moment len xs) false for_close waiting rising some
+tail_after cuts (record_frame moment len (Some number) ∷ stack) xs reserve rising some = some
+tail_after cuts (close_frame ∷ stack) xs reserve rising some = some
+tail_after cuts [] xs (leave payload) rising some = some
+tail_after cuts (record_frame moment len number ∷ stack) xs (leave payload) rising some = needs_alike 0 cuts xs _ false for_close waiting (plain-finished number payload xs) some
+tail_after cuts (close_frame ∷ stack) xs (leave payload) rising some = some
+tail_after cuts stack xs wished rising some = some
+
+-- what is kept of a history whose tail holds a record
+record HasTail (h : List Action) : Type 0 where
+  pub rising : IsRising 0 (opens_of h) (length (reserved_records h))
+  pub holds : tail_of h ≢ []
+
+tail_snoc : (h : List Action) (a : Action) → opens_of (h ++ a ∷ []) ≡ opens_of h → HasTail h → HasTail (h ++ a ∷ [])
+tail_snoc h a cuts t =
+    let xs : List Reservation = (after_action (writer_after h).stack (reserved_records h) a).records in
+    let records : reserved_records (h ++ a ∷ []) ≡ xs = records_snoc h a in
+    let more : length (reserved_records h) ≤ length xs = length_after_action (writer_after h).stack (reserved_records h) a in
+    record {
+      rising = subst (λ (l : List Reservation). IsRising 0 (opens_of (h ++ a ∷ [])) (length l)) (sym records)
+          (subst (λ (c : List ℕ). IsRising 0 c (length xs)) (sym cuts) (IsRising-more 0 (opens_of h) (length (reserved_records h)) (length xs) more t.rising));
+      holds = λ none. tail_after (opens_of h) (writer_after h).stack (reserved_records h) a t.rising (λ no. t.holds (tail_is h ∙ no))
+          (sym (λ i. tail_at (cuts i) (records i)) ∙ sym (tail_is (h ++ a ∷ [])) ∙ none);
+    }
+
+module _ (n : ℕ) where
+  has_over : (h : List Action) (w : Window) (deeds : List Deed) (after : Window) → WindowRunFrom n h w deeds after → after.opened ≤ w.opened → HasTail h → HasTail (h ++ actions_of deeds)
+  has_over h w [] after run le t = subst HasTail (sym (append-nil h)) t
+  has_over h w (acts open_fill ∷ deeds) after run le t = let rises = run_rises n (h ++ open_fill ∷ []) (window_after w opened_one) after deeds run.1 in let opens = rises.opened in absurd (omega arith)
+  has_over h w (acts (push moment len) ∷ deeds) after run le t = acts_over h w (push moment len) deeds after run.1 le (opens_of-push h moment len) t
+  has_over h w (acts push_close ∷ deeds) after run le t = acts_over h w push_close deeds after run.1 le (opens_of-push_close h) t
+  has_over h w (acts reserve ∷ deeds) after run le t = acts_over h w reserve deeds after run.1 le (opens_of-reserve h) t
+  has_over h w (acts (leave payload) ∷ deeds) after run le t = acts_over h w (leave payload) deeds after run.1 le (opens_of-leave h payload) t
+  has_over h w (acts wished ∷ deeds) after run le t = acts_over h w wished deeds after run.1 le (opens_of-wished h) t
+  has_over h w (closes ∷ deeds) after run le t = has_over h (window_after w released_one) deeds after run.1 le t
+  has_over h w (takes ∷ deeds) after run le t = has_over h (window_after w took_one) deeds after run.1 le t
+  has_over h w (loses ∷ deeds) after run le t = has_over h (window_after w lost_one) deeds after run.1 le t
+
+  acts_over : (h : List Action) (w : Window) (a : Action) (deeds : List Deed) (after : Window) → WindowRunFrom n (h ++ a ∷ []) w deeds after → after.opened ≤ w.opened → opens_of (h ++ a ∷ []) ≡ opens_of h → HasTail h → HasTail (h ++ (a ∷ actions_of deeds))
+  acts_over h w a deeds after run le cuts t = subst HasTail (append_assoc h (a ∷ []) (actions_of deeds)) (has_over (h ++ a ∷ []) w deeds after run le (tail_snoc h a cuts t))
+
+pub tail_over : (n : ℕ) (h : List Action) (w : Window) (deeds : List Deed) (after : Window) → IsRising 0 (opens_of h) (length (reserved_records h)) → WindowRunFrom n h w deeds after → after.opened ≡ w.opened → tail_of h ≢ [] → tail_of (h ++ actions_of deeds) ≢ []
+tail_over n h w deeds after rising run same some = (has_over n h w deeds after run (omega arith) record { rising = rising; holds = some }).holds
