@@ -34,6 +34,8 @@ pub mod PackedSteps
 pub mod PackedRuns
 pub mod TakenHoldRecords
 pub mod RecordCounts
+-- where a reserved record lies, and what its end writes
+pub mod Payloads
 -- the step as a function: it gives the steps and no others; the head and the count of closed fills move by it
 pub mod StepFunction
 pub mod StepFunctionSound

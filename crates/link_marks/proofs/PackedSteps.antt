@@ -9,7 +9,7 @@ use native.Mathlib.Decide.{dec_le}
 use Rattle.trace_model.specs.Words.{encoded_len}
 use Rattle.trace_model.specs.History.{Action, push, push_close, open_fill, reserve, leave, wished, Reservation, PushedFrame, writer_after, reserved_records, reservation_for}
 use Rattle.trace_model.specs.Packing.{opens_of, FitsBehind, is_wished}
-use Rattle.trace_model.specs.Fitting.{tail_at, HaveRoom, IsFit, AreFit, FitsPage, NeedsFill}
+use Rattle.trace_model.specs.Fitting.{tail_at, IsFit, FitsPage, NeedsFill}
 use Rattle.trace_model.specs.Frames.{Kind, for_record, for_close, FrameState, waiting, reserved, left, Role, owner, helper, Phase, idle, looking, claiming, looking_next, marking, clearing, opening, releasing, wishing, Frame, pushed_onto, pushed_frames, noted_fill}
 use Rattle.trace_model.specs.Ring.{ReaderPhase, loading_link, loading_done, storing_link, swapping, Core, IsStart}
 use Rattle.trace_model.specs.Steps.{Event, Answer, IsTooLong, NeedsPage, closing_phase, in_phase, after_leave, after_next, frames_after_leave, own_number, with_new_tail, after_begin, BeginsAnew, IdleStep, ReserveStep, reserves, finds_nothing, is_crowded, is_worn, notes, look_late, sees_free, sees_header, sees_update, claim_late, claims, claim_fails, next_late, sees_normal, sees_other, mark_late, marks, mark_fails, clears, OpenStep, open_late, opens, releases, releases_last, grants, closes_more, goes_away, FrameStep, Step, push_step, push_refused, close_step, close_refused, frame_step, frame_lacks, end_step, end_lacks, end_early, read_step, wish_step, loads_header, loads_update, loads_owed, loads_passed, finds_none, finds_closed, swaps, swap_fails, ReadStep}
@@ -173,8 +173,11 @@ module _ (n size start : ℕ) (c : Core) (frame : Frame) (below : List Frame) (k
       ((λ none. holds (sym tails ∙ none)), is_wished-wished c.history) in record {
         room = refilled size (opens_of h0) (opens_of (h0 ++ wished ∷ [])) (reserved_records h0) (reserved_records (h0 ++ wished ∷ [])) (opens_of-wished c.history) (ap (map plain) records) p.room;
         fit = fit_more size c.history wished p.fit tt;
-        needs = (p.needs.0, (λ _. subst (NeedsFill size (opens_of (h0 ++ wished ∷ [])) (reserved_records (h0 ++ wished ∷ [])) (is_wished (h0 ++ wished ∷ [])) frame.kind) (sym gone) still),
-            subst (FramesNeed size (opens_of (h0 ++ wished ∷ [])) (reserved_records (h0 ++ wished ∷ [])) (is_wished (h0 ++ wished ∷ [])) c.opened) (sym alone) tt);
+        needs = (
+          p.needs.0,
+          (λ _. subst (NeedsFill size (opens_of (h0 ++ wished ∷ [])) (reserved_records (h0 ++ wished ∷ [])) (is_wished (h0 ++ wished ∷ [])) frame.kind) (sym gone) still),
+          subst (FramesNeed size (opens_of (h0 ++ wished ∷ [])) (reserved_records (h0 ++ wished ∷ [])) (is_wished (h0 ++ wished ∷ [])) c.opened) (sym alone) tt,
+        );
       }
 
   has_left : frame.phase ≡ wishing → frame.state ≡ left

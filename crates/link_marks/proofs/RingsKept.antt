@@ -1,13 +1,15 @@
 -- What every step keeps is a ring; a new ring has it; and so it holds after every run.
 use Rattle.std.proofs.Common.{◌≡◌, ℕ, zero, suc, ◌+◌, ◌-◌, ◌<◌, ◌≤◌, ◌⊎◌, List, [], ◌∷◌, ◌++◌, length, get_or, take, drop, map, Some, refl, sym, ap, ◌∙◌, subst, inl, inr, arith}
 use Rattle.std.specs.List.{slice_get}
-use Rattle.std.proofs.lemmas.List.{take-append-drop, map-append}
+use Rattle.std.proofs.lemmas.List.{take-append-drop, map-append, get_or_past}
+use mathlib.Core.Logic.{dite}
+use native.Mathlib.Decide.{dec_le}
 use Rattle.trace_model.specs.Record.{Record}
 use Rattle.trace_model.specs.History.{Action, Reservation, reserved_records, settled_prefix, as_record, committed_records}
 use Rattle.trace_model.specs.Packing.{opens_of, fills_of}
 use Rattle.trace_model.specs.Links.{Link}
 use Rattle.trace_model.specs.Frames.{Frame, owned_update}
-use Rattle.trace_model.specs.Ring.{Held, ReaderPhase, loading_link, loading_done, storing_link, swapping, Reader, Core, IsStart, AreApart, IsRing, IsBehindHead, told, moved, IsAtHead, marked, owed, Moves, IsMoved, IsSwapReady, IsTaken, first_of_fill, page_at}
+use Rattle.trace_model.specs.Ring.{Held, empty_page, ReaderPhase, loading_link, loading_done, storing_link, swapping, Reader, Core, IsStart, AreApart, IsRing, IsBehindHead, told, moved, IsAtHead, marked, owed, Moves, IsMoved, IsSwapReady, IsTaken, first_of_fill, page_at}
 use Rattle.trace_model.specs.Steps.{Event, Answer, Step, Exchange, Run}
 use Rattle.trace_model.specs.Sublist.{IsPrefix}
 use Rattle.link_marks.specs.KeptLinks.{Stands, MoversDiffer, PhaseKept, FramesKept, LinkKept, is_normal, is_header, is_update, ReaderKept}
@@ -189,7 +191,11 @@ nothing_done n start c some a s = let head = s.head in let opened = s.opened in 
   rising = omega arith;
   each = λ f low high. s.held (page_at n c.order f) (page_below n c.order c.spare f some a)
       ∙ ap (λ (i : ℕ). let h : Held = record { first = get_or (0 ∷ []) i 0; records = get_or ([] ∷ []) i [] } in h) (let e : 0 ≡ f - start = omega arith in e);
+  others = λ page. inl (let none = ap (λ (h : Held). h.first + length h.records) (all_empty page) in omega arith);
 }
+  where
+    all_empty : (page : ℕ) → get_or c.held page empty_page ≡ empty_page
+    all_empty page = dite (dec_le (suc page) (n + 1)) (λ inside. s.held page inside) (λ past. get_or_past c.held page empty_page (let wide = s.bodies in omega arith))
 
 pub ring_start : (n size start : ℕ) (c : Core) → MayStart n start → IsStart n start c → IsRingKept n size start c
 ring_start n size start c may s = let some = may.some_pages in let fits = may.numbers_left in let links = start_kept n start c s some fits in let done = s.done in record {

@@ -4,6 +4,7 @@ pub mod answers;
 pub mod examples;
 pub mod histories;
 pub mod links;
+pub mod payloads;
 pub mod rings;
 pub mod windows;
 pub mod wishes;

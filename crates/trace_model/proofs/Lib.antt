@@ -29,8 +29,10 @@ pub mod ListingsMade
 -- histories, their committed records and their fills
 pub mod NextRecords
 pub mod Committed
+pub mod OpenNumbers
 pub mod FillCuts
 pub mod FillFirsts
+pub mod FillOfNumber
 pub mod FillsJoined
 pub mod FillSizes
 pub mod PackedHistories
