@@ -41,6 +41,8 @@ pub mod StepsGiven
 pub mod StepsDetermined
 pub mod OneNewRing
 pub mod CountMoves
+-- the two seats, the writer's and the reader's
+pub mod SeatSteps
 -- the worked examples and the wrong steps
 pub mod ExamplesRun
 pub mod WrongStepsRefused

@@ -5,4 +5,5 @@ pub mod examples;
 pub mod histories;
 pub mod links;
 pub mod rings;
+pub mod seats;
 pub mod windows;
