@@ -43,6 +43,7 @@ pub mod OneNewRing
 pub mod CountMoves
 -- the two seats, the writer's and the reader's
 pub mod SeatSteps
+pub mod PrivateSteps
 -- the worked examples and the wrong steps
 pub mod ExamplesRun
 pub mod WrongStepsRefused
