@@ -46,6 +46,9 @@ pub mod CountMoves
 -- the wish
 pub mod Tails
 pub mod WishSteps
+-- the two seats, the writer's and the reader's
+pub mod SeatSteps
+pub mod PrivateSteps
 -- the worked examples and the wrong steps
 pub mod ExamplesRun
 pub mod WrongStepsRefused

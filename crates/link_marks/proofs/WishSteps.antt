@@ -15,6 +15,7 @@ use Rattle.link_marks.specs.WishLaws.{WishesAreHeld, GoneHasLooked, WishesAreAns
 use Rattle.link_marks.proofs.RingsKept.{ring_step, ring_run}
 use Rattle.link_marks.proofs.ToldSteps.{leads_run, counts_rise}
 use Rattle.link_marks.proofs.AnswersRight.{empty_right}
+use Rattle.link_marks.proofs.SeatSteps.{writer_leaves_reader}
 use Rattle.link_marks.proofs.Tails.{tail_over}
 
 -- ---- the wish is stored

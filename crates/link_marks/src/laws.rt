@@ -5,5 +5,6 @@ pub mod examples;
 pub mod histories;
 pub mod links;
 pub mod rings;
+pub mod seats;
 pub mod windows;
 pub mod wishes;

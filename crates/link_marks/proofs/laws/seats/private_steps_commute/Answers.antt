@@ -1,0 +1,5 @@
+use Rattle.link_marks.proofs.PrivateSteps.{private_touches_no_word}
+use Rattle.link_marks.proofs.laws.seats.private_steps_commute.Goals as goal
+
+pub returns : goal.returns
+returns c = record { words = private_touches_no_word }
