@@ -11,7 +11,9 @@ pub mod Histories
 pub mod HistorySteps
 pub mod Happenings
 pub mod PageChanges
+pub mod OpenPageSteps
 pub mod ContentSteps
+pub mod OpenPageSteps
 pub mod ClosedSteps
 -- the partition of the records, and the invariant as a whole
 pub mod PartitionLemmas
@@ -41,6 +43,9 @@ pub mod StepsGiven
 pub mod StepsDetermined
 pub mod OneNewRing
 pub mod CountMoves
+-- the wish
+pub mod Tails
+pub mod WishSteps
 -- the worked examples and the wrong steps
 pub mod ExamplesRun
 pub mod WrongStepsRefused

@@ -6,3 +6,4 @@ pub mod histories;
 pub mod links;
 pub mod rings;
 pub mod windows;
+pub mod wishes;
