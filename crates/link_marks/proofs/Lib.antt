@@ -13,7 +13,6 @@ pub mod Happenings
 pub mod PageChanges
 pub mod OpenPageSteps
 pub mod ContentSteps
-pub mod OpenPageSteps
 pub mod ClosedSteps
 -- the partition of the records, and the invariant as a whole
 pub mod PartitionLemmas
