@@ -12,6 +12,7 @@ pub mod HistorySteps
 pub mod Happenings
 pub mod PageChanges
 pub mod ContentSteps
+pub mod OpenPageSteps
 pub mod ClosedSteps
 -- the partition of the records, and the invariant as a whole
 pub mod PartitionLemmas
@@ -44,6 +45,9 @@ pub mod CountMoves
 -- the two seats, the writer's and the reader's
 pub mod SeatSteps
 pub mod PrivateSteps
+-- the wish
+pub mod Tails
+pub mod WishSteps
 -- the worked examples and the wrong steps
 pub mod ExamplesRun
 pub mod WrongStepsRefused

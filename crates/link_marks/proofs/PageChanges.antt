@@ -9,9 +9,11 @@ use Rattle.trace_model.specs.History.{Reservation, records_with_payload}
 use Rattle.trace_model.specs.Packing.{cut_from}
 use Rattle.trace_model.specs.Ring.{Held, page_at, AreApart}
 use Rattle.trace_model.specs.Steps.{held_with_payload}
-use Rattle.link_marks.specs.KeptContents.{IsRising, PagesKept}
+use Rattle.trace_model.specs.Fitting.{IsRising}
+use Rattle.trace_model.proofs.NextRecords.{length-records_with_payload}
+use Rattle.trace_model.proofs.FillCuts.{IsRising-more, IsRising-snoc, reserved_before, reserved_last, opened_before, opened_last, finished_fill}
+use Rattle.link_marks.specs.KeptContents.{PagesKept}
 use Rattle.link_marks.proofs.Positions.{apart, page_else}
-use Rattle.link_marks.proofs.FillCuts.{IsRising-more, IsRising-snoc, reserved_before, reserved_last, opened_before, opened_last, length-records_with_payload, finished_fill}
 
 abbrev pub nothing : Held
 nothing = record { first = 0; records = [] }

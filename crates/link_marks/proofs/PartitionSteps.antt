@@ -1,21 +1,22 @@
+-- LEADER'S NOTE 20:31: another helper (/work/h/partition/main) mends this file now; contents: leave it, take theirs (drop this line with git checkout).
 -- Each step keeps the taken fills and the lost ones a partition of the records.
 use Rattle.std.proofs.Common.{◌≡◌, ℕ, ◌+◌, ◌-◌, ◌≤◌, List, [], ◌∷◌, ◌++◌, length, get_or, Some, None, refl, sym, ap, ◌∙◌, subst, arith, length-append}
-use Rattle.trace_model.specs.History.{Action, push, push_close, open_fill, reserve, leave, Reservation, reserved_records}
+use Rattle.trace_model.specs.History.{Action, push, push_close, open_fill, reserve, leave, wished, Reservation, reserved_records}
 use Rattle.trace_model.specs.Packing.{opens_of}
-use Rattle.trace_model.specs.Frames.{Kind, for_record, for_close, Phase, reserving, looking, claiming, looking_next, marking, clearing, opening, reserved, releasing, Frame}
+use Rattle.trace_model.specs.Fitting.{IsRising}
+use Rattle.trace_model.specs.Frames.{Kind, for_record, for_close, FrameState, waiting, reserved, left, Phase, idle, looking, claiming, looking_next, marking, clearing, opening, releasing, wishing, Frame}
 use Rattle.trace_model.specs.Ring.{ReaderPhase, loading_link, loading_done, storing_link, swapping, Core, page_at, first_of_fill}
-use Rattle.trace_model.specs.Steps.{Event, Answer, with_new_tail, after_begin, BeginsAnew, reserves, finds_nothing, is_crowded, is_worn, notes, look_late, sees_free, sees_header, sees_update, claim_late, claims, claim_fails, next_late, sees_normal, sees_other, mark_late, marks, mark_fails, clears, open_late, opens, releases, releases_last, FrameStep, Step, push_step, push_refused, close_step, close_refused, frame_step, frame_lacks, end_step, end_lacks, end_early, read_step, loads_header, loads_update, loads_owed, loads_passed, finds_none, finds_closed, swaps, swap_fails, ReadStep, taken_fill, contents_of}
+use Rattle.trace_model.specs.Steps.{Event, Answer, with_new_tail, after_begin, BeginsAnew, reserves, finds_nothing, is_crowded, is_worn, notes, look_late, sees_free, sees_header, sees_update, claim_late, claims, claim_fails, next_late, sees_normal, sees_other, mark_late, marks, mark_fails, clears, open_late, opens, releases, releases_last, grants, closes_more, goes_away, IdleStep, FrameStep, Step, push_step, push_refused, close_step, close_refused, frame_step, frame_lacks, end_step, end_lacks, end_early, read_step, wish_step, loads_header, loads_update, loads_owed, loads_passed, finds_none, finds_closed, swaps, swap_fails, ReadStep, taken_fill, contents_of}
 use Rattle.link_marks.specs.KeptLinks.{PhaseKept, ReaderKept, LinksKept}
 use Rattle.link_marks.specs.KeptHistory.{HistoryKept}
 use Rattle.link_marks.specs.KeptContents.{ContentsKept, ClosedKept}
 use Rattle.link_marks.specs.KeptPartition.{PartitionAt, PartitionKept}
+use Rattle.trace_model.proofs.NextRecords.{records_snoc}
+use Rattle.trace_model.proofs.Committed.{committed_len, first_more}
+use Rattle.trace_model.proofs.FillCuts.{IsRising-snoc, opens_of-open_fill}
+use Rattle.trace_model.proofs.FillFirsts.{first_below, first_rises_to}
 use Rattle.link_marks.proofs.FrameChanges.{top_kept}
 use Rattle.link_marks.proofs.LinkFills.{header_inside, header_tells, fill_at}
-use Rattle.link_marks.proofs.FillCuts.{IsRising-snoc, opens_of-open_fill}
-use Rattle.link_marks.proofs.ContentSteps.{records_snoc}
-use Rattle.link_marks.specs.KeptContents.{IsRising}
-use Rattle.link_marks.proofs.Committed.{committed_len, first_more, first_below}
-use Rattle.link_marks.proofs.PartitionLemmas.{first_rises_to}
 use Rattle.link_marks.proofs.PartitionChanges.{partition_more, partition_lost, partition_taken}
 
 module _ (n start : ℕ) (c : Core) (k : LinksKept n c) (t : ContentsKept n start c) (z : ClosedKept start c) (q : PartitionKept start c) where
@@ -35,29 +36,42 @@ module _ (n start : ℕ) (c : Core) (k : LinksKept n c) (t : ContentsKept n star
   partition_acts : (a : Action) → PartitionAt start (c.history ++ a ∷ []) c.head c.reader.expected c.reader.taken
   partition_acts a = partition_more start c.history a c.head c.reader.expected c.reader.taken counted t.rising head_settled q
 
-  partition_begun : (kind : Kind) (frame : Frame) (below : List Frame) → PartitionKept start (after_begin kind c frame below)
-  partition_begun (for_record moment len) frame below = q
-  partition_begun for_close frame below = partition_acts (leave None)
+  partition_begun : (kind : Kind) (state : FrameState) (frame : Frame) (below : List Frame) → PartitionKept start (after_begin kind state c frame below)
+  partition_begun (for_record moment len) waiting frame below = q
+  partition_begun for_close waiting frame below = partition_acts (leave None)
+  partition_begun kind (reserved number) frame below = q
+  partition_begun kind left frame below = q
 
-  partition_begins : (kind : Kind) (page : ℕ) (frame : Frame) (below : List Frame) → PartitionKept start (after_begin kind (with_new_tail c page) frame below)
-  partition_begins (for_record moment len) page frame below = partition_acts open_fill
-  partition_begins for_close page frame below = partition_more start (c.history ++ open_fill ∷ []) (leave None) c.head c.reader.expected c.reader.taken
+  -- behind the fill that is begun, a close frame leaves
+  partition_closes : PartitionAt start ((c.history ++ open_fill ∷ []) ++ leave None ∷ []) c.head c.reader.expected c.reader.taken
+  partition_closes = partition_more start (c.history ++ open_fill ∷ []) (leave None) c.head c.reader.expected c.reader.taken
       (let low = counted in omega (arith, ap (length {A = ℕ}) (opens_of-open_fill c.history), length-append (opens_of c.history) (length (reserved_records c.history) ∷ [])))
       (subst (λ (l : List ℕ). IsRising 0 l (length (reserved_records (c.history ++ open_fill ∷ [])))) (sym (opens_of-open_fill c.history))
       (subst (λ (l : List Reservation). IsRising 0 (opens_of c.history ++ length (reserved_records c.history) ∷ []) (length l)) (sym (records_snoc c.history open_fill)) (IsRising-snoc 0 (opens_of c.history) (length (reserved_records c.history)) t.rising)))
       (first_more c.history open_fill (c.head - start) counted head_settled)
       (partition_acts open_fill)
 
+  partition_begins : (kind : Kind) (state : FrameState) (page : ℕ) (frame : Frame) (below : List Frame) → PartitionKept start (after_begin kind state (with_new_tail c page) frame below)
+  partition_begins (for_record moment len) waiting page frame below = partition_acts open_fill
+  partition_begins for_close waiting page frame below = partition_closes
+  partition_begins kind (reserved number) page frame below = partition_acts open_fill
+  partition_begins kind left page frame below = partition_acts open_fill
+
   anew : (frame : Frame) (below : List Frame) (noted : ℕ) (answer : Answer) (after : Core) → BeginsAnew c frame below noted answer after → PartitionKept start after
-  anew frame below noted answer after step = subst (PartitionKept start) (sym step.after_is) (partition_begun frame.kind frame below)
+  anew frame below noted answer after step = subst (PartitionKept start) (sym step.after_is) (partition_begun frame.kind frame.state frame below)
 
 module _ (n size start : ℕ) (c : Core) (frame : Frame) (below : List Frame) (k : LinksKept n c) (h : HistoryKept n start c) (t : ContentsKept n start c) (z : ClosedKept start c) (q : PartitionKept start c) (top : c.frames ≡ frame ∷ below) where
+  partition_idle : (state : FrameState) (answer : Answer) (after : Core) → IdleStep n size c frame below state answer after → PartitionKept start after
+  partition_idle waiting answer after (reserves moment len r kind r_is fits a is) = subst (PartitionKept start) (sym is) (partition_acts n start c k t z q reserve)
+  partition_idle waiting answer after (finds_nothing kind none a is) = subst (PartitionKept start) (sym is) (partition_acts n start c k t z q (leave None))
+  partition_idle waiting answer after (is_crowded needs full a is) = subst (PartitionKept start) (sym is) (partition_acts n start c k t z q (leave None))
+  partition_idle waiting answer after (is_worn needs full last a is) = subst (PartitionKept start) (sym is) (partition_acts n start c k t z q (leave None))
+  partition_idle waiting answer after (notes needs room small a is) = subst (PartitionKept start) (sym is) q
+  partition_idle (reserved number) answer after step = subst (PartitionKept start) (sym step.1) q
+  partition_idle left answer after step = absurd step
+
   partition_frame : (phase : Phase) (answer : Answer) (after : Core) → frame.phase ≡ phase → FrameStep n size c frame below phase answer after → PartitionKept start after
-  partition_frame reserving answer after same (reserves moment len r kind r_is fits a is) = subst (PartitionKept start) (sym is) (partition_acts n start c k t z q reserve)
-  partition_frame reserving answer after same (finds_nothing kind none a is) = subst (PartitionKept start) (sym is) (partition_acts n start c k t z q (leave None))
-  partition_frame reserving answer after same (is_crowded needs full a is) = subst (PartitionKept start) (sym is) (partition_acts n start c k t z q (leave None))
-  partition_frame reserving answer after same (is_worn needs full last a is) = subst (PartitionKept start) (sym is) (partition_acts n start c k t z q (leave None))
-  partition_frame reserving answer after same (notes needs room small a is) = subst (PartitionKept start) (sym is) q
+  partition_frame idle answer after same step = partition_idle frame.state answer after step
   partition_frame (looking noted) answer after same (look_late step) = anew n start c k t z q frame below noted answer after step
   partition_frame (looking noted) answer after same (sees_free page now at a is) = subst (PartitionKept start) (sym is) q
   partition_frame (looking noted) answer after same (sees_header page lost now sum at a is) = subst (PartitionKept start) (sym is) q
@@ -77,10 +91,12 @@ module _ (n size start : ℕ) (c : Core) (frame : Frame) (below : List Frame) (k
   partition_frame (marking role noted page next) answer after same (mark_fails lost goes_on sum other a is) = subst (PartitionKept start) (sym is) q
   partition_frame (clearing noted page) answer after same (clears lost sum at a is) = subst (PartitionKept start) (sym is) q
   partition_frame (opening noted page) answer after same (open_late step) = anew n start c k t z q frame below noted answer after step
-  partition_frame (opening noted page) answer after same (opens now a is) = subst (PartitionKept start) (sym is) (partition_begins n start c k t z q frame.kind page frame below)
-  partition_frame (reserved number) answer after same step = subst (PartitionKept start) (sym step.1) q
+  partition_frame (opening noted page) answer after same (opens now a is) = subst (PartitionKept start) (sym is) (partition_begins n start c k t z q frame.kind frame.state page frame below)
   partition_frame releasing answer after same (releases alone more a is) = subst (PartitionKept start) (sym is) q
   partition_frame releasing answer after same (releases_last alone last a is) = subst (PartitionKept start) (sym is) q
+  partition_frame wishing answer after same (grants alone granted a is) = subst (PartitionKept start) (sym is) (partition_acts n start c k t z q wished)
+  partition_frame wishing answer after same (closes_more alone denied more a is) = subst (PartitionKept start) (sym is) q
+  partition_frame wishing answer after same (goes_away alone denied last a is) = subst (PartitionKept start) (sym is) q
 
 partition_read : (n start : ℕ) (c : Core) (phase : ReaderPhase) (answer : Answer) (after : Core) → LinksKept n c → ContentsKept n start c → ReaderKept n c.links c.order c.spare_link c.head c.done c.reader.hint phase → PartitionKept start c → ReadStep n c phase answer after → PartitionKept start after
 partition_read n start c loading_link answer after k t facts q (loads_header page fill at a is) = subst (PartitionKept start) (sym is) q
@@ -113,3 +129,4 @@ partition_step n size start c event answer after k h t z q (end_step payload fra
 partition_step n size start c event answer after k h t z q (end_lacks payload e none a is) = subst (PartitionKept start) (sym is) q
 partition_step n size start c event answer after k h t z q (end_early payload frame below e top none a is) = subst (PartitionKept start) (sym is) q
 partition_step n size start c event answer after k h t z q (read_step e step) = partition_read n start c c.reader.phase answer after k t k.reader q step
+partition_step n size start c event answer after k h t z q (wish_step e a is) = subst (PartitionKept start) (sym is) q

@@ -44,7 +44,8 @@ WornIsRight = (n size start : ℕ) (c : Core) (event : Event) (after : Core)
     → Step n size c event (refused worn) after
     → (c.opened + n ≡ LINK_FILLS) × (IsCrowded n (window_of c) → ⊥)
 
--- the reader finds nothing only where the head is the first fill that isn't closed, and then it takes nothing
+-- the reader finds nothing only where the head is the first fill that isn't closed; and then it takes nothing, and has
+-- seen that
 abbrev pub EmptyIsRight : Type 0
 EmptyIsRight = (n size start : ℕ) (c : Core) (event : Event) (done : ℕ) (after : Core)
     → IsRingKept n size start c
@@ -53,6 +54,8 @@ EmptyIsRight = (n size start : ℕ) (c : Core) (event : Event) (done : ℕ) (aft
     × (c.done ≡ done)
     × ArePassed n start c done
     × (after.reader.taken ≡ c.reader.taken)
+    × (after.reader.seen ≡ done)
+    × (after.head ≡ done)
 
 -- A move of the head stands in the reader's way: all fills below this one are passed, which is no less than
 -- the reader knew; and the UPDATE of just one frame stands.

@@ -18,26 +18,36 @@ WishesAreHeld = (n size start : ℕ) (c : Core) (answer : Answer) (after : Core)
     × (after ≡ record c { wish = c.reader.seen + 1 })
     × (c.reader.seen ≤ c.done)
 
--- a frame leaves the stack by its look for a wish alone; and where the reader's wish is for the tail, that holds no
+-- the last frame leaves the stack by its look for a wish alone; and where the reader's wish is for the tail, that holds no
 -- record or is the last fill
 abbrev pub GoneHasLooked : Type 0
-GoneHasLooked = (n size start : ℕ) (c : Core) (event : Event) (answer : Answer) (after : Core)
-    (frame : Frame)
-    → IsRingKept n size start c
-    → c.frames ≡ frame ∷ []
+GoneHasLooked = (n size : ℕ) (c : Core) (event : Event) (answer : Answer) (after : Core) (frame : Frame) (below : List Frame)
+    → c.frames ≡ frame ∷ below
     → Step n size c event answer after
     → after.frames ≡ []
-    → (frame.phase ≡ wishing)
+    → (below ≡ [])
+    × (frame.phase ≡ wishing)
     × (answer ≡ gone)
     × (c.wish ≡ c.done + 1 → (tail_of c.history ≡ []) ⊎ (LINK_FILLS ≤ c.opened + n))
 
 -- So a wish for the first fill that isn't closed is answered by the next outermost end that finds a record in the
--- tail, the last fill aside: when that frame is gone, the fill is closed.
+-- tail, the last fill aside: where the last frame is gone and the fill isn't closed yet, there was none, or it is that.
 abbrev pub WishesAreAnswered : Type 0
-WishesAreAnswered = (n size start : ℕ) (c after : Core) (exchanges : List Exchange) (frame : Frame)
+WishesAreAnswered = (n size start : ℕ) (c before : Core) (exchanges : List Exchange)
+    (event : Event) (answer : Answer) (after : Core)
     → IsRingKept n size start c
-    → c.frames ≡ frame ∷ []
-    → frame.phase ≡ wishing
+    → c.wish ≡ c.done + 1
+    → Run n size c exchanges before
+    → Step n size before event answer after
+    → before.frames ≢ []
+    → after.frames ≡ []
+    → (c.done < before.done) ⊎ ((tail_of before.history ≡ []) ⊎ (LINK_FILLS ≤ before.opened + n))
+
+-- and where the tail holds a record when a frame stands, the fill is closed when none stands any more
+abbrev pub WishedTailsAreClosed : Type 0
+WishedTailsAreClosed = (n size start : ℕ) (c after : Core) (exchanges : List Exchange)
+    → IsRingKept n size start c
+    → c.frames ≢ []
     → c.wish ≡ c.done + 1
     → tail_of c.history ≢ []
     → c.opened + n < LINK_FILLS
@@ -57,24 +67,23 @@ EndsOnTheWishedPage = (n size start : ℕ) (c : Core) (payload : List ℕ) (afte
     → (first_of_fill c.history start c.done ≤ number)
     × (number < first_of_fill c.history start c.done + length (tail_of c.history))
 
--- behind an answer that nothing closed is unread, the reader has seen no more fills closed than are taken or lost
-abbrev pub EmptySeesTheHead : Type 0
-EmptySeesTheHead = (n size start : ℕ) (c : Core) (event : Event) (done : ℕ) (after : Core)
-    → IsRingKept n size start c
-    → Step n size c event (empty done) after
-    → (after.reader.seen ≡ done) × (after.head ≡ done)
+-- the reader doesn't look again in these
+abbrev pub IsNoRead : List Exchange → Type 0
+IsNoRead [] = Unit {0}
+IsNoRead (x ∷ exchanges) = (x.event ≢ reads) × IsNoRead exchanges
 
--- A wish right behind that answer loses no fill: from where it is granted, no fill is lost until the next one is
--- begun, and that is begun behind a ring that isn't full.
+-- A wish right behind an answer that nothing closed is unread loses no fill: where a frame grants it before the
+-- reader looks again, no fill is lost until the next one is begun, which is so behind a ring that isn't full.
 abbrev pub WishBehindEmptyLosesNone : Type 0
-WishBehindEmptyLosesNone = (n size start : ℕ) (c between : Core) (exchanges : List Exchange)
-    (event : Event) (answer : Answer) (after : Core)
+WishBehindEmptyLosesNone = (n size start : ℕ) (c empty_at granted_at between : Core) (done : ℕ)
+    (event last_event : Event) (exchanges more : List Exchange) (last_answer : Answer) (after : Core)
     → IsRingKept n size start c
-    → c.reader.seen ≤ c.head
-    → c.wish ≡ c.reader.seen + 1
-    → IsGranted n c
-    → Run n size c exchanges between
-    → between.opened ≡ c.opened
-    → Step n size between event answer after
+    → Step n size c event (empty done) empty_at
+    → IsNoRead exchanges
+    → Run n size empty_at exchanges granted_at
+    → IsGranted n granted_at
+    → Run n size granted_at more between
+    → between.opened ≡ granted_at.opened
+    → Step n size between last_event last_answer after
     → HeadIsLost n between after
     → ⊥

@@ -7,3 +7,4 @@ pub mod links;
 pub mod rings;
 pub mod seats;
 pub mod windows;
+pub mod wishes;

@@ -1,6 +1,8 @@
 -- The reserved records behind one more action.
-use Rattle.std.proofs.Common.{◌≡◌, ℕ, zero, suc, ◌≤◌, List, [], ◌∷◌, ◌++◌, length, take, Option, Some, None, refl, ap, ◌∙◌, arith, length-append}
+use Rattle.std.proofs.Common.{◌≡◌, ◌≢◌, ℕ, zero, suc, ◌≤◌, List, [], ◌∷◌, ◌++◌, length, take, Option, Some, None, refl, ap, ◌∙◌, arith, length-append}
 use Rattle.trace_model.specs.History.{Action, push, push_close, open_fill, reserve, leave, wished, Reservation, PushedFrame, record_frame, close_frame, WriterState, reservation_for, records_with_payload, records_after_leave, after_action, writer_after, reserved_records}
+use Rattle.trace_model.specs.Frames.{Kind, for_record, for_close, FrameState, waiting, reserved, left, pushed_frame, pushed_onto}
+use Rattle.trace_model.specs.Steps.{own_number}
 use Rattle.trace_model.proofs.NextAction.{writer_snoc}
 
 pub records_snoc : (h : List Action) (a : Action) → reserved_records (h ++ a ∷ []) ≡ (after_action (writer_after h).stack (writer_after h).records a).records
@@ -11,6 +13,14 @@ records_left h f stack payload e = records_snoc h (leave payload) ∙ ap (λ (s 
 
 pub records_reserved : (h : List Action) (moment len : ℕ) (stack : List PushedFrame) → (writer_after h).stack ≡ record_frame moment len None ∷ stack → reserved_records (h ++ reserve ∷ []) ≡ reserved_records h ++ reservation_for moment len (reserved_records h) ∷ []
 records_reserved h moment len stack e = records_snoc h reserve ∙ ap (λ (s : List PushedFrame). (after_action s (writer_after h).records reserve).records) e
+
+-- the frame on top of these leaves
+pub records_left_by : (h : List Action) (kind : Kind) (state : FrameState) (below : List PushedFrame) (payload : Option (List ℕ)) → (writer_after h).stack ≡ pushed_onto kind state below → state ≢ left → reserved_records (h ++ leave payload ∷ []) ≡ records_with_payload (own_number kind state) payload (reserved_records h)
+records_left_by h (for_record moment len) waiting below payload stack stands = records_left h (pushed_frame (for_record moment len) waiting) below payload stack
+records_left_by h for_close waiting below payload stack stands = records_left h (pushed_frame for_close waiting) below payload stack
+records_left_by h (for_record moment len) (reserved number) below payload stack stands = records_left h (pushed_frame (for_record moment len) (reserved number)) below payload stack
+records_left_by h for_close (reserved number) below payload stack stands = records_left h (pushed_frame for_close (reserved number)) below payload stack
+records_left_by h kind left below payload stack stands = absurd (stands refl)
 
 -- ---- how many they are
 

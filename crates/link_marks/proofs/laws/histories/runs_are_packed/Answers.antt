@@ -1,7 +1,6 @@
-use Rattle.link_marks.proofs.FullFills.{packed_full}
 use Rattle.link_marks.proofs.PackedRuns.{runs_packed}
 use Rattle.link_marks.proofs.TakenHoldRecords.{taken_hold}
 use Rattle.link_marks.proofs.laws.histories.runs_are_packed.Goals as goal
 
 pub returns : goal.returns
-returns c = record { packed = runs_packed; full = packed_full; taken = taken_hold }
+returns c = record { packed = runs_packed; taken = taken_hold }
