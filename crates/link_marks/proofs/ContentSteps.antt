@@ -1,9 +1,9 @@
 -- Each step keeps the fills in their pages.
 use Rattle.std.proofs.Common.{◌≡◌, ◌≢◌, ℕ, ◌+◌, ◌-◌, ◌≤◌, List, [], ◌∷◌, ◌++◌, get_or, length, map, set, Option, Some, None, refl, sym, ap, ◌∙◌, subst, arith}
-use Rattle.trace_model.specs.History.{Action, push, push_close, open_fill, reserve, leave, wished, Reservation, PushedFrame, record_frame, writer_after, reserved_records, records_with_payload}
+use Rattle.trace_model.specs.History.{Action, push, push_close, open_fill, reserve, leave, wished, Reservation, writer_after, reserved_records, records_with_payload}
 use Rattle.trace_model.specs.Packing.{opens_of}
 use Rattle.trace_model.specs.Frames.{Kind, for_record, for_close, FrameState, waiting, reserved, left, Role, helper, Phase, idle, looking, claiming, looking_next, marking, clearing, opening, releasing, wishing, Frame, pushed_onto, pushed_frames}
-use Rattle.trace_model.specs.Ring.{Held, empty_page, ReaderPhase, loading_link, loading_done, storing_link, swapping, Core, page_at, AreApart}
+use Rattle.trace_model.specs.Ring.{Held, ReaderPhase, loading_link, loading_done, storing_link, swapping, Core, page_at, AreApart}
 use Rattle.trace_model.specs.Steps.{Event, Answer, tail_page, after_leave, held_with_payload, own_number, with_new_tail, after_begin, BeginsAnew, IdleStep, ReserveStep, reserves, finds_nothing, is_crowded, is_worn, notes, look_late, sees_free, sees_header, sees_update, claim_late, claims, claim_fails, next_late, sees_normal, sees_other, mark_late, marks, mark_fails, clears, OpenStep, open_late, opens, releases, releases_last, grants, closes_more, goes_away, FrameStep, Step, push_step, push_refused, close_step, close_refused, frame_step, frame_lacks, end_step, end_lacks, end_early, read_step, wish_step, LoadStep, loads_header, loads_update, loads_owed, loads_passed, LoadDoneStep, finds_none, finds_closed, SwapStep, swaps, swap_fails, ReadStep, after_swap}
 use Rattle.trace_model.proofs.NextAction.{opened_stack}
 use Rattle.trace_model.proofs.NextRecords.{records_snoc, records_reserved, records_left_by}
@@ -14,6 +14,7 @@ use Rattle.link_marks.specs.KeptStack.{StackKept}
 use Rattle.link_marks.specs.KeptContents.{PagesKept, ContentsKept, OpenPagesKept}
 use Rattle.link_marks.proofs.LinkFills.{header_tells, fill_at}
 use Rattle.link_marks.proofs.FrameChanges.{top_kept}
+use Rattle.link_marks.proofs.HistorySteps.{top_stack}
 use Rattle.link_marks.proofs.OpenPageSteps.{tail_page_is}
 use Rattle.link_marks.proofs.PageChanges.{nothing, pages_later, pages_reserved, pages_begun, pages_finished, pages_swapped}
 
@@ -37,7 +38,7 @@ module _ (n start : ℕ) (c : Core) (frame : Frame) (below : List Frame) (some :
 
 module _ (n size start : ℕ) (c : Core) (frame : Frame) (below : List Frame) (k : LinksKept n c) (h : HistoryKept n start c) (t : ContentsKept n start c) (o : OpenPagesKept n c) (top : c.frames ≡ frame ∷ below) where
   stack_top : (writer_after c.history).stack ≡ pushed_onto frame.kind frame.state (pushed_frames below)
-  stack_top = h.stack ∙ ap pushed_frames top
+  stack_top = top_stack n start c frame below h top
 
   some_page : 1 ≤ n
   some_page = let two = k.some_pages in omega arith

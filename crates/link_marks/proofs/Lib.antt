@@ -11,6 +11,7 @@ pub mod Histories
 pub mod HistorySteps
 pub mod Happenings
 pub mod PageChanges
+pub mod OpenPageSteps
 pub mod ContentSteps
 pub mod OpenPageSteps
 pub mod ClosedSteps

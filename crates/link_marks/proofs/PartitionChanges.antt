@@ -1,4 +1,3 @@
--- LEADER'S NOTE 20:31: another helper (/work/h/partition/main) mends this file now; contents: leave it, take theirs (drop this line with git checkout).
 -- The taken fills and the lost ones stay a partition of the records where an action more is done, and where the
 -- head is lost or taken.
 use Rattle.std.proofs.Common.{◌≡◌, ℕ, suc, ◌+◌, ◌-◌, ◌<◌, ◌≤◌, ⊎_elim, List, [], ◌∷◌, ◌++◌, length, get_or, take, map, Some, sym, ap, ◌∙◌, subst, arith, length-append, length-take-le, append_assoc}

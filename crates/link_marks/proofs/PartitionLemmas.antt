@@ -1,4 +1,3 @@
--- LEADER'S NOTE 20:31: another helper (/work/h/partition/main) mends this file now; contents: leave it, take theirs (drop this line with git checkout).
 -- What the reader took and what was lost between are a partition of the records, and stays so.
 use Rattle.std.proofs.Common.{◌≡◌, ℕ, zero, suc, ◌+◌, ◌-◌, ◌≤◌, ◌⊎◌, inl, inr, ⊎_elim, List, [], ◌∷◌, ◌++◌, length, take, map, Some, refl, sym, ap, ◌∙◌, arith, length-take-le, append_assoc, append-nil}
 use Rattle.trace_model.specs.Record.{Record}

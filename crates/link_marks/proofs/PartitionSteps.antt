@@ -1,4 +1,3 @@
--- LEADER'S NOTE 20:31: another helper (/work/h/partition/main) mends this file now; contents: leave it, take theirs (drop this line with git checkout).
 -- Each step keeps the taken fills and the lost ones a partition of the records.
 use Rattle.std.proofs.Common.{◌≡◌, ℕ, ◌+◌, ◌-◌, ◌≤◌, List, [], ◌∷◌, ◌++◌, length, get_or, Some, None, refl, sym, ap, ◌∙◌, subst, arith, length-append}
 use Rattle.trace_model.specs.History.{Action, push, push_close, open_fill, reserve, leave, wished, Reservation, reserved_records}

@@ -1,4 +1,3 @@
--- LEADER'S NOTE 20:31: another helper (/work/h/partition/main) mends this file now; contents: leave it, take theirs (drop this line with git checkout).
 -- How many records a ring's run can reserve.
 use Rattle.std.proofs.Common.{◌≡◌, ℕ, ◌-◌, ◌*◌, ◌^◌, ◌<◌, ◌≤◌, List, length, flat_map, subst, arith}
 use Rattle.trace_model.specs.declared.limits.TheConstants.{MAX_SIZE}

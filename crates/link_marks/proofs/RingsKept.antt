@@ -165,7 +165,7 @@ taken_partition n size start c r = (map as_record (drop c.reader.expected (take 
 pub ring_step : (n size start : ℕ) (c : Core) (event : Event) (answer : Answer) (after : Core) → IsRingKept n size start c → Step n size c event answer after → IsRingKept n size start after
 ring_step n size start c event answer after r step = record {
   links = step_kept n size c event answer after r.links r.stack step;
-  stack = stack_step n size c event answer after r.links r.stack step;
+  stack = stack_step n size c event answer after r.stack step;
   progress = progress_step n size c event answer after r.links r.progress step;
   history = (step_owed n size start c event answer after r.links r.stack r.history step).kept;
   contents = contents_step n size start c event answer after r.links r.stack r.history r.contents r.open_pages step;
@@ -198,7 +198,7 @@ ring_start n size start c may s = let some = may.some_pages in let fits = may.nu
   progress = progress_start n start c s;
   history = start_history n start c s;
   contents = subst (λ (h : List Action). PagesKept n start c.order c.held (opens_of h) (reserved_records h) c.head c.opened) (sym s.history) (nothing_done n start c (omega arith) links.apart s);
-  open_pages = open_pages_start n start c (omega arith) s;
+  open_pages = start_open_pages n start c s some;
   packed = packed_start n size start c s;
   closed = subst (λ (h : List Action). first_of_fill h start c.done ≤ length (reserved_records (settled_prefix h))) (sym s.history)
       (subst (λ (i : ℕ). get_or (0 ∷ []) i 0 ≤ 0) (let e : 0 ≡ c.done - start = omega arith in e) (let z : 0 ≤ 0 = omega arith in z));
