@@ -47,6 +47,7 @@ pub mod Tails
 pub mod WishSteps
 -- the two seats, the writer's and the reader's
 pub mod SeatSteps
+pub mod ReaderSeat
 pub mod PrivateSteps
 -- the worked examples and the wrong steps
 pub mod ExamplesRun
