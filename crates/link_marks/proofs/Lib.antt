@@ -12,8 +12,8 @@ pub mod HistorySteps
 pub mod Happenings
 pub mod PageChanges
 pub mod OpenPageSteps
+pub mod OtherPageSteps
 pub mod ContentSteps
-pub mod OpenPageSteps
 pub mod ClosedSteps
 -- the partition of the records, and the invariant as a whole
 pub mod PartitionLemmas
