@@ -43,12 +43,14 @@ pub mod StepsGiven
 pub mod StepsDetermined
 pub mod OneNewRing
 pub mod CountMoves
--- the two seats, the writer's and the reader's
-pub mod SeatSteps
-pub mod PrivateSteps
 -- the wish
 pub mod Tails
 pub mod WishSteps
+-- the two seats, the writer's and the reader's
+pub mod SeatSteps
+pub mod PrivateSteps
+pub mod SeatPages
+pub mod PrivateCommutes
 -- the worked examples and the wrong steps
 pub mod ExamplesRun
 pub mod WrongStepsRefused

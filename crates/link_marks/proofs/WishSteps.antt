@@ -15,6 +15,7 @@ use Rattle.link_marks.specs.WishLaws.{WishesAreHeld, GoneHasLooked, WishesAreAns
 use Rattle.link_marks.proofs.RingsKept.{ring_step, ring_run}
 use Rattle.link_marks.proofs.ToldSteps.{leads_run, counts_rise}
 use Rattle.link_marks.proofs.AnswersRight.{empty_right}
+use Rattle.link_marks.proofs.SeatSteps.{writer_leaves_reader}
 use Rattle.link_marks.proofs.Tails.{tail_over}
 
 -- ---- the wish is stored
@@ -60,7 +61,7 @@ module _ (n size : ℕ) (c : Core) (frame : Frame) (below : List Frame) (answer 
   stands next is some = some (sym (ap (λ (x : Core). x.frames) is) ∙ none)
 
   goes : (next : Core) (there : Frame) → next.frames ≡ there ∷ below → after ≡ next → ⊥
-  goes next there e is = stands next is (λ no. some_stands there below (sym e ∙ no))
+  goes next there e is = stands next is (λ none_there. some_stands there below (sym e ∙ none_there))
 
   anew : (noted : ℕ) → BeginsAnew c frame below noted answer after → ⊥
   anew noted step = stands _ step.after_is (begin_stays c frame below frame.kind frame.state)
@@ -70,7 +71,7 @@ module _ (n size : ℕ) (c : Core) (frame : Frame) (below : List Frame) (answer 
     where
       idle_stays : (state : FrameState) → IdleStep n size c frame below state answer after → ⊥
       idle_stays waiting (reserves moment len r kind r_is fits a is) = goes _ _ refl is
-      idle_stays waiting (finds_nothing kind no a is) = stands _ is (leave_stays c frame below)
+      idle_stays waiting (finds_nothing kind nothing a is) = stands _ is (leave_stays c frame below)
       idle_stays waiting (is_crowded needs full a is) = stands _ is (leave_stays c frame below)
       idle_stays waiting (is_worn needs full last a is) = stands _ is (leave_stays c frame below)
       idle_stays waiting (notes needs room small a is) = goes _ _ refl is
@@ -120,10 +121,10 @@ looked_step n size c event answer after frame below top (close_refused e many a 
 looked_step n size c event answer after frame below top (frame_step other under e there step) none =
     let (is_frame, is_below) = same_top other frame under below (sym there ∙ top) in
     subst (λ (f : Frame). HasLooked n c below f.phase answer) is_frame (subst (λ (b : List Frame). HasLooked n c b other.phase answer) is_below (gone_frame n size c other under answer after there none other.phase step))
-looked_step n size c event answer after frame below top (frame_lacks e no a is) none = absurd (some_stands frame below (sym top ∙ no))
+looked_step n size c event answer after frame below top (frame_lacks e lacks a is) none = absurd (some_stands frame below (sym top ∙ lacks))
 looked_step n size c event answer after frame below top (end_step payload other under number moment len e there state kind slot a is) none = absurd (leave_stays c other under (sym (ap (λ (x : Core). x.frames) is) ∙ none))
-looked_step n size c event answer after frame below top (end_lacks payload e no a is) none = absurd (some_stands frame below (sym top ∙ no))
-looked_step n size c event answer after frame below top (end_early payload other under e there no a is) none = absurd (some_stands frame below (sym top ∙ sym (ap (λ (x : Core). x.frames) is) ∙ none))
+looked_step n size c event answer after frame below top (end_lacks payload e lacks a is) none = absurd (some_stands frame below (sym top ∙ lacks))
+looked_step n size c event answer after frame below top (end_early payload other under e there lacks a is) none = absurd (some_stands frame below (sym top ∙ sym (ap (λ (x : Core). x.frames) is) ∙ none))
 looked_step n size c event answer after frame below top (read_step e step) none = absurd (some_stands frame below (sym top ∙ sym (read_stays n c c.reader.phase answer after step).0 ∙ none))
 looked_step n size c event answer after frame below top (wish_step e a is) none = absurd (some_stands frame below (sym top ∙ sym (ap (λ (x : Core). x.frames) is) ∙ none))
 
@@ -247,8 +248,8 @@ module _ (n size start : ℕ) (c : Core) where
   -- no state without a frame comes before the fill is closed
   stands_run : (s after : Core) (front exchanges : List Exchange) → tail_of c.history ≢ [] → c.opened + n < LINK_FILLS → IsRingKept n size start c → IsRingKept n size start s → Run n size c front s → Run n size s exchanges after
       → IsPending c s → s.frames ≢ [] → after.frames ≡ [] → c.done < after.done
-  stands_run s after front [] some left r k before run p stand none = absurd (stand (ap (λ (x : Core). x.frames) run ∙ none))
-  stands_run s after front (x ∷ exchanges) some left r k before (between, step, run) p stand none =
+  stands_run s after front [] some least r k before run p stand none = absurd (stand (ap (λ (x : Core). x.frames) run ∙ none))
+  stands_run s after front (x ∷ exchanges) some least r k before (between, step, run) p stand none =
       let kept = ring_step n size start s x.event x.answer between k step in
       ⊎_elim
       (λ pending. none_or_some between.frames
@@ -258,7 +259,7 @@ module _ (n size start : ℕ) (c : Core) where
         let last = l.closed in let closed = p.closed in let behind = r.links.done_lt in
         let rises = counts_rise n size start c s front r before in let opens = rises.2 in
         ⊎_elim (λ empty. tail_run s front r before (omega arith) some empty) (λ full. omega arith) (pending_gone s x.event x.answer between p step stand gone)))
-      (λ stands. stands_run between after (front ++ x ∷ []) exchanges some left r kept (run_snoc n size c s between front x before step) run pending stands none))
+      (λ stands. stands_run between after (front ++ x ∷ []) exchanges some least r kept (run_snoc n size c s between front x before step) run pending stands none))
       (λ done. let rises = counts_rise n size start between after exchanges kept run in let dones = rises.1 in omega arith)
       (pending_step s x.event x.answer between k step p)
     where
@@ -276,8 +277,8 @@ wishes_answered n size start c before exchanges event answer after r asks run st
     (pending_run n size start c c before exchanges r run (inl record { closed = refl; asks = asks }))
 
 pub wished_tails_closed : WishedTailsAreClosed
-wished_tails_closed n size start c after exchanges r stand asks some left run none =
-    stands_run n size start c c after [] exchanges some left r r refl run record { closed = refl; asks = asks } stand none
+wished_tails_closed n size start c after exchanges r stand asks some least run none =
+    stands_run n size start c c after [] exchanges some least r r refl run record { closed = refl; asks = asks } stand none
 
 -- ---- the wish loses nothing
 
@@ -309,7 +310,7 @@ seen_over n size c after (x ∷ exchanges) none (between, step, run) = seen_over
 
 pub wish_loses_none : WishBehindEmptyLosesNone
 wish_loses_none n size start c empty_at granted_at between done event last_event exchanges more last_answer after r first none run granted on same step lost =
-    let (head, (closed, (passed, (taken, (seen, here))))) = empty_right n size start c event done empty_at r first in
+    let (head, closed, passed, taken, seen, here) = empty_right n size start c event done empty_at r first in
     let empty_kept = ring_step n size start c event (empty done) empty_at r first in
     let granted_kept = ring_run n size start empty_at granted_at exchanges empty_kept run in
     let kept = ring_run n size start granted_at between more granted_kept on in
