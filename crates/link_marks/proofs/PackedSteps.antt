@@ -173,8 +173,11 @@ module _ (n size start : ℕ) (c : Core) (frame : Frame) (below : List Frame) (k
       ((λ none. holds (sym tails ∙ none)), is_wished-wished c.history) in record {
         room = refilled size (opens_of h0) (opens_of (h0 ++ wished ∷ [])) (reserved_records h0) (reserved_records (h0 ++ wished ∷ [])) (opens_of-wished c.history) (ap (map plain) records) p.room;
         fit = fit_more size c.history wished p.fit tt;
-        needs = (p.needs.0, (λ _. subst (NeedsFill size (opens_of (h0 ++ wished ∷ [])) (reserved_records (h0 ++ wished ∷ [])) (is_wished (h0 ++ wished ∷ [])) frame.kind) (sym gone) still),
-            subst (FramesNeed size (opens_of (h0 ++ wished ∷ [])) (reserved_records (h0 ++ wished ∷ [])) (is_wished (h0 ++ wished ∷ [])) c.opened) (sym alone) tt);
+        needs = (
+          p.needs.0,
+          (λ _. subst (NeedsFill size (opens_of (h0 ++ wished ∷ [])) (reserved_records (h0 ++ wished ∷ [])) (is_wished (h0 ++ wished ∷ [])) frame.kind) (sym gone) still),
+          subst (FramesNeed size (opens_of (h0 ++ wished ∷ [])) (reserved_records (h0 ++ wished ∷ [])) (is_wished (h0 ++ wished ∷ [])) c.opened) (sym alone) tt,
+        );
       }
 
   has_left : frame.phase ≡ wishing → frame.state ≡ left

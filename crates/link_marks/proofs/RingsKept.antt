@@ -23,6 +23,7 @@ use Rattle.link_marks.proofs.LinkSteps.{step_kept}
 use Rattle.link_marks.proofs.StackSteps.{stack_start, stack_step}
 use Rattle.link_marks.proofs.ProgressSteps.{progress_start, progress_step}
 use Rattle.link_marks.proofs.OpenPageSteps.{open_pages_step}
+use Rattle.link_marks.proofs.OtherPageSteps.{other_pages_step, other_pages_start}
 use Rattle.link_marks.proofs.PackedSteps.{packed_start, packs_step}
 use Rattle.link_marks.proofs.HistorySteps.{step_owed}
 use Rattle.link_marks.proofs.ContentSteps.{contents_step}
@@ -170,6 +171,7 @@ ring_step n size start c event answer after r step = record {
   history = (step_owed n size start c event answer after r.links r.stack r.history step).kept;
   contents = contents_step n size start c event answer after r.links r.stack r.history r.contents r.open_pages step;
   open_pages = open_pages_step n size c event answer after r.links r.open_pages step;
+  other_pages = other_pages_step n size start c event answer after r.links r.stack r.history r.contents r.open_pages r.other_pages step;
   packed = packs_step n size start c event answer after r.links r.stack r.history r.contents r.packed step;
   closed = closed_step n size start c event answer after r.links r.stack r.history r.contents r.closed step;
   partition = partition_step n size start c event answer after r.links r.history r.contents r.closed r.partition step;
@@ -199,6 +201,7 @@ ring_start n size start c may s = let some = may.some_pages in let fits = may.nu
   history = start_history n start c s;
   contents = subst (λ (h : List Action). PagesKept n start c.order c.held (opens_of h) (reserved_records h) c.head c.opened) (sym s.history) (nothing_done n start c (omega arith) links.apart s);
   open_pages = start_open_pages n start c s some;
+  other_pages = other_pages_start n start c s;
   packed = packed_start n size start c s;
   closed = subst (λ (h : List Action). first_of_fill h start c.done ≤ length (reserved_records (settled_prefix h))) (sym s.history)
       (subst (λ (i : ℕ). get_or (0 ∷ []) i 0 ≤ 0) (let e : 0 ≡ c.done - start = omega arith in e) (let z : 0 ≤ 0 = omega arith in z));

@@ -5,7 +5,7 @@ use Rattle.trace_model.specs.Links.{Link}
 use Rattle.trace_model.specs.Frames.{Kind, for_record, for_close, FrameState, waiting, reserved, left, Role, owner, helper, Phase, idle, looking, claiming, looking_next, marking, clearing, opening, releasing, wishing, Frame, Refusal}
 use Rattle.trace_model.specs.Ring.{ReaderPhase, loading_link, loading_done, storing_link, swapping, Reader, Core}
 use Rattle.trace_model.specs.Steps.{Event, Answer, NeedsPage, with_new_tail, after_leave, after_begin, GoesOn, BeginsAnew, reserves, finds_nothing, is_crowded, is_worn, notes, look_late, sees_free, sees_header, sees_update, claim_late, claims, claim_fails, next_late, sees_normal, sees_other, mark_late, marks, mark_fails, clears, open_late, opens, releases, releases_last, IsGranted, grants, closes_more, goes_away, IdleStep, FrameStep, loads_header, loads_update, loads_owed, loads_passed, finds_none, finds_closed, swaps, swap_fails, ReadStep, PushRefused, all_stand, has_no_room, comes_late, Step, push_step, push_refused, close_step, close_refused, frame_step, frame_lacks, end_step, end_lacks, end_early, read_step, wish_step}
-use Rattle.link_marks.specs.Seats.{IsOfReader, ReaderPart, seen_by, WriterStays, ReaderStays, PhaseIsPrivate, TopIsPrivate, IsPrivate, WordsStay}
+use Rattle.link_marks.specs.Seats.{IsOfReader, ReaderPart, seen_by, WriterPart, written_by, WriterStays, ReaderStays}
 
 -- ---- the writer reads nothing of the reader's part
 
@@ -201,3 +201,30 @@ reader_leaves_writer n size c event answer after reads (end_lacks payload e none
 reader_leaves_writer n size c event answer after reads (end_early payload frame below e top none a is) = absurd (subst IsOfReader e reads)
 reader_leaves_writer n size c event answer after reads (read_step e step) = read_leaves n c c.reader.phase answer after step
 reader_leaves_writer n size c event answer after reads (wish_step e a is) = stays c _ after refl refl refl refl refl is
+
+-- ---- and it reads nothing of that
+
+module _ (n : ℕ) (part : WriterPart) (c : Core) (answer : Answer) (after : Core) where
+  read_beside : (phase : ReaderPhase) → ReadStep n c phase answer after → ReadStep n (written_by part c) phase answer (written_by part after)
+  read_beside loading_link (loads_header page fill at a is) = loads_header page fill at a (ap (written_by part) is)
+  read_beside loading_link (loads_update page lost at a is) = loads_update page lost at a (ap (written_by part) is)
+  read_beside loading_link (loads_owed page at a is) = loads_owed page at a (ap (written_by part) is)
+  read_beside loading_link (loads_passed page fill least at more sum a is) = loads_passed page fill least at more sum a (ap (written_by part) is)
+  read_beside (loading_done page fill) (finds_none le a is) = finds_none le a (ap (written_by part) is)
+  read_beside (loading_done page fill) (finds_closed below a is) = finds_closed below a (ap (written_by part) is)
+  read_beside (storing_link page fill) step = record { answer_is = step.answer_is; after_is = ap (written_by part) step.after_is }
+  read_beside (swapping page fill) (swaps at a is) = swaps at a (ap (written_by part) is)
+  read_beside (swapping page fill) (swap_fails at a is) = swap_fails at a (ap (written_by part) is)
+
+pub reader_reads_no_writer : (n size : ℕ) (c : Core) (event : Event) (answer : Answer) (after : Core) (part : WriterPart) → IsOfReader event → Step n size c event answer after → Step n size (written_by part c) event answer (written_by part after)
+reader_reads_no_writer n size c event answer after part reads (push_step moment len e few short early a is) = absurd (subst IsOfReader e reads)
+reader_reads_no_writer n size c event answer after part reads (push_refused moment len why e refused a is) = absurd (subst IsOfReader e reads)
+reader_reads_no_writer n size c event answer after part reads (close_step e few a is) = absurd (subst IsOfReader e reads)
+reader_reads_no_writer n size c event answer after part reads (close_refused e many a is) = absurd (subst IsOfReader e reads)
+reader_reads_no_writer n size c event answer after part reads (frame_step frame below e top step) = absurd (subst IsOfReader e reads)
+reader_reads_no_writer n size c event answer after part reads (frame_lacks e none a is) = absurd (subst IsOfReader e reads)
+reader_reads_no_writer n size c event answer after part reads (end_step payload frame below number moment len e top at kind slot a is) = absurd (subst IsOfReader e reads)
+reader_reads_no_writer n size c event answer after part reads (end_lacks payload e none a is) = absurd (subst IsOfReader e reads)
+reader_reads_no_writer n size c event answer after part reads (end_early payload frame below e top none a is) = absurd (subst IsOfReader e reads)
+reader_reads_no_writer n size c event answer after part reads (read_step e step) = read_step e (read_beside n part c answer after c.reader.phase step)
+reader_reads_no_writer n size c event answer after part reads (wish_step e a is) = wish_step e a (ap (written_by part) is)

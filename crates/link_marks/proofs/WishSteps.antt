@@ -254,11 +254,11 @@ module _ (n size start : ℕ) (c : Core) where
       ⊎_elim
       (λ pending. none_or_some between.frames
       (λ gone. absurd (
-        let (frame, below, top) = frames_of s.frames stand in
-        let l = looked_step n size s x.event x.answer between frame below top step gone in
-        let last = l.closed in let closed = p.closed in let behind = r.links.done_lt in
-        let rises = counts_rise n size start c s front r before in let opens = rises.2 in
-        ⊎_elim (λ empty. tail_run s front r before (omega arith) some empty) (λ full. omega arith) (pending_gone s x.event x.answer between p step stand gone)))
+      let (frame, below, top) = frames_of s.frames stand in
+      let l = looked_step n size s x.event x.answer between frame below top step gone in
+      let last = l.closed in let closed = p.closed in let behind = r.links.done_lt in
+      let rises = counts_rise n size start c s front r before in let opens = rises.2 in
+      ⊎_elim (λ empty. tail_run s front r before (omega arith) some empty) (λ full. omega arith) (pending_gone s x.event x.answer between p step stand gone)))
       (λ stands. stands_run between after (front ++ x ∷ []) exchanges some least r kept (run_snoc n size c s between front x before step) run pending stands none))
       (λ done. let rises = counts_rise n size start between after exchanges kept run in let dones = rises.1 in omega arith)
       (pending_step s x.event x.answer between k step p)

@@ -1,5 +1,5 @@
 -- What each step of a ring keeps of its pages and their records.
-use Rattle.std.specs.Prelude.{◌≡◌, ℕ, ◌+◌, ◌-◌, ◌<◌, ◌≤◌, List, [], ◌∷◌, length, slice_index_or}
+use Rattle.std.specs.Prelude.{◌≡◌, ◌≢◌, ℕ, ◌+◌, ◌-◌, ◌<◌, ◌≤◌, List, [], ◌∷◌, length, slice_index_or}
 use Rattle.trace_model.specs.History.{Action, Reservation, reserved_records, settled_prefix}
 use Rattle.trace_model.specs.Packing.{opens_of, cut_from}
 use Rattle.trace_model.specs.Fitting.{IsRising}
@@ -46,3 +46,13 @@ pub record OpenPagesAt (n : ℕ) (order open_pages : List ℕ) (done opened : �
 
 abbrev pub OpenPagesKept : ℕ → Core → Type 0
 OpenPagesKept n c = OpenPagesAt n c.order c.open_pages c.done c.opened
+
+-- each page that the writer doesn't hold has none but committed records: their numbers end with these
+abbrev pub OtherPagesAt : List Action → List ℕ → List Held → Type 0
+OtherPagesAt history open_pages held = (page : ℕ)
+    → ((i : ℕ) → i < length open_pages → slice_index_or open_pages i 0 ≢ page)
+    → (slice_index_or held page empty_page).first + length (slice_index_or held page empty_page).records
+    ≤ length (reserved_records (settled_prefix history))
+
+abbrev pub OtherPagesKept : Core → Type 0
+OtherPagesKept c = OtherPagesAt c.history c.open_pages c.held
