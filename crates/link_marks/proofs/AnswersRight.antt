@@ -199,7 +199,7 @@ module _ (n size start : ℕ) (c : Core) (r : IsRingKept n size start c) where
   read_true loading_link answer after facts (loads_owed page at a is) = says n 0 c (NoneSaid after) (WaySaid after) (TookSaid after) answer (moving c.reader.hint) a (finds_owed page at, ap (λ (d : Core). d.reader.taken) is)
   read_true loading_link answer after facts (loads_passed page fill least at more sum a is) = says n 0 c (NoneSaid after) (WaySaid after) (TookSaid after) answer reading a tt
   read_true (loading_done page fill) answer after facts (finds_none le a is) = let fill_is = facts.fill_is in let low = r.links.hint_le in let unread = r.links.head_le in
-      says n 0 c (NoneSaid after) (WaySaid after) (TookSaid after) answer (empty c.done) a (omega arith, refl, (ap (λ (d : Core). d.reader.taken) is, (ap (λ (d : Core). d.reader.seen) is, ap (λ (d : Core). d.head) is)))
+      says n 0 c (NoneSaid after) (WaySaid after) (TookSaid after) answer (empty c.done) a (omega arith, refl, ap (λ (d : Core). d.reader.taken) is, ap (λ (d : Core). d.reader.seen) is, ap (λ (d : Core). d.head) is)
   read_true (loading_done page fill) answer after facts (finds_closed below a is) = says n 0 c (NoneSaid after) (WaySaid after) (TookSaid after) answer reading a tt
   read_true (storing_link page fill) answer after facts step = says n 0 c (NoneSaid after) (WaySaid after) (TookSaid after) answer reading step.answer_is tt
   read_true (swapping page fill) answer after facts (swaps at a is) =
@@ -214,7 +214,7 @@ module _ (n size start : ℕ) (c : Core) (r : IsRingKept n size start c) where
 
 pub empty_right : (n size start : ℕ) (c : Core) (event : Event) (done : ℕ) (after : Core) → IsRingKept n size start c → Step n size c event (empty done) after
     → (c.head ≡ done) × (c.done ≡ done) × ArePassed n start c done × (after.reader.taken ≡ c.reader.taken) × (after.reader.seen ≡ done) × (after.head ≡ done)
-empty_right n size start c event done after r step = let (a, b, same, seen, head) = all_true n size start c r event (empty done) after step in (a, (b, (passed_below n size start c r done (omega arith), (same, (seen, head ∙ a)))))
+empty_right n size start c event done after r step = let (a, b, same, seen, head) = all_true n size start c r event (empty done) after step in (a, b, passed_below n size start c r done (omega arith), same, seen, head ∙ a)
 
 pub moving_right : (n size start : ℕ) (c : Core) (event : Event) (fill : ℕ) (after : Core) → IsRingKept n size start c → Step n size c event (moving fill) after → IsInTheWay n start c fill × (after.reader.taken ≡ c.reader.taken)
 moving_right n size start c event fill after r step = all_true n size start c r event (moving fill) after step

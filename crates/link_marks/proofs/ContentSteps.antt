@@ -1,5 +1,5 @@
 -- Each step keeps the fills in their pages.
-use Rattle.std.proofs.Common.{◌≡◌, ◌≢◌, ℕ, ◌+◌, ◌-◌, ◌<◌, ◌≤◌, List, [], ◌∷◌, ◌++◌, get_or, length, map, set, Option, Some, None, refl, sym, ap, ◌∙◌, subst, arith}
+use Rattle.std.proofs.Common.{◌≡◌, ◌≢◌, ℕ, ◌+◌, ◌-◌, ◌≤◌, List, [], ◌∷◌, ◌++◌, get_or, length, map, set, Option, Some, None, refl, sym, ap, ◌∙◌, subst, arith}
 use Rattle.trace_model.specs.History.{Action, push, push_close, open_fill, reserve, leave, wished, Reservation, writer_after, reserved_records, records_with_payload}
 use Rattle.trace_model.specs.Packing.{opens_of}
 use Rattle.trace_model.specs.Frames.{Kind, for_record, for_close, FrameState, waiting, reserved, left, Phase, idle, looking, claiming, looking_next, marking, clearing, opening, releasing, wishing, Frame, pushed_onto, pushed_frames}
@@ -8,15 +8,15 @@ use Rattle.trace_model.specs.Steps.{Event, Answer, tail_page, after_leave, held_
 use Rattle.trace_model.proofs.NextAction.{opened_stack}
 use Rattle.trace_model.proofs.NextRecords.{records_snoc, records_reserved, records_left_by}
 use Rattle.trace_model.proofs.FillCuts.{opens_of-push, opens_of-push_close, opens_of-reserve, opens_of-leave, opens_of-wished, opens_of-open_fill}
-use Rattle.link_marks.specs.KeptLinks.{PhaseKept, ReaderKept, LinksKept}
+use Rattle.link_marks.specs.KeptLinks.{PhaseKept, LinksKept}
 use Rattle.link_marks.specs.KeptHistory.{HistoryKept}
 use Rattle.link_marks.specs.KeptStack.{StackKept}
 use Rattle.link_marks.specs.KeptContents.{PagesKept, ContentsKept, OpenPagesKept}
-use Rattle.link_marks.proofs.LinkFills.{header_inside, header_tells, fill_at}
+use Rattle.link_marks.proofs.LinkFills.{header_tells, fill_at}
 use Rattle.link_marks.proofs.FrameChanges.{top_kept}
 use Rattle.link_marks.proofs.HistorySteps.{top_stack}
 use Rattle.link_marks.proofs.OpenPageSteps.{tail_page_is}
-use Rattle.link_marks.proofs.PageChanges.{nothing, pages_lost, pages_reserved, pages_begun, pages_finished, pages_swapped}
+use Rattle.link_marks.proofs.PageChanges.{nothing, pages_later, pages_reserved, pages_begun, pages_finished, pages_swapped}
 
 -- the same cuts and records, by equations
 same_pages : (n start : ℕ) (order : List ℕ) (held : List Held) (cuts cuts' : List ℕ) (xs xs' : List Reservation) (head opened : ℕ) → cuts' ≡ cuts → xs' ≡ xs → PagesKept n start order held cuts xs head opened → PagesKept n start order held cuts' xs' head opened
@@ -95,11 +95,8 @@ module _ (n size start : ℕ) (c : Core) (frame : Frame) (below : List Frame) (k
   contents_frame (looking noted) answer after same (sees_header page lost now sum at a is) = subst (ContentsKept n start) (sym is) t
   contents_frame (looking noted) answer after same (sees_update page lost now sum at a is) = subst (ContentsKept n start) (sym is) t
   contents_frame (claiming noted page) answer after same (claim_late step) = contents_anew noted answer after step
-  contents_frame (claiming noted page) answer after same (claims lost now sum at a is) =
-      let (open_yet, begun_yet, room, small) = (subst (PhaseKept n c.links c.order c.head c.done c.opened) same (top_kept n c frame below k top)).noted noted refl in
-      let unread = k.head_le in let within = k.opened_le in let behind = k.done_lt in
-      let (here, page_is, head_at) = header_inside n c k noted page lost (omega arith) (omega arith) sum at in
-      subst (ContentsKept n start) (sym is) (pages_lost n start c.order c.spare c.held (opens_of c.history) (reserved_records c.history) c.head c.opened some_page k.apart t (omega arith))
+  contents_frame (claiming noted page) answer after same (claims lost now sum at a is) = subst (ContentsKept n start) (sym is)
+      (pages_later n start c.order c.spare c.held (opens_of c.history) (reserved_records c.history) c.head c.opened some_page k.apart t (c.head + 1) (omega arith))
   contents_frame (claiming noted page) answer after same (claim_fails now other a is) = subst (ContentsKept n start) (sym is) t
   contents_frame (looking_next role noted page) answer after same (next_late helps step) = contents_anew noted answer after step
   contents_frame (looking_next role noted page) answer after same (sees_normal lost next goes_on sum at a is) = subst (ContentsKept n start) (sym is) t
@@ -126,20 +123,20 @@ module _ (n start : ℕ) (c : Core) (k : LinksKept n c) (t : ContentsKept n star
   contents_load_done page fill answer after (finds_none le a is) = subst (ContentsKept n start) (sym is) t
   contents_load_done page fill answer after (finds_closed below a is) = subst (ContentsKept n start) (sym is) t
 
-  contents_swap : (page fill : ℕ) (answer : Answer) (after : Core) → fill < c.done → SwapStep n c page fill answer after → ContentsKept n start after
-  contents_swap page fill answer after closed (swaps at a is) =
+  contents_swap : (page fill : ℕ) (answer : Answer) (after : Core) → SwapStep n c page fill answer after → ContentsKept n start after
+  contents_swap page fill answer after (swaps at a is) =
       let (g, low_g, high_g, same, link) = fill_at n c k fill in
       let told = header_tells n c.links c.order c.head c.frames g page fill link (same ∙ at) in
-      let here : fill ≡ c.head = told.0 ∙ told.1 in let two = k.some_pages in let behind = k.done_lt in
+      let here : fill ≡ c.head = told.0 ∙ told.1 in let two = k.some_pages in
       subst (ContentsKept n start) (sym (is ∙ ap (after_swap n c page) here))
-      (pages_swapped n start c.order c.spare c.held (opens_of c.history) (reserved_records c.history) c.head c.opened (omega arith) k.apart t page two (told.2 ∙ ap (page_at n c.order) told.1) k.opened_le (omega arith))
-  contents_swap page fill answer after closed (swap_fails at a is) = subst (ContentsKept n start) (sym is) t
+      (pages_swapped n start c.order c.spare c.held (opens_of c.history) (reserved_records c.history) c.head c.opened (omega arith) k.apart t page two (told.2 ∙ ap (page_at n c.order) told.1) k.opened_le)
+  contents_swap page fill answer after (swap_fails at a is) = subst (ContentsKept n start) (sym is) t
 
-  contents_read : (phase : ReaderPhase) (answer : Answer) (after : Core) → ReaderKept n c.links c.order c.spare_link c.head c.done c.reader.hint phase → ReadStep n c phase answer after → ContentsKept n start after
-  contents_read loading_link answer after facts step = contents_load answer after step
-  contents_read (loading_done page fill) answer after facts step = contents_load_done page fill answer after step
-  contents_read (storing_link page fill) answer after facts step = subst (ContentsKept n start) (sym step.after_is) t
-  contents_read (swapping page fill) answer after facts step = contents_swap page fill answer after facts.1 step
+  contents_read : (phase : ReaderPhase) (answer : Answer) (after : Core) → ReadStep n c phase answer after → ContentsKept n start after
+  contents_read loading_link answer after step = contents_load answer after step
+  contents_read (loading_done page fill) answer after step = contents_load_done page fill answer after step
+  contents_read (storing_link page fill) answer after step = subst (ContentsKept n start) (sym step.after_is) t
+  contents_read (swapping page fill) answer after step = contents_swap page fill answer after step
 
 contents_pushed : (n start : ℕ) (c after : Core) (frames : List Frame) (action : Action) → ContentsKept n start c → opens_of (c.history ++ action ∷ []) ≡ opens_of c.history → reserved_records (c.history ++ action ∷ []) ≡ reserved_records c.history
     → after ≡ record c { frames = frames; history = c.history ++ action ∷ [] }
@@ -157,5 +154,5 @@ contents_step n size start c event answer after k s h t o (frame_lacks e none a 
 contents_step n size start c event answer after k s h t o (end_step payload frame below number moment len e top state kind slot a is) = contents_leaves n size start c frame below k h t o top after (reserved number) (Some payload) state (λ e'. cc) is
 contents_step n size start c event answer after k s h t o (end_lacks payload e none a is) = subst (ContentsKept n start) (sym is) t
 contents_step n size start c event answer after k s h t o (end_early payload frame below e top none a is) = subst (ContentsKept n start) (sym is) t
-contents_step n size start c event answer after k s h t o (read_step e step) = contents_read n start c k t c.reader.phase answer after k.reader step
+contents_step n size start c event answer after k s h t o (read_step e step) = contents_read n start c k t c.reader.phase answer after step
 contents_step n size start c event answer after k s h t o (wish_step e a is) = subst (ContentsKept n start) (sym is) t

@@ -12,6 +12,7 @@ pub mod HistorySteps
 pub mod Happenings
 pub mod PageChanges
 pub mod OpenPageSteps
+pub mod OtherPageSteps
 pub mod ContentSteps
 pub mod ClosedSteps
 -- the partition of the records, and the invariant as a whole
@@ -47,6 +48,11 @@ pub mod CountMoves
 -- the wish
 pub mod Tails
 pub mod WishSteps
+-- the two seats, the writer's and the reader's
+pub mod SeatSteps
+pub mod PrivateSteps
+pub mod SeatPages
+pub mod PrivateCommutes
 -- the worked examples and the wrong steps
 pub mod ExamplesRun
 pub mod WrongStepsRefused

@@ -1,22 +1,18 @@
 -- The pages still hold their fills where a record is reserved or ended, a fill is begun, or the head goes on.
-use Rattle.std.proofs.Common.{◌≡◌, ◌≢◌, ◌⊎◌, inl, inr, ⊎_elim, refl, ℕ, suc, ◌+◌, ◌-◌, ◌%◌, ◌<◌, ◌≤◌, List, [], ◌∷◌, ◌++◌, length, get_or, set, map, Option, None, Some, sym, ap, ◌∙◌, subst, mod-lt, arith, length-append, length-set}
-use Rattle.std.proofs.lemmas.List.{get_or-set_same, get_or-set_other, get_or-map, get_or_past, length-map}
+use Rattle.std.proofs.Common.{◌≡◌, ◌≢◌, ℕ, suc, ◌+◌, ◌-◌, ◌%◌, ◌<◌, ◌≤◌, List, [], ◌∷◌, ◌++◌, length, get_or, set, map, Option, sym, ap, ◌∙◌, subst, mod-lt, arith, length-append, length-set}
+use Rattle.std.proofs.lemmas.List.{get_or-set_same, get_or-set_other, get_or-map, length-map}
 use Rattle.std.proofs.Math.ListN.{get_or-append}
 use Rattle.std.proofs.Math.Seq.{get_or-append_seam}
-use Rattle.std.specs.Prelude.{nat_lt}
-use Rattle.std.proofs.lemmas.Bool.{cond_both}
 use mathlib.Core.Logic.{dite}
-use native.Mathlib.Decide.{ℕ_discrete, dec_le}
+use native.Mathlib.Decide.{ℕ_discrete}
 use Rattle.trace_model.specs.History.{Reservation, records_with_payload}
 use Rattle.trace_model.specs.Packing.{cut_from}
 use Rattle.trace_model.specs.Ring.{Held, page_at, AreApart}
 use Rattle.trace_model.specs.Steps.{held_with_payload}
 use Rattle.trace_model.specs.Fitting.{IsRising}
 use Rattle.trace_model.proofs.NextRecords.{length-records_with_payload}
-use Rattle.trace_model.proofs.FillFirsts.{first_rises}
-use Rattle.trace_model.proofs.FillOfNumber.{fill_size}
 use Rattle.trace_model.proofs.FillCuts.{IsRising-more, IsRising-snoc, reserved_before, reserved_last, opened_before, opened_last, finished_fill}
-use Rattle.link_marks.specs.KeptContents.{HoldsBelow, PagesKept}
+use Rattle.link_marks.specs.KeptContents.{PagesKept}
 use Rattle.link_marks.proofs.Positions.{apart, page_else}
 
 abbrev pub nothing : Held
@@ -29,48 +25,10 @@ pages_differ n order spare head f g some a lf hf lg hg ne same = apart head n f 
 pub page_below : (n : ℕ) (order : List ℕ) (spare f : ℕ) → 1 ≤ n → AreApart n order spare → page_at n order f < n + 1
 page_below n order spare f some a = a.each (f % n) (mod-lt f some)
 
--- ---- pages that hold what was passed
-
-below_alike : (held held' : List Held) (page number number' : ℕ) → get_or held' page nothing ≡ get_or held page nothing → number ≤ number' → HoldsBelow held number page → HoldsBelow held' number' page
-below_alike held held' page number number' same le below = let e = ap (λ (h : Held). h.first + length h.records) same in omega arith
-
-below_emptied : (held : List Held) (page number : ℕ) → get_or held page nothing ≡ nothing → HoldsBelow held number page
-below_emptied held page number none = let e = ap (λ (h : Held). h.first + length h.records) none in omega arith
-
-reach_finished : (number : Option ℕ) (payload : Option (List ℕ)) (h : Held) → (held_with_payload number payload h).first + length (held_with_payload number payload h).records ≡ h.first + length h.records
-reach_finished None payload h = refl
-reach_finished (Some k) payload h = cond_both (nat_lt k h.first) h.records (records_with_payload (Some (k - h.first)) payload h.records) (λ (l : List Reservation). h.first + length l ≡ h.first + length h.records)
-    (λ _. refl) (λ _. ap (λ (m : ℕ). h.first + m) (length-records_with_payload (Some (k - h.first)) payload h.records))
-
 module _ (n start : ℕ) (order : List ℕ) (spare : ℕ) (held : List Held) (cuts : List ℕ) (xs : List Reservation) (head opened : ℕ) (some : 1 ≤ n) (a : AreApart n order spare) (k : PagesKept n start order held cuts xs head opened) where
-  -- the first number of the head rises with it
-  head_rises : head + 1 < opened → get_or (0 ∷ cuts) (head - start) 0 ≤ get_or (0 ∷ cuts) ((head + 1) - start) 0
-  head_rises more = let count = k.begun in let low = k.from_start in
-      let rises = first_rises 0 cuts (length xs) (head - start) (omega arith) k.rising in
-      let e = ap (λ (i : ℕ). get_or (0 ∷ cuts) i 0) (let is : (head + 1) - start ≡ suc (head - start) = omega arith in is) in omega arith
-
-  -- what the head's page holds ends there
-  head_below : head + 1 < opened → HoldsBelow held (get_or (0 ∷ cuts) ((head + 1) - start) 0) (page_at n order head)
-  head_below more = let count = k.begun in let low = k.from_start in
-      let size = fill_size 0 cuts xs (head - start) (omega arith) k.rising in
-      let here = ap (λ (h : Held). h.first + length h.records) (k.each head (omega arith) (omega arith)) in
-      let e = ap (λ (i : ℕ). get_or (0 ∷ cuts) i 0) (let is : (head + 1) - start ≡ suc (head - start) = omega arith in is) in omega arith
-
-  -- the head is lost, over the same pages
-  pub pages_lost : head + 1 < opened → PagesKept n start order held cuts xs (head + 1) opened
-  pages_lost more = record {
-    begun = k.begun;
-    from_start = (let low = k.from_start in omega arith);
-    bodies = k.bodies;
-    rising = k.rising;
-    each = λ f low high. k.each f (omega arith) high;
-    others = λ page. ⊎_elim
-        (λ below. inl (below_alike held held page (get_or (0 ∷ cuts) (head - start) 0) (get_or (0 ∷ cuts) ((head + 1) - start) 0) refl (head_rises more) below))
-        (λ (f, low, high, is). dite (ℕ_discrete f head)
-        (λ e. inl (subst (HoldsBelow held (get_or (0 ∷ cuts) ((head + 1) - start) 0)) (sym (is ∙ ap (page_at n order) e)) (head_below more)))
-        (λ ne. inr (f, omega arith, high, is)))
-        (k.others page);
-  }
+  -- the head goes on, over the same pages
+  pub pages_later : (head' : ℕ) → head ≤ head' → PagesKept n start order held cuts xs head' opened
+  pages_later head' le = record { begun = k.begun; from_start = (let low = k.from_start in omega arith); bodies = k.bodies; rising = k.rising; each = λ f low high. k.each f (omega arith) high }
 
   -- a record is reserved in the tail
   pub pages_reserved : (r : Reservation) (tail : ℕ) → suc tail ≡ opened → head ≤ tail → opened ≤ head + n
@@ -94,16 +52,10 @@ module _ (n start : ℕ) (order : List ℕ) (spare : ℕ) (held : List Held) (cu
             (λ ne. get_or-set_other held page (page_at n order f) _ nothing (pages_differ n order spare head f tail some a low (omega arith) low_tail (omega arith) ne)
             ∙ k.each f low high
             ∙ ap (λ (l : List Reservation). let g : Held = record { first = get_or (0 ∷ cuts) (f - start) 0; records = l } in g) (sym (reserved_before 0 cuts xs r (f - start) k.rising (omega arith))));
-        others = λ p. dite (ℕ_discrete p page)
-            (λ e. inr (tail, low_tail, omega arith, e))
-            (λ ne. ⊎_elim
-            (λ below. inl (below_alike held (set held page _) p (get_or (0 ∷ cuts) (head - start) 0) (get_or (0 ∷ cuts) (head - start) 0) (get_or-set_other held page p _ nothing ne) (omega arith) below))
-            (λ of. inr of)
-            (k.others p));
       }
 
   -- a fill is begun, on an empty page
-  pub pages_begun : opened < head + n → head < opened → PagesKept n start order (set held (page_at n order opened) record { first = length xs; records = [] }) (cuts ++ length xs ∷ []) xs head (opened + 1)
+  pub pages_begun : opened < head + n → head ≤ opened → PagesKept n start order (set held (page_at n order opened) record { first = length xs; records = [] }) (cuts ++ length xs ∷ []) xs head (opened + 1)
   pages_begun room le =
       let count = k.begun in let wide = k.bodies in let from_start = k.from_start in
       let page : ℕ = page_at n order opened in
@@ -118,17 +70,10 @@ module _ (n start : ℕ) (order : List ℕ) (spare : ℕ) (held : List Held) (cu
             ∙ ap (λ (m : ℕ). let g : Held = record { first = m; records = [] } in g) (sym (get_or-append_seam (0 ∷ cuts) (length xs) [] 0))
             ∙ ap (λ (l : List Reservation). let g : Held = record { first = get_or (0 ∷ (cuts ++ length xs ∷ [])) (suc (length cuts)) 0; records = l } in g) (sym (opened_last 0 cuts xs))
             ∙ ap (λ (i : ℕ). let g : Held = record { first = get_or (0 ∷ (cuts ++ length xs ∷ [])) i 0; records = get_or (cut_from 0 (cuts ++ length xs ∷ []) xs) i [] } in g) (sym at ∙ ap (λ (g : ℕ). g - start) (sym e)))
-            (λ ne. get_or-set_other held page (page_at n order f) _ nothing (pages_differ n order spare head f opened some a low (omega arith) (omega arith) room ne)
+            (λ ne. get_or-set_other held page (page_at n order f) _ nothing (pages_differ n order spare head f opened some a low (omega arith) le room ne)
             ∙ k.each f low (omega arith)
             ∙ ap (λ (m : ℕ). let g : Held = record { first = m; records = get_or (cut_from 0 cuts xs) (f - start) [] } in g) (sym (get_or-append (0 ∷ cuts) (length xs ∷ []) 0 (f - start) (let low : f - start < suc (length cuts) = omega arith in low)))
             ∙ ap (λ (l : List Reservation). let g : Held = record { first = get_or (0 ∷ (cuts ++ length xs ∷ [])) (f - start) 0; records = l } in g) (sym (opened_before 0 cuts xs (f - start) (omega arith))));
-        others = λ p. dite (ℕ_discrete p page)
-            (λ e. inr (opened, omega arith, omega arith, e))
-            (λ ne. ⊎_elim
-            (λ below. inl (below_alike held (set held page _) p (get_or (0 ∷ cuts) (head - start) 0) (get_or (0 ∷ (cuts ++ length xs ∷ [])) (head - start) 0) (get_or-set_other held page p _ nothing ne)
-            (let same = get_or-append (0 ∷ cuts) (length xs ∷ []) 0 (head - start) (let low : head - start < suc (length cuts) = omega arith in low) in omega arith) below))
-            (λ (f, low, high, is). inr (f, low, omega arith, is))
-            (k.others p));
       }
 
   -- a record is ended
@@ -141,18 +86,11 @@ module _ (n start : ℕ) (order : List ℕ) (spare : ℕ) (held : List Held) (cu
     each = λ f low high. get_or-map (held_with_payload number payload) held (page_at n order f) nothing nothing (let below = page_below n order spare f some a in omega arith)
         ∙ ap (held_with_payload number payload) (k.each f low high)
         ∙ finished_fill number payload cuts xs (f - start) (omega arith);
-    others = λ page. ⊎_elim (λ below. inl (below_finished number payload page below)) (λ of. inr of) (k.others page);
   }
-    where
-      below_finished : (number : Option ℕ) (payload : Option (List ℕ)) (page : ℕ) → HoldsBelow held (get_or (0 ∷ cuts) (head - start) 0) page → HoldsBelow (map (held_with_payload number payload) held) (get_or (0 ∷ cuts) (head - start) 0) page
-      below_finished number payload page below = dite (dec_le (suc page) (length held))
-          (λ inside. let e = ap (λ (h : Held). h.first + length h.records) (get_or-map (held_with_payload number payload) held page nothing nothing inside) in
-          let same = reach_finished number payload (get_or held page nothing) in omega arith)
-          (λ past. below_emptied (map (held_with_payload number payload) held) page (get_or (0 ∷ cuts) (head - start) 0) (get_or_past (map (held_with_payload number payload) held) page nothing (omega (arith, length-map held (held_with_payload number payload)))))
 
   -- the head is taken: its page is the spare, and the spare stands at its position, both empty
-  pub pages_swapped : (page : ℕ) → 2 ≤ n → page ≡ page_at n order head → opened ≤ head + n → head + 1 < opened → PagesKept n start (set order (head % n) spare) (set (set held spare nothing) page nothing) cuts xs (head + 1) opened
-  pages_swapped page two is within more = let from_start = k.from_start in record {
+  pub pages_swapped : (page : ℕ) → 2 ≤ n → page ≡ page_at n order head → opened ≤ head + n → PagesKept n start (set order (head % n) spare) (set (set held spare nothing) page nothing) cuts xs (head + 1) opened
+  pages_swapped page two is within = let from_start = k.from_start in record {
     begun = k.begun;
     from_start = omega arith;
     bodies = length-set (set held spare nothing) page nothing ∙ (length-set held spare nothing ∙ k.bodies);
@@ -163,26 +101,4 @@ module _ (n start : ℕ) (order : List ℕ) (spare : ℕ) (held : List Held) (cu
         ∙ get_or-set_other (set held spare nothing) page (page_at n order f) nothing nothing (λ e. pages_differ n order spare head f head some a (omega arith) (omega arith) (omega arith) (omega arith) (λ e'. omega arith) (e ∙ is))
         ∙ get_or-set_other held spare (page_at n order f) nothing nothing (a.spare_differs (f % n) (mod-lt f some))
         ∙ k.each f (omega arith) high;
-    others = λ p. dite (ℕ_discrete p page)
-        (λ e. inl (below_emptied held' p next (ap (λ (q : ℕ). get_or held' q nothing) e ∙ get_or-set_same (set held spare nothing) page nothing nothing (let wide = k.bodies in let same = length-set held spare nothing in let below = page_below n order spare head some a in omega arith))))
-        (λ ne. dite (ℕ_discrete p spare)
-        (λ e. inl (below_emptied held' p next (get_or-set_other (set held spare nothing) page p nothing nothing ne ∙ ap (λ (q : ℕ). get_or (set held spare nothing) q nothing) e ∙ get_or-set_same held spare nothing nothing (let wide = k.bodies in let below = a.spare_below in omega arith))))
-        (λ ne'. ⊎_elim
-        (λ below. inl (below_alike held held' p (get_or (0 ∷ cuts) (head - start) 0) next (get_or-set_other (set held spare nothing) page p nothing nothing ne ∙ get_or-set_other held spare p nothing nothing ne') (head_rises more) below))
-        (λ (f, low, high, at). inr (
-          f,
-          later f low (λ e. ne (at ∙ ap (page_at n order) e ∙ sym is)),
-          high,
-          at ∙ sym (page_else head n order f head spare (omega arith) (omega arith) (omega arith) (omega arith) (λ e. ne (at ∙ ap (page_at n order) e ∙ sym is))),
-        ))
-        (k.others p)));
   }
-    where
-      held' : List Held
-      held' = set (set held spare nothing) page nothing
-
-      next : ℕ
-      next = get_or (0 ∷ cuts) ((head + 1) - start) 0
-
-      later : (f : ℕ) → head ≤ f → f ≢ head → head + 1 ≤ f
-      later f low ne = omega arith

@@ -94,6 +94,23 @@ fills_taken start h head taken t here f fs below = record {
       (get_snoc taken t b k at_k);
 }
 
+-- the records up to the end of a fill: some of those in front of it, what was lost behind them, and its own
+records_taken : (xs fill records : List Reservation) (before lost : List Record) (first next count : ℕ) → count ≡ next → take next xs ≡ take first xs ++ fill → take first (map as_record xs) ≡ before ++ lost → records ≡ fill
+    → before ++ (lost ++ map as_record records) ≡ take count (map as_record xs)
+records_taken xs fill records before lost first next count len up split same =
+    ap (λ (l : List Reservation). before ++ (lost ++ map as_record l)) same
+    ∙ sym (append_assoc before lost (map as_record fill))
+    ∙ ap (λ (l : List Record). l ++ map as_record fill) (sym split ∙ take_map as_record first xs)
+    ∙ sym (map-append as_record (take first xs) fill) ∙ ap (map as_record) (sym up) ∙ sym (take_map as_record next xs)
+    ∙ ap (λ (m : ℕ). take m (map as_record xs)) (sym len)
+
+-- a partition up to that number, with the fill as one piece more
+partition_further : (xs fill : List Reservation) (before lost : List Record) (first next count : ℕ) (pieces : List Piece) (t : Taken) → count ≡ next → take next xs ≡ take first xs ++ fill → take first (map as_record xs) ≡ before ++ lost → t.held.records ≡ fill → length lost ≡ t.skipped
+    → IsPartition before pieces []
+    → IsPartition (take count (map as_record xs)) (pieces ++ piece_of t ∷ []) []
+partition_further xs fill before lost first next count pieces t len up split same missing partition =
+    subst (λ (l : List Record). IsPartition l (pieces ++ piece_of t ∷ []) []) (records_taken xs fill t.held.records before lost first next count len up split same) (partition_snoc before pieces lost (piece_of t) partition missing)
+
 -- the head is taken, with its first number and its records
 pub partition_taken : (start : ℕ) (h : List Action) (head expected : ℕ) (taken : List Taken) → start ≤ head → head - start < length (opens_of h) → IsRising 0 (opens_of h) (length (reserved_records h)) → first_of_fill h start head ≤ length (reserved_records h)
     → (t : Taken) → t.fill ≡ head → t.held ≡ record { first = first_of_fill h start head; records = get_or (fills_of h) (head - start) [] } → t.skipped ≡ t.held.first - expected
@@ -113,15 +130,10 @@ partition_taken start h head expected taken from low r short t here held skipped
     let a = ap (length {A = Reservation}) up in let b = length-take-le next xs within in let d = length-take-le first xs short in
     let e = length-append (take first xs) fill in let g = ap (length {A = Reservation}) records_is in omega arith in
     let (lost, size, split) = take_split expected first rs p.expected_le (let same = length-map xs as_record in omega arith) in
-    let whole : take (t.held.first + length t.held.records) rs ≡ take expected rs ++ (lost ++ map as_record t.held.records) =
-    ap (λ (m : ℕ). take m rs) len ∙ take_map as_record next xs ∙ ap (map as_record) up ∙ map-append as_record (take first xs) fill
-    ∙ ap (λ (l : List Record). l ++ map as_record fill) (sym (take_map as_record first xs) ∙ split)
-    ∙ append_assoc (take expected rs) lost (map as_record fill)
-    ∙ ap (λ (l : List Reservation). take expected rs ++ (lost ++ map as_record l)) (sym records_is) in record {
+    let missing : length lost ≡ t.skipped = omega arith in record {
       expected_le = let e = ap (λ (i : ℕ). get_or (0 ∷ opens_of h) i 0) (let s : (head + 1) - start ≡ suc (head - start) = omega arith in s) in omega arith;
       partition = subst (λ (l : List Piece). IsPartition (take (t.held.first + length t.held.records) rs) l []) (sym (map-append piece_of taken (t ∷ [])))
-          (subst (λ (l : List Record). IsPartition l (pieces_of taken ++ piece_of t ∷ []) []) (sym whole)
-          (partition_snoc (take expected rs) (pieces_of taken) lost (piece_of t) p.partition (size ∙ sym (skipped ∙ ap (λ (m : ℕ). m - expected) first_is))));
+          (partition_further xs fill (take expected rs) lost first next (t.held.first + length t.held.records) (pieces_of taken) t len up split records_is missing p.partition);
       total = let e = ap covered_total (map-append piece_of taken (t ∷ [])) ∙ covered_total-snoc (pieces_of taken) (piece_of t) in let was = p.total in let le = p.expected_le in
           let more = length-map t.held.records as_record in omega arith;
       firsts = λ j u at. ⊎_elim

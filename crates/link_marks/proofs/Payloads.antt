@@ -18,7 +18,6 @@ use Rattle.link_marks.specs.KeptStack.{MayBeIn, FramesAgree}
 use Rattle.link_marks.specs.RingKept.{IsRingKept}
 use Rattle.link_marks.specs.PayloadLaws.{HoldsNumber, LiesOpen, ReservedLiesOpen, ReservedDiffer, WritesOnePage, EndsWriteOnePage}
 use Rattle.link_marks.proofs.FramePhases.{none_some}
-use Rattle.link_marks.proofs.PartitionSteps.{head_settled}
 use Rattle.link_marks.proofs.PageChanges.{page_below}
 
 -- ---- the numbers of frames
@@ -70,6 +69,17 @@ reserved_differ n size start c j k number one other r at_j at_k is_j is_k =
 
 -- ---- where the record lies
 
+-- a page is one of these, or none of them
+one_of : (pages : List ℕ) (page : ℕ) → ((i : ℕ) × (i < length pages) × (get_or pages i 0 ≡ page)) ⊎ ((i : ℕ) → i < length pages → get_or pages i 0 ≢ page)
+one_of [] page = inr (λ i low. absurd (omega arith))
+one_of (p ∷ pages) page = dite (ℕ_discrete p page)
+    (λ e. inl (0, omega arith, e))
+    (λ ne. ⊎_elim (λ (i, low, is). inl (suc i, omega arith, is)) (λ none. inr (not_here none ne)) (one_of pages page))
+  where
+    not_here : ((i : ℕ) → i < length pages → get_or pages i 0 ≢ page) → p ≢ page → (i : ℕ) → i < suc (length pages) → get_or (p ∷ pages) i 0 ≢ page
+    not_here none ne zero low = ne
+    not_here none ne (suc i) low = none i (omega arith)
+
 module _ (n size start : ℕ) (c : Core) (r : IsRingKept n size start c) (number : ℕ) (has : HasNumber number (pushed_frames c.frames)) where
   on_stack : HasNumber number (writer_after c.history).stack
   on_stack = subst (HasNumber number) (sym r.history.stack) has
@@ -100,6 +110,7 @@ module _ (n size start : ℕ) (c : Core) (r : IsRingKept n size start c) (number
         fill = fill;
         done_le = omega arith;
         opened_lt = omega arith;
+        is_open = let pages = r.open_pages.count in r.open_pages.each (fill - c.done) (omega arith) ∙ ap (page_at n c.order) (let same : c.done + (fill - c.done) ≡ fill = omega arith in same);
         index = number - first;
         holds = (omega arith, omega arith);
         is_index = omega arith;
@@ -121,14 +132,15 @@ module _ (n size start : ℕ) (c : Core) (r : IsRingKept n size start c) (number
 
       alone : (page : ℕ) → HoldsNumber c page number → page ≡ page_at n c.order (start + lies.fill)
       alone page (first_le, lt) = ⊎_elim
-          (λ below. let passed = head_settled n start c r.links r.contents r.closed r.partition in let late = uncommitted in absurd (omega arith))
-          (λ (f, low, high, is). let count = r.contents.begun in let from = r.contents.from_start in
-          let here = ap (contents_of c) is ∙ r.contents.each f low high in
+          (λ (i, inside, is). let count = r.contents.begun in let from = r.contents.from_start in let unread = r.links.head_le in let pages = r.open_pages.count in
+          let there : page ≡ page_at n c.order (c.done + i) = sym is ∙ r.open_pages.each i inside in
+          let here = ap (contents_of c) there ∙ r.contents.each (c.done + i) (omega arith) (omega arith) in
           let first_is = ap (λ (h : Held). h.first) here in
           let size_is = ap (λ (h : Held). length h.records) here in
-          let same : f - start ≡ lies.fill = same_fill (f - start) (omega arith) (omega arith) (omega arith) in
-          is ∙ ap (page_at n c.order) (let e : f ≡ start + lies.fill = omega arith in e))
-          (r.contents.others page)
+          let same : (c.done + i) - start ≡ lies.fill = same_fill ((c.done + i) - start) (omega arith) (omega arith) (omega arith) in
+          there ∙ ap (page_at n c.order) (let e : c.done + i ≡ start + lies.fill = omega arith in e))
+          (λ none. let other = r.other_pages page none in let late = uncommitted in absurd (omega arith))
+          (one_of c.open_pages page)
 
 pub reserved_lies_open : ReservedLiesOpen
 reserved_lies_open n size start c k number frame r at is = lies_open n size start c r number (stands_with c.frames k number frame r.stack.agree at is)

@@ -1,15 +1,13 @@
 -- What every step keeps is a ring; a new ring has it; and so it holds after every run.
 use Rattle.std.proofs.Common.{◌≡◌, ℕ, zero, suc, ◌+◌, ◌-◌, ◌<◌, ◌≤◌, ◌⊎◌, List, [], ◌∷◌, ◌++◌, length, get_or, take, drop, map, Some, refl, sym, ap, ◌∙◌, subst, inl, inr, arith}
 use Rattle.std.specs.List.{slice_get}
-use Rattle.std.proofs.lemmas.List.{take-append-drop, map-append, get_or_past}
-use mathlib.Core.Logic.{dite}
-use native.Mathlib.Decide.{dec_le}
+use Rattle.std.proofs.lemmas.List.{take-append-drop, map-append}
 use Rattle.trace_model.specs.Record.{Record}
 use Rattle.trace_model.specs.History.{Action, Reservation, reserved_records, settled_prefix, as_record, committed_records}
 use Rattle.trace_model.specs.Packing.{opens_of, fills_of}
 use Rattle.trace_model.specs.Links.{Link}
 use Rattle.trace_model.specs.Frames.{Frame, owned_update}
-use Rattle.trace_model.specs.Ring.{Held, empty_page, ReaderPhase, loading_link, loading_done, storing_link, swapping, Reader, Core, IsStart, AreApart, IsRing, IsBehindHead, told, moved, IsAtHead, marked, owed, Moves, IsMoved, IsSwapReady, IsTaken, first_of_fill, page_at}
+use Rattle.trace_model.specs.Ring.{Held, ReaderPhase, loading_link, loading_done, storing_link, swapping, Reader, Core, IsStart, AreApart, IsRing, IsBehindHead, told, moved, IsAtHead, marked, owed, Moves, IsMoved, IsSwapReady, IsTaken, first_of_fill, page_at}
 use Rattle.trace_model.specs.Steps.{Event, Answer, Step, Exchange, Run}
 use Rattle.trace_model.specs.Sublist.{IsPrefix}
 use Rattle.link_marks.specs.KeptLinks.{Stands, MoversDiffer, PhaseKept, FramesKept, LinkKept, is_normal, is_header, is_update, ReaderKept}
@@ -25,6 +23,7 @@ use Rattle.link_marks.proofs.LinkSteps.{step_kept}
 use Rattle.link_marks.proofs.StackSteps.{stack_start, stack_step}
 use Rattle.link_marks.proofs.ProgressSteps.{progress_start, progress_step}
 use Rattle.link_marks.proofs.OpenPageSteps.{open_pages_step}
+use Rattle.link_marks.proofs.OtherPageSteps.{other_pages_step, other_pages_start}
 use Rattle.link_marks.proofs.PackedSteps.{packed_start, packs_step}
 use Rattle.link_marks.proofs.HistorySteps.{step_owed}
 use Rattle.link_marks.proofs.ContentSteps.{contents_step}
@@ -172,6 +171,7 @@ ring_step n size start c event answer after r step = record {
   history = (step_owed n size start c event answer after r.links r.stack r.history step).kept;
   contents = contents_step n size start c event answer after r.links r.stack r.history r.contents r.open_pages step;
   open_pages = open_pages_step n size c event answer after r.links r.open_pages step;
+  other_pages = other_pages_step n size start c event answer after r.links r.stack r.history r.contents r.open_pages r.other_pages step;
   packed = packs_step n size start c event answer after r.links r.stack r.history r.contents r.packed step;
   closed = closed_step n size start c event answer after r.links r.stack r.history r.contents r.closed step;
   partition = partition_step n size start c event answer after r.links r.history r.contents r.closed r.partition step;
@@ -191,11 +191,7 @@ nothing_done n start c some a s = let head = s.head in let opened = s.opened in 
   rising = omega arith;
   each = λ f low high. s.held (page_at n c.order f) (page_below n c.order c.spare f some a)
       ∙ ap (λ (i : ℕ). let h : Held = record { first = get_or (0 ∷ []) i 0; records = get_or ([] ∷ []) i [] } in h) (let e : 0 ≡ f - start = omega arith in e);
-  others = λ page. inl (let none = ap (λ (h : Held). h.first + length h.records) (all_empty page) in omega arith);
 }
-  where
-    all_empty : (page : ℕ) → get_or c.held page empty_page ≡ empty_page
-    all_empty page = dite (dec_le (suc page) (n + 1)) (λ inside. s.held page inside) (λ past. get_or_past c.held page empty_page (let wide = s.bodies in omega arith))
 
 pub ring_start : (n size start : ℕ) (c : Core) → MayStart n start → IsStart n start c → IsRingKept n size start c
 ring_start n size start c may s = let some = may.some_pages in let fits = may.numbers_left in let links = start_kept n start c s some fits in let done = s.done in record {
@@ -205,6 +201,7 @@ ring_start n size start c may s = let some = may.some_pages in let fits = may.nu
   history = start_history n start c s;
   contents = subst (λ (h : List Action). PagesKept n start c.order c.held (opens_of h) (reserved_records h) c.head c.opened) (sym s.history) (nothing_done n start c (omega arith) links.apart s);
   open_pages = start_open_pages n start c s some;
+  other_pages = other_pages_start n start c s;
   packed = packed_start n size start c s;
   closed = subst (λ (h : List Action). first_of_fill h start c.done ≤ length (reserved_records (settled_prefix h))) (sym s.history)
       (subst (λ (i : ℕ). get_or (0 ∷ []) i 0 ≤ 0) (let e : 0 ≡ c.done - start = omega arith in e) (let z : 0 ≤ 0 = omega arith in z));

@@ -175,6 +175,7 @@ granted_true n c e = by_wish (c.wish == c.opened) refl e
     by_tail : (b : Bool) → c.wish ≡ c.opened → is_empty (tail_of c.history) ≡ b → (if b then false else nat_lt (c.opened + n) LINK_FILLS) ≡ true → IsGranted n c
     by_tail true asks is t = absurd (both_ways false refl t)
     by_tail false asks is t = record { asks_tail = asks; holds_record = not_empty (tail_of c.history) is; numbers_left = ltb-true (c.opened + n) LINK_FILLS t }
+
     by_wish : (b : Bool) → (c.wish == c.opened) ≡ b → (if b then (if is_empty (tail_of c.history) then false else nat_lt (c.opened + n) LINK_FILLS) else false) ≡ true → IsGranted n c
     by_wish true is t = by_tail (is_empty (tail_of c.history)) (eqb-true c.wish c.opened is) refl t
     by_wish false is t = absurd (both_ways false refl t)
@@ -185,6 +186,7 @@ granted_false n c e g = by_wish (c.wish == c.opened) refl e
     by_tail : (b : Bool) → is_empty (tail_of c.history) ≡ b → (if b then false else nat_lt (c.opened + n) LINK_FILLS) ≡ false → ⊥
     by_tail true is t = g.holds_record (is_none (tail_of c.history) is)
     by_tail false is t = let numbers = g.numbers_left in let last = ltb-false (c.opened + n) LINK_FILLS t in omega arith
+
     by_wish : (b : Bool) → (c.wish == c.opened) ≡ b → (if b then (if is_empty (tail_of c.history) then false else nat_lt (c.opened + n) LINK_FILLS) else false) ≡ false → ⊥
     by_wish true is t = by_tail (is_empty (tail_of c.history)) refl t
     by_wish false is t = eqb-false c.wish c.opened is g.asks_tail

@@ -1,10 +1,10 @@
 -- A tail that holds a record holds one until the next fill is begun.
-use Rattle.std.proofs.Common.{◌≡◌, ◌≢◌, ℕ, ◌+◌, ◌≤◌, false, List, [], ◌∷◌, ◌++◌, length, Option, Some, None, sym, ap, ◌∙◌, subst, arith, append_assoc, append-nil}
+use Rattle.std.proofs.Common.{◌≡◌, ◌≢◌, ℕ, ◌+◌, ◌<◌, ◌≤◌, ◌⊎◌, inl, inr, ⊎_elim, false, refl, List, [], ◌∷◌, ◌++◌, length, Option, Some, None, sym, ap, ◌∙◌, subst, arith, append_assoc, append-nil}
 use Rattle.trace_model.specs.History.{Action, push, push_close, open_fill, reserve, leave, wished, Reservation, PushedFrame, record_frame, close_frame, reservation_for, after_action, writer_after, reserved_records}
 use Rattle.trace_model.specs.Packing.{opens_of, tail_of}
 use Rattle.trace_model.specs.Fitting.{IsRising, tail_at}
 use Rattle.trace_model.specs.Frames.{for_close, waiting}
-use Rattle.trace_model.specs.Window.{Window, Deed, acts, closes, takes, loses, actions_of, opened_one, released_one, took_one, lost_one, window_after, WindowRunFrom}
+use Rattle.trace_model.specs.Window.{Window, Deed, acts, closes, takes, loses, actions_of, happens_with, window_behind, released_one, took_one, lost_one, window_after, WindowRunFrom}
 use Rattle.trace_model.proofs.FillCuts.{IsRising-more, opens_of-push, opens_of-push_close, opens_of-reserve, opens_of-leave, opens_of-wished}
 use Rattle.trace_model.proofs.NextRecords.{records_snoc, length_after_action}
 use Rattle.trace_model.proofs.PackedHistories.{plain-finished, tail_is, needs_alike, needs_reserved}
@@ -40,21 +40,27 @@ tail_snoc h a cuts t =
           (sym (λ i. tail_at (cuts i) (records i)) ∙ sym (tail_is (h ++ a ∷ [])) ∙ none);
     }
 
-module _ (n : ℕ) where
-  has_over : (h : List Action) (w : Window) (deeds : List Deed) (after : Window) → WindowRunFrom n h w deeds after → after.opened ≤ w.opened → HasTail h → HasTail (h ++ actions_of deeds)
-  has_over h w [] after run le t = subst HasTail (sym (append-nil h)) t
-  has_over h w (acts open_fill ∷ deeds) after run le t = let rises = run_rises n (h ++ open_fill ∷ []) (window_after w opened_one) after deeds run.1 in let opens = rises.opened in absurd (omega arith)
-  has_over h w (acts (push moment len) ∷ deeds) after run le t = acts_over h w (push moment len) deeds after run.1 le (opens_of-push h moment len) t
-  has_over h w (acts push_close ∷ deeds) after run le t = acts_over h w push_close deeds after run.1 le (opens_of-push_close h) t
-  has_over h w (acts reserve ∷ deeds) after run le t = acts_over h w reserve deeds after run.1 le (opens_of-reserve h) t
-  has_over h w (acts (leave payload) ∷ deeds) after run le t = acts_over h w (leave payload) deeds after run.1 le (opens_of-leave h payload) t
-  has_over h w (acts wished ∷ deeds) after run le t = acts_over h w wished deeds after run.1 le (opens_of-wished h) t
-  has_over h w (closes ∷ deeds) after run le t = has_over h (window_after w released_one) deeds after run.1 le t
-  has_over h w (takes ∷ deeds) after run le t = has_over h (window_after w took_one) deeds after run.1 le t
-  has_over h w (loses ∷ deeds) after run le t = has_over h (window_after w lost_one) deeds after run.1 le t
+-- an action begins a fill, or it leaves the window and the cuts as they are
+begins_or_not : (h : List Action) (w : Window) (a : Action) → ((window_behind w (happens_with a) ≡ w) × (opens_of (h ++ a ∷ []) ≡ opens_of h)) ⊎ (w.opened < (window_behind w (happens_with a)).opened)
+begins_or_not h w (push moment len) = inl (refl, opens_of-push h moment len)
+begins_or_not h w push_close = inl (refl, opens_of-push_close h)
+begins_or_not h w open_fill = inr (omega arith)
+begins_or_not h w reserve = inl (refl, opens_of-reserve h)
+begins_or_not h w (leave payload) = inl (refl, opens_of-leave h payload)
+begins_or_not h w wished = inl (refl, opens_of-wished h)
 
-  acts_over : (h : List Action) (w : Window) (a : Action) (deeds : List Deed) (after : Window) → WindowRunFrom n (h ++ a ∷ []) w deeds after → after.opened ≤ w.opened → opens_of (h ++ a ∷ []) ≡ opens_of h → HasTail h → HasTail (h ++ (a ∷ actions_of deeds))
-  acts_over h w a deeds after run le cuts t = subst HasTail (append_assoc h (a ∷ []) (actions_of deeds)) (has_over (h ++ a ∷ []) w deeds after run le (tail_snoc h a cuts t))
+has_over : (n : ℕ) (h : List Action) (w : Window) (deeds : List Deed) (after : Window) → WindowRunFrom n h w deeds after → after.opened ≤ w.opened → HasTail h → HasTail (h ++ actions_of deeds)
+has_over n h w [] after run le t = subst HasTail (sym (append-nil h)) t
+has_over n h w (acts a ∷ deeds) after run le t =
+    let rises = run_rises n (h ++ a ∷ []) (window_behind w (happens_with a)) after deeds run.1 in let opens = rises.opened in
+    ⊎_elim
+    (λ (same, cuts). let at : (window_behind w (happens_with a)).opened ≡ w.opened = ap (λ (v : Window). v.opened) same in
+    subst HasTail (append_assoc h (a ∷ []) (actions_of deeds)) (has_over n (h ++ a ∷ []) (window_behind w (happens_with a)) deeds after run.1 (omega arith) (tail_snoc h a cuts t)))
+    (λ more. absurd (omega arith))
+    (begins_or_not h w a)
+has_over n h w (closes ∷ deeds) after run le t = has_over n h (window_after w released_one) deeds after run.1 le t
+has_over n h w (takes ∷ deeds) after run le t = has_over n h (window_after w took_one) deeds after run.1 le t
+has_over n h w (loses ∷ deeds) after run le t = has_over n h (window_after w lost_one) deeds after run.1 le t
 
 pub tail_over : (n : ℕ) (h : List Action) (w : Window) (deeds : List Deed) (after : Window) → IsRising 0 (opens_of h) (length (reserved_records h)) → WindowRunFrom n h w deeds after → after.opened ≡ w.opened → tail_of h ≢ [] → tail_of (h ++ actions_of deeds) ≢ []
 tail_over n h w deeds after rising run same some = (has_over n h w deeds after run (omega arith) record { rising = rising; holds = some }).holds

@@ -146,7 +146,7 @@ leads_on n c between after x y = record {
       ∙ ap (λ (l : List ℕ). numbers_of c.reader.taken ++ l) (sym (taken-append n c.history (window_of c) (window_of between) x.deeds y.deeds x.window));
 }
 
-leads_run : (n size start : ℕ) (c after : Core) (exchanges : List Exchange) → IsRingKept n size start c → Run n size c exchanges after → Leads n c after
+pub leads_run : (n size start : ℕ) (c after : Core) (exchanges : List Exchange) → IsRingKept n size start c → Run n size c exchanges after → Leads n c after
 leads_run n size start c after [] r run = subst (Leads n c) run (no_deed n c c refl refl refl)
 leads_run n size start c after (x ∷ exchanges) r (between, step, run) = leads_on n c between after (leads_step n size start c x.event x.answer between r.links r.stack r.history step)
     (leads_run n size start between after exchanges (ring_step n size start c x.event x.answer between r step) run)

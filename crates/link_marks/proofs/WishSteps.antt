@@ -6,15 +6,16 @@ use Rattle.trace_model.specs.declared.limits.TheConstants.{LINK_FILLS}
 use Rattle.trace_model.specs.History.{Action, Reservation}
 use Rattle.trace_model.specs.Packing.{tail_of}
 use Rattle.trace_model.specs.Frames.{Kind, for_record, for_close, FrameState, waiting, reserved, left, Role, owner, helper, Phase, idle, looking, claiming, looking_next, marking, clearing, opening, releasing, wishing, Frame}
-use Rattle.trace_model.specs.Ring.{ReaderPhase, loading_link, loading_done, storing_link, swapping, Core, window_of}
+use Rattle.trace_model.specs.Ring.{ReaderPhase, loading_link, loading_done, storing_link, swapping, Reader, Core, window_of}
 use Rattle.trace_model.specs.Steps.{Event, pushes, pushes_close, steps, ends, reads, wishes, Answer, gone, empty, wished_for, IsGranted, with_new_tail, after_leave, frames_after_leave, after_begin, after_next, BeginsAnew, ReserveStep, reserves, finds_nothing, is_crowded, is_worn, notes, LookStep, look_late, sees_free, sees_header, sees_update, ClaimStep, claim_late, claims, claim_fails, NextStep, next_late, sees_normal, sees_other, MarkStep, mark_late, marks, mark_fails, ClearStep, clears, OpenStep, open_late, opens, ReleaseStep, releases, releases_last, WishStep, grants, closes_more, goes_away, IdleStep, FrameStep, LoadStep, loads_header, loads_update, loads_owed, loads_passed, LoadDoneStep, finds_none, finds_closed, StoreStep, SwapStep, swaps, swap_fails, ReadStep, Step, push_step, push_refused, close_step, close_refused, frame_step, frame_lacks, end_step, end_lacks, end_early, read_step, wish_step, Exchange, Run}
 use Rattle.trace_model.proofs.FillCuts.{IsRising-more, opens_of-push, opens_of-push_close, opens_of-reserve, opens_of-leave, opens_of-wished}
 use Rattle.link_marks.specs.RingKept.{IsRingKept}
 use Rattle.link_marks.specs.WindowLaws.{HeadIsLost}
-use Rattle.link_marks.specs.WishLaws.{WishesAreHeld, GoneHasLooked, WishesAreAnswered, WishBehindEmptyLosesNone}
-use Rattle.link_marks.proofs.WindowRuns.{run_rises}
+use Rattle.link_marks.specs.WishLaws.{WishesAreHeld, GoneHasLooked, WishesAreAnswered, WishedTailsAreClosed, IsNoRead, WishBehindEmptyLosesNone}
 use Rattle.link_marks.proofs.RingsKept.{ring_step, ring_run}
-use Rattle.link_marks.proofs.ToldSteps.{leads_step, counts_rise}
+use Rattle.link_marks.proofs.ToldSteps.{leads_run, counts_rise}
+use Rattle.link_marks.proofs.AnswersRight.{empty_right}
+use Rattle.link_marks.proofs.SeatSteps.{writer_leaves_reader}
 use Rattle.link_marks.proofs.Tails.{tail_over}
 
 -- ---- the wish is stored
@@ -60,7 +61,7 @@ module _ (n size : ℕ) (c : Core) (frame : Frame) (below : List Frame) (answer 
   stands next is some = some (sym (ap (λ (x : Core). x.frames) is) ∙ none)
 
   goes : (next : Core) (there : Frame) → next.frames ≡ there ∷ below → after ≡ next → ⊥
-  goes next there e is = stands next is (λ no. some_stands there below (sym e ∙ no))
+  goes next there e is = stands next is (λ none_there. some_stands there below (sym e ∙ none_there))
 
   anew : (noted : ℕ) → BeginsAnew c frame below noted answer after → ⊥
   anew noted step = stands _ step.after_is (begin_stays c frame below frame.kind frame.state)
@@ -70,7 +71,7 @@ module _ (n size : ℕ) (c : Core) (frame : Frame) (below : List Frame) (answer 
     where
       idle_stays : (state : FrameState) → IdleStep n size c frame below state answer after → ⊥
       idle_stays waiting (reserves moment len r kind r_is fits a is) = goes _ _ refl is
-      idle_stays waiting (finds_nothing kind no a is) = stands _ is (leave_stays c frame below)
+      idle_stays waiting (finds_nothing kind nothing a is) = stands _ is (leave_stays c frame below)
       idle_stays waiting (is_crowded needs full a is) = stands _ is (leave_stays c frame below)
       idle_stays waiting (is_worn needs full last a is) = stands _ is (leave_stays c frame below)
       idle_stays waiting (notes needs room small a is) = goes _ _ refl is
@@ -120,10 +121,10 @@ looked_step n size c event answer after frame below top (close_refused e many a 
 looked_step n size c event answer after frame below top (frame_step other under e there step) none =
     let (is_frame, is_below) = same_top other frame under below (sym there ∙ top) in
     subst (λ (f : Frame). HasLooked n c below f.phase answer) is_frame (subst (λ (b : List Frame). HasLooked n c b other.phase answer) is_below (gone_frame n size c other under answer after there none other.phase step))
-looked_step n size c event answer after frame below top (frame_lacks e no a is) none = absurd (some_stands frame below (sym top ∙ no))
+looked_step n size c event answer after frame below top (frame_lacks e lacks a is) none = absurd (some_stands frame below (sym top ∙ lacks))
 looked_step n size c event answer after frame below top (end_step payload other under number moment len e there state kind slot a is) none = absurd (leave_stays c other under (sym (ap (λ (x : Core). x.frames) is) ∙ none))
-looked_step n size c event answer after frame below top (end_lacks payload e no a is) none = absurd (some_stands frame below (sym top ∙ no))
-looked_step n size c event answer after frame below top (end_early payload other under e there no a is) none = absurd (some_stands frame below (sym top ∙ sym (ap (λ (x : Core). x.frames) is) ∙ none))
+looked_step n size c event answer after frame below top (end_lacks payload e lacks a is) none = absurd (some_stands frame below (sym top ∙ lacks))
+looked_step n size c event answer after frame below top (end_early payload other under e there lacks a is) none = absurd (some_stands frame below (sym top ∙ sym (ap (λ (x : Core). x.frames) is) ∙ none))
 looked_step n size c event answer after frame below top (read_step e step) none = absurd (some_stands frame below (sym top ∙ sym (read_stays n c c.reader.phase answer after step).0 ∙ none))
 looked_step n size c event answer after frame below top (wish_step e a is) none = absurd (some_stands frame below (sym top ∙ sym (ap (λ (x : Core). x.frames) is) ∙ none))
 
@@ -202,61 +203,120 @@ wish_moves n size c event answer after (end_early payload frame below e top none
 wish_moves n size c event answer after (read_step e step) = inl (read_stays n c c.reader.phase answer after step).1
 wish_moves n size c event answer after (wish_step e a is) = inr (ap (λ (x : Core). x.wish) is)
 
--- The wish of a state isn't answered yet: no fill more is closed, and a frame stands.
+-- The wish of a state isn't answered yet: no fill more is closed.
 record IsPending (c s : Core) : Type 0 where
   pub closed : s.done ≡ c.done
   pub asks : s.wish ≡ c.done + 1
-  pub begun : c.opened ≤ s.opened
-  pub tail : s.opened ≡ c.opened → tail_of s.history ≢ []
-  pub stand : s.frames ≢ []
 
 frames_of : (frames : List Frame) → frames ≢ [] → (frame : Frame) × (below : List Frame) × (frames ≡ frame ∷ below)
 frames_of [] some = absurd (some refl)
 frames_of (frame ∷ below) some = (frame, below, refl)
 
-module _ (n size start : ℕ) (c : Core) (numbers_left : c.opened + n < LINK_FILLS) where
-  -- while the wish is pending, the last frame isn't gone
-  pending_stands : (s : Core) (event : Event) (answer : Answer) (after : Core) → IsRingKept n size start s → IsPending c s → c.done < c.opened → Step n size s event answer after → after.frames ≢ []
-  pending_stands s event answer after r p behind step none =
-      let (frame, below, top) = frames_of s.frames p.stand in
+module _ (n size start : ℕ) (c : Core) where
+  -- while the wish is pending, the last frame is gone only where the tail isn't to be closed
+  pending_gone : (s : Core) (event : Event) (answer : Answer) (after : Core) → IsPending c s → Step n size s event answer after → s.frames ≢ [] → after.frames ≡ [] → (tail_of s.history ≡ []) ⊎ (LINK_FILLS ≤ s.opened + n)
+  pending_gone s event answer after p step stand none =
+      let (frame, below, top) = frames_of s.frames stand in
       let l = looked_step n size s event answer after frame below top step none in
-      let last = l.closed in let closed = p.closed in let begun = p.begun in let asks = p.asks in
-      l.denied record { asks_tail = omega arith; holds_record = p.tail (omega arith); numbers_left = omega arith }
+      let last = l.closed in let closed = p.closed in let asks = p.asks in
+      denied_why n s l.denied (omega arith)
 
-  pending_step : (s : Core) (event : Event) (answer : Answer) (after : Core) → IsRingKept n size start s → c.done < c.opened → Step n size s event answer after → IsPending c s → IsPending c after ⊎ (c.done < after.done)
-  pending_step s event answer after r behind step p =
-      let x = leads_step n size start s event answer after r.links r.stack r.history step in
-      let rises = run_rises n s.history (window_of s) (window_of after) x.deeds x.window in
-      let dones = rises.done in let opens = rises.opened in let closed = p.closed in let begun = p.begun in let asks = p.asks in
+  pending_step : (s : Core) (event : Event) (answer : Answer) (after : Core) → IsRingKept n size start s → Step n size s event answer after → IsPending c s → IsPending c after ⊎ (c.done < after.done)
+  pending_step s event answer after r step p =
+      let rises = counts_rise n size start s after (record { event = event; answer = answer } ∷ []) r (after, step, refl) in
+      let dones = rises.1 in let closed = p.closed in let asks = p.asks in
       let seen = r.links.seen_le in let wish = r.links.wish_le in
       dite (ℕ_discrete after.done c.done)
       (λ same. inl record {
         closed = same;
         asks = ⊎_elim (λ stays. stays ∙ asks) (λ new. omega arith) (wish_moves n size s event answer after step);
-        begun = omega arith;
-        tail = λ now. subst (λ (h : List Action). tail_of h ≢ []) (sym x.actions) (tail_over n s.history (window_of s) x.deeds (window_of after) r.contents.rising x.window (omega arith) (p.tail (omega arith)));
-        stand = pending_stands s event answer after r p behind step;
       })
       (λ more. inr (omega arith))
 
-  answered_run : (s after : Core) (exchanges : List Exchange) → IsRingKept n size start s → c.done < c.opened → Run n size s exchanges after → IsPending c s ⊎ (c.done < s.done) → IsPending c after ⊎ (c.done < after.done)
-  answered_run s after [] r behind run p = subst (λ (x : Core). IsPending c x ⊎ (c.done < x.done)) run p
-  answered_run s after (x ∷ exchanges) r behind (between, step, run) p =
-      answered_run between after exchanges (ring_step n size start s x.event x.answer between r step) behind run
-      (⊎_elim (λ pending. pending_step s x.event x.answer between r behind step pending)
+  pending_run : (s after : Core) (exchanges : List Exchange) → IsRingKept n size start s → Run n size s exchanges after → IsPending c s ⊎ (c.done < s.done) → IsPending c after ⊎ (c.done < after.done)
+  pending_run s after [] r run p = subst (λ (x : Core). IsPending c x ⊎ (c.done < x.done)) run p
+  pending_run s after (x ∷ exchanges) r (between, step, run) p =
+      pending_run between after exchanges (ring_step n size start s x.event x.answer between r step) run
+      (⊎_elim (λ pending. pending_step s x.event x.answer between r step pending)
       (λ done. let rises = counts_rise n size start s between (x ∷ []) r (between, step, refl) in let dones = rises.1 in inr (omega arith)) p)
 
+  -- while no fill is begun, the tail goes on to hold a record
+  tail_run : (s : Core) (exchanges : List Exchange) → IsRingKept n size start c → Run n size c exchanges s → s.opened ≡ c.opened → tail_of c.history ≢ [] → tail_of s.history ≢ []
+  tail_run s exchanges r run same some = let x = leads_run n size start c s exchanges r run in
+      subst (λ (h : List Action). tail_of h ≢ []) (sym x.actions) (tail_over n c.history (window_of c) x.deeds (window_of s) r.contents.rising x.window same some)
+
+  -- no state without a frame comes before the fill is closed
+  stands_run : (s after : Core) (front exchanges : List Exchange) → tail_of c.history ≢ [] → c.opened + n < LINK_FILLS → IsRingKept n size start c → IsRingKept n size start s → Run n size c front s → Run n size s exchanges after
+      → IsPending c s → s.frames ≢ [] → after.frames ≡ [] → c.done < after.done
+  stands_run s after front [] some least r k before run p stand none = absurd (stand (ap (λ (x : Core). x.frames) run ∙ none))
+  stands_run s after front (x ∷ exchanges) some least r k before (between, step, run) p stand none =
+      let kept = ring_step n size start s x.event x.answer between k step in
+      ⊎_elim
+      (λ pending. none_or_some between.frames
+      (λ gone. absurd (
+      let (frame, below, top) = frames_of s.frames stand in
+      let l = looked_step n size s x.event x.answer between frame below top step gone in
+      let last = l.closed in let closed = p.closed in let behind = r.links.done_lt in
+      let rises = counts_rise n size start c s front r before in let opens = rises.2 in
+      ⊎_elim (λ empty. tail_run s front r before (omega arith) some empty) (λ full. omega arith) (pending_gone s x.event x.answer between p step stand gone)))
+      (λ stands. stands_run between after (front ++ x ∷ []) exchanges some least r kept (run_snoc n size c s between front x before step) run pending stands none))
+      (λ done. let rises = counts_rise n size start between after exchanges kept run in let dones = rises.1 in omega arith)
+      (pending_step s x.event x.answer between k step p)
+    where
+      none_or_some : {B : Type 0} (frames : List Frame) → (frames ≡ [] → B) → (frames ≢ [] → B) → B
+      none_or_some [] f g = f refl
+      none_or_some (frame ∷ below) f g = g (some_stands frame below)
+
+      run_snoc : (n size : ℕ) (c s after : Core) (front : List Exchange) (x : Exchange) → Run n size c front s → Step n size s x.event x.answer after → Run n size c (front ++ x ∷ []) after
+      run_snoc n size c s after [] x run step = (after, subst (λ (y : Core). Step n size y x.event x.answer after) (sym run) step, refl)
+      run_snoc n size c s after (y ∷ front) x (between, first, run) step = (between, first, run_snoc n size between s after front x run step)
+
 pub wishes_answered : WishesAreAnswered
-wishes_answered n size start c after exchanges r stand asks some numbers_left run none =
-    ⊎_elim (λ pending. absurd (pending.stand none)) (λ done. done)
-    (answered_run n size start c numbers_left c after exchanges r r.links.done_lt run
-    (inl record { closed = refl; asks = asks; begun = omega arith; tail = λ now. some; stand = stand }))
+wishes_answered n size start c before exchanges event answer after r asks run step stand none =
+    ⊎_elim (λ p. inr (pending_gone n size start c before event answer after p step stand none)) (λ done. inl done)
+    (pending_run n size start c c before exchanges r run (inl record { closed = refl; asks = asks }))
+
+pub wished_tails_closed : WishedTailsAreClosed
+wished_tails_closed n size start c after exchanges r stand asks some least run none =
+    stands_run n size start c c after [] exchanges some least r r refl run record { closed = refl; asks = asks } stand none
 
 -- ---- the wish loses nothing
 
+-- where the reader doesn't look, it has seen what it had seen
+seen_stays : (n size : ℕ) (c : Core) (event : Event) (answer : Answer) (after : Core) → event ≢ reads → Step n size c event answer after → after.reader.seen ≡ c.reader.seen
+seen_stays n size c reads answer after other step = absurd (other refl)
+seen_stays n size c wishes answer after other step = wish_seen step
+  where
+    wish_seen : Step n size c wishes answer after → after.reader.seen ≡ c.reader.seen
+    wish_seen (push_step moment len e few fits early a is) = absurd (cc)
+    wish_seen (push_refused moment len why e refused a is) = absurd (cc)
+    wish_seen (close_step e few a is) = absurd (cc)
+    wish_seen (close_refused e many a is) = absurd (cc)
+    wish_seen (frame_step frame below e top step') = absurd (cc)
+    wish_seen (frame_lacks e none a is) = absurd (cc)
+    wish_seen (end_step payload frame below number moment len e top state kind slot a is) = absurd (cc)
+    wish_seen (end_lacks payload e none a is) = absurd (cc)
+    wish_seen (end_early payload frame below e top none a is) = absurd (cc)
+    wish_seen (read_step e step') = absurd (cc)
+    wish_seen (wish_step e a is) = ap (λ (x : Core). x.reader.seen) is
+seen_stays n size c (pushes moment len) answer after other step = ap (λ (r : Reader). r.seen) (writer_leaves_reader n size c (pushes moment len) answer after (λ is. is) step).reader
+seen_stays n size c pushes_close answer after other step = ap (λ (r : Reader). r.seen) (writer_leaves_reader n size c pushes_close answer after (λ is. is) step).reader
+seen_stays n size c steps answer after other step = ap (λ (r : Reader). r.seen) (writer_leaves_reader n size c steps answer after (λ is. is) step).reader
+seen_stays n size c (ends payload) answer after other step = ap (λ (r : Reader). r.seen) (writer_leaves_reader n size c (ends payload) answer after (λ is. is) step).reader
+
+seen_over : (n size : ℕ) (c after : Core) (exchanges : List Exchange) → IsNoRead exchanges → Run n size c exchanges after → after.reader.seen ≡ c.reader.seen
+seen_over n size c after [] none run = ap (λ (x : Core). x.reader.seen) (sym run)
+seen_over n size c after (x ∷ exchanges) none (between, step, run) = seen_over n size between after exchanges none.1 run ∙ seen_stays n size c x.event x.answer between none.0 step
+
 pub wish_loses_none : WishBehindEmptyLosesNone
-wish_loses_none n size start c between exchanges event answer after r seen_le asks granted run same step lost =
-    let rises = counts_rise n size start c between exchanges r run in
-    let kept = ring_run n size start c between exchanges r run in
-    let heads = rises.0 in let some = kept.links.some_pages in let opened = granted.asks_tail in let full = lost.0 in
+wish_loses_none n size start c empty_at granted_at between done event last_event exchanges more last_answer after r first none run granted on same step lost =
+    let (head, closed, passed, taken, seen, here) = empty_right n size start c event done empty_at r first in
+    let empty_kept = ring_step n size start c event (empty done) empty_at r first in
+    let granted_kept = ring_run n size start empty_at granted_at exchanges empty_kept run in
+    let kept = ring_run n size start granted_at between more granted_kept on in
+    let seen_yet = seen_over n size empty_at granted_at exchanges none run in
+    let rises = counts_rise n size start empty_at granted_at exchanges empty_kept run in let heads = rises.0 in
+    let later = counts_rise n size start granted_at between more granted_kept on in let later_heads = later.0 in
+    let wish = granted_kept.links.wish_le in let asks = granted.asks_tail in
+    let some = kept.links.some_pages in let full = lost.0 in
     absurd (omega arith)

@@ -17,7 +17,7 @@ abbrev pub RunsAreHistories : Type 0
 RunsAreHistories = (n size start : ℕ) (c : Core) → IsRingKept n size start c → IsHistory c.history
 
 -- and it is packed in its pages: each fill has room in one, and a fill is begun only behind one that isn't
--- empty, by a close frame or for a record that doesn't fit
+-- empty, for a record that doesn't fit, by a close frame, or for the reader's wish
 abbrev pub RunsArePacked : Type 0
 RunsArePacked = (n size start : ℕ) (c : Core) → IsRingKept n size start c → IsPacked c.history size
 

@@ -1,5 +1,5 @@
 -- What each step of a ring keeps of its pages and their records.
-use Rattle.std.specs.Prelude.{◌≡◌, ℕ, ◌+◌, ◌-◌, ◌<◌, ◌≤◌, ◌⊎◌, List, [], ◌∷◌, length, slice_index_or}
+use Rattle.std.specs.Prelude.{◌≡◌, ◌≢◌, ℕ, ◌+◌, ◌-◌, ◌<◌, ◌≤◌, List, [], ◌∷◌, length, slice_index_or}
 use Rattle.trace_model.specs.History.{Action, Reservation, reserved_records, settled_prefix}
 use Rattle.trace_model.specs.Packing.{opens_of, cut_from}
 use Rattle.trace_model.specs.Fitting.{IsRising}
@@ -17,17 +17,8 @@ abbrev pub Holds : ℕ → ℕ → List ℕ → List Held → List ℕ → List 
 Holds n start order held cuts records f =
     slice_index_or held (page_at n order f) empty_page ≡ cut_fill start cuts records f
 
--- what the page holds are records of numbers below this one
-abbrev pub HoldsBelow : List Held → (number page : ℕ) → Type 0
-HoldsBelow held number page =
-    (slice_index_or held page empty_page).first + length (slice_index_or held page empty_page).records ≤ number
-
--- the page is that of one of these fills
-abbrev pub IsPageOf : ℕ → List ℕ → (head opened page : ℕ) → Type 0
-IsPageOf n order head opened page = (f : ℕ) × (head ≤ f) × (f < opened) × (page ≡ page_at n order f)
-
 -- The fills are as many as are begun, each page has room for one, and those that are begun and not taken or
--- lost stand in their pages; any other page holds no record from the head's first on.
+-- lost stand in their pages.
 pub record PagesKept (n start : ℕ) (order : List ℕ) (held : List Held) (cuts : List ℕ) (records : List Reservation)
     (head opened : ℕ)
     : Type 0 where
@@ -36,8 +27,6 @@ pub record PagesKept (n start : ℕ) (order : List ℕ) (held : List Held) (cuts
   pub bodies : length held ≡ n + 1
   pub rising : IsRising 0 cuts (length records)
   pub each : (f : ℕ) → head ≤ f → f < opened → Holds n start order held cuts records f
-  pub others : (page : ℕ)
-      → HoldsBelow held (slice_index_or (0 ∷ cuts) (head - start) 0) page ⊎ IsPageOf n order head opened page
 
 abbrev pub ContentsKept : ℕ → ℕ → Core → Type 0
 ContentsKept n start c =
@@ -57,3 +46,13 @@ pub record OpenPagesAt (n : ℕ) (order open_pages : List ℕ) (done opened : �
 
 abbrev pub OpenPagesKept : ℕ → Core → Type 0
 OpenPagesKept n c = OpenPagesAt n c.order c.open_pages c.done c.opened
+
+-- each page that the writer doesn't hold has none but committed records: their numbers end with these
+abbrev pub OtherPagesAt : List Action → List ℕ → List Held → Type 0
+OtherPagesAt history open_pages held = (page : ℕ)
+    → ((i : ℕ) → i < length open_pages → slice_index_or open_pages i 0 ≢ page)
+    → (slice_index_or held page empty_page).first + length (slice_index_or held page empty_page).records
+    ≤ length (reserved_records (settled_prefix history))
+
+abbrev pub OtherPagesKept : Core → Type 0
+OtherPagesKept c = OtherPagesAt c.history c.open_pages c.held

@@ -1,5 +1,5 @@
 -- The laws of a record's payload in a ring, as statements: each is a clause of a function of src/laws/payloads.rt.
-use Rattle.std.specs.Prelude.{◌≡◌, ◌≢◌, ℕ, ◌+◌, ◌<◌, ◌≤◌, ◌⊎◌, List, ◌∷◌, length, Some, None, slice_get, slice_index_or}
+use Rattle.std.specs.Prelude.{◌≡◌, ◌≢◌, ℕ, ◌+◌, ◌-◌, ◌<◌, ◌≤◌, ◌⊎◌, List, ◌∷◌, length, Some, None, slice_get, slice_index_or}
 use Rattle.trace_model.specs.History.{Reservation}
 use Rattle.trace_model.specs.Frames.{reserved, Frame}
 use Rattle.trace_model.specs.Ring.{Held, Core, page_at}
@@ -18,6 +18,7 @@ pub record LiesOpen (n : ℕ) (c : Core) (number : ℕ) : Type 0 where
   pub fill : ℕ
   pub done_le : c.done ≤ fill
   pub opened_lt : fill < c.opened
+  pub is_open : slice_index_or c.open_pages (fill - c.done) 0 ≡ page_at n c.order fill
   pub index : ℕ
   pub holds : HoldsNumber c (page_at n c.order fill) number
   pub is_index : (contents_of c (page_at n c.order fill)).first + index ≡ number

@@ -6,7 +6,7 @@ use Rattle.link_marks.specs.KeptLinks.{LinksKept}
 use Rattle.link_marks.specs.KeptStack.{StackKept}
 use Rattle.link_marks.specs.KeptProgress.{ProgressKept}
 use Rattle.link_marks.specs.KeptHistory.{HistoryKept}
-use Rattle.link_marks.specs.KeptContents.{ContentsKept, OpenPagesKept, ClosedKept}
+use Rattle.link_marks.specs.KeptContents.{ContentsKept, OpenPagesKept, OtherPagesKept, ClosedKept}
 use Rattle.link_marks.specs.KeptPacking.{PackedKept}
 use Rattle.link_marks.specs.KeptPartition.{PartitionKept}
 
@@ -18,6 +18,7 @@ pub record IsRingKept (n size start : ℕ) (c : Core) : Type 0 where
   pub history : HistoryKept n start c
   pub contents : ContentsKept n start c
   pub open_pages : OpenPagesKept n c
+  pub other_pages : OtherPagesKept c
   pub packed : PackedKept size c
   pub closed : ClosedKept start c
   pub partition : PartitionKept start c

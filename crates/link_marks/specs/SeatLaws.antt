@@ -3,7 +3,7 @@ use Rattle.std.specs.Prelude.{◌≡◌, ℕ, List}
 use Rattle.trace_model.specs.Ring.{Core}
 use Rattle.trace_model.specs.Steps.{Event, Answer, Step, Exchange, Run}
 use Rattle.link_marks.specs.RingKept.{IsRingKept}
-use Rattle.link_marks.specs.Seats.{IsOfReader, ReaderPart, seen_by, WriterStays, ReaderStays, IsPrivate, PrivateRun, WordsStay}
+use Rattle.link_marks.specs.Seats.{IsOfReader, ReaderPart, seen_by, WriterPart, written_by, OpenPagesHold, OtherPagesHold, WriterStays, ReaderStays, IsPrivate, PrivateRun, WordsStay}
 
 -- a step of the writer is the same whatever the reader's part is: it reads nothing of that
 abbrev pub WriterReadsNoReader : Type 0
@@ -26,12 +26,35 @@ ReaderLeavesWriter = (n size : ℕ) (c : Core) (event : Event) (answer : Answer)
     → Step n size c event answer after
     → WriterStays c after
 
+-- a step of the reader is the same whatever the writer's part is
+abbrev pub ReaderReadsNoWriter : Type 0
+ReaderReadsNoWriter = (n size : ℕ) (c : Core) (event : Event) (answer : Answer) (after : Core) (part : WriterPart)
+    → IsOfReader event
+    → Step n size c event answer after
+    → Step n size (written_by part c) event answer (written_by part after)
+
+-- and it leaves the pages that the writer holds as they are
+abbrev pub ReaderLeavesOpenPages : Type 0
+ReaderLeavesOpenPages = (n size start : ℕ) (c : Core) (event : Event) (answer : Answer) (after : Core)
+    → IsRingKept n size start c
+    → IsOfReader event
+    → Step n size c event answer after
+    → OpenPagesHold c after
+
 -- a private step touches no word
 abbrev pub PrivateTouchesNoWord : Type 0
 PrivateTouchesNoWord = (n size : ℕ) (c : Core) (event : Event) (answer : Answer) (after : Core)
     → IsPrivate c event
     → Step n size c event answer after
     → WordsStay c after
+
+-- and no page but the writer's own
+abbrev pub PrivateLeavesOtherPages : Type 0
+PrivateLeavesOtherPages = (n size start : ℕ) (c : Core) (event : Event) (answer : Answer) (after : Core)
+    → IsRingKept n size start c
+    → IsPrivate c event
+    → Step n size c event answer after
+    → OtherPagesHold c after
 
 -- Private steps and a step of the reader commute: from where both may be made, each leads on by the other's answers
 -- to one and the same state.

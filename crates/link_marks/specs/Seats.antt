@@ -1,11 +1,12 @@
 -- The two seats of a ring, the writer's and the reader's: what each changes, and the writer's private steps, which
 -- touch no word of the ring.
 -- docs/FORMATS.md, "The ring".
-use Rattle.std.specs.Prelude.{◌≡◌, ◌≢◌, ℕ, List, [], ◌∷◌}
+use Rattle.std.specs.Prelude.{◌≡◌, ◌≢◌, ℕ, ◌<◌, List, [], ◌∷◌, length, slice_index_or}
+use Rattle.trace_model.specs.History.{Action}
 use Rattle.trace_model.specs.Links.{Link}
 use Rattle.trace_model.specs.Frames.{Role, owner, helper, Phase, idle, looking, claiming, looking_next, marking, clearing, opening, releasing, wishing, Frame}
 use Rattle.trace_model.specs.Ring.{Reader, Core}
-use Rattle.trace_model.specs.Steps.{Event, pushes, pushes_close, steps, ends, reads, wishes, Step, Exchange}
+use Rattle.trace_model.specs.Steps.{contents_of, Event, pushes, pushes_close, steps, ends, reads, wishes, Step, Exchange}
 
 -- ---- the seats
 
@@ -31,6 +32,22 @@ seen_by part c = record c {
   spare = part.spare;
   spare_link = part.spare_link;
   reader = part.reader;
+}
+
+-- what the writer alone knows, and the count that it alone stores and the reader doesn't load
+pub record WriterPart : Type 0 where
+  pub frames : List Frame
+  pub open_pages : List ℕ
+  pub history : List Action
+  pub opened : ℕ
+
+-- the state with this as the writer's part
+abbrev pub written_by : WriterPart → Core → Core
+written_by part c = record c {
+  frames = part.frames;
+  open_pages = part.open_pages;
+  history = part.history;
+  opened = part.opened;
 }
 
 -- an event of the reader changes nothing of the writer's part, nor a word that the writer alone stores
@@ -96,3 +113,15 @@ pub record WordsStay (c after : Core) : Type 0 where
   pub opened : after.opened ≡ c.opened
   pub wish : after.wish ≡ c.wish
   pub head : after.head ≡ c.head
+
+-- the writer's own pages, those of the fills that are begun and not closed, hold what they held
+abbrev pub OpenPagesHold : Core → Core → Type 0
+OpenPagesHold c after = (i : ℕ)
+    → i < length c.open_pages
+    → contents_of after (slice_index_or c.open_pages i 0) ≡ contents_of c (slice_index_or c.open_pages i 0)
+
+-- and every other page does
+abbrev pub OtherPagesHold : Core → Core → Type 0
+OtherPagesHold c after = (page : ℕ)
+    → ((i : ℕ) → i < length c.open_pages → slice_index_or c.open_pages i 0 ≢ page)
+    → contents_of after page ≡ contents_of c page

@@ -4,7 +4,7 @@ use Rattle.trace_model.specs.declared.limits.TheConstants.{LINK_FILLS}
 use Rattle.trace_model.specs.Packing.{tail_of}
 use Rattle.trace_model.specs.Frames.{reserved, wishing, Frame}
 use Rattle.trace_model.specs.Ring.{Core, first_of_fill}
-use Rattle.trace_model.specs.Steps.{Event, steps, ends, reads, wishes, Answer, gone, full, wished_for, IsGranted, Step, Exchange, Run}
+use Rattle.trace_model.specs.Steps.{Event, steps, ends, reads, wishes, Answer, gone, full, empty, wished_for, IsGranted, Step, Exchange, Run}
 use Rattle.link_marks.specs.RingKept.{IsRingKept}
 use Rattle.link_marks.specs.WindowLaws.{HeadIsLost}
 
@@ -31,9 +31,21 @@ GoneHasLooked = (n size : ℕ) (c : Core) (event : Event) (answer : Answer) (aft
     × (c.wish ≡ c.done + 1 → (tail_of c.history ≡ []) ⊎ (LINK_FILLS ≤ c.opened + n))
 
 -- So a wish for the first fill that isn't closed is answered by the next outermost end that finds a record in the
--- tail, the last fill aside: when no frame stands any more, the fill is closed.
+-- tail, the last fill aside: where the last frame is gone and the fill isn't closed yet, there was none, or it is that.
 abbrev pub WishesAreAnswered : Type 0
-WishesAreAnswered = (n size start : ℕ) (c after : Core) (exchanges : List Exchange)
+WishesAreAnswered = (n size start : ℕ) (c before : Core) (exchanges : List Exchange)
+    (event : Event) (answer : Answer) (after : Core)
+    → IsRingKept n size start c
+    → c.wish ≡ c.done + 1
+    → Run n size c exchanges before
+    → Step n size before event answer after
+    → before.frames ≢ []
+    → after.frames ≡ []
+    → (c.done < before.done) ⊎ ((tail_of before.history ≡ []) ⊎ (LINK_FILLS ≤ before.opened + n))
+
+-- and where the tail holds a record when a frame stands, the fill is closed when none stands any more
+abbrev pub WishedTailsAreClosed : Type 0
+WishedTailsAreClosed = (n size start : ℕ) (c after : Core) (exchanges : List Exchange)
     → IsRingKept n size start c
     → c.frames ≢ []
     → c.wish ≡ c.done + 1
@@ -55,18 +67,23 @@ EndsOnTheWishedPage = (n size start : ℕ) (c : Core) (payload : List ℕ) (afte
     → (first_of_fill c.history start c.done ≤ number)
     × (number < first_of_fill c.history start c.done + length (tail_of c.history))
 
--- A wish right behind an answer that nothing closed is unread loses no fill: there the reader has seen no more fills
--- closed than are taken or lost, and that stays so until it looks again. From where such a wish is granted, no fill is
--- lost until the next one is begun, which is so behind a ring that isn't full.
+-- the reader doesn't look again in these
+abbrev pub IsNoRead : List Exchange → Type 0
+IsNoRead [] = Unit {0}
+IsNoRead (x ∷ exchanges) = (x.event ≢ reads) × IsNoRead exchanges
+
+-- A wish right behind an answer that nothing closed is unread loses no fill: where a frame grants it before the
+-- reader looks again, no fill is lost until the next one is begun, which is so behind a ring that isn't full.
 abbrev pub WishBehindEmptyLosesNone : Type 0
-WishBehindEmptyLosesNone = (n size start : ℕ) (c between : Core) (exchanges : List Exchange)
-    (event : Event) (answer : Answer) (after : Core)
+WishBehindEmptyLosesNone = (n size start : ℕ) (c empty_at granted_at between : Core) (done : ℕ)
+    (event last_event : Event) (exchanges more : List Exchange) (last_answer : Answer) (after : Core)
     → IsRingKept n size start c
-    → c.reader.seen ≤ c.head
-    → c.wish ≡ c.reader.seen + 1
-    → IsGranted n c
-    → Run n size c exchanges between
-    → between.opened ≡ c.opened
-    → Step n size between event answer after
+    → Step n size c event (empty done) empty_at
+    → IsNoRead exchanges
+    → Run n size empty_at exchanges granted_at
+    → IsGranted n granted_at
+    → Run n size granted_at more between
+    → between.opened ≡ granted_at.opened
+    → Step n size between last_event last_answer after
     → HeadIsLost n between after
     → ⊥

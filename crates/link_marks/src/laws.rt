@@ -6,5 +6,6 @@ pub mod histories;
 pub mod links;
 pub mod payloads;
 pub mod rings;
+pub mod seats;
 pub mod windows;
 pub mod wishes;

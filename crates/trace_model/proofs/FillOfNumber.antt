@@ -11,7 +11,7 @@ use Rattle.trace_model.proofs.FillCuts.{IsRising-least}
 use Rattle.trace_model.proofs.FillFirsts.{first_rises_to}
 
 -- how many records a fill has that isn't the last
-pub fill_size : (from : ℕ) (cuts : List ℕ) (xs : List Reservation) (i : ℕ) → i < length cuts → IsRising from cuts (length xs) → get_or (from ∷ cuts) i 0 + length (get_or (cut_from from cuts xs) i []) ≡ get_or (from ∷ cuts) (suc i) 0
+fill_size : (from : ℕ) (cuts : List ℕ) (xs : List Reservation) (i : ℕ) → i < length cuts → IsRising from cuts (length xs) → get_or (from ∷ cuts) i 0 + length (get_or (cut_from from cuts xs) i []) ≡ get_or (from ∷ cuts) (suc i) 0
 fill_size from [] xs i low r = absurd (omega arith)
 fill_size from (cut ∷ cuts) xs zero low r = let least = r.0 in let rest = IsRising-least cut cuts (length xs) r.1 in
     omega (arith, length-take-le (cut - from) (drop from xs) (omega (arith, length-drop from xs)))

@@ -14,7 +14,8 @@ pub data Kind : Type 0 where
   for_close : Kind
 
 -- What a frame is on the writer's stack. waiting: it has no record yet. reserved: its record has this number.
--- left: it was ended or refused, or had nothing more to do, and stays only at the bottom, to close fills.
+-- left: it was ended or refused, or had nothing more to do, and stays only at the bottom, to close fills and to look
+-- for the reader's wish.
 pub data FrameState : Type 0 where
   waiting : FrameState
   reserved : (number : ℕ) → FrameState

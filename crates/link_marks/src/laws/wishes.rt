@@ -1,5 +1,5 @@
 //! Laws of the reader's wish for the tail page.
-ghost use Rattle.link_marks.specs.WishLaws.{EndsOnTheWishedPage, GoneHasLooked, WishBehindEmptyLosesNone, WishesAreAnswered, WishesAreHeld};
+ghost use Rattle.link_marks.specs.WishLaws.{EndsOnTheWishedPage, GoneHasLooked, WishBehindEmptyLosesNone, WishedTailsAreClosed, WishesAreAnswered, WishesAreHeld};
 
 /// The reader wishes for the fill behind those that it has seen closed; the last frame leaves the stack by its look for
 /// that wish alone; and so a wish for the first fill that isn't closed is answered by the next outermost end that
@@ -9,6 +9,7 @@ pub fn wishes_are_answered()
     ensures held { WishesAreHeld }
     ensures gone { GoneHasLooked }
     ensures answered { WishesAreAnswered }
+    ensures closed { WishedTailsAreClosed }
     ensures own { EndsOnTheWishedPage }
 {}
 

@@ -1,0 +1,21 @@
+//! Laws of a ring's two seats, the writer's and the reader's: what each reads and changes.
+ghost use Rattle.link_marks.specs.SeatLaws.{PrivateCommutes, PrivateLeavesOtherPages, PrivateTouchesNoWord, ReaderLeavesOpenPages, ReaderLeavesWriter, ReaderReadsNoWriter, WriterLeavesReader, WriterReadsNoReader};
+
+/// A step of the writer reads nothing of the reader's part, and leaves it as it is; and a step of the reader reads
+/// nothing of the writer's part, and leaves it as it is, with the words that the writer alone stores and the pages
+/// that it holds.
+pub fn seats_are_apart()
+    ensures writer_reads { WriterReadsNoReader }
+    ensures writer_leaves { WriterLeavesReader }
+    ensures reader_reads { ReaderReadsNoWriter }
+    ensures reader_leaves { ReaderLeavesWriter }
+    ensures pages { ReaderLeavesOpenPages }
+{}
+
+/// A private step of the writer touches no word of the ring, and no page but those that the writer holds; so private
+/// steps and a step of the reader lead to one state, whichever comes first, with the same answers.
+pub fn private_steps_commute()
+    ensures words { PrivateTouchesNoWord }
+    ensures pages { PrivateLeavesOtherPages }
+    ensures commute { PrivateCommutes }
+{}
