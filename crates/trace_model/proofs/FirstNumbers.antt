@@ -9,7 +9,7 @@ use Rattle.trace_model.proofs.Elements.{some_is, get_in_front, get_behind}
 -- ---- where a piece lies
 
 -- the records of the piece at an index, with those in front of it and those behind it
-record IsPlaced (records : List Record) (pieces : List Piece) (rest : List Record) (k : ℕ) (p : Piece) : Type 0 where
+record CutAtPiece (records : List Record) (pieces : List Piece) (rest : List Record) (k : ℕ) (p : Piece) : Type 0 where
   before : List Record
   lost : List Record
   behind : List Record
@@ -18,9 +18,9 @@ record IsPlaced (records : List Record) (pieces : List Piece) (rest : List Recor
   skips : length lost ≡ p.skipped
   others : IsPartition behind (drop (suc k) pieces) rest
 
-placed : (records : List Record) (pieces : List Piece) (rest : List Record) (k : ℕ) (p : Piece) → IsPartition records pieces rest → slice_get pieces k ≡ Some p → IsPlaced records pieces rest k p
-placed records [] rest k p partition at = absurd (none-some p at)
-placed records (q ∷ pieces) rest zero p (lost, behind, size, cut, partition) at =
+cut_at_piece : (records : List Record) (pieces : List Piece) (rest : List Record) (k : ℕ) (p : Piece) → IsPartition records pieces rest → slice_get pieces k ≡ Some p → CutAtPiece records pieces rest k p
+cut_at_piece records [] rest k p partition at = absurd (none-some p at)
+cut_at_piece records (q ∷ pieces) rest zero p (lost, behind, size, cut, partition) at =
     let same : q ≡ p = some_is q p at in
     record {
       before = [];
@@ -31,8 +31,8 @@ placed records (q ∷ pieces) rest zero p (lost, behind, size, cut, partition) a
       skips = size ∙ ap (λ (x : Piece). x.skipped) same;
       others = partition;
     }
-placed records (q ∷ pieces) rest (suc k) p (lost, behind, size, cut, partition) at =
-    let s = placed behind pieces rest k p partition at in
+cut_at_piece records (q ∷ pieces) rest (suc k) p (lost, behind, size, cut, partition) at =
+    let s = cut_at_piece behind pieces rest k p partition at in
     let left = s.lost ++ (p.records ++ s.behind) in
     record {
       before = lost ++ (q.records ++ s.before);
@@ -62,7 +62,7 @@ number_is number (q ∷ pieces) (suc k) p before lost at (skipped, behind, size,
 
 pub numbered_from : (records : List Record) (pieces : List Piece) (rest : List Record) (k : ℕ) (p : Piece) → IsPartition records pieces rest → slice_get pieces k ≡ Some p → (first : ℕ) × IsNumberedFrom records pieces rest k p first
 numbered_from records pieces rest k p partition at =
-    let s = placed records pieces rest k p partition at in
+    let s = cut_at_piece records pieces rest k p partition at in
     (length s.before + length s.lost, record { before = s.before; lost = s.lost; behind = s.behind; whole = s.whole; partition = s.partition; skips = s.skips; others = s.others; number = refl })
 
 pub first_is_count : (records : List Record) (pieces : List Piece) (rest : List Record) (k : ℕ) (p : Piece) (first : ℕ) → slice_get pieces k ≡ Some p → IsNumberedFrom records pieces rest k p first → first_of pieces k ≡ Some first
