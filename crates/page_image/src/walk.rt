@@ -1,7 +1,7 @@
 //! The words of a page's data, stepped over one by one from the front, with the time.
 ghost use Rattle.std.specs.Prelude.{◌≡◌, ℕ, ◌+◌, ◌*◌, ◌≤◌, ◌<◌, ◌^◌, List, IfOk, IfErr, IfSome, MatchOption, length};
 ghost use Rattle.trace_model.specs.Words.{Word as OneWord, Decodes, records_of};
-ghost use Rattle.page_image.specs.Counting.{IsFirstFault};
+ghost use Rattle.page_image.specs.Counting.{IsFirstWordFault};
 ghost use Rattle.page_image.specs.Walk.{HasRead, HasPassed};
 
 use record_words::{Place, Word, WordFault, next_word};
@@ -60,7 +60,7 @@ pub(crate) fn step_over_word(data: &[u8], reached: Reached) -> Result<Option<Pas
         (HasPassed «data».now time words)) }
     ensures fault { (time : ℕ) (words : List OneWord)
         → HasRead «data».now time words reached
-        → IfErr result (λ f. IsFirstFault «data».now time f) }
+        → IfErr result (λ f. IsFirstWordFault «data».now time f) }
 {
     let from = reached.at;
     let (payload, at, moment, count) = match next_word(data, from)? {
