@@ -5,11 +5,11 @@ use Rattle.trace_model.specs.declared.limits.TheConstants.{MAX_INPUT}
 use Rattle.command_io.specs.declared.command.TheConstants.{MEMORY_LINE}
 use Rattle.command_io.specs.declared.status.TheConstants.{DONE, REFUSED, NO_MEMORY, END_FAILED}
 
--- In what follows the source has `unread` before the run and `left` after it, and the sink `held` before it
--- and `holds` after it. An end whose bytes aren't known has `None`, and then nothing is said of them.
+-- In what follows the source has `unread` before the run and `left` after it, and the sink `contents` before it
+-- and `contents_after` after it. An end whose bytes aren't known has `None`, and then nothing is said of them.
 -- Of known bytes std's words say: `Consumes unread left bytes`, that `unread` is `bytes` and then `left`;
--- `IsAtEnd left`, that none is left; `Appends held holds bytes`, that `holds` is `held` and then `bytes`;
--- `Keeps held holds`, that they are the same.
+-- `IsAtEnd left`, that none is left; `Appends contents contents_after bytes`, that `contents_after` is `contents`
+-- and then `bytes`; `Keeps contents contents_after`, that they are the same.
 
 -- the text is all that the source had: it was taken, and nothing is left
 pub record ReadsAll (unread left : Option (List ℕ)) (text : List ℕ) : Type 0 where
@@ -29,10 +29,10 @@ pub record TakesAtMost (n : ℕ) (unread left : Option (List ℕ)) : Type 0 wher
   pub within : length bytes ≤ n
 
 -- a beginning of the bytes was written to the sink, and not all of them
-pub record AppendsPrefix (held holds : Option (List ℕ)) (bytes : List ℕ) : Type 0 where
+pub record AppendsPrefix (contents contents_after : Option (List ℕ)) (bytes : List ℕ) : Type 0 where
   pub count : ℕ
   pub short : count < length bytes
-  pub written : Appends held holds (take count bytes)
+  pub written : Appends contents contents_after (take count bytes)
 
 -- In what follows `gives text bytes status` says that a command may print these bytes for a text, with this
 -- exit status.
@@ -47,50 +47,52 @@ pub record IsOutput (gives : List ℕ → List ℕ → ℕ → Type 0)
 
 -- an output for the whole source was written, all of it
 pub record WritesOutput (gives : List ℕ → List ℕ → ℕ → Type 0)
-    (unread left held holds : Option (List ℕ)) (status : ℕ) : Type 0 where
+    (unread left contents contents_after : Option (List ℕ)) (status : ℕ) : Type 0 where
   pub bytes : List ℕ
   pub output : IsOutput gives unread left bytes status
-  pub written : Appends held holds bytes
+  pub written : Appends contents contents_after bytes
 
 -- a beginning of an output for the whole source was written, and not all of it
 pub record WritesOutputPrefix (gives : List ℕ → List ℕ → ℕ → Type 0)
-    (unread left held holds : Option (List ℕ)) : Type 0 where
+    (unread left contents contents_after : Option (List ℕ)) : Type 0 where
   pub bytes : List ℕ
   pub status : ℕ
   pub output : IsOutput gives unread left bytes status
-  pub written : AppendsPrefix held holds bytes
+  pub written : AppendsPrefix contents contents_after bytes
 
 -- at most MAX_INPUT bytes were read, and the line that tells that memory was refused was written
-pub record WritesMemoryLine (unread left held holds : Option (List ℕ)) : Type 0 where
+pub record WritesMemoryLine (unread left contents contents_after : Option (List ℕ)) : Type 0 where
   pub taken : TakesAtMost MAX_INPUT unread left
-  pub written : Appends held holds MEMORY_LINE
+  pub written : Appends contents contents_after MEMORY_LINE
 
 -- at most MAX_INPUT bytes were read, and a beginning of that line was written, and not all of it
-pub record WritesMemoryPrefix (unread left held holds : Option (List ℕ)) : Type 0 where
+pub record WritesMemoryPrefix (unread left contents contents_after : Option (List ℕ)) : Type 0 where
   pub taken : TakesAtMost MAX_INPUT unread left
-  pub written : AppendsPrefix held holds MEMORY_LINE
+  pub written : AppendsPrefix contents contents_after MEMORY_LINE
 
 -- nothing was written, and no write was tried that failed
-pub record WritesNothing (held holds : Option (List ℕ)) (write_failed : Bool) : Type 0 where
-  pub kept : Keeps held holds
+pub record WritesNothing (contents contents_after : Option (List ℕ)) (write_failed : Bool) : Type 0 where
+  pub kept : Keeps contents contents_after
   pub sound : write_failed ≡ false
 
 -- Both ends had not failed before the run; `read_failed` and `write_failed` say whether they have now.
 pub record IsCommandRun (gives : List ℕ → List ℕ → ℕ → Type 0)
-    (unread left held holds : Option (List ℕ)) (read_failed write_failed : Bool) (status : ℕ) : Type 0 where
+    (unread left contents contents_after : Option (List ℕ)) (read_failed write_failed : Bool) (status : ℕ)
+    : Type 0 where
   -- no other exit status comes
   pub one_of : (status ≡ DONE) ⊎ (status ≡ REFUSED) ⊎ (status ≡ NO_MEMORY) ⊎ (status ≡ END_FAILED)
   -- 0 and 1: all of the source was read and all of an output for it was written, which has this status
-  pub finished : (status ≡ DONE) ⊎ (status ≡ REFUSED) → WritesOutput gives unread left held holds status
+  pub finished : (status ≡ DONE) ⊎ (status ≡ REFUSED) → WritesOutput gives unread left contents contents_after status
   -- 3, for refused memory: nothing but the line for that was written
-  pub no_memory : status ≡ NO_MEMORY → WritesMemoryLine unread left held holds
+  pub no_memory : status ≡ NO_MEMORY → WritesMemoryLine unread left contents contents_after
   -- 4 comes wherever a read failed, and then nothing was written
-  pub read_fault : read_failed ≡ true → (status ≡ END_FAILED) × WritesNothing held holds write_failed
+  pub read_fault : read_failed ≡ true → (status ≡ END_FAILED) × WritesNothing contents contents_after write_failed
   -- and wherever a write failed, and then a beginning of what was to be written is there, and not all
   pub write_fault : write_failed ≡ true
       → (status ≡ END_FAILED)
-      × (WritesOutputPrefix gives unread left held holds ⊎ WritesMemoryPrefix unread left held holds)
+      × (WritesOutputPrefix gives unread left contents contents_after
+      ⊎ WritesMemoryPrefix unread left contents contents_after)
   -- else 4 comes only where more was read than may be, and then nothing was written
   pub end_fault : status ≡ END_FAILED
       → (read_failed ≡ true) ⊎ (write_failed ≡ true)
-      ⊎ (TakesMoreThan MAX_INPUT unread left × WritesNothing held holds write_failed)
+      ⊎ (TakesMoreThan MAX_INPUT unread left × WritesNothing contents contents_after write_failed)

@@ -17,7 +17,7 @@ use Rattle.record_words.specs.Next.{StandsAt, DataAt, PaddingAt, EndingAt}
 use Rattle.record_words.specs.declared.put.Place.{Place}
 use Rattle.page_image.specs.declared.walk.Reached.{Reached}
 use Rattle.page_image.specs.declared.walk.Passed.{Passed}
-use Rattle.page_image.specs.Counting.{IsCounted, IsFirstFault}
+use Rattle.page_image.specs.Counting.{IsCounted, IsFirstWordFault}
 use Rattle.page_image.specs.Walk.{HasRead, HasPassed, records_at_place}
 
 pub read-start : (bytes : List ℕ) (time : ℕ) (reached : Reached) → reached.at ≡ 0 → reached.moment ≡ time → reached.count ≡ 0 → HasRead bytes time [] reached
@@ -130,7 +130,7 @@ some_behind bytes at inside e = (let none = ap length e in omega (arith, length-
 
 -- a word that moves the time too far
 pub overflow-first : (bytes : List ℕ) (time : ℕ) (words : List Word) (reached : Reached) (w : Word) (next : ℕ) (f : WordFault) → HasRead bytes time words reached → reached.at < length bytes → StandsAt bytes reached.at next w
-    → MovesTime w → is_stamp w ≡ false → f ≡ TimeOverflow reached.at → 2 ^ 64 ≤ reached.moment + delta_of w → IsFirstFault bytes time f
+    → MovesTime w → is_stamp w ≡ false → f ≡ TimeOverflow reached.at → 2 ^ 64 ≤ reached.moment + delta_of w → IsFirstWordFault bytes time f
 overflow-first bytes time words reached w next f is inside here moves not_stamp fault past =
     let moment_is = is.moment_is in
     let first : FirstFault bytes time time_overflow reached.at = record {
@@ -143,7 +143,7 @@ overflow-first bytes time words reached w next f is inside here moves not_stamp 
       some_left = some_behind bytes reached.at inside;
       fault = record { word = w; behind = drop next bytes; stands = here.stands; is_word = here.is_word; moves = moves; past = omega (arith, moment_after-push time words w not_stamp) };
     } in
-    subst (IsFirstFault bytes time) (sym fault) first
+    subst (IsFirstWordFault bytes time) (sym fault) first
 
 pub IsData-moves : (w : Word) → IsData w → MovesTime w
 IsData-moves (short_data delta payload) is = tt
@@ -169,7 +169,7 @@ pub copied-whole : (bytes : List ℕ) (time : ℕ) (words : List Word) (records 
 copied-whole bytes time words records same reads = same ∙ sym (records_in-Decodes bytes time (records_of time words) reads)
 
 -- data that reads has no fault
-pub no_fault : (bytes : List ℕ) (time : ℕ) (records : List Record) (f : WordFault) → Decodes bytes time records → IsFirstFault bytes time f → ⊥
+pub no_fault : (bytes : List ℕ) (time : ℕ) (records : List Record) (f : WordFault) → Decodes bytes time records → IsFirstWordFault bytes time f → ⊥
 no_fault bytes time records (Cut at) reads first = Decodes-FirstFault bytes time records cut at reads first
 no_fault bytes time records (BadLength at) reads first = Decodes-FirstFault bytes time records bad_length at reads first
 no_fault bytes time records (TimeOverflow at) reads first = Decodes-FirstFault bytes time records time_overflow at reads first

@@ -17,7 +17,7 @@ use Rattle.page_image.specs.declared.image.Outline.{Outline}
 use Rattle.page_image.specs.declared.image.header.Commit.{Commit as CommitTold}
 use Rattle.page_image.specs.declared.image.header.Header.{Header}
 use Rattle.page_image.specs.Contents.{records_of_page}
-use Rattle.page_image.specs.Counting.{IsCounted, IsFirstFault}
+use Rattle.page_image.specs.Counting.{IsCounted, IsFirstWordFault}
 use Rattle.page_image.specs.Images.{missed_of, behind_header, data_in, behind_data, word_fault, IsReadable, IsImageFault, commit_with, IsCommitWord, HasPartsOf, IsOutlined}
 
 -- ---- the header
@@ -76,7 +76,7 @@ bad_word_from bytes header missed cause at p told fault = record {
   fault = fault;
 }
 
-pub word_faulty : (bytes : List ℕ) (header : Header) (missed : Missed) (f : WordFault) → HasPartsOf bytes header → TellsOf bytes header missed → IsFirstFault (data_in bytes header.commit.size) header.time f → IsImageFault bytes (Word f)
+pub word_faulty : (bytes : List ℕ) (header : Header) (missed : Missed) (f : WordFault) → HasPartsOf bytes header → TellsOf bytes header missed → IsFirstWordFault (data_in bytes header.commit.size) header.time f → IsImageFault bytes (Word f)
 word_faulty bytes header missed (Cut at) p told fault = bad_word_from bytes header missed cut at p told fault
 word_faulty bytes header missed (BadLength at) p told fault = bad_word_from bytes header missed bad_length at p told fault
 word_faulty bytes header missed (TimeOverflow at) p told fault = bad_word_from bytes header missed time_overflow at p told fault

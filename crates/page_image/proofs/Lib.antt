@@ -3,6 +3,7 @@ mod Behind
 mod Putting
 mod Overwriting
 mod Sought
+mod Left
 mod Counting
 mod ImageReads
 mod ImageWrites

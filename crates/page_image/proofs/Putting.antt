@@ -3,6 +3,7 @@ use Rattle.std.proofs.Common.{◌≡◌, ℕ, ◌+◌, ◌-◌, ◌%◌, ◌^◌
 use Rattle.std.specs.List.{AllByRecursion}
 use Rattle.std.proofs.lemmas.List.{append-nil, length-replicate}
 use Rattle.std.proofs.lemmas.List.Concat.{flat_map-append}
+use Rattle.trace_model.specs.declared.limits.TheConstants.{MOMENT_LIMIT}
 use Rattle.trace_model.specs.Record.{Record}
 use Rattle.trace_model.specs.Words.{Word, short_data, long_data, time_extend, bytes_of_word, IsWord, joined, data_word, written_words, encoding, encoded_len, slot_len, Decodes, records_of, moment_after, delta_of}
 use Rattle.trace_model.specs.Reading.{IsData, payload_of, records_in, EndsInRecord, IsPlaceIn}
@@ -110,7 +111,7 @@ zeros_fit len limit =
     let size : length (replicate {A = ℕ} (slot_len len) 0) ≡ slot_len len = length-replicate (slot_len len) 0 in
     record { whole = ap (λ (n : ℕ). n % 4) size ∙ slot_len-mod len; some = omega (arith, slot_len_ge_four len); fits = omega arith }
 
-pub put_end : (bytes : List ℕ) (prev moment len : ℕ) → EndsInRecord bytes → moment < 2 ^ 59 → len ≤ 2 ^ 30 → PutEnd bytes prev moment (slot_len len)
+pub put_end : (bytes : List ℕ) (prev moment len : ℕ) → EndsInRecord bytes → moment < MOMENT_LIMIT → len ≤ 2 ^ 30 → PutEnd bytes prev moment (slot_len len)
 put_end [] prev moment len ends small limit =
     let payload : List ℕ = replicate (slot_len len) 0 in
     let slot = zeros_fit len limit in
@@ -126,7 +127,7 @@ put_end (byte ∷ bytes) prev moment len ends small limit =
       place = λ start end_is. place_behind (byte ∷ bytes) ends.words (moment - prev) false (slot_len len) start ends.whole (each-append ends.words _ ends.each (written-each (moment - prev) payload (omega arith) slot.whole slot.some slot.fits)) end_is;
     }
 
-pub put_data : (bytes : List ℕ) (time prev moment len : ℕ) → EndsInRecord bytes → Decodes bytes time (records_in time bytes) → IfSome (moment_of_last (records_in time bytes)) (λ last. last ≡ prev) → prev ≤ moment → moment < 2 ^ 59 → len ≤ 2 ^ 30
+pub put_data : (bytes : List ℕ) (time prev moment len : ℕ) → EndsInRecord bytes → Decodes bytes time (records_in time bytes) → IfSome (moment_of_last (records_in time bytes)) (λ last. last ≡ prev) → prev ≤ moment → moment < MOMENT_LIMIT → len ≤ 2 ^ 30
     → Decodes (bytes ++ encoding (moment - prev) (is_blank bytes) (replicate (slot_len len) 0)) (cond (is_blank bytes) moment time) (records_in time bytes ++ record { moment = moment; bytes = replicate (slot_len len) 0 } ∷ [])
 put_data [] time prev moment len ends reads behind order small limit =
     let payload : List ℕ = replicate (slot_len len) 0 in
@@ -161,14 +162,14 @@ no_place number start len there =
     ap length (flat_map-append bytes_of_word p.front (p.word ∷ p.behind)) ∙ length-append (joined p.front) (bytes_of_word p.word ++ joined p.behind) ∙ ap (λ (n : ℕ). length (joined p.front) + n) (length-append (bytes_of_word p.word) (joined p.behind)) in
     absurd (omega (arith, length-append (joined (p.front ++ p.word ∷ p.behind)) p.rest))
 
-put_places_stay : (bytes : List ℕ) (prev moment len : ℕ) → EndsInRecord bytes → moment < 2 ^ 59 → len ≤ 2 ^ 30 → (number at size : ℕ) → IsPlaceOf bytes number at size
+put_places_stay : (bytes : List ℕ) (prev moment len : ℕ) → EndsInRecord bytes → moment < MOMENT_LIMIT → len ≤ 2 ^ 30 → (number at size : ℕ) → IsPlaceOf bytes number at size
     → IsPlaceOf (bytes ++ encoding (moment - prev) (is_blank bytes) (replicate (slot_len len) 0)) number at size
 put_places_stay [] prev moment len ends small limit number at size there = absurd (no_place number at size there)
 put_places_stay (byte ∷ bytes) prev moment len ends small limit number at size there =
     let slot = zeros_fit len limit in
     IsPlaceOf-appended (byte ∷ bytes) number at size (moment - prev) (replicate (slot_len len) 0) ends there (omega arith) slot.whole slot.some slot.fits
 
-put_number : (bytes : List ℕ) (time prev moment len start : ℕ) → EndsInRecord bytes → Decodes bytes time (records_in time bytes) → moment < 2 ^ 59 → len ≤ 2 ^ 30
+put_number : (bytes : List ℕ) (time prev moment len start : ℕ) → EndsInRecord bytes → Decodes bytes time (records_in time bytes) → moment < MOMENT_LIMIT → len ≤ 2 ^ 30
     → start + slot_len len ≡ length (bytes ++ encoding (moment - prev) (is_blank bytes) (replicate (slot_len len) 0))
     → IsPlaceOf (bytes ++ encoding (moment - prev) (is_blank bytes) (replicate (slot_len len) 0)) (length (records_in time bytes)) start (slot_len len)
 put_number [] time prev moment len start ends reads small limit end_is =
@@ -193,7 +194,7 @@ pub record PutPage (old new : Contents) (prev moment len start : ℕ) : Type 0 w
   pub number : IsPage old → IsPlaceOf new.bytes old.count start (slot_len len)
   pub places_stay : (number at size : ℕ) → IsPlaceOf old.bytes number at size → IsPlaceOf new.bytes number at size
 
-pub put_page : (old new : Contents) (prev moment len start : ℕ) → EndsInRecord old.bytes → IfSome (moment_of_last (records_of_page old)) (λ last. last ≡ prev) → prev ≤ moment → moment < 2 ^ 59 → len ≤ 2 ^ 30
+pub put_page : (old new : Contents) (prev moment len start : ℕ) → EndsInRecord old.bytes → IfSome (moment_of_last (records_of_page old)) (λ last. last ≡ prev) → prev ≤ moment → moment < MOMENT_LIMIT → len ≤ 2 ^ 30
     → new.bytes ≡ old.bytes ++ encoding (moment - prev) (is_blank old.bytes) (replicate (slot_len len) 0) → new.time ≡ cond (is_blank old.bytes) moment old.time → new.count ≡ old.count + 1 → start + slot_len len ≡ length new.bytes
     → PutPage old new prev moment len start
 put_page old new prev moment len start ends last order small limit bytes_is time_is count_is end_is =

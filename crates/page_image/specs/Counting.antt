@@ -13,7 +13,7 @@ pub record IsCounted (bytes : List ℕ) (time count : ℕ) : Type 0 where
   pub count_is : count ≡ length (records_in time bytes)
 
 -- the fault is the first one of the data
-abbrev pub IsFirstFault : List ℕ → ℕ → WordFault → Type 0
-IsFirstFault bytes time (Cut at) = FirstFault bytes time cut at
-IsFirstFault bytes time (BadLength at) = FirstFault bytes time bad_length at
-IsFirstFault bytes time (TimeOverflow at) = FirstFault bytes time time_overflow at
+abbrev pub IsFirstWordFault : List ℕ → ℕ → WordFault → Type 0
+IsFirstWordFault bytes time (Cut at) = FirstFault bytes time cut at
+IsFirstWordFault bytes time (BadLength at) = FirstFault bytes time bad_length at
+IsFirstWordFault bytes time (TimeOverflow at) = FirstFault bytes time time_overflow at

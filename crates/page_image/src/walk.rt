@@ -1,25 +1,29 @@
 //! The words of a page's data, stepped over one by one from the front, with the time.
-ghost use Rattle.std.specs.Prelude.{◌≡◌, ℕ, ◌+◌, ◌*◌, ◌≤◌, ◌<◌, ◌^◌, List, IfOk, IfErr, IfSome, MatchOption, length};
+//!
+//! It is the one walk over a page: an image's records are counted by it, copied out of their page, and lent.
+ghost use Rattle.std.specs.Prelude.{◌≡◌, ℕ, ◌+◌, ◌*◌, ◌≤◌, ◌<◌, ◌^◌, List, [], ◌++◌, IfOk, IfErr, IfSome, MatchOption, length};
 ghost use Rattle.trace_model.specs.Words.{Word as OneWord, Decodes, records_of};
-ghost use Rattle.page_image.specs.Counting.{IsFirstFault};
-ghost use Rattle.page_image.specs.Walk.{HasRead, HasPassed};
+ghost use Rattle.page_image.specs.Counting.{IsFirstWordFault};
+ghost use Rattle.page_image.specs.Walk.{HasRead, HasPassed, records_at_place, records_left};
 
+use crate::page::Page;
 use record_words::{Place, Word, WordFault, next_word};
 
 /// How far the words are read: up to this offset in bytes, with the moment there and how many records stand in
 /// front of it.
-#[derive(Clone, Copy)]
-pub(crate) struct Reached {
-    pub(crate) at: usize,
-    pub(crate) moment: u64,
-    pub(crate) count: u64,
+#[derive(Clone, Copy, Debug, PartialEq, Eq)]
+pub struct Reached {
+    pub at: usize,
+    pub moment: u64,
+    pub count: u64,
 }
 
 /// A word that was stepped over: where its payload lies, if it is a record's, and how far the words are read then.
-#[derive(Clone, Copy)]
-pub(crate) struct Passed {
-    pub(crate) payload: Option<Place>,
-    pub(crate) behind: Reached,
+/// The record's moment is the one reached.
+#[derive(Clone, Copy, Debug, PartialEq, Eq)]
+pub struct Passed {
+    pub payload: Option<Place>,
+    pub behind: Reached,
 }
 
 /// Where a walk begins: in front of the first word of a page with this time.
@@ -45,8 +49,9 @@ fn later_moment(moment: u64, delta: u64, at: usize) -> Result<u64, WordFault>
     moment.checked_add(delta).ok_or(WordFault::TimeOverflow(at))
 }
 
-/// Steps over one word more. At an ending padding there is none.
-pub(crate) fn step_over_word(data: &[u8], reached: Reached) -> Result<Option<Passed>, WordFault>
+/// Steps over one word more of the data of a page. Where the data ends with a padding, whatever follows, there is
+/// none; where no word can be read, its fault is told.
+pub fn step_over_word(data: &[u8], reached: Reached) -> Result<Option<Passed>, WordFault>
     requires inside { reached.at < length «data».now }
     requires few { 4 * reached.count ≤ reached.at }
     ensures forward { IfOk result (λ found. IfSome found (λ passed. reached.at < passed.behind.at)) }
@@ -60,7 +65,12 @@ pub(crate) fn step_over_word(data: &[u8], reached: Reached) -> Result<Option<Pas
         (HasPassed «data».now time words)) }
     ensures fault { (time : ℕ) (words : List OneWord)
         → HasRead «data».now time words reached
-        → IfErr result (λ f. IsFirstFault «data».now time f) }
+        → IfErr result (λ f. IsFirstWordFault «data».now time f) }
+    ensures left { IfOk result (λ found. MatchOption found (records_left «data».now reached ≡ [])
+        (λ passed. records_left «data».now reached
+        ≡ records_at_place «data».now passed.behind.moment passed.payload
+        ++ records_left «data».now passed.behind)) }
+    ensures none_left { IfErr result (λ f. records_left «data».now reached ≡ []) }
 {
     let from = reached.at;
     let (payload, at, moment, count) = match next_word(data, from)? {
@@ -84,4 +94,18 @@ pub(crate) fn step_over_word(data: &[u8], reached: Reached) -> Result<Option<Pas
         payload,
         behind: Reached { at, moment, count },
     }))
+}
+
+impl Page {
+    ghost use Rattle.std.specs.Prelude.{◌≡◌, ◌*◌, ◌≤◌};
+    ghost use Rattle.page_image.specs.Contents.{IsPage, records_of_page};
+    ghost use Rattle.page_image.specs.Walk.{records_left};
+
+    /// Where a walk over the words of [`Page::data`] begins.
+    pub fn begin_walk(&self) -> Reached
+        ensures left { IsPage self.now → records_left self.now.bytes result ≡ records_of_page self.now }
+        ensures few { 4 * result.count ≤ result.at }
+    {
+        start(self.time())
+    }
 }

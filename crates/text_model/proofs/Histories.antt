@@ -7,7 +7,7 @@ use Rattle.trace_model.specs.Record.{Record}
 use Rattle.trace_model.specs.Words.{slot_len, padded}
 use Rattle.trace_model.specs.History.{Action, push, push_close, reserve, leave, Reservation, PushedFrame, WriterState, last_moment, reservation_for, records_with_payload, after_action, writer_after, reserved_records, is_settled, settled_prefix_within, as_record, committed_records}
 use Rattle.text_model.specs.Script.{Command, write, close}
-use Rattle.text_model.specs.Replay.{is_writable, actions_of, history_of_lines}
+use Rattle.text_model.specs.Replay.{is_writable, actions_of_line, history_of_lines}
 use Rattle.trace_model.proofs.HistoryPrefixes.{writer-append}
 
 -- a history without a standing frame is its own settled front
@@ -61,11 +61,11 @@ LinesLeave-committed size commands records last l = committed_whole (history_of_
 pub LinesLeave-none : (size : ℕ) → LinesLeave size [] [] 0
 LinesLeave-none size = record { stack_is = refl; records_are = refl; last_is = refl }
 
-history-push : (size : ℕ) (commands : List Command) (c : Command) → history_of_lines size (commands ++ c ∷ []) ≡ history_of_lines size commands ++ actions_of size c
+history-push : (size : ℕ) (commands : List Command) (c : Command) → history_of_lines size (commands ++ c ∷ []) ≡ history_of_lines size commands ++ actions_of_line size c
 history-push size commands c =
-    flat_map-append (actions_of size) commands (c ∷ []) ∙ ap (λ (h : List Action). history_of_lines size commands ++ h) (append-nil (actions_of size c))
+    flat_map-append (actions_of_line size) commands (c ∷ []) ∙ ap (λ (h : List Action). history_of_lines size commands ++ h) (append-nil (actions_of_line size c))
 
-lines_left_by : (size : ℕ) (commands : List Command) (c : Command) (records : List Record) (last : ℕ) (w : WriterState) → writer_after (history_of_lines size commands ++ actions_of size c) ≡ w → w.stack ≡ [] → map as_record w.records ≡ records → last_moment w.records ≡ last → LinesLeave size (commands ++ c ∷ []) records last
+lines_left_by : (size : ℕ) (commands : List Command) (c : Command) (records : List Record) (last : ℕ) (w : WriterState) → writer_after (history_of_lines size commands ++ actions_of_line size c) ≡ w → w.stack ≡ [] → map as_record w.records ≡ records → last_moment w.records ≡ last → LinesLeave size (commands ++ c ∷ []) records last
 lines_left_by size commands c records last w is none finished_are last_is =
     let all : writer_after (history_of_lines size (commands ++ c ∷ [])) ≡ w = ap writer_after (history-push size commands c) ∙ is in
     record {
@@ -75,9 +75,9 @@ lines_left_by size commands c records last w is none finished_are last_is =
     }
 
 -- a line that does nothing
-pub LinesLeave-idle : (size : ℕ) (commands : List Command) (c : Command) (records : List Record) (last : ℕ) → actions_of size c ≡ [] → LinesLeave size commands records last → LinesLeave size (commands ++ c ∷ []) records last
+pub LinesLeave-idle : (size : ℕ) (commands : List Command) (c : Command) (records : List Record) (last : ℕ) → actions_of_line size c ≡ [] → LinesLeave size commands records last → LinesLeave size (commands ++ c ∷ []) records last
 LinesLeave-idle size commands c records last idle l =
-    let same : history_of_lines size commands ++ actions_of size c ≡ history_of_lines size commands = ap (λ (h : List Action). history_of_lines size commands ++ h) idle ∙ append-nil (history_of_lines size commands) in
+    let same : history_of_lines size commands ++ actions_of_line size c ≡ history_of_lines size commands = ap (λ (h : List Action). history_of_lines size commands ++ h) idle ∙ append-nil (history_of_lines size commands) in
     lines_left_by size commands c records last (writer_after (history_of_lines size commands)) (ap writer_after same) l.stack_is l.records_are l.last_is
 
 pub LinesLeave-close : (size : ℕ) (commands : List Command) (cpu : ℕ) (records : List Record) (last : ℕ) → LinesLeave size commands records last → LinesLeave size (commands ++ close cpu ∷ []) records last
@@ -96,6 +96,6 @@ LinesLeave-write size commands cpu moment payload records last accepted l =
     let r : Reservation = reserved_write rs moment payload in
     let w : WriterState = record { stack = []; records = rs ++ r ∷ [] } in
     let actions = cond-true (is_writable size moment (length payload)) (push moment (length payload) ∷ reserve ∷ leave (Some payload) ∷ []) [] accepted in
-    let is : writer_after (before ++ actions_of size (write cpu moment payload)) ≡ w = ap (λ (h : List Action). writer_after (before ++ h)) actions ∙ written_behind before (push moment (length payload) ∷ reserve ∷ leave (Some payload) ∷ []) l.stack_is ∙ write_acts rs moment payload in
+    let is : writer_after (before ++ actions_of_line size (write cpu moment payload)) ≡ w = ap (λ (h : List Action). writer_after (before ++ h)) actions ∙ written_behind before (push moment (length payload) ∷ reserve ∷ leave (Some payload) ∷ []) l.stack_is ∙ write_acts rs moment payload in
     let finished_are : map as_record (rs ++ r ∷ []) ≡ records ++ record { moment = max moment last; bytes = padded payload } ∷ [] = map_push as_record rs r ∙ ap (λ (xs : List Record). xs ++ as_record r ∷ []) l.records_are ∙ ap (λ (m : ℕ). let last_one : Record = record { moment = max moment m; bytes = padded payload } in records ++ last_one ∷ []) l.last_is in
     lines_left_by size commands (write cpu moment payload) (records ++ record { moment = max moment last; bytes = padded payload } ∷ []) (max moment last) w is refl finished_are (last_moment-push rs r ∙ ap (λ (m : ℕ). max moment m) l.last_is)

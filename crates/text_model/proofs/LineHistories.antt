@@ -2,7 +2,7 @@
 use Rattle.std.proofs.Common.{ℕ, Bool, true, false, cond, List, [], ◌∷◌, ◌++◌, length, Some, refl}
 use Rattle.trace_model.specs.History.{Action, push, reserve, leave, Reservation, WriterState, IsHistory}
 use Rattle.text_model.specs.Script.{Command, write, close, take_page, deliver}
-use Rattle.text_model.specs.Replay.{is_writable, actions_of, history_of_lines}
+use Rattle.text_model.specs.Replay.{is_writable, actions_of_line, history_of_lines}
 use Rattle.trace_model.proofs.Allowed.{AreAllowed, IsHistory-allowed}
 
 -- where no frame stands
@@ -15,7 +15,7 @@ write_allowed moment payload true records behind h = (tt, (refl, (refl, h _)))
 write_allowed moment payload false records behind h = h records
 
 line_allowed : (size : ℕ) (c : Command) (records : List Reservation) (behind : List Action) → ((others : List Reservation) → AreAllowed (none_standing others) behind)
-    → AreAllowed (none_standing records) (actions_of size c ++ behind)
+    → AreAllowed (none_standing records) (actions_of_line size c ++ behind)
 line_allowed size (write cpu moment payload) records behind h = write_allowed moment payload (is_writable size moment (length payload)) records behind h
 line_allowed size (close cpu) records behind h = (tt, (refl, h records))
 line_allowed size (take_page cpu) records behind h = h records

@@ -11,7 +11,7 @@ use Rattle.std.proofs.lemmas.List.Elements.{All-from_recursion}
 use Rattle.std.proofs.lemmas.Result.{IfOk-at_ok}
 use Rattle.std.proofs.lemmas.Slice.Eq.{bytes_eq-Decides}
 use Rattle.text_model.specs.Text.{fields_of, is_well_spaced, is_decimal, is_hex, bytes_of_pairs, hex_bytes, no_bytes_text}
-use Rattle.text_model.specs.Script.{Command, Script, LineFault, bad_line, bad_number, bad_hex, out_of_range, ◌>>=◌, number_in, payload_in, number_below, names_cpu, cpu_in, write_in, close_in, take_in, deliver_in, command_of, command_in, Setting, allowed_for, value_given, value_of, value_in, Line, header_settings, GiveSettings, SpellCommands, SpellScript, significant_lines, ParsesScript}
+use Rattle.text_model.specs.Script.{Command, Script, LineFault, bad_line, bad_number, bad_hex, out_of_range, ◌>>=◌, decimal_in, payload_in, number_below, names_cpu, cpu_in, write_in, close_in, take_in, deliver_in, command_of, command_in, Setting, allowed_for, value_given, value_of, value_in, NumberedLine, header_settings, GiveSettings, SpellCommands, SpellScript, significant_lines, ParsesScript}
 use Rattle.text_model.specs.ScriptLimits.{IsCommandWithin, IsWithinLimits}
 
 -- ---- answers
@@ -31,13 +31,13 @@ then-within P Q (Err e) f h g = tt
 Is64Bit : ℕ → Type 0
 Is64Bit n = n < 2 ^ 64
 
-number_in-within : (field : List ℕ) → IfOk (number_in field) Is64Bit
-unfolding number_in is_decimal Is64Bit
-number_in-within field = tested-within Is64Bit (is_decimal field) (Ok (digits_value 10 field)) bad_number (λ h. ltb-true (digits_value 10 field) (2 ^ 64) (and_parts _ _ h).1)
+decimal_in-within : (field : List ℕ) → IfOk (decimal_in field) Is64Bit
+unfolding decimal_in is_decimal Is64Bit
+decimal_in-within field = tested-within Is64Bit (is_decimal field) (Ok (digits_value 10 field)) bad_number (λ h. ltb-true (digits_value 10 field) (2 ^ 64) (and_parts _ _ h).1)
 
 number_below-within : (limit : ℕ) (field : List ℕ) → IfOk (number_below limit field) (λ n. n < limit)
 unfolding number_below
-number_below-within limit field = then-within Is64Bit (λ n. n < limit) (number_in field) _ (number_in-within field) (λ n small. tested-within (λ n. n < limit) (ltb n limit) (Ok n) out_of_range (λ h. ltb-true n limit h))
+number_below-within limit field = then-within Is64Bit (λ n. n < limit) (decimal_in field) _ (decimal_in-within field) (λ n small. tested-within (λ n. n < limit) (ltb n limit) (Ok n) out_of_range (λ h. ltb-true n limit h))
 
 cpu_in-within : (cpus : ℕ) (field : List ℕ) → IfOk (cpu_in cpus field) (λ cpu. cpu < cpus)
 unfolding cpu_in
@@ -78,7 +78,7 @@ write_in-within : (cpus collectors : ℕ) (cpu_field moment_field payload_field 
 unfolding write_in Is64Bit AreBytes
 write_in-within cpus collectors cpu_field moment_field payload_field =
     then-within (λ cpu. cpu < cpus) (IsCommandWithin cpus collectors) (cpu_in cpus cpu_field) _ (cpu_in-within cpus cpu_field) (λ cpu here.
-    then-within Is64Bit (IsCommandWithin cpus collectors) (number_in moment_field) _ (number_in-within moment_field) (λ moment small.
+    then-within Is64Bit (IsCommandWithin cpus collectors) (decimal_in moment_field) _ (decimal_in-within moment_field) (λ moment small.
     then-within AreBytes (IsCommandWithin cpus collectors) (payload_in payload_field) _ (payload_in-within payload_field) (λ payload bytes. (here, small, bytes))))
 
 close_in-within : (cpus collectors : ℕ) (cpu_field : List ℕ) → IfOk (close_in cpus cpu_field) (IsCommandWithin cpus collectors)
@@ -96,7 +96,7 @@ unfolding deliver_in Is64Bit
 deliver_in-within cpus collectors collector_field cpu_field fill_field =
     then-within (λ collector. collector < collectors) (IsCommandWithin cpus collectors) (number_below collectors collector_field) _ (number_below-within collectors collector_field) (λ collector known.
     then-within (λ cpu. cpu < cpus) (IsCommandWithin cpus collectors) (cpu_in cpus cpu_field) _ (cpu_in-within cpus cpu_field) (λ cpu here.
-    then-within Is64Bit (IsCommandWithin cpus collectors) (number_in fill_field) _ (number_in-within fill_field) (λ fill small. (known, here, small))))
+    then-within Is64Bit (IsCommandWithin cpus collectors) (decimal_in fill_field) _ (decimal_in-within fill_field) (λ fill small. (known, here, small))))
 
 -- where both answers are within, so is the one that the tests choose
 one_of : {A : Type 0} (P : A → Type 0) (first second : Bool) (r s : Result A LineFault) (fault : LineFault) → IfOk r P → IfOk s P → IfOk (cond first r (cond second s (Err fault))) P
@@ -120,7 +120,7 @@ unfolding command_in
 command_in-within cpus collectors line =
     tested-within (IsCommandWithin cpus collectors) (is_well_spaced (fields_of line)) _ bad_line (λ h. command_of-within cpus collectors (fields_of line))
 
-commands-within : (cpus collectors : ℕ) (lines : List Line) (commands : List (ℕ × Command)) → SpellCommands cpus collectors lines commands → AllByRecursion (λ line. IsCommandWithin cpus collectors line.1) commands
+commands-within : (cpus collectors : ℕ) (lines : List NumberedLine) (commands : List (ℕ × Command)) → SpellCommands cpus collectors lines commands → AllByRecursion (λ line. IsCommandWithin cpus collectors line.1) commands
 commands-within cpus collectors [] [] h = tt
 commands-within cpus collectors (line ∷ lines) (command ∷ commands) h =
     (IfOk-at_ok (IsCommandWithin cpus collectors) h.0 (command_in-within cpus collectors line.1), commands-within cpus collectors lines commands h.2)
@@ -144,7 +144,7 @@ allowed_for-within s n = tested-within (IsAllowed s) _ (Ok n) out_of_range (λ h
 value_given-within : (s : Setting) (word number : List ℕ) → IfOk (value_given s word number) (IsAllowed s)
 unfolding value_given
 value_given-within s word number = tested-within (IsAllowed s) (bytes_eq word s.word) _ bad_line (λ h.
-    then-within Is64Bit (IsAllowed s) (number_in number) (allowed_for s) (number_in-within number) (λ n small. allowed_for-within s n))
+    then-within Is64Bit (IsAllowed s) (decimal_in number) (allowed_for s) (decimal_in-within number) (λ n small. allowed_for-within s n))
 
 value_of-within : (s : Setting) (fields : List (List ℕ)) → IfOk (value_of s fields) (IsAllowed s)
 unfolding value_of
@@ -162,7 +162,7 @@ AreAllowed [] values = Unit {0}
 AreAllowed (s ∷ settings) [] = Unit {0}
 AreAllowed (s ∷ settings) (value ∷ values) = IsAllowed s value × AreAllowed settings values
 
-settings-within : (lines : List Line) (settings : List Setting) (values : List ℕ) → GiveSettings lines settings values → AreAllowed settings values
+settings-within : (lines : List NumberedLine) (settings : List Setting) (values : List ℕ) → GiveSettings lines settings values → AreAllowed settings values
 unfolding AreAllowed
 settings-within lines [] values h = tt
 settings-within lines (s ∷ settings) [] h = tt
@@ -170,7 +170,7 @@ settings-within (line ∷ lines) (s ∷ settings) (value ∷ values) h =
     (IfOk-at_ok (IsAllowed s) h.0 (value_in-within s line.1), settings-within lines settings values h.1)
 settings-within [] (s ∷ settings) (value ∷ values) h = absurd h
 
-pub SpellScript-within : (lines : List Line) (script : Script) → SpellScript lines script → IsWithinLimits script
+pub SpellScript-within : (lines : List NumberedLine) (script : Script) → SpellScript lines script → IsWithinLimits script
 unfolding AreAllowed
 SpellScript-within lines script h =
     let values = settings-within h.header header_settings (script.pages ∷ script.size ∷ script.cpus ∷ script.collectors ∷ []) h.settings in

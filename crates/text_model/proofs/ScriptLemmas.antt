@@ -1,7 +1,7 @@
 -- What the plain reader of a script answers, tied to the definition of whole texts.
 use Rattle.std.proofs.Common.{◌≡◌, ℕ, ◌⊎◌, List, [], ◌∷◌, ◌++◌, length, get_or, suc, arith, Result, Ok, Err, refl, sym, ◌∙◌, ap, subst, inl, inr, append_assoc}
 use Rattle.std.proofs.lemmas.List.{append-nil}
-use Rattle.text_model.specs.Script.{Command, Script, LineFault, bad_line, ◌>>=◌, Line, Setting, value_in, command_in, header_settings, GiveSettings, SpellCommands, SpellScript, IsFaultySetting, IsMissingSetting, IsFaultyCommand}
+use Rattle.text_model.specs.Script.{Command, Script, LineFault, bad_line, ◌>>=◌, NumberedLine, Setting, value_in, command_in, header_settings, GiveSettings, SpellCommands, SpellScript, IsFaultySetting, IsMissingSetting, IsFaultyCommand}
 use Rattle.text_model.specs.ScriptReading.{numbered_reading, setting_from, settings_from, commands_from, script_from}
 
 -- ---- one step after the other
@@ -10,7 +10,7 @@ abbrev Read : Type 0 → Type 0
 Read X = Result X (ℕ × LineFault)
 
 abbrev Settings : Type 0
-Settings = List ℕ × List Line
+Settings = List ℕ × List NumberedLine
 
 abbrev Commands : Type 0
 Commands = List (ℕ × Command)
@@ -38,31 +38,31 @@ values_onto values x = Ok (values ++ x.0, x.1)
 abbrev value_onto : ℕ → Settings → Read Settings
 value_onto v x = Ok (v ∷ x.0, x.1)
 
-abbrev AreRead : List Setting → List Line → Settings → Type 0
-AreRead settings lines x = (header : List Line) × (lines ≡ header ++ x.1) × GiveSettings header settings x.0
+abbrev AreRead : List Setting → List NumberedLine → Settings → Type 0
+AreRead settings lines x = (header : List NumberedLine) × (lines ≡ header ++ x.1) × GiveSettings header settings x.0
 
 -- one setting, of the line whose reading is r, and then the others
-abbrev setting_then : ℕ → Setting → List Setting → Line → List Line → Result ℕ LineFault → Read Settings
-setting_then end s settings line lines r = (numbered_reading line.0 r >>= λ value. let found : Read (ℕ × List Line) = Ok (value, lines) in found)
+abbrev setting_then : ℕ → Setting → List Setting → NumberedLine → List NumberedLine → Result ℕ LineFault → Read Settings
+setting_then end s settings line lines r = (numbered_reading line.0 r >>= λ value. let found : Read (ℕ × List NumberedLine) = Ok (value, lines) in found)
     >>= λ first. settings_from end settings first.1 >>= value_onto first.0
 
-settings_from_line : (end : ℕ) (s : Setting) (settings : List Setting) (line : Line) (lines : List Line)
+settings_from_line : (end : ℕ) (s : Setting) (settings : List Setting) (line : NumberedLine) (lines : List NumberedLine)
     → settings_from end (s ∷ settings) (line ∷ lines) ≡ setting_then end s settings line lines (value_in s line.1)
 unfolding settings_from setting_from
 settings_from_line end s settings line lines = refl
 
-settings_ok_at : (end : ℕ) (s : Setting) (settings : List Setting) (line : Line) (lines : List Line) (x : Settings) (r : Result ℕ LineFault)
+settings_ok_at : (end : ℕ) (s : Setting) (settings : List Setting) (line : NumberedLine) (lines : List NumberedLine) (x : Settings) (r : Result ℕ LineFault)
     → ((x : Settings) → settings_from end settings lines ≡ Ok x → AreRead settings lines x)
     → value_in s line.1 ≡ r → setting_then end s settings line lines r ≡ Ok x → AreRead (s ∷ settings) (line ∷ lines) x
 settings_ok_at end s settings line lines x (Ok v) again is h =
     let rest = bind_ok (settings_from end settings lines) (value_onto v) x h in
     let found = again rest.0 rest.1 in
     subst (λ (x : Settings). AreRead (s ∷ settings) (line ∷ lines) x) (same_ok (v ∷ rest.0.0, rest.0.1) x rest.2)
-    (line ∷ found.0, ap (λ (ls : List Line). line ∷ ls) found.1, (is, found.2))
+    (line ∷ found.0, ap (λ (ls : List NumberedLine). line ∷ ls) found.1, (is, found.2))
 settings_ok_at end s settings line lines x (Err f) again is h = absurd (ok_is_no_err x (line.0, f) (sym h))
 
 -- what the reader takes for settings are lines that give them
-pub settings_ok : (end : ℕ) (settings : List Setting) (lines : List Line) (x : Settings) → settings_from end settings lines ≡ Ok x → AreRead settings lines x
+pub settings_ok : (end : ℕ) (settings : List Setting) (lines : List NumberedLine) (x : Settings) → settings_from end settings lines ≡ Ok x → AreRead settings lines x
 unfolding settings_from setting_from
 settings_ok end [] lines x h =
     let none : Settings = ([], lines) in
@@ -80,7 +80,7 @@ bind_onto v values (Ok x) = refl
 bind_onto v values (Err e) = refl
 
 -- in front of the rest, lines that give settings are read as that
-pub settings_given : (end : ℕ) (front : List Line) (given : List Setting) (values : List ℕ) (others : List Setting) (rest : List Line)
+pub settings_given : (end : ℕ) (front : List NumberedLine) (given : List Setting) (values : List ℕ) (others : List Setting) (rest : List NumberedLine)
     → GiveSettings front given values
     → settings_from end (given ++ others) (front ++ rest) ≡ (settings_from end others rest >>= values_onto values)
 unfolding settings_from setting_from
@@ -96,17 +96,17 @@ settings_given end (line ∷ front) [] values others rest h = absurd h
 settings_given end (line ∷ front) (s ∷ given) [] others rest h = absurd h
 
 -- what the reader takes for the first fault among settings
-abbrev SettingFault : ℕ → List Setting → List Line → ℕ × LineFault → Type 0
+abbrev SettingFault : ℕ → List Setting → List NumberedLine → ℕ × LineFault → Type 0
 SettingFault end settings lines e = IsFaultySetting settings lines e.0 e.1 ⊎ (IsMissingSetting settings lines × (e ≡ (end, bad_line)))
 
 -- a fault behind a line that gives its setting
-later_setting : (end : ℕ) (s : Setting) (settings : List Setting) (line : Line) (lines : List Line) (v : ℕ) (e : ℕ × LineFault)
+later_setting : (end : ℕ) (s : Setting) (settings : List Setting) (line : NumberedLine) (lines : List NumberedLine) (v : ℕ) (e : ℕ × LineFault)
     → value_in s line.1 ≡ Ok v → SettingFault end settings lines e → SettingFault end (s ∷ settings) (line ∷ lines) e
 later_setting end s settings line lines v e is (inl f) = inl record {
   front = line ∷ f.front;
   line = f.line;
   behind = f.behind;
-  cut = ap (λ (ls : List Line). line ∷ ls) f.cut;
+  cut = ap (λ (ls : List NumberedLine). line ∷ ls) f.cut;
   given = s ∷ f.given;
   setting = f.setting;
   others = f.others;
@@ -127,7 +127,7 @@ later_setting end s settings line lines v e is (inr f) = inr (
   f.1,
 )
 
-settings_err_at : (end : ℕ) (s : Setting) (settings : List Setting) (line : Line) (lines : List Line) (e : ℕ × LineFault) (r : Result ℕ LineFault)
+settings_err_at : (end : ℕ) (s : Setting) (settings : List Setting) (line : NumberedLine) (lines : List NumberedLine) (e : ℕ × LineFault) (r : Result ℕ LineFault)
     → ((e : ℕ × LineFault) → settings_from end settings lines ≡ Err e → SettingFault end settings lines e)
     → value_in s line.1 ≡ r → setting_then end s settings line lines r ≡ Err e → SettingFault end (s ∷ settings) (line ∷ lines) e
 settings_err_at end s settings line lines e (Ok v) again is h =
@@ -152,7 +152,7 @@ settings_err_at end s settings line lines e (Err f) again is h =
     })
 
 -- what the reader takes for a fault of the header is one
-pub settings_err : (end : ℕ) (settings : List Setting) (lines : List Line) (e : ℕ × LineFault) → settings_from end settings lines ≡ Err e → SettingFault end settings lines e
+pub settings_err : (end : ℕ) (settings : List Setting) (lines : List NumberedLine) (e : ℕ × LineFault) → settings_from end settings lines ≡ Err e → SettingFault end settings lines e
 unfolding settings_from setting_from
 settings_err end [] lines e h = absurd (ok_is_no_err ([], lines) e h)
 settings_err end (s ∷ settings) [] e h =
@@ -161,13 +161,13 @@ settings_err end (s ∷ settings) (line ∷ lines) e h =
     settings_err_at end s settings line lines e (value_in s line.1) (settings_err end settings lines) refl h
 
 -- and a fault of the header is read as one
-pub faulty_setting_read : (end : ℕ) (settings : List Setting) (lines : List Line) (number : ℕ) (fault : LineFault)
+pub faulty_setting_read : (end : ℕ) (settings : List Setting) (lines : List NumberedLine) (number : ℕ) (fault : LineFault)
     → IsFaultySetting settings lines number fault → settings_from end settings lines ≡ Err (number, fault)
 faulty_setting_read end settings lines number fault f =
     let here = settings_from_line end f.setting f.others (number, f.line) f.behind
     ∙ ap (setting_then end f.setting f.others (number, f.line) f.behind) f.fails in
     ap (λ (ss : List Setting). settings_from end ss lines) f.order
-    ∙ ap (λ (ls : List Line). settings_from end (f.given ++ f.setting ∷ f.others) ls) f.cut
+    ∙ ap (λ (ls : List NumberedLine). settings_from end (f.given ++ f.setting ∷ f.others) ls) f.cut
     ∙ settings_given end f.front f.given f.values (f.setting ∷ f.others) ((number, f.line) ∷ f.behind) f.fits
     ∙ ap (λ (r : Read Settings). r >>= values_onto f.values) here
 
@@ -175,10 +175,10 @@ nothing_read : (end : ℕ) (s : Setting) (settings : List Setting) → settings_
 unfolding settings_from setting_from
 nothing_read end s settings = refl
 
-pub missing_setting_read : (end : ℕ) (settings : List Setting) (lines : List Line) → IsMissingSetting settings lines → settings_from end settings lines ≡ Err (end, bad_line)
+pub missing_setting_read : (end : ℕ) (settings : List Setting) (lines : List NumberedLine) → IsMissingSetting settings lines → settings_from end settings lines ≡ Err (end, bad_line)
 missing_setting_read end settings lines f =
     ap (λ (ss : List Setting). settings_from end ss lines) f.order
-    ∙ ap (λ (ls : List Line). settings_from end (f.given ++ f.setting ∷ f.others) ls) (sym (append-nil lines))
+    ∙ ap (λ (ls : List NumberedLine). settings_from end (f.given ++ f.setting ∷ f.others) ls) (sym (append-nil lines))
     ∙ settings_given end lines f.given f.values (f.setting ∷ f.others) [] f.fits
     ∙ ap (λ (r : Read Settings). r >>= values_onto f.values) (nothing_read end f.setting f.others)
 
@@ -187,15 +187,15 @@ abbrev commands_onto : Commands → Commands → Read Commands
 commands_onto front commands = Ok (front ++ commands)
 
 -- the command of the line whose reading is r, and then the others
-abbrev command_then : ℕ → ℕ → Line → List Line → Result Command LineFault → Read Commands
+abbrev command_then : ℕ → ℕ → NumberedLine → List NumberedLine → Result Command LineFault → Read Commands
 command_then cpus collectors line lines r = numbered_reading line.0 r >>= λ command. commands_from cpus collectors lines >>= λ commands. Ok ((line.0, command) ∷ commands)
 
-commands_from_line : (cpus collectors : ℕ) (line : Line) (lines : List Line)
+commands_from_line : (cpus collectors : ℕ) (line : NumberedLine) (lines : List NumberedLine)
     → commands_from cpus collectors (line ∷ lines) ≡ command_then cpus collectors line lines (command_in cpus collectors line.1)
 unfolding commands_from
 commands_from_line cpus collectors line lines = refl
 
-commands_ok_at : (cpus collectors : ℕ) (line : Line) (lines : List Line) (x : Commands) (r : Result Command LineFault)
+commands_ok_at : (cpus collectors : ℕ) (line : NumberedLine) (lines : List NumberedLine) (x : Commands) (r : Result Command LineFault)
     → ((x : Commands) → commands_from cpus collectors lines ≡ Ok x → SpellCommands cpus collectors lines x)
     → command_in cpus collectors line.1 ≡ r → command_then cpus collectors line lines r ≡ Ok x → SpellCommands cpus collectors (line ∷ lines) x
 commands_ok_at cpus collectors line lines x (Ok command) again is h =
@@ -205,7 +205,7 @@ commands_ok_at cpus collectors line lines x (Ok command) again is h =
 commands_ok_at cpus collectors line lines x (Err f) again is h = absurd (ok_is_no_err x (line.0, f) (sym h))
 
 -- what the reader takes for commands are lines that spell them
-pub commands_ok : (cpus collectors : ℕ) (lines : List Line) (x : Commands) → commands_from cpus collectors lines ≡ Ok x → SpellCommands cpus collectors lines x
+pub commands_ok : (cpus collectors : ℕ) (lines : List NumberedLine) (x : Commands) → commands_from cpus collectors lines ≡ Ok x → SpellCommands cpus collectors lines x
 unfolding commands_from
 commands_ok cpus collectors [] x h =
     let none : Commands = [] in
@@ -223,7 +223,7 @@ command_onto command front (Ok x) = refl
 command_onto command front (Err e) = refl
 
 -- in front of the rest, lines that spell commands are read as them
-pub commands_given : (cpus collectors : ℕ) (front : List Line) (commands : Commands) (rest : List Line)
+pub commands_given : (cpus collectors : ℕ) (front : List NumberedLine) (commands : Commands) (rest : List NumberedLine)
     → SpellCommands cpus collectors front commands
     → commands_from cpus collectors (front ++ rest) ≡ (commands_from cpus collectors rest >>= commands_onto commands)
 commands_given cpus collectors [] [] rest h = commands_same (commands_from cpus collectors rest)
@@ -238,16 +238,16 @@ commands_given cpus collectors [] (command ∷ commands) rest h = absurd h
 commands_given cpus collectors (line ∷ front) [] rest h = absurd h
 
 -- the lines in front of a line spell commands, and that line none
-record CommandFault (cpus collectors : ℕ) (lines : List Line) (e : ℕ × LineFault) : Type 0 where
-  front : List Line
+record CommandFault (cpus collectors : ℕ) (lines : List NumberedLine) (e : ℕ × LineFault) : Type 0 where
+  front : List NumberedLine
   line : List ℕ
-  behind : List Line
+  behind : List NumberedLine
   cut : lines ≡ front ++ (e.0, line) ∷ behind
   commands : Commands
   fits : SpellCommands cpus collectors front commands
   fails : command_in cpus collectors line ≡ Err e.1
 
-commands_err_at : (cpus collectors : ℕ) (line : Line) (lines : List Line) (e : ℕ × LineFault) (r : Result Command LineFault)
+commands_err_at : (cpus collectors : ℕ) (line : NumberedLine) (lines : List NumberedLine) (e : ℕ × LineFault) (r : Result Command LineFault)
     → ((e : ℕ × LineFault) → commands_from cpus collectors lines ≡ Err e → CommandFault cpus collectors lines e)
     → command_in cpus collectors line.1 ≡ r → command_then cpus collectors line lines r ≡ Err e → CommandFault cpus collectors (line ∷ lines) e
 commands_err_at cpus collectors line lines e (Ok command) again is h =
@@ -256,7 +256,7 @@ commands_err_at cpus collectors line lines e (Ok command) again is h =
         front = line ∷ found.front;
         line = found.line;
         behind = found.behind;
-        cut = ap (λ (ls : List Line). line ∷ ls) found.cut;
+        cut = ap (λ (ls : List NumberedLine). line ∷ ls) found.cut;
         commands = (line.0, command) ∷ found.commands;
         fits = (is, refl, found.fits);
         fails = found.fails;
@@ -276,14 +276,14 @@ commands_err_at cpus collectors line lines e (Err f) again is h =
     }
 
 -- what the reader takes for a fault of a command is one
-commands_err : (cpus collectors : ℕ) (lines : List Line) (e : ℕ × LineFault) → commands_from cpus collectors lines ≡ Err e → CommandFault cpus collectors lines e
+commands_err : (cpus collectors : ℕ) (lines : List NumberedLine) (e : ℕ × LineFault) → commands_from cpus collectors lines ≡ Err e → CommandFault cpus collectors lines e
 unfolding commands_from
 commands_err cpus collectors [] e h = absurd (let none : Commands = [] in ok_is_no_err none e h)
 commands_err cpus collectors (line ∷ lines) e h =
     commands_err_at cpus collectors line lines e (command_in cpus collectors line.1) (commands_err cpus collectors lines) refl h
 
 -- and it is read as one
-faulty_command_read : (cpus collectors : ℕ) (lines : List Line) (e : ℕ × LineFault) → CommandFault cpus collectors lines e → commands_from cpus collectors lines ≡ Err e
+faulty_command_read : (cpus collectors : ℕ) (lines : List NumberedLine) (e : ℕ × LineFault) → CommandFault cpus collectors lines e → commands_from cpus collectors lines ≡ Err e
 faulty_command_read cpus collectors lines e f =
     ap (commands_from cpus collectors) f.cut
     ∙ commands_given cpus collectors f.front f.commands ((e.0, f.line) ∷ f.behind) f.fits
@@ -305,11 +305,11 @@ made_of values commands = record {
 abbrev then_commands : Settings → Read Script
 then_commands x = commands_from (get_or x.0 2 0) (get_or x.0 3 0) x.1 >>= λ commands. Ok (made_of x.0 commands)
 
-script_from_settings : (end : ℕ) (lines : List Line) → script_from end lines ≡ (settings_from end header_settings lines >>= then_commands)
+script_from_settings : (end : ℕ) (lines : List NumberedLine) → script_from end lines ≡ (settings_from end header_settings lines >>= then_commands)
 unfolding script_from
 script_from_settings end lines = refl
 
-length_given : (header : List Line) (settings : List Setting) (values : List ℕ) → GiveSettings header settings values → length values ≡ length settings
+length_given : (header : List NumberedLine) (settings : List Setting) (values : List ℕ) → GiveSettings header settings values → length values ≡ length settings
 length_given [] [] [] h = refl
 length_given (line ∷ header) (s ∷ settings) (value ∷ values) h = ap (λ (n : ℕ). suc n) (length_given header settings values h.1)
 length_given [] [] (value ∷ values) h = absurd h
@@ -326,7 +326,7 @@ four_values (a ∷ b ∷ c ∷ d ∷ []) h = refl
 four_values (a ∷ b ∷ c ∷ d ∷ e ∷ values) h = absurd (omega (arith, h))
 
 -- lines that give the whole header, and the lines behind them that spell commands
-script_spelled : (end : ℕ) (lines : List Line) (x : Settings) (commands : Commands) → settings_from end header_settings lines ≡ Ok x
+script_spelled : (end : ℕ) (lines : List NumberedLine) (x : Settings) (commands : Commands) → settings_from end header_settings lines ≡ Ok x
     → SpellCommands (get_or x.0 2 0) (get_or x.0 3 0) x.1 commands → SpellScript lines (made_of x.0 commands)
 script_spelled end lines x commands is fits =
     let given = settings_ok end header_settings lines x is in
@@ -340,7 +340,7 @@ script_spelled end lines x commands is fits =
     }
 
 -- what the reader takes for a script is one that the lines spell
-pub script_ok : (end : ℕ) (lines : List Line) (s : Script) → script_from end lines ≡ Ok s → SpellScript lines s
+pub script_ok : (end : ℕ) (lines : List NumberedLine) (s : Script) → script_from end lines ≡ Ok s → SpellScript lines s
 script_ok end lines s h =
     let header = bind_ok (settings_from end header_settings lines) then_commands s (sym (script_from_settings end lines) ∙ h) in
     let x : Settings = header.0 in
@@ -352,13 +352,13 @@ script_ok end lines s h =
 abbrev values_of : Script → List ℕ
 values_of s = s.pages ∷ s.size ∷ s.cpus ∷ s.collectors ∷ []
 
-header_read : (end : ℕ) (header rest : List Line) (s : Script) → GiveSettings header header_settings (values_of s)
+header_read : (end : ℕ) (header rest : List NumberedLine) (s : Script) → GiveSettings header header_settings (values_of s)
     → settings_from end header_settings (header ++ rest) ≡ Ok (values_of s, rest)
 unfolding settings_from
 header_read end header rest s h = settings_given end header header_settings (values_of s) [] rest h
 
 -- and a script that the lines spell is read
-pub script_given : (end : ℕ) (lines : List Line) (s : Script) → SpellScript lines s → script_from end lines ≡ Ok s
+pub script_given : (end : ℕ) (lines : List NumberedLine) (s : Script) → SpellScript lines s → script_from end lines ≡ Ok s
 unfolding commands_from
 script_given end lines s h =
     let commands : commands_from s.cpus s.collectors h.behind ≡ Ok s.commands =
@@ -366,19 +366,19 @@ script_given end lines s h =
     ∙ commands_given s.cpus s.collectors h.behind s.commands [] h.commands
     ∙ ap (λ (cs : Commands). let r : Read Commands = Ok cs in r) (append-nil s.commands) in
     script_from_settings end lines
-    ∙ ap (λ (ls : List Line). settings_from end header_settings ls >>= then_commands) h.cut
+    ∙ ap (λ (ls : List NumberedLine). settings_from end header_settings ls >>= then_commands) h.cut
     ∙ ap (λ (r : Read Settings). r >>= then_commands) (header_read end h.header h.behind s h.settings)
     ∙ ap (λ (r : Read Commands). r >>= λ commands. Ok (made_of (values_of s) commands)) commands
 
 -- the first fault of these lines, where the line behind the last one has the number end
-abbrev pub LinesFault : ℕ → List Line → ℕ × LineFault → Type 0
+abbrev pub LinesFault : ℕ → List NumberedLine → ℕ × LineFault → Type 0
 LinesFault end lines e = IsFaultySetting header_settings lines e.0 e.1 ⊎ (IsMissingSetting header_settings lines × (e.0 ≡ end) × (e.1 ≡ bad_line)) ⊎ IsFaultyCommand lines e.0 e.1
 
-setting_fault : (end : ℕ) (lines : List Line) (e : ℕ × LineFault) → SettingFault end header_settings lines e → LinesFault end lines e
+setting_fault : (end : ℕ) (lines : List NumberedLine) (e : ℕ × LineFault) → SettingFault end header_settings lines e → LinesFault end lines e
 setting_fault end lines e (inl f) = inl f
 setting_fault end lines e (inr f) = inr (inl (f.0, ap (λ (e : ℕ × LineFault). e.0) f.1, ap (λ (e : ℕ × LineFault). e.1) f.1))
 
-command_fault : (end : ℕ) (lines : List Line) (x : Settings) (e : ℕ × LineFault) → settings_from end header_settings lines ≡ Ok x
+command_fault : (end : ℕ) (lines : List NumberedLine) (x : Settings) (e : ℕ × LineFault) → settings_from end header_settings lines ≡ Ok x
     → CommandFault (get_or x.0 2 0) (get_or x.0 3 0) x.1 e → IsFaultyCommand lines e.0 e.1
 command_fault end lines x e is f =
     let given = settings_ok end header_settings lines x is in
@@ -387,7 +387,7 @@ command_fault end lines x e is f =
       front = given.0 ++ f.front;
       line = f.line;
       behind = f.behind;
-      cut = given.1 ∙ ap (λ (ls : List Line). given.0 ++ ls) f.cut ∙ sym (append_assoc given.0 f.front ((e.0, f.line) ∷ f.behind));
+      cut = given.1 ∙ ap (λ (ls : List NumberedLine). given.0 ++ ls) f.cut ∙ sym (append_assoc given.0 f.front ((e.0, f.line) ∷ f.behind));
       script = made_of x.0 f.commands;
       fits = record {
         header = given.0;
@@ -400,7 +400,7 @@ command_fault end lines x e is f =
     }
 
 -- what the reader takes for the first fault is it
-pub script_err : (end : ℕ) (lines : List Line) (e : ℕ × LineFault) → script_from end lines ≡ Err e → LinesFault end lines e
+pub script_err : (end : ℕ) (lines : List NumberedLine) (e : ℕ × LineFault) → script_from end lines ≡ Err e → LinesFault end lines e
 script_err end lines e h =
     elim (bind_err (settings_from end header_settings lines) then_commands e (sym (script_from_settings end lines) ∙ h)) [
       | inl f ↦ setting_fault end lines e (settings_err end header_settings lines e f)
@@ -411,13 +411,13 @@ script_err end lines e h =
           ]
     ]
 
-command_fault_read : (end : ℕ) (lines : List Line) (e : ℕ × LineFault) → IsFaultyCommand lines e.0 e.1 → script_from end lines ≡ Err e
+command_fault_read : (end : ℕ) (lines : List NumberedLine) (e : ℕ × LineFault) → IsFaultyCommand lines e.0 e.1 → script_from end lines ≡ Err e
 command_fault_read end lines e f =
     let s : Script = f.script in
-    let line : Line = (e.0, f.line) in
+    let line : NumberedLine = (e.0, f.line) in
     let rest = f.fits.behind ++ line ∷ f.behind in
     let cut : lines ≡ f.fits.header ++ rest =
-    f.cut ∙ ap (λ (ls : List Line). ls ++ line ∷ f.behind) f.fits.cut ∙ append_assoc f.fits.header f.fits.behind (line ∷ f.behind) in
+    f.cut ∙ ap (λ (ls : List NumberedLine). ls ++ line ∷ f.behind) f.fits.cut ∙ append_assoc f.fits.header f.fits.behind (line ∷ f.behind) in
     let found : CommandFault s.cpus s.collectors rest e = record {
       front = f.fits.behind;
       line = f.line;
@@ -428,12 +428,12 @@ command_fault_read end lines e f =
       fails = f.fails;
     } in
     script_from_settings end lines
-    ∙ ap (λ (ls : List Line). settings_from end header_settings ls >>= then_commands) cut
+    ∙ ap (λ (ls : List NumberedLine). settings_from end header_settings ls >>= then_commands) cut
     ∙ ap (λ (r : Read Settings). r >>= then_commands) (header_read end f.fits.header rest s f.fits.settings)
     ∙ ap (λ (r : Read Commands). r >>= λ commands. Ok (made_of (values_of s) commands)) (faulty_command_read s.cpus s.collectors rest e found)
 
 -- and the first fault is read as it
-pub script_fault_given : (end : ℕ) (lines : List Line) (e : ℕ × LineFault) → LinesFault end lines e → script_from end lines ≡ Err e
+pub script_fault_given : (end : ℕ) (lines : List NumberedLine) (e : ℕ × LineFault) → LinesFault end lines e → script_from end lines ≡ Err e
 script_fault_given end lines e (inl f) =
     script_from_settings end lines ∙ ap (λ (r : Read Settings). r >>= then_commands) (faulty_setting_read end header_settings lines e.0 e.1 f)
 script_fault_given end lines e (inr (inl f)) =

@@ -3,7 +3,7 @@ use Rattle.std.proofs.Common.{◌≡◌, ℕ, Bool, true, false, cond, List, [],
 use Rattle.std.specs.Str.{bytes_eq}
 use Rattle.std.proofs.lemmas.Bool.{both_ways, cond-false, false_from_ne_true}
 use Rattle.std.proofs.lemmas.Slice.Eq.{bytes_eq-Decides}
-use Rattle.text_model.specs.Script.{Command, write, close, take_page, deliver, LineFault, bad_line, ◌>>=◌, number_in, number_below, names_cpu, cpu_in, payload_in, write_in, close_in, take_in, deliver_in, command_of, SpellsCommand}
+use Rattle.text_model.specs.Script.{Command, write, close, take_page, deliver, LineFault, bad_line, ◌>>=◌, decimal_in, number_below, names_cpu, cpu_in, payload_in, write_in, close_in, take_in, deliver_in, command_of, SpellsCommand}
 
 -- what is read, or what is wrong
 abbrev Read : Type 0 → Type 0
@@ -46,8 +46,8 @@ write_spelled : (cpus collectors : ℕ) (first second third fourth : Field) (com
     → SpellsCommand cpus collectors command (first ∷ second ∷ third ∷ fourth ∷ [])
 unfolding write_in
 write_spelled cpus collectors first second third fourth command word h =
-    let cpu = bind_ok (cpu_in cpus first) (λ cpu. number_in third >>= λ moment. payload_in fourth >>= λ payload. let r : Read Command = Ok (write cpu moment payload) in r) command h in
-    let moment = bind_ok (number_in third) (λ moment. payload_in fourth >>= λ payload. let r : Read Command = Ok (write cpu.0 moment payload) in r) command cpu.2 in
+    let cpu = bind_ok (cpu_in cpus first) (λ cpu. decimal_in third >>= λ moment. payload_in fourth >>= λ payload. let r : Read Command = Ok (write cpu moment payload) in r) command h in
+    let moment = bind_ok (decimal_in third) (λ moment. payload_in fourth >>= λ payload. let r : Read Command = Ok (write cpu.0 moment payload) in r) command cpu.2 in
     let payload = bind_ok (payload_in fourth) (λ payload. let r : Read Command = Ok (write cpu.0 moment.0 payload) in r) command moment.2 in
     subst (λ (command : Command). SpellsCommand cpus collectors command (first ∷ second ∷ third ∷ fourth ∷ [])) (same_ok (write cpu.0 moment.0 payload.0) command payload.2)
     (first, third, fourth, ap (λ (w : Field). first ∷ w ∷ third ∷ fourth ∷ []) word, cpu.1, moment.1, payload.1)
@@ -56,9 +56,9 @@ deliver_spelled : (cpus collectors : ℕ) (first second third fourth : Field) (c
     → SpellsCommand cpus collectors command (first ∷ second ∷ third ∷ fourth ∷ [])
 unfolding deliver_in
 deliver_spelled cpus collectors first second third fourth command word h =
-    let collector = bind_ok (number_below collectors second) (λ collector. cpu_in cpus third >>= λ cpu. number_in fourth >>= λ fill. let r : Read Command = Ok (deliver collector cpu fill) in r) command h in
-    let cpu = bind_ok (cpu_in cpus third) (λ cpu. number_in fourth >>= λ fill. let r : Read Command = Ok (deliver collector.0 cpu fill) in r) command collector.2 in
-    let fill = bind_ok (number_in fourth) (λ fill. let r : Read Command = Ok (deliver collector.0 cpu.0 fill) in r) command cpu.2 in
+    let collector = bind_ok (number_below collectors second) (λ collector. cpu_in cpus third >>= λ cpu. decimal_in fourth >>= λ fill. let r : Read Command = Ok (deliver collector cpu fill) in r) command h in
+    let cpu = bind_ok (cpu_in cpus third) (λ cpu. decimal_in fourth >>= λ fill. let r : Read Command = Ok (deliver collector.0 cpu fill) in r) command collector.2 in
+    let fill = bind_ok (decimal_in fourth) (λ fill. let r : Read Command = Ok (deliver collector.0 cpu.0 fill) in r) command cpu.2 in
     subst (λ (command : Command). SpellsCommand cpus collectors command (first ∷ second ∷ third ∷ fourth ∷ [])) (same_ok (deliver collector.0 cpu.0 fill.0) command fill.2)
     (second, third, fourth, ap (λ (w : Field). w ∷ second ∷ third ∷ fourth ∷ []) word, collector.1, cpu.1, fill.1)
 
@@ -101,7 +101,7 @@ unfolding command_of write_in close_in take_in deliver_in
 spelled_command cpus collectors fields (write cpu moment payload) h =
     ap (command_of cpus collectors) h.3
     ∙ cond-false (bytes_eq h.0 (codes "d")) _ _ (cpu_is_no_delivery cpus cpu h.0 h.4)
-    ∙ ap (λ (r : Read ℕ). r >>= λ cpu. number_in h.1 >>= λ moment. payload_in h.2 >>= λ payload. let c : Read Command = Ok (write cpu moment payload) in c) h.4
+    ∙ ap (λ (r : Read ℕ). r >>= λ cpu. decimal_in h.1 >>= λ moment. payload_in h.2 >>= λ payload. let c : Read Command = Ok (write cpu moment payload) in c) h.4
     ∙ ap (λ (r : Read ℕ). r >>= λ moment. payload_in h.2 >>= λ payload. let c : Read Command = Ok (write cpu moment payload) in c) h.5
     ∙ ap (λ (r : Read Field). r >>= λ payload. let c : Read Command = Ok (write cpu moment payload) in c) h.6
 spelled_command cpus collectors fields (close cpu) h =
@@ -110,6 +110,6 @@ spelled_command cpus collectors fields (take_page cpu) h =
     ap (command_of cpus collectors) h.1 ∙ ap (λ (r : Read ℕ). r >>= λ cpu. let c : Read Command = Ok (take_page cpu) in c) h.2
 spelled_command cpus collectors fields (deliver collector cpu fill) h =
     ap (command_of cpus collectors) h.3
-    ∙ ap (λ (r : Read ℕ). r >>= λ collector. cpu_in cpus h.1 >>= λ cpu. number_in h.2 >>= λ fill. let c : Read Command = Ok (deliver collector cpu fill) in c) h.4
-    ∙ ap (λ (r : Read ℕ). r >>= λ cpu. number_in h.2 >>= λ fill. let c : Read Command = Ok (deliver collector cpu fill) in c) h.5
+    ∙ ap (λ (r : Read ℕ). r >>= λ collector. cpu_in cpus h.1 >>= λ cpu. decimal_in h.2 >>= λ fill. let c : Read Command = Ok (deliver collector cpu fill) in c) h.4
+    ∙ ap (λ (r : Read ℕ). r >>= λ cpu. decimal_in h.2 >>= λ fill. let c : Read Command = Ok (deliver collector cpu fill) in c) h.5
     ∙ ap (λ (r : Read ℕ). r >>= λ fill. let c : Read Command = Ok (deliver collector cpu fill) in c) h.6

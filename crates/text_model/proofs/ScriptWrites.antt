@@ -9,10 +9,10 @@ use Rattle.std.proofs.lemmas.Slice.Eq.{bytes_eq-Decides}
 use Rattle.std.proofs.lemmas.List.Elements.{recursion_from_All}
 use Rattle.std.proofs.lemmas.List.Splits.{slice_split-cons_no, slice_split-cons_yes}
 use Rattle.text_model.specs.Text.{lines_of, fields_of, is_well_spaced, without_empty_end, hex_text}
-use Rattle.text_model.specs.Script.{Command, write, close, take_page, deliver, Script, LineFault, bad_line, out_of_range, Line, Setting, ◌>>=◌, number_below, names_cpu, cpu_in, write_in, close_in, take_in, deliver_in, command_of, command_in, value_given, value_of, value_in, allowed_for, is_significant, significant_lines, pages_setting, size_setting, cpus_setting, collectors_setting, SpellCommands, ParsesScript}
+use Rattle.text_model.specs.Script.{Command, write, close, take_page, deliver, Script, LineFault, bad_line, out_of_range, NumberedLine, Setting, ◌>>=◌, number_below, names_cpu, cpu_in, write_in, close_in, take_in, deliver_in, command_of, command_in, value_given, value_of, value_in, allowed_for, is_significant, significant_lines, pages_setting, size_setting, cpus_setting, collectors_setting, SpellCommands, ParsesScript}
 use Rattle.text_model.specs.ScriptWriting.{line_of, text_of, cpu_text, command_fields, command_text, setting_text, script_text}
 use Rattle.text_model.specs.ScriptLimits.{IsCommandWithin, IsWithinLimits}
-use Rattle.text_model.proofs.TextLemmas.{numerals, number_in-decimal, payload_in-hex_text, hex_text_free, some_hex_text}
+use Rattle.text_model.proofs.TextLemmas.{numerals, decimal_in-decimal, payload_in-hex_text, hex_text_free, some_hex_text}
 
 -- ---- a byte that a text hasn't
 -- no byte of the text is c
@@ -70,11 +70,11 @@ without_empty_end-push (l ∷ m ∷ lines) = ap (λ (ls : List (List ℕ)). l �
 lines_of-text_of : (lines : List (List ℕ)) → list_all (is_free 10) lines ≡ true → lines_of (text_of lines) ≡ lines
 lines_of-text_of lines h = ap without_empty_end (split-text_of lines h) ∙ without_empty_end-push lines
 
-all_significant : (n : ℕ) (lines : List (List ℕ)) → list_all is_significant lines ≡ true → filter (λ (x : Line). is_significant x.1) (enumerate_from n lines) ≡ enumerate_from n lines
+all_significant : (n : ℕ) (lines : List (List ℕ)) → list_all is_significant lines ≡ true → filter (λ (x : NumberedLine). is_significant x.1) (enumerate_from n lines) ≡ enumerate_from n lines
 all_significant n [] h = refl
 all_significant n (l ∷ lines) h =
     let parts = and_parts (is_significant l) _ h in
-    cond-true (is_significant l) _ _ parts.0 ∙ ap (λ (ls : List Line). (n, l) ∷ ls) (all_significant (n + 1) lines parts.1)
+    cond-true (is_significant l) _ _ parts.0 ∙ ap (λ (ls : List NumberedLine). (n, l) ∷ ls) (all_significant (n + 1) lines parts.1)
 
 -- ---- what fields are made of
 digit_is_no : (c b : ℕ) → c < 48 → is_ascii_digit b ≡ true → not (b == c) ≡ true
@@ -101,13 +101,13 @@ cpu_in-cpu_text : (cpus cpu : ℕ) → cpu < cpus → cpu < 2 ^ 64 → cpu_in cp
 unfolding cpu_in number_below
 cpu_in-cpu_text cpus cpu below fits =
     cond-true (names_cpu (cpu_text cpu)) _ _ (and_from _ _ (some_decimal cpu fits) (digits_decimal numerals cpu fits))
-    ∙ ap (λ (r : Result ℕ LineFault). r >>= λ n. cond (ltb n cpus) (let good : Result ℕ LineFault = Ok n in good) (Err out_of_range)) (number_in-decimal cpu fits)
+    ∙ ap (λ (r : Result ℕ LineFault). r >>= λ n. cond (ltb n cpus) (let good : Result ℕ LineFault = Ok n in good) (Err out_of_range)) (decimal_in-decimal cpu fits)
     ∙ cond-true (ltb cpu cpus) _ _ (lt-ltb cpu cpus below)
 
 number_below-decimal : (limit n : ℕ) → n < limit → n < 2 ^ 64 → number_below limit (decimal n) ≡ Ok n
 unfolding number_below
 number_below-decimal limit n below fits =
-    ap (λ (r : Result ℕ LineFault). r >>= λ n. cond (ltb n limit) (let good : Result ℕ LineFault = Ok n in good) (Err out_of_range)) (number_in-decimal n fits)
+    ap (λ (r : Result ℕ LineFault). r >>= λ n. cond (ltb n limit) (let good : Result ℕ LineFault = Ok n in good) (Err out_of_range)) (decimal_in-decimal n fits)
     ∙ cond-true (ltb n limit) _ _ (lt-ltb n limit below)
 
 -- ---- commands
@@ -126,7 +126,7 @@ fields_spelled cpus collectors (write cpu moment payload) few_cpus few_collector
     let cpu_fits : cpu < 2 ^ 64 = omega (arith, h.0) in
     let bytes = recursion_from_All (λ byte. byte < 256) payload h.2 in
     record {
-      read = rw (cpu_in-cpu_text cpus cpu h.0 cpu_fits, number_in-decimal moment h.1, payload_in-hex_text payload bytes) refl;
+      read = rw (cpu_in-cpu_text cpus cpu h.0 cpu_fits, decimal_in-decimal moment h.1, payload_in-hex_text payload bytes) refl;
       spaced = and_from _ _ (some_cpu cpu) (and_from _ _ (some_decimal moment h.1) (and_from _ _ (lt-ltb 0 (length (hex_text payload)) (some_hex_text payload)) refl));
       no_space = and_from _ _ (cpu_free 32 cpu (omega arith) cpu_fits) (and_from _ _ (decimal_free 32 moment (omega arith) h.1) (and_from _ _ (hex_text_free 32 payload (omega arith) bytes) refl));
       no_feed = and_from _ _ (cpu_free 10 cpu (omega arith) cpu_fits) (and_from _ _ (decimal_free 10 moment (omega arith) h.1) (and_from _ _ (hex_text_free 10 payload (omega arith) bytes) refl));
@@ -157,7 +157,7 @@ fields_spelled cpus collectors (deliver collector cpu fill) few_cpus few_collect
     let cpu_fits : cpu < 2 ^ 64 = omega (arith, h.1) in
     let collector_fits : collector < 2 ^ 64 = omega (arith, h.0) in
     record {
-      read = rw (number_below-decimal collectors collector h.0 collector_fits, cpu_in-cpu_text cpus cpu h.1 cpu_fits, number_in-decimal fill h.2) refl;
+      read = rw (number_below-decimal collectors collector h.0 collector_fits, cpu_in-cpu_text cpus cpu h.1 cpu_fits, decimal_in-decimal fill h.2) refl;
       spaced = and_from _ _ (some_decimal collector collector_fits) (and_from _ _ (some_cpu cpu) (and_from _ _ (some_decimal fill h.2) refl));
       no_space = and_from _ _ (decimal_free 32 collector (omega arith) collector_fits) (and_from _ _ (cpu_free 32 cpu (omega arith) cpu_fits) (and_from _ _ (decimal_free 32 fill (omega arith) h.2) refl));
       no_feed = and_from _ _ (decimal_free 10 collector (omega arith) collector_fits) (and_from _ _ (cpu_free 10 cpu (omega arith) cpu_fits) (and_from _ _ (decimal_free 10 fill (omega arith) h.2) refl));
@@ -186,7 +186,7 @@ value_in-setting_text s value some free fits allowed =
     ap (λ (fs : List (List ℕ)). cond (is_well_spaced fs) (value_of s fs) (Err bad_line)) fields
     ∙ cond-true (is_well_spaced (s.word ∷ decimal value ∷ [])) _ _ spaced
     ∙ cond-true (bytes_eq s.word s.word) _ _ ((bytes_eq-Decides s.word s.word).1 refl)
-    ∙ ap (λ (r : Result ℕ LineFault). r >>= allowed_for s) (number_in-decimal value fits)
+    ∙ ap (λ (r : Result ℕ LineFault). r >>= allowed_for s) (decimal_in-decimal value fits)
     ∙ allowed
 
 setting_allowed : (s : Setting) (n : ℕ) → s.min ≤ n → n ≤ s.max → n % s.step ≡ 0 → allowed_for s n ≡ Ok n
@@ -273,7 +273,7 @@ script_text_reads script commands h numbers =
     let significant : list_all is_significant lines ≡ true = commands_are_significant script.cpus script.collectors commands few_cpus few_collectors each in
     let all : significant_lines (script_text script) ≡ enumerate_from 1 lines =
     ap significant_lines text
-    ∙ ap (λ (ls : List (List ℕ)). filter (λ (x : Line). is_significant x.1) (enumerate_from 1 ls)) (lines_of-text_of lines no_feed)
+    ∙ ap (λ (ls : List (List ℕ)). filter (λ (x : NumberedLine). is_significant x.1) (enumerate_from 1 ls)) (lines_of-text_of lines no_feed)
     ∙ all_significant 1 lines significant in
     record {
       header = (1, setting_text pages_setting script.pages) ∷ (2, setting_text size_setting script.size) ∷ (3, setting_text cpus_setting script.cpus) ∷ (4, setting_text collectors_setting script.collectors) ∷ [];

@@ -9,7 +9,7 @@ use Rattle.std.proofs.lemmas.Fmt.{decimal_nonempty, length-decimal-le, digits_de
 use Rattle.std.proofs.lemmas.Str.{digit_value-digit_char}
 use Rattle.std.proofs.lemmas.Str.Parse.{IsNumeralModel, numerals_by_value, tells_all_ascii_digits}
 use Rattle.text_model.specs.Text.{is_decimal, is_hex, bytes_of_pairs, hex_text}
-use Rattle.text_model.specs.Script.{LineFault, number_in, payload_in}
+use Rattle.text_model.specs.Script.{LineFault, decimal_in, payload_in}
 
 -- the digits of std's words
 pub numerals : IsNumeralModel (λ ds. all_ascii_digits ds ≡ true) (digits_value 10)
@@ -23,9 +23,9 @@ is_decimal-decimal n small =
     let value : digits_value 10 (decimal n) < 2 ^ 64 = omega (arith, digits_value-decimal numerals n small) in
     and_from _ _ (and_from _ _ (and_from _ _ (lt-ltb 0 (length (decimal n)) some) (le-leb (length (decimal n)) 20 few)) (digits_decimal numerals n small)) (lt-ltb (digits_value 10 (decimal n)) (2 ^ 64) value)
 
-pub number_in-decimal : (n : ℕ) → n < 2 ^ 64 → number_in (decimal n) ≡ Ok n
-unfolding number_in
-number_in-decimal n small =
+pub decimal_in-decimal : (n : ℕ) → n < 2 ^ 64 → decimal_in (decimal n) ≡ Ok n
+unfolding decimal_in
+decimal_in-decimal n small =
     cond-true (is_decimal (decimal n)) _ _ (is_decimal-decimal n small) ∙ ap (λ (n : ℕ). let r : Result ℕ LineFault = Ok n in r) (digits_value-decimal numerals n small)
 
 -- the two digits of a byte

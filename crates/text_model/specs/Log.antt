@@ -7,7 +7,7 @@ use Rattle.text_model.specs.Script.{Command, write, close, take_page, deliver, S
 use Rattle.text_model.specs.Replay.{is_short, Taking, Outcome, takings_of, IsDelivered, IsUncountedReplay}
 
 -- A line of the log. line: the number of the script's line. refused: a write, or a step. taken: a page of
--- that fill, its first record's number, how many records it has, and how many numbers were missed in
+-- that fill, its first record's number, how many records it has, and how many records were missed in
 -- front of them. empty: no page could be taken. moving: a writer moves the head, and all fills below this
 -- one are taken or lost. asks: the reader asks for the page behind so many closed ones. The last three
 -- are of a delivery: of a page that the collector hasn't yet, of one that it has, and of none, since that

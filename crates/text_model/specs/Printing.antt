@@ -22,8 +22,8 @@ printed_collector collector cpu collected =
     codes "collector " ++ decimal collector ++ 10 ∷ flat_map (printed_record cpu) collected
 
 -- The collectors that a replay leaves, numbered from 0. For now all records are of CPU 0.
-abbrev pub printed_world : List (List (ℕ × Record)) → List ℕ
-printed_world collectors = flat_map (λ pair. printed_collector pair.0 0 pair.1) (enumerate_from 0 collectors)
+abbrev pub printed_collectors : List (List (ℕ × Record)) → List ℕ
+printed_collectors collectors = flat_map (λ pair. printed_collector pair.0 0 pair.1) (enumerate_from 0 collectors)
 
 -- the name of why a write is refused
 abbrev pub refusal_text : Refusal → List ℕ
@@ -70,7 +70,7 @@ printed_log_line line = log_line_text line ++ 10 ∷ []
 -- what a replay prints: its log, if it is asked for, and then its collectors
 abbrev pub printed_replay : Bool → List LogLine → List (List (ℕ × Record)) → List ℕ
 printed_replay asked log collectors =
-    (if asked then flat_map printed_log_line log else []) ++ printed_world collectors
+    (if asked then flat_map printed_log_line log else []) ++ printed_collectors collectors
 
 -- the line that tells which line of a script is at fault, and how
 abbrev pub printed_fault : ℕ → LineFault → List ℕ

@@ -1,7 +1,7 @@
 -- What the replay of a script may do: the uncounted contract of reading.
 -- After Documentation/trace/ring-buffer-design.rst (overwrite mode): the reader gets whole pages in
 -- order, and the oldest unread ones are overwritten. For now a script has one CPU and one collector, and
--- nothing is told of how many records are missing.
+-- nothing is told of how many records were lost.
 use Rattle.std.specs.Prelude.{◌≡◌, ◌≢◌, ◌+◌, ◌-◌, ◌<◌, ◌≤◌, ℕ, max, Bool, true, if◌then◌else◌, ◌==◌, ◌&&◌, nat_lt, nat_le, List, [], ◌∷◌, ◌++◌, length, map, flat_map, fold, slice_get, Option, Some, None, option_to_list, All, Contains, ◌↔◌}
 use Rattle.std.specs.List.{enumerate_from}
 use Rattle.std.specs.List.Sorted.{IsStrictlyIncreasing}
@@ -25,17 +25,17 @@ is_writable size moment len = is_short size len && nat_lt moment MOMENT_LIMIT
 
 -- What a line makes of its CPU's history. For now the opening of pages is left out: a write is
 -- refused, or its frame reserves and leaves with the payload; a close is a frame without a record.
-abbrev pub actions_of : ℕ → Command → List Action
-actions_of size (write cpu moment payload) =
+abbrev pub actions_of_line : ℕ → Command → List Action
+actions_of_line size (write cpu moment payload) =
     if is_writable size moment (length payload) then push moment (length payload) ∷ reserve ∷ leave (Some payload) ∷ []
     else []
-actions_of size (close cpu) = push_close ∷ leave None ∷ []
-actions_of size (take_page cpu) = []
-actions_of size (deliver collector cpu fill) = []
+actions_of_line size (close cpu) = push_close ∷ leave None ∷ []
+actions_of_line size (take_page cpu) = []
+actions_of_line size (deliver collector cpu fill) = []
 
 -- the history that these lines make, over pages of this data size
 abbrev pub history_of_lines : ℕ → List Command → List Action
-history_of_lines size commands = flat_map (actions_of size) commands
+history_of_lines size commands = flat_map (actions_of_line size) commands
 
 -- ---- which pages are begun
 

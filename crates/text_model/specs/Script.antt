@@ -40,8 +40,8 @@ abbrev pub ◌>>=◌ : {A B E : Type 0} → Result A E → (A → Result B E) �
 (Err e) >>= f = Err e
 
 -- the number that a field spells
-unfoldable pub number_in : List ℕ → Result ℕ LineFault
-number_in field = if is_decimal field then Ok (digits_value 10 field) else Err bad_number
+unfoldable pub decimal_in : List ℕ → Result ℕ LineFault
+decimal_in field = if is_decimal field then Ok (digits_value 10 field) else Err bad_number
 
 -- the bytes that a field spells
 unfoldable pub payload_in : List ℕ → Result (List ℕ) LineFault
@@ -49,7 +49,7 @@ payload_in field = if is_hex field then Ok (hex_bytes field) else Err bad_hex
 
 -- the number that a field spells, which is to be below a limit
 unfoldable pub number_below : ℕ → List ℕ → Result ℕ LineFault
-number_below limit field = number_in field >>= λ n. if nat_lt n limit then Ok n else Err out_of_range
+number_below limit field = decimal_in field >>= λ n. if nat_lt n limit then Ok n else Err out_of_range
 
 -- the letter that begins a CPU's name
 abbrev pub cpu_letter : ℕ
@@ -68,7 +68,7 @@ cpu_in cpus field = if names_cpu field then number_below cpus (drop 1 field) els
 unfoldable pub write_in : ℕ → List ℕ → List ℕ → List ℕ → Result Command LineFault
 write_in cpus cpu_field moment_field payload_field = do
   cpu ← cpu_in cpus cpu_field
-  moment ← number_in moment_field
+  moment ← decimal_in moment_field
   payload ← payload_in payload_field
   Ok (write cpu moment payload)
 
@@ -89,7 +89,7 @@ unfoldable pub deliver_in : ℕ → ℕ → List ℕ → List ℕ → List ℕ �
 deliver_in cpus collectors collector_field cpu_field fill_field = do
   collector ← number_below collectors collector_field
   cpu ← cpu_in cpus cpu_field
-  fill ← number_in fill_field
+  fill ← decimal_in fill_field
   Ok (deliver collector cpu fill)
 
 -- The command that fields spell, for so many CPUs and collectors: `cX w T HEX`, `cX c`, `cX t` or
@@ -111,7 +111,7 @@ SpellsCommand cpus collectors (write cpu moment payload) fields =
     (x : List ℕ) × (t : List ℕ) × (hex : List ℕ)
     × (fields ≡ x ∷ codes "w" ∷ t ∷ hex ∷ [])
     × (cpu_in cpus x ≡ Ok cpu)
-    × (number_in t ≡ Ok moment)
+    × (decimal_in t ≡ Ok moment)
     × (payload_in hex ≡ Ok payload)
 SpellsCommand cpus collectors (close cpu) fields =
     (x : List ℕ) × (fields ≡ x ∷ codes "c" ∷ []) × (cpu_in cpus x ≡ Ok cpu)
@@ -122,7 +122,7 @@ SpellsCommand cpus collectors (deliver collector cpu fill) fields =
     × (fields ≡ codes "d" ∷ k ∷ x ∷ f ∷ [])
     × (number_below collectors k ≡ Ok collector)
     × (cpu_in cpus x ≡ Ok cpu)
-    × (number_in f ≡ Ok fill)
+    × (decimal_in f ≡ Ok fill)
 
 -- the command that a line spells: its spaces are looked at first
 unfoldable pub command_in : ℕ → ℕ → List ℕ → Result Command LineFault
@@ -167,7 +167,7 @@ allowed_for s n = if nat_le s.min n && nat_le n s.max && (n % s.step == 0) then 
 
 -- the value that a word and a number give to this setting
 unfoldable pub value_given : Setting → List ℕ → List ℕ → Result ℕ LineFault
-value_given s word number = if bytes_eq word s.word then (number_in number >>= allowed_for s) else Err bad_line
+value_given s word number = if bytes_eq word s.word then (decimal_in number >>= allowed_for s) else Err bad_line
 
 -- the value that fields give to this setting: two of them
 unfoldable pub value_of : Setting → List (List ℕ) → Result ℕ LineFault
@@ -188,22 +188,22 @@ is_significant [] = false
 is_significant (b ∷ line) = not (b == comment_mark)
 
 -- a line with its number
-abbrev pub Line : Type 0
-Line = ℕ × List ℕ
+abbrev pub NumberedLine : Type 0
+NumberedLine = ℕ × List ℕ
 
 -- the significant lines of a text, each with its number among all lines of the text, from 1
-abbrev pub significant_lines : List ℕ → List Line
+abbrev pub significant_lines : List ℕ → List NumberedLine
 significant_lines text = filter (λ line. is_significant line.1) (enumerate_from 1 (lines_of text))
 
 -- these lines give these settings these values, one by one
-abbrev pub GiveSettings : List Line → List Setting → List ℕ → Type 0
+abbrev pub GiveSettings : List NumberedLine → List Setting → List ℕ → Type 0
 GiveSettings [] [] [] = ⊤
 GiveSettings (line ∷ lines) (s ∷ settings) (value ∷ values) =
     (value_in s line.1 ≡ Ok value) × GiveSettings lines settings values
 GiveSettings _ _ _ = ⊥
 
 -- these lines spell these commands, one by one, and the numbers of the lines are the commands'
-abbrev pub SpellCommands : ℕ → ℕ → List Line → List (ℕ × Command) → Type 0
+abbrev pub SpellCommands : ℕ → ℕ → List NumberedLine → List (ℕ × Command) → Type 0
 SpellCommands cpus collectors [] [] = ⊤
 SpellCommands cpus collectors (line ∷ lines) (command ∷ commands) =
     (command_in cpus collectors line.1 ≡ Ok command.1)
@@ -212,9 +212,9 @@ SpellCommands cpus collectors (line ∷ lines) (command ∷ commands) =
 SpellCommands cpus collectors _ _ = ⊥
 
 -- Significant lines spell a script: a header, and then a command a line.
-pub record SpellScript (lines : List Line) (script : Script) : Type 0 where
-  pub header : List Line
-  pub behind : List Line
+pub record SpellScript (lines : List NumberedLine) (script : Script) : Type 0 where
+  pub header : List NumberedLine
+  pub behind : List NumberedLine
   pub cut : lines ≡ header ++ behind
   pub settings : GiveSettings header header_settings
       (script.pages ∷ script.size ∷ script.cpus ∷ script.collectors ∷ [])
@@ -225,10 +225,12 @@ abbrev pub ParsesScript : List ℕ → Script → Type 0
 ParsesScript text script = SpellScript (significant_lines text) script
 
 -- Of these settings, the lines in front of this one give the first, and this one not the next.
-pub record IsFaultySetting (settings : List Setting) (lines : List Line) (number : ℕ) (fault : LineFault) : Type 0 where
-  pub front : List Line
+pub record IsFaultySetting (settings : List Setting) (lines : List NumberedLine)
+    (number : ℕ) (fault : LineFault)
+    : Type 0 where
+  pub front : List NumberedLine
   pub line : List ℕ
-  pub behind : List Line
+  pub behind : List NumberedLine
   pub cut : lines ≡ front ++ (number, line) ∷ behind
   pub given : List Setting
   pub setting : Setting
@@ -239,7 +241,7 @@ pub record IsFaultySetting (settings : List Setting) (lines : List Line) (number
   pub fails : value_in setting line ≡ Err fault
 
 -- Of these settings, the lines give the first, and not all.
-pub record IsMissingSetting (settings : List Setting) (lines : List Line) : Type 0 where
+pub record IsMissingSetting (settings : List Setting) (lines : List NumberedLine) : Type 0 where
   pub given : List Setting
   pub setting : Setting
   pub others : List Setting
@@ -248,10 +250,10 @@ pub record IsMissingSetting (settings : List Setting) (lines : List Line) : Type
   pub fits : GiveSettings lines given values
 
 -- The lines in front of this one spell a script, and this one no command of it.
-pub record IsFaultyCommand (lines : List Line) (number : ℕ) (fault : LineFault) : Type 0 where
-  pub front : List Line
+pub record IsFaultyCommand (lines : List NumberedLine) (number : ℕ) (fault : LineFault) : Type 0 where
+  pub front : List NumberedLine
   pub line : List ℕ
-  pub behind : List Line
+  pub behind : List NumberedLine
   pub cut : lines ≡ front ++ (number, line) ∷ behind
   pub script : Script
   pub fits : SpellScript front script

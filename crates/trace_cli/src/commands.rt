@@ -11,7 +11,7 @@ ghost use Rattle.trace_script.specs.ScriptFaults.{script_fault_text};
 ghost use Rattle.trace_script.specs.ScriptTypes.{script_of};
 
 use crate::log_printer::put_log;
-use crate::printer::put_world;
+use crate::printer::put_collectors;
 use command_io::{Command, Output, Sink, Source, run_command};
 use std::alloc::Global;
 use trace_model::NoMemory;
@@ -34,7 +34,7 @@ fn print_replay(alloc: Global, script: &Script, log: bool) -> Result<Vec<u8>, No
     if log {
         put_log(&mut text, world.log.as_slice())?;
     }
-    put_world(&mut text, world.collectors.as_slice())?;
+    put_collectors(&mut text, world.collectors.as_slice())?;
     Ok(text)
 }
 

@@ -66,7 +66,7 @@ pub fn print_image(alloc: Global, image: &Image) -> Result<Vec<u8>, NoMemory>
 }
 
 /// What is wrong, and the offset of the word where it is.
-fn put_placed(out: &mut Vec<u8>, name: &[u8], at: usize) -> Result<(), NoMemory>
+fn put_with_offset(out: &mut Vec<u8>, name: &[u8], at: usize) -> Result<(), NoMemory>
     ensures { OnOk result (out.new.items ≡ out.old.items ++ (name.now ++ codes " at " ++ decimal at)) }
 {
     out.extend_from_slice(name)?;
@@ -79,9 +79,9 @@ fn put_word_fault(out: &mut Vec<u8>, fault: WordFault) -> Result<(), NoMemory>
     ensures { OnOk result (out.new.items ≡ out.old.items ++ word_fault_text fault) }
 {
     match fault {
-        WordFault::Cut(at) => put_placed(out, b"Cut", at)?,
-        WordFault::BadLength(at) => put_placed(out, b"BadLength", at)?,
-        WordFault::TimeOverflow(at) => put_placed(out, b"TimeOverflow", at)?,
+        WordFault::Cut(at) => put_with_offset(out, b"Cut", at)?,
+        WordFault::BadLength(at) => put_with_offset(out, b"BadLength", at)?,
+        WordFault::TimeOverflow(at) => put_with_offset(out, b"TimeOverflow", at)?,
     }
     Ok(())
 }

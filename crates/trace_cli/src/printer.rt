@@ -3,7 +3,7 @@ ghost use Rattle.std.specs.Prelude.{◌≡◌, ◌<◌, ◌++◌, OnOk, flat_map
 ghost use Rattle.std.specs.Char.{digit_char};
 ghost use Rattle.std.specs.Fmt.{decimal};
 ghost use Rattle.text_model.specs.Text.{hex_text};
-ghost use Rattle.text_model.specs.Printing.{printed_record, printed_collector, printed_world};
+ghost use Rattle.text_model.specs.Printing.{printed_record, printed_collector, printed_collectors};
 ghost use Rattle.text_model.specs.Replay.{pairs_of};
 ghost use Rattle.trace_run.specs.Collected.{collected_pairs};
 ghost use Rattle.page_image.specs.Copies.{copy_of};
@@ -127,8 +127,8 @@ fn put_collector(
 }
 
 /// Puts the text of each collector, by rising number. All records are of CPU 0.
-pub fn put_world(out: &mut Vec<u8>, collectors: &[TakenPages]) -> Result<(), NoMemory>
-    ensures { OnOk result (out.new.items ≡ out.old.items ++ printed_world (map collected_pairs collectors.now)) }
+pub fn put_collectors(out: &mut Vec<u8>, collectors: &[TakenPages]) -> Result<(), NoMemory>
+    ensures { OnOk result (out.new.items ≡ out.old.items ++ printed_collectors (map collected_pairs collectors.now)) }
 {
     for (i, collector) in collectors.iter().enumerate() {
         put_collector(out, i as u64, CpuId(0), collector)?;

@@ -7,7 +7,7 @@ use Rattle.std.proofs.lemmas.List.Folds.{list_any-append}
 use Rattle.std.proofs.lemmas.List.Sums.{sum_by_push}
 use Rattle.std.proofs.lemmas.Bool.{cond_both, cond-true, cond-false, leb-true, ltb-true}
 use Rattle.trace_model.specs.Record.{Record}
-use Rattle.trace_model.specs.Words.{Word, short_data, long_data, padding, time_extend, time_stamp, bytes_of_word, IsWord, joined, delta_of, stamp_of, is_stamp, last_stamp, since_stamp, moment_after, records_at, records_behind, records_of, MovesTime, FitsTime, IsJoined, Decodes, data_word, written_words, encoding}
+use Rattle.trace_model.specs.Words.{Word, short_data, long_data, padding, time_extend, time_stamp, bytes_of_word, IsWord, joined, delta_of, stamp_of, is_stamp, last_stamp, since_stamp, moment_after, records_at, records_behind, records_of, MovesTime, FitsTime, IsJoined, Decodes, data_word, written_words, encoding, word_time_limit}
 use Rattle.trace_model.specs.Reading.{IsData, payload_of, EndsInRecord}
 use Rattle.trace_model.specs.Order.{moment_of_last, EndsAt}
 use Rattle.trace_model.proofs.Unique.{IsJoined-words_unique}
@@ -179,7 +179,7 @@ ReadsAs-push_data bytes time records words w reads holds is fits = record {
   read = ap (λ (rs : List Record). rs ++ record { moment = moment_after time words + delta_of w; bytes = payload_of w } ∷ []) reads.read ∙ sym (records_of-push_data time words w holds);
 }
 
-pub ReadsAs-push_extend : (bytes : List ℕ) (time : ℕ) (records : List Record) (words : List Word) (delta : ℕ) → ReadsAs bytes time records words → delta < 2 ^ 59 → moment_after time words + delta < 2 ^ 64
+pub ReadsAs-push_extend : (bytes : List ℕ) (time : ℕ) (records : List Record) (words : List Word) (delta : ℕ) → ReadsAs bytes time records words → delta < word_time_limit → moment_after time words + delta < 2 ^ 64
     → ReadsAs (bytes ++ bytes_of_word (time_extend delta)) time records (words ++ time_extend delta ∷ [])
 ReadsAs-push_extend bytes time records words delta reads is fits = record {
   whole = joined-push bytes words (time_extend delta) reads.whole;
@@ -241,7 +241,7 @@ ReadsAs-data_word bytes time records words delta payload reads small room whole 
 
 -- behind words, an encoding is one more record
 pub ReadsAs-appended : (bytes : List ℕ) (time : ℕ) (records : List Record) (words : List Word) (delta : ℕ) (payload : List ℕ) → ReadsAs bytes time records words
-    → delta < 2 ^ 59 → moment_after time words + delta < 2 ^ 64 → length payload % 4 ≡ 0 → 4 ≤ length payload → length payload + 4 < 2 ^ 32
+    → delta < word_time_limit → moment_after time words + delta < 2 ^ 64 → length payload % 4 ≡ 0 → 4 ≤ length payload → length payload + 4 < 2 ^ 32
     → ReadsAs (bytes ++ encoding delta false payload) time (records ++ one_record (moment_after time words + delta) payload) (words ++ written_words delta false payload)
 ReadsAs-appended bytes time records words delta payload reads small room whole some fits =
     cond_both (ltb delta (2 ^ 27)) _ _ (λ (ws : List Word). ReadsAs (bytes ++ joined ws) time (records ++ one_record (moment_after time words + delta) payload) (words ++ ws))
@@ -316,7 +316,7 @@ ReadsAs-ending : (bytes : List ℕ) (time : ℕ) (records : List Record) → (en
 ReadsAs-ending bytes time records ends reads = ReadsAs-Decodes bytes time records ends.words ends.whole ends.each reads
 
 ReadsAs-behind : (bytes : List ℕ) (time : ℕ) (records : List Record) (prev delta : ℕ) (payload : List ℕ) → (ends : EndsInRecord bytes) → Decodes bytes time records → EndsAt records prev
-    → delta < 2 ^ 59 → prev + delta < 2 ^ 64 → length payload % 4 ≡ 0 → 4 ≤ length payload → length payload + 4 < 2 ^ 32
+    → delta < word_time_limit → prev + delta < 2 ^ 64 → length payload % 4 ≡ 0 → 4 ≤ length payload → length payload + 4 < 2 ^ 32
     → ReadsAs (bytes ++ encoding delta false payload) time (records ++ one_record (prev + delta) payload) (ends.words ++ written_words delta false payload)
 ReadsAs-behind bytes time records prev delta payload ends reads at small room whole some fits =
     let words : List Word = ends.words in
@@ -326,18 +326,18 @@ ReadsAs-behind bytes time records prev delta payload ends reads at small room wh
     (ReadsAs-appended bytes time records words delta payload whole_words small (subst (λ (m : ℕ). m + delta < 2 ^ 64) (sym there) room) whole some fits)
 
 pub Decodes-appended : (bytes : List ℕ) (time : ℕ) (records : List Record) (prev delta : ℕ) (payload : List ℕ) → EndsInRecord bytes → Decodes bytes time records → EndsAt records prev
-    → delta < 2 ^ 59 → prev + delta < 2 ^ 64 → length payload % 4 ≡ 0 → 4 ≤ length payload → length payload + 4 < 2 ^ 32
+    → delta < word_time_limit → prev + delta < 2 ^ 64 → length payload % 4 ≡ 0 → 4 ≤ length payload → length payload + 4 < 2 ^ 32
     → Decodes (bytes ++ encoding delta false payload) time (records ++ record { moment = prev + delta; bytes = payload } ∷ [])
 Decodes-appended bytes time records prev delta payload ends reads at small room whole some fits =
     Decodes-ReadsAs (bytes ++ encoding delta false payload) time (records ++ one_record (prev + delta) payload) (ends.words ++ written_words delta false payload)
     (ReadsAs-behind bytes time records prev delta payload ends reads at small room whole some fits)
 
-pub written-each : (delta : ℕ) (payload : List ℕ) → delta < 2 ^ 59 → length payload % 4 ≡ 0 → 4 ≤ length payload → length payload + 4 < 2 ^ 32 → AllByRecursion IsWord (written_words delta false payload)
+pub written-each : (delta : ℕ) (payload : List ℕ) → delta < word_time_limit → length payload % 4 ≡ 0 → 4 ≤ length payload → length payload + 4 < 2 ^ 32 → AllByRecursion IsWord (written_words delta false payload)
 written-each delta payload small whole some fits = cond_both (ltb delta (2 ^ 27)) _ _ (AllByRecursion IsWord)
     (λ short. (data_word-IsWord delta payload (ltb-true delta (2 ^ 27) short) whole some fits, tt))
     (λ long. (small, (data_word-IsWord 0 payload (omega arith) whole some fits, tt)))
 
-pub EndsInRecord-appended : (bytes : List ℕ) (delta : ℕ) (payload : List ℕ) → EndsInRecord bytes → delta < 2 ^ 59 → length payload % 4 ≡ 0 → 4 ≤ length payload → length payload + 4 < 2 ^ 32
+pub EndsInRecord-appended : (bytes : List ℕ) (delta : ℕ) (payload : List ℕ) → EndsInRecord bytes → delta < word_time_limit → length payload % 4 ≡ 0 → 4 ≤ length payload → length payload + 4 < 2 ^ 32
     → EndsInRecord (bytes ++ encoding delta false payload)
 EndsInRecord-appended bytes delta payload ends small whole some fits = record {
   words = ends.words ++ written_words delta false payload;

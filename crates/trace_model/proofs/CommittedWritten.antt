@@ -1,9 +1,12 @@
 -- Of a history that keeps the discipline of the stack, each committed record has been written.
 use Rattle.std.proofs.Common.{◌≡◌, ◌⊎◌, inl, inr, ⊎_elim, ℕ, zero, suc, ◌<◌, List, [], ◌∷◌, ◌++◌, length, fold, Option, Some, None, refl, sym, ap, ◌∙◌, subst, arith, length-append}
+use Rattle.std.specs.Prelude.{IsSomeAnd, unwrap_or, replicate}
 use Rattle.std.specs.List.{All, AllByRecursion}
+use Rattle.std.proofs.lemmas.List.{length-replicate}
 use Rattle.std.proofs.lemmas.List.Elements.{All-from_recursion}
 use Rattle.trace_model.specs.Words.{slot_len, padded}
 use Rattle.trace_model.specs.History.{Action, push, push_close, open_fill, reserve, leave, wished, Reservation, IsWritten, PushedFrame, record_frame, close_frame, WriterState, reservation_for, records_with_payload, after_reserve, records_after_leave, after_action, writer_after, reserved_records, settled_prefix, MayAct, IsHistory}
+use Rattle.trace_model.specs.Packing.{FillsSlot}
 use Rattle.trace_model.proofs.Lengths.{length-padded}
 use Rattle.trace_model.proofs.NextRecords.{length-records_with_payload}
 use Rattle.trace_model.proofs.HistoryPrefixes.{none_stands, settled_within}
@@ -69,10 +72,18 @@ abbrev Stands : ℕ → List PushedFrame → Type 0
 Stands k [] = ⊥
 Stands k (f ∷ stack) = HasNumber k f ⊎ Stands k stack
 
--- each record is written, or its frame stands
+-- each record is written, or its frame stands; and either way it fills its slot
 record IsKept (stack : List PushedFrame) (records : List Reservation) : Type 0 where
   frames : AllByRecursion (IsFrameOf records) stack
   each : (k : ℕ) (r : Reservation) → StandsAt k records r → IsWritten r ⊎ Stands k stack
+  fills : (k : ℕ) (r : Reservation) → StandsAt k records r → FillsSlot r
+
+bytes_fill : (len : ℕ) (bytes : Option (List ℕ)) → IsSomeAnd bytes (λ b. length b ≡ len) → length (unwrap_or bytes (replicate len 0)) ≡ len
+bytes_fill len None h = absurd h
+bytes_fill len (Some b) h = h
+
+written_fills : (r : Reservation) → IsWritten r → FillsSlot r
+written_fills r h = bytes_fill r.len r.bytes h
 
 none_is_no_number : (k : ℕ) → (let none : Option ℕ = None in none ≡ Some k) → ⊥
 none_is_no_number k e = absurd (cc)
@@ -106,6 +117,7 @@ reserve-IsKept moment len None stack records none h =
           (λ old. ⊎_elim (λ done. inl done) (λ stands. inr (inr (⊎_elim (λ e. absurd (none_is_no_number k e)) (λ below. below) stands))) (h.each k r old))
           (λ new. inr (inl (ap (λ (n : ℕ). Some n) (sym new.0))))
           (StandsAt-push k records last r at);
+      fills = λ k r at. ⊎_elim (λ old. h.fills k r old) (λ new. subst FillsSlot new.1 (length-replicate (slot_len len) 0)) (StandsAt-push k records last r at);
     }
 
 -- ---- a frame that leaves
@@ -134,6 +146,7 @@ leave-IsKept : (f : PushedFrame) (stack : List PushedFrame) (records : List Rese
 leave-IsKept (record_frame moment len None) stack records payload may h = record {
   frames = h.frames.1;
   each = λ k r at. ⊎_elim (λ done. inl done) (λ stands. inr (⊎_elim (λ e. absurd (none_is_no_number k e)) (λ below. below) stands)) (h.each k r at);
+  fills = h.fills;
 }
 leave-IsKept (record_frame moment len (Some number)) stack records None may h = absurd may
 leave-IsKept (record_frame moment len (Some number)) stack records (Some payload) may h = record {
@@ -142,10 +155,15 @@ leave-IsKept (record_frame moment len (Some number)) stack records (Some payload
       (λ one. inl (written_with-IsWritten payload len one.0 r one.2 (h.frames.0.1 one.0 one.1) may))
       (λ other. ⊎_elim (λ done. inl done) (λ stands. inr (⊎_elim (λ e. absurd (other.0 (same_number number k e))) (λ below. below) stands)) (h.each k r other.1))
       (StandsAt-finished number payload records k r at);
+  fills = λ k r at. ⊎_elim
+      (λ one. written_fills r (written_with-IsWritten payload len one.0 r one.2 (h.frames.0.1 one.0 one.1) may))
+      (λ other. h.fills k r other.1)
+      (StandsAt-finished number payload records k r at);
 }
 leave-IsKept close_frame stack records payload may h = record {
   frames = h.frames.1;
   each = λ k r at. ⊎_elim (λ done. inl done) (λ stands. inr (⊎_elim (λ e. absurd e) (λ below. below) stands)) (h.each k r at);
+  fills = h.fills;
 }
 
 -- ---- a whole history
@@ -154,10 +172,12 @@ after_action-IsKept : (stack : List PushedFrame) (records : List Reservation) (a
 after_action-IsKept stack records (push moment len) may h = record {
   frames = (tt, h.frames);
   each = λ k r at. ⊎_elim (λ done. inl done) (λ stands. inr (inr stands)) (h.each k r at);
+  fills = h.fills;
 }
 after_action-IsKept stack records push_close may h = record {
   frames = (tt, h.frames);
   each = λ k r at. ⊎_elim (λ done. inl done) (λ stands. inr (inr stands)) (h.each k r at);
+  fills = h.fills;
 }
 after_action-IsKept stack records open_fill may h = h
 after_action-IsKept [] records reserve may h = h
@@ -181,6 +201,17 @@ committed-IsWritten history keeps =
     let front = settled_prefix history in
     let found = settled_within (length history) history in
     let allowed : AreAllowed start front = AreAllowed-front start front found.is_prefix.0 (subst (AreAllowed start) found.is_prefix.1 (allowed-IsHistory history keeps)) in
-    let kept = fold-IsKept start front allowed (record { frames = tt; each = λ k r at. absurd at }) in
+    let kept = fold-IsKept start front allowed (record { frames = tt; each = λ k r at. absurd at; fills = λ k r at. absurd at }) in
     let none : (writer_after front).stack ≡ [] = none_stands front found.settled in
     All-from_recursion IsWritten (reserved_records front) (each_written (reserved_records front) (λ k r at. ⊎_elim (λ done. done) (λ stands. absurd (subst (Stands k) none stands)) (kept.each k r at)))
+
+each_fills : (records : List Reservation) → ((k : ℕ) (r : Reservation) → StandsAt k records r → FillsSlot r) → AllByRecursion FillsSlot records
+each_fills [] h = tt
+each_fills (r ∷ records) h = (h 0 r refl, each_fills records (λ k q at. h (suc k) q at))
+
+-- each reserved record fills its slot, whether its frame stands or has left
+pub reserved-FillsSlot : (history : List Action) → IsHistory history → AllByRecursion FillsSlot (reserved_records history)
+reserved-FillsSlot history keeps =
+    let start : WriterState = record { stack = []; records = [] } in
+    let kept = fold-IsKept start history (allowed-IsHistory history keeps) (record { frames = tt; each = λ k r at. absurd at; fills = λ k r at. absurd at }) in
+    each_fills (reserved_records history) kept.fills

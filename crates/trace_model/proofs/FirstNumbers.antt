@@ -1,4 +1,4 @@
--- The pieces of a partition lie in the list from their first numbers on, and apart from what was lost.
+-- The pieces of a partition lie in the list from their first numbers on, and apart from what is skipped.
 use Rattle.std.proofs.Common.{◌≡◌, ℕ, zero, suc, ◌+◌, ◌<◌, ◌≤◌, List, [], ◌∷◌, ◌++◌, length, take, drop, Some, refl, sym, ap, ◌∙◌, subst, arith, append_assoc, length-append}
 use Rattle.std.proofs.lemmas.Option.{none-some}
 use Rattle.std.specs.List.{slice_get}
@@ -9,7 +9,7 @@ use Rattle.trace_model.proofs.Elements.{some_is, get_in_front, get_behind}
 -- ---- where a piece lies
 
 -- the records of the piece at an index, with those in front of it and those behind it
-record IsPlaced (records : List Record) (pieces : List Piece) (rest : List Record) (k : ℕ) (p : Piece) : Type 0 where
+record CutAtPiece (records : List Record) (pieces : List Piece) (rest : List Record) (k : ℕ) (p : Piece) : Type 0 where
   before : List Record
   lost : List Record
   behind : List Record
@@ -18,9 +18,9 @@ record IsPlaced (records : List Record) (pieces : List Piece) (rest : List Recor
   skips : length lost ≡ p.skipped
   others : IsPartition behind (drop (suc k) pieces) rest
 
-placed : (records : List Record) (pieces : List Piece) (rest : List Record) (k : ℕ) (p : Piece) → IsPartition records pieces rest → slice_get pieces k ≡ Some p → IsPlaced records pieces rest k p
-placed records [] rest k p partition at = absurd (none-some p at)
-placed records (q ∷ pieces) rest zero p (lost, behind, size, cut, partition) at =
+cut_at_piece : (records : List Record) (pieces : List Piece) (rest : List Record) (k : ℕ) (p : Piece) → IsPartition records pieces rest → slice_get pieces k ≡ Some p → CutAtPiece records pieces rest k p
+cut_at_piece records [] rest k p partition at = absurd (none-some p at)
+cut_at_piece records (q ∷ pieces) rest zero p (lost, behind, size, cut, partition) at =
     let same : q ≡ p = some_is q p at in
     record {
       before = [];
@@ -31,8 +31,8 @@ placed records (q ∷ pieces) rest zero p (lost, behind, size, cut, partition) a
       skips = size ∙ ap (λ (x : Piece). x.skipped) same;
       others = partition;
     }
-placed records (q ∷ pieces) rest (suc k) p (lost, behind, size, cut, partition) at =
-    let s = placed behind pieces rest k p partition at in
+cut_at_piece records (q ∷ pieces) rest (suc k) p (lost, behind, size, cut, partition) at =
+    let s = cut_at_piece behind pieces rest k p partition at in
     let left = s.lost ++ (p.records ++ s.behind) in
     record {
       before = lost ++ (q.records ++ s.before);
@@ -62,7 +62,7 @@ number_is number (q ∷ pieces) (suc k) p before lost at (skipped, behind, size,
 
 pub numbered_from : (records : List Record) (pieces : List Piece) (rest : List Record) (k : ℕ) (p : Piece) → IsPartition records pieces rest → slice_get pieces k ≡ Some p → (first : ℕ) × IsNumberedFrom records pieces rest k p first
 numbered_from records pieces rest k p partition at =
-    let s = placed records pieces rest k p partition at in
+    let s = cut_at_piece records pieces rest k p partition at in
     (length s.before + length s.lost, record { before = s.before; lost = s.lost; behind = s.behind; whole = s.whole; partition = s.partition; skips = s.skips; others = s.others; number = refl })
 
 pub first_is_count : (records : List Record) (pieces : List Piece) (rest : List Record) (k : ℕ) (p : Piece) (first : ℕ) → slice_get pieces k ≡ Some p → IsNumberedFrom records pieces rest k p first → first_of pieces k ≡ Some first
@@ -94,7 +94,7 @@ first_within records pieces rest k p first partition at is =
     let all = ap (length {A = Record}) s.whole ∙ length-append s.before (s.lost ++ (p.records ++ s.behind)) in
     let more = length-append s.lost (p.records ++ s.behind) in omega arith
 
--- ---- what is lost lies apart from what is held
+-- ---- what pieces skip lies apart from their own records
 
 first_above : (number : ℕ) (pieces : List Piece) (k : ℕ) (p : Piece) (first : ℕ) → slice_get pieces k ≡ Some p → first_from number pieces k ≡ Some first → number + p.skipped ≤ first
 first_above number [] k p first at is = absurd (none-some p at)
@@ -105,19 +105,19 @@ first_above number (q ∷ pieces) (suc k) p first at is =
     let above = first_above (number + covered_count q) pieces k p first at is in omega arith
 
 -- no number is among the records of one piece and among those that one skips
-pub held_or_lost : (number : ℕ) (pieces : List Piece) (j k : ℕ) (p q : Piece) (first other x : ℕ) → slice_get pieces j ≡ Some p → slice_get pieces k ≡ Some q
+pub own_or_skipped : (number : ℕ) (pieces : List Piece) (j k : ℕ) (p q : Piece) (first other x : ℕ) → slice_get pieces j ≡ Some p → slice_get pieces k ≡ Some q
     → first_from number pieces j ≡ Some first → first_from number pieces k ≡ Some other
     → first ≤ x → x < first + length p.records → other ≤ x + q.skipped → x < other → ⊥
-held_or_lost number [] j k p q first other x held lost is that low high least below = none-some p held
-held_or_lost number (s ∷ pieces) zero zero p q first other x held lost is that low high least below =
+own_or_skipped number [] j k p q first other x own skipping is that low high least below = none-some p own
+own_or_skipped number (s ∷ pieces) zero zero p q first other x own skipping is that low high least below =
     let here = some_is (number + s.skipped) first is in
     let there = some_is (number + s.skipped) other that in omega arith
-held_or_lost number (s ∷ pieces) zero (suc k) p q first other x held lost is that low high least below =
+own_or_skipped number (s ∷ pieces) zero (suc k) p q first other x own skipping is that low high least below =
     let here = some_is (number + s.skipped) first is in
-    let size = ap (λ (y : Piece). length y.records) (some_is s p held) in
-    let above = first_above (number + covered_count s) pieces k q other lost that in omega arith
-held_or_lost number (s ∷ pieces) (suc j) zero p q first other x held lost is that low high least below =
+    let size = ap (λ (y : Piece). length y.records) (some_is s p own) in
+    let above = first_above (number + covered_count s) pieces k q other skipping that in omega arith
+own_or_skipped number (s ∷ pieces) (suc j) zero p q first other x own skipping is that low high least below =
     let there = some_is (number + s.skipped) other that in
-    let above = first_above (number + covered_count s) pieces j p first held is in omega arith
-held_or_lost number (s ∷ pieces) (suc j) (suc k) p q first other x held lost is that low high least below =
-    held_or_lost (number + covered_count s) pieces j k p q first other x held lost is that low high least below
+    let above = first_above (number + covered_count s) pieces j p first own is in omega arith
+own_or_skipped number (s ∷ pieces) (suc j) (suc k) p q first other x own skipping is that low high least below =
+    own_or_skipped (number + covered_count s) pieces j k p q first other x own skipping is that low high least below

@@ -32,7 +32,7 @@ joined_below ps qs above a b = record {
 pub below_agrees : (parcels others : List Parcel) → IsBelow parcels others → Agree others → Agree parcels
 below_agrees ps qs b agree = record {
   one_record = λ cpu number r other h that. agree.one_record cpu number r other (b.has cpu number r h) (b.has cpu number other that);
-  not_lost = λ cpu number r h m. agree.not_lost cpu number r (b.has cpu number r h) (b.misses cpu number m);
+  not_missing = λ cpu number r h m. agree.not_missing cpu number r (b.has cpu number r h) (b.misses cpu number m);
 }
 
 pub joined_least : (parcels others : List Parcel) → Agree (parcels ++ others) → IsLeastUpperBound parcels others (parcels ++ others)

@@ -3,7 +3,7 @@ use Rattle.std.proofs.Common.{◌≡◌, ℕ, zero, suc, ◌+◌, ◌-◌, ◌*�
 use Rattle.std.proofs.lemmas.Nat.{le_bytes_4, from_le_bytes-to_le_bytes_4, shr_high, mod_low}
 use Rattle.std.proofs.lemmas.List.{take_at, drop_at}
 use Rattle.std.proofs.lemmas.Bool.{cond_both, cond-true, cond-false, le-ltb, ltb-false, le-leb, leb-true, leb-false, eq-eqb, ne_eqb, eqb-true, eqb-false, cases_lt}
-use Rattle.trace_model.specs.Words.{le32, first_word, Word, short_data, long_data, padding, time_extend, time_stamp, bytes_of_word, IsWord, ending_padding}
+use Rattle.trace_model.specs.Words.{le32, first_word, Word, short_data, long_data, padding, time_extend, time_stamp, bytes_of_word, IsWord, ending_padding, word_time_limit}
 use Rattle.trace_model.specs.Reading.{from_le32, part_of, part_with_length, word_behind, word_at_front}
 use Rattle.trace_model.specs.FirstFault.{AreBytes}
 use Rattle.trace_model.proofs.Lengths.{length-le32}
@@ -85,7 +85,7 @@ short_behind t d bytes low high =
 padding_behind : (d : ℕ) (bytes : List ℕ) → 1 ≤ d → word_behind 29 d bytes ≡ part_with_length bytes (padding d)
 padding_behind d bytes some = cond-false _ _ _ (ne_eqb d 0 (λ e. absurd (omega arith)))
 
-time_front : (t time : ℕ) (rest : List ℕ) (make : ℕ → Word) → time < 2 ^ 59 → t < 32
+time_front : (t time : ℕ) (rest : List ℕ) (make : ℕ → Word) → time < word_time_limit → t < 32
     → ((bytes : List ℕ) → word_behind t (time % 2 ^ 27) bytes ≡ part_of 4 bytes (λ high. make (from_le32 high * 2 ^ 27 + time % 2 ^ 27)))
     → word_at_front (first_word t (time % 2 ^ 27) ++ le32 (time / 2 ^ 27) ++ rest) ≡ Some (make time, rest)
 time_front t time rest make fits low kind =
@@ -166,7 +166,7 @@ nonzero n h = ⊎_elim (λ e. absurd (h (let z : n ≡ 0 = omega arith in z))) (
 
 -- a word with 32 bits of time above its 27
 found_time : (bytes behind : List ℕ) (t d : ℕ) (make : ℕ → Word) → AreBytes behind → d < 2 ^ 27 → bytes ≡ first_word t d ++ behind
-    → ((time : ℕ) → time < 2 ^ 59 → IsWord (make time)) → ((time : ℕ) → bytes_of_word (make time) ≡ first_word t (time % 2 ^ 27) ++ le32 (time / 2 ^ 27))
+    → ((time : ℕ) → time < word_time_limit → IsWord (make time)) → ((time : ℕ) → bytes_of_word (make time) ≡ first_word t (time % 2 ^ 27) ++ le32 (time / 2 ^ 27))
     → IsFound bytes (part_of 4 behind (λ high. make (from_le32 high * 2 ^ 27 + d)))
 found_time bytes behind t d make small fits front word spelled = found_part bytes behind 4 (λ high. make (from_le32 high * 2 ^ 27 + d)) (λ part rest is cut same.
     let bytes_too : AreBytes part = subst AreBytes (sym same) (AreBytes-take 4 behind small) in

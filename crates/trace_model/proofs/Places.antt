@@ -5,7 +5,7 @@ use Rattle.std.proofs.lemmas.List.{same_from_push, nil_from_length}
 use Rattle.std.proofs.lemmas.List.Concat.{flat_map-append}
 use Rattle.std.proofs.lemmas.Bool.{cond_both}
 use Rattle.trace_model.specs.Record.{Record}
-use Rattle.trace_model.specs.Words.{Word, short_data, long_data, padding, time_extend, time_stamp, bytes_of_word, IsWord, joined, moment_after, records_at, records_behind, records_of, FitsTime, IsJoined, Decodes, data_word, written_words, encoding}
+use Rattle.trace_model.specs.Words.{Word, short_data, long_data, padding, time_extend, time_stamp, bytes_of_word, IsWord, joined, moment_after, records_at, records_behind, records_of, FitsTime, IsJoined, Decodes, data_word, written_words, encoding, word_time_limit}
 use Rattle.trace_model.specs.Reading.{IsData, payload_of, records_in, words_in, EndsInRecord, IsPlaceIn}
 use Rattle.trace_model.specs.Overwriting.{bytes_at, overwritten, IsReplacedAt, IsPlaceOf}
 use Rattle.trace_model.proofs.Lengths.{bytes_of_word_ge}
@@ -327,7 +327,7 @@ joined-behind bytes more ends each = IsJoined-whole (bytes ++ joined more) (ends
 
 -- the places of the records that were there
 pub IsPlaceOf-appended : (bytes : List ℕ) (number start len delta : ℕ) (payload : List ℕ) → EndsInRecord bytes → IsPlaceOf bytes number start len
-    → delta < 2 ^ 59 → length payload % 4 ≡ 0 → 4 ≤ length payload → length payload + 4 < 2 ^ 32 → IsPlaceOf (bytes ++ encoding delta false payload) number start len
+    → delta < word_time_limit → length payload % 4 ≡ 0 → 4 ≤ length payload → length payload + 4 < 2 ^ 32 → IsPlaceOf (bytes ++ encoding delta false payload) number start len
 IsPlaceOf-appended bytes number start len delta payload ends place small whole some fits =
     let p = place.place in
     let more : List Word = written_words delta false payload in
@@ -361,7 +361,7 @@ IsPlaceOf-first delta payload start whole some fits ends =
 
 -- the place of a record behind others: its number is how many they are
 pub IsPlaceOf-new : (bytes : List ℕ) (time : ℕ) (records : List Record) (delta : ℕ) (payload : List ℕ) (start : ℕ) → EndsInRecord bytes → Decodes bytes time records
-    → delta < 2 ^ 59 → length payload % 4 ≡ 0 → 4 ≤ length payload → length payload + 4 < 2 ^ 32 → start + length payload ≡ length (bytes ++ encoding delta false payload)
+    → delta < word_time_limit → length payload % 4 ≡ 0 → 4 ≤ length payload → length payload + 4 < 2 ^ 32 → start + length payload ≡ length (bytes ++ encoding delta false payload)
     → IsPlaceOf (bytes ++ encoding delta false payload) (length records) start (length payload)
 IsPlaceOf-new bytes time records delta payload start ends reads small whole some fits stop =
     cond_both (ltb delta (2 ^ 27)) _ _ (λ (ws : List Word). AllByRecursion IsWord ws → start + length payload ≡ length (bytes ++ joined ws) → IsPlaceOf (bytes ++ joined ws) (length records) start (length payload))

@@ -1,4 +1,4 @@
--- What a collector holds: records under their CPU and number, and numbers that were lost. It is told by
+-- What a collector holds: records under their CPU and number, and missing numbers. It is told by
 -- parcels: the union of what each of a list of parcels has and misses, whatever their order and repeats.
 use Rattle.std.specs.Prelude.{◌≡◌, ℕ, List, Some}
 use Rattle.std.specs.List.{slice_get}
@@ -19,13 +19,13 @@ pub record Misses (parcels : List Parcel) (cpu number : ℕ) : Type 0 where
   pub at : slice_get parcels index ≡ Some parcel
   pub missing : IsMissingOf parcel cpu number
 
--- No number has two records, and none is both held and lost: only such parcels make a collection.
+-- No number has two records, and none has one and is missing: only such parcels make a collection.
 pub record Agree (parcels : List Parcel) : Type 0 where
   pub one_record : (cpu number : ℕ) (r other : Record)
       → Has parcels cpu number r
       → Has parcels cpu number other
       → r ≡ other
-  pub not_lost : (cpu number : ℕ) (r : Record)
+  pub not_missing : (cpu number : ℕ) (r : Record)
       → Has parcels cpu number r
       → Misses parcels cpu number
       → ⊥

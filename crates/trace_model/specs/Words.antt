@@ -33,6 +33,10 @@ bytes_of_word (padding delta skipped) = first_word 29 delta ++ le32 (length skip
 bytes_of_word (time_extend delta) = first_word 30 (delta % 2 ^ 27) ++ le32 (delta / 2 ^ 27)
 bytes_of_word (time_stamp time) = first_word 31 (time % 2 ^ 27) ++ le32 (time / 2 ^ 27)
 
+-- the times of extends and stamps have 27 low and 32 high bits: a bound of the format, not of what is written
+abbrev pub word_time_limit : ℕ
+word_time_limit = 2 ^ (27 + 32)
+
 -- payloads and padding fill whole words, lengths fit 32 bits, and times fit what the word holds
 abbrev pub IsWord : Word → Type 0
 IsWord (short_data delta payload) =
@@ -40,8 +44,8 @@ IsWord (short_data delta payload) =
 IsWord (long_data delta payload) = (delta < 2 ^ 27) × (length payload % 4 ≡ 0) × (length payload + 4 < 2 ^ 32)
 IsWord (padding delta skipped) =
     (1 ≤ delta) × (delta < 2 ^ 27) × (length skipped % 4 ≡ 0) × (length skipped + 4 < 2 ^ 32)
-IsWord (time_extend delta) = delta < 2 ^ 59
-IsWord (time_stamp time) = time < 2 ^ 59
+IsWord (time_extend delta) = delta < word_time_limit
+IsWord (time_stamp time) = time < word_time_limit
 
 -- the padding of delta 0: the data ends there, whatever follows
 abbrev pub ending_padding : List ℕ

@@ -11,7 +11,7 @@ use Rattle.trace_model.specs.Words.{encoded_len, page_encoding}
 use Rattle.text_model.specs.Segments.{HasSegments}
 use Rattle.text_model.specs.Replay.{is_short, is_writable}
 use Rattle.text_model.proofs.SegmentLemmas.{HasSegments-more}
-use Rattle.trace_run.specs.PlainPages.{PlainPages, tail_fill, takeable_records, record_for, fits_tail, with_place, with_tail_closed, pages_after_open, with_record, with_record_or_page, pages_after_close}
+use Rattle.trace_run.specs.PlainPages.{PlainPages, tail_fill, takeable_records, record_for, fits_tail, with_room, with_tail_closed, pages_after_open, with_record, with_record_or_page, pages_after_close}
 use Rattle.trace_run.proofs.TailRoom.{empty_tail_room, opened_fits, none_from_test}
 
 -- ---- the pages
@@ -49,8 +49,8 @@ drop_oldest p (x ∷ left) all pages is h =
       most_is = h.most_is;
     }
 
-HoldsRest-with_place : (p : PlainPages) (all : List Record) (pages : List (List Record)) → HoldsRest all pages p → HoldsRest all pages (with_place p)
-HoldsRest-with_place p all pages h = by_test (ltb (length p.closed_pages + 1) p.max_pages)
+HoldsRest-with_room : (p : PlainPages) (all : List Record) (pages : List (List Record)) → HoldsRest all pages p → HoldsRest all pages (with_room p)
+HoldsRest-with_room p all pages h = by_test (ltb (length p.closed_pages + 1) p.max_pages)
   where
     by_test : (room : Bool) → HoldsRest all pages (cond room p (record p { closed_pages = drop 1 p.closed_pages; oldest = p.oldest + 1 }))
     by_test true = h
@@ -66,8 +66,8 @@ HoldsRest-tail_left p all pages filled h =
       most_is = h.most_is;
     }
 
-tail-with_place : (p : PlainPages) → (with_place p).tail ≡ p.tail
-tail-with_place p = by_test (ltb (length p.closed_pages + 1) p.max_pages)
+tail-with_room : (p : PlainPages) → (with_room p).tail ≡ p.tail
+tail-with_room p = by_test (ltb (length p.closed_pages + 1) p.max_pages)
   where
     by_test : (room : Bool) → (let q : PlainPages = cond room p (record p { closed_pages = drop 1 p.closed_pages; oldest = p.oldest + 1 }) in q.tail) ≡ p.tail
     by_test true = refl
@@ -75,7 +75,7 @@ tail-with_place p = by_test (ltb (length p.closed_pages + 1) p.max_pages)
 
 HoldsRest-opened : (p : PlainPages) (all : List Record) (pages : List (List Record)) → p.tail ≢ [] → HoldsRest all pages p → HoldsRest all pages (pages_after_open p)
 HoldsRest-opened p all pages filled h =
-    HoldsRest-tail_left (with_place p) all pages (λ none. filled (sym (tail-with_place p) ∙ none)) (HoldsRest-with_place p all pages h)
+    HoldsRest-tail_left (with_room p) all pages (λ none. filled (sym (tail-with_room p) ∙ none)) (HoldsRest-with_room p all pages h)
 
 abbrev pub HoldsRest-with_record : (p : PlainPages) (all : List Record) (pages : List (List Record)) (r : Record) → HoldsRest all pages p → HoldsRest (all ++ r ∷ []) pages (with_record r p)
 HoldsRest-with_record p all pages r h =
@@ -108,8 +108,8 @@ Grows-drop p (x ∷ left) is many full =
     let total = ap (λ (pages : List (List Record)). sum_by length pages) is ∙ sum_by-cons length x left in
     record { size_is = refl; taken_is = refl; older = omega arith; fills_le = omega (arith, count); records_le = omega (arith, total) }
 
-Grows-with_place : (p : PlainPages) → 2 ≤ p.max_pages → Grows p (with_place p) 0 0
-Grows-with_place p many = by_test (ltb (length p.closed_pages + 1) p.max_pages) refl
+Grows-with_room : (p : PlainPages) → 2 ≤ p.max_pages → Grows p (with_room p) 0 0
+Grows-with_room p many = by_test (ltb (length p.closed_pages + 1) p.max_pages) refl
   where
     by_test : (room : Bool) → ltb (length p.closed_pages + 1) p.max_pages ≡ room → Grows p (cond room p (record p { closed_pages = drop 1 p.closed_pages; oldest = p.oldest + 1 })) 0 0
     by_test true test = Grows-same p
@@ -132,7 +132,7 @@ Grows-tail_left p =
     record { size_is = refl; taken_is = refl; older = omega arith; fills_le = omega (arith, count); records_le = omega (arith, total) }
 
 pub Grows-opened : (p : PlainPages) → 2 ≤ p.max_pages → Grows p (pages_after_open p) 1 0
-Grows-opened p many = Grows-trans p (with_place p) (pages_after_open p) 0 0 1 0 (Grows-with_place p many) (Grows-tail_left (with_place p))
+Grows-opened p many = Grows-trans p (with_room p) (pages_after_open p) 0 0 1 0 (Grows-with_room p many) (Grows-tail_left (with_room p))
 
 Grows-with_record : (p : PlainPages) (r : Record) → Grows p (with_record r p) 0 1
 Grows-with_record p r =
@@ -200,7 +200,7 @@ Moves-written p all pages moment payload accepted h = by_test (fits_tail p (reco
         record {
           holds = HoldsRest-with_record (pages_after_open p) all pages (record_for p moment payload) (HoldsRest-opened p all pages filled h);
           grows = Grows-trans p (pages_after_open p) (with_record (record_for p moment payload) (pages_after_open p)) 1 0 0 1 (Grows-opened p h.most_is) (Grows-with_record (pages_after_open p) (record_for p moment payload));
-          served = λ was none. absurd (push_not_none (with_place p).closed_pages (with_place p).tail none);
+          served = λ was none. absurd (push_not_none (with_room p).closed_pages (with_room p).tail none);
           tail_fits = λ _. leb-true (length (page_encoding (record_for p moment payload ∷ []))) (pages_after_open p).size (opened_fits p (max moment p.last_moment) payload short);
         }
 
@@ -220,7 +220,7 @@ Moves-closed p all pages h = by_test (eqb (length p.tail) 0) refl
         record {
           holds = HoldsRest-opened p all pages filled h;
           grows = Grows-most p (pages_after_open p) 1 0 1 1 (omega arith) (omega arith) (Grows-opened p h.most_is);
-          served = λ was none. absurd (push_not_none (with_place p).closed_pages (with_place p).tail none);
+          served = λ was none. absurd (push_not_none (with_room p).closed_pages (with_room p).tail none);
           tail_fits = λ _. omega arith;
         }
 
@@ -231,8 +231,8 @@ tail-closed p = by_test (eqb (length p.tail) 0) refl
     by_test true test = none_from_test p.tail test
     by_test false test = refl
 
-last-with_place : (p : PlainPages) → (with_place p).last_moment ≡ p.last_moment
-last-with_place p = by_test (ltb (length p.closed_pages + 1) p.max_pages)
+last-with_room : (p : PlainPages) → (with_room p).last_moment ≡ p.last_moment
+last-with_room p = by_test (ltb (length p.closed_pages + 1) p.max_pages)
   where
     by_test : (room : Bool) → (let q : PlainPages = cond room p (record p { closed_pages = drop 1 p.closed_pages; oldest = p.oldest + 1 }) in q.last_moment) ≡ p.last_moment
     by_test true = refl
@@ -243,4 +243,4 @@ last-closed p = by_test (eqb (length p.tail) 0)
   where
     by_test : (blank : Bool) → (let q : PlainPages = cond blank p (pages_after_open p) in q.last_moment) ≡ p.last_moment
     by_test true = refl
-    by_test false = last-with_place p
+    by_test false = last-with_room p

@@ -7,7 +7,7 @@ use Rattle.trace_model.specs.Order.{moment_of_last, EndsAt}
 use Rattle.trace_model.proofs.Lengths.{length-encoding, length-padded, slot_len-slot_len, slot_len_ge_four}
 use Rattle.trace_model.specs.Words.{encodings_behind}
 use Rattle.page_image.specs.Contents.{is_blank}
-use Rattle.trace_run.specs.PlainPages.{PlainPages, with_place, pages_after_open, fits_tail}
+use Rattle.trace_run.specs.PlainPages.{PlainPages, with_room, pages_after_open, fits_tail}
 use Rattle.trace_model.specs.Reading.{records_in}
 use Rattle.trace_model.proofs.Appended.{EndsAt-push}
 use Rattle.trace_model.proofs.Unique.{records_in-Decodes}
@@ -114,8 +114,8 @@ pub none_from_test : (records : List Record) → eqb (length records) 0 ≡ true
 none_from_test [] e = refl
 none_from_test (x ∷ records) e = let other = eqb-suc-zero (length records) in cc
 
-pub size-with_place : (p : PlainPages) → (with_place p).size ≡ p.size
-size-with_place p = by_test (ltb (length p.closed_pages + 1) p.max_pages)
+pub size-with_room : (p : PlainPages) → (with_room p).size ≡ p.size
+size-with_room p = by_test (ltb (length p.closed_pages + 1) p.max_pages)
   where
     by_test : (room : Bool) → (let q : PlainPages = cond room p record p { closed_pages = drop 1 p.closed_pages; oldest = p.oldest + 1 } in q.size) ≡ p.size
     by_test true = refl
@@ -124,4 +124,4 @@ size-with_place p = by_test (ltb (length p.closed_pages + 1) p.max_pages)
 -- a fresh tail has room for a record that isn't too long
 pub opened_fits : (p : PlainPages) (moment : ℕ) (payload : List ℕ) → encoded_len (length payload) 0 true ≤ p.size → fits_tail (pages_after_open p) (record { moment = moment; bytes = padded payload }) ≡ true
 opened_fits p moment payload short =
-    ap (λ (n : ℕ). leb (length (page_encoding (record { moment = moment; bytes = padded payload } ∷ []))) n) (size-with_place p) ∙ empty_tail_room moment p.size payload short
+    ap (λ (n : ℕ). leb (length (page_encoding (record { moment = moment; bytes = padded payload } ∷ []))) n) (size-with_room p) ∙ empty_tail_room moment p.size payload short

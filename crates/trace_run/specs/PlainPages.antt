@@ -51,8 +51,8 @@ abbrev pub without_oldest : PlainPages → PlainPages
 without_oldest p = record p { closed_pages = drop 1 p.closed_pages; oldest = p.oldest + 1 }
 
 -- room for one more page: in a full list the oldest page is dropped
-abbrev pub with_place : PlainPages → PlainPages
-with_place p = if nat_lt (length p.closed_pages + 1) p.max_pages then p else without_oldest p
+abbrev pub with_room : PlainPages → PlainPages
+with_room p = if nat_lt (length p.closed_pages + 1) p.max_pages then p else without_oldest p
 
 -- the tail page is closed, and a fresh one is the tail
 abbrev pub with_tail_closed : PlainPages → PlainPages
@@ -60,7 +60,7 @@ with_tail_closed p = record p { closed_pages = p.closed_pages ++ p.tail ∷ []; 
 
 -- a page more is begun
 abbrev pub pages_after_open : PlainPages → PlainPages
-pages_after_open p = with_tail_closed (with_place p)
+pages_after_open p = with_tail_closed (with_room p)
 
 -- this record is put behind those of the tail
 abbrev pub with_record : Record → PlainPages → PlainPages

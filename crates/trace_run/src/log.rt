@@ -12,7 +12,7 @@ pub enum LogLine {
         fault: WriteFault,
     },
     /// A page of this CPU was taken: which fill it was, the number of its first record, how many
-    /// records it has, and how many numbers were missed in front of them.
+    /// records it has, and how many records were missed in front of them.
     Taken {
         line: u64,
         cpu: CpuId,

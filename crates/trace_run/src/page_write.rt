@@ -1,5 +1,6 @@
 //! A record written into a page.
-ghost use Rattle.std.specs.Prelude.{◌≡◌, ◌+◌, ◌-◌, ◌≤◌, ◌<◌, ◌^◌, [], ◌∷◌, ◌++◌, length, drop, IfSome};
+ghost use Rattle.std.specs.Prelude.{◌≡◌, ◌+◌, ◌-◌, ◌≤◌, ◌<◌, [], ◌∷◌, ◌++◌, length, drop, IfSome};
+ghost use Rattle.trace_model.specs.declared.limits.TheConstants.{MOMENT_LIMIT};
 ghost use Rattle.trace_model.specs.Words.{encoded_len, padded};
 ghost use Rattle.trace_model.specs.Reading.{EndsInRecord};
 ghost use Rattle.trace_model.specs.Order.{moment_of_last};
@@ -21,7 +22,7 @@ pub fn append(page: &mut Page, prev: u64, moment: u64, payload: &[u8])
     requires room { length page.old.bytes + encoded_len (length payload.now) (moment - prev) (is_blank page.old.bytes)
         ≤ page.old.size }
     requires order { prev ≤ moment }
-    requires moment { moment < 2 ^ 59 }
+    requires moment { moment < MOMENT_LIMIT }
     requires last { IfSome (moment_of_last (records_of_page page.old)) (λ last. last ≡ prev) }
     requires open { EndsInRecord page.old.bytes }
     requires page { IsPage page.old }

@@ -51,7 +51,7 @@ impl PlainList {
     ghost use Rattle.trace_model.specs.declared.limits.TheConstants.{MIN_PAGES, MIN_SIZE, MAX_SIZE, MOMENT_LIMIT};
     ghost use Rattle.text_model.specs.Log.{refusal_of};
     ghost use Rattle.trace_run.specs.LogTypes.{shown_refusal};
-    ghost use Rattle.trace_run.specs.PlainPages.{new_pages, tail_fill, takeable_records, fits_tail, with_place, with_record, oldest_taking, pages_after_open, pages_after_write, pages_after_close, pages_after_take};
+    ghost use Rattle.trace_run.specs.PlainPages.{new_pages, tail_fill, takeable_records, fits_tail, with_room, with_record, oldest_taking, pages_after_open, pages_after_write, pages_after_close, pages_after_take};
     ghost use Rattle.trace_model.specs.Words.{padded};
 
     /// An empty list of at most `pages` pages, each for `size` bytes of data.
@@ -97,7 +97,7 @@ impl PlainList {
     /// A body for the next page: that of the oldest page of a full list, which is dropped, or else a new one.
     fn next_body(&mut self) -> Result<Body, NoMemory>
         requires { tail_fill self.old + 1 < 2 ^ 64 }
-        ensures ok { OnOk result (self.new ≡ with_place self.old) }
+        ensures ok { OnOk result (self.new ≡ with_room self.old) }
         ensures room { OnOk result (length self.new.closed_pages + 1 < self.new.max_pages) }
         ensures body { IfOk result (λ body. length body ≡ self.old.size) }
         ensures err { OnErr result (self.new ≡ self.old) }

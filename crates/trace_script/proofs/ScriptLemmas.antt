@@ -5,7 +5,7 @@ use Rattle.std.proofs.lemmas.Bool.{cases_Bool, cond-true, cond-false}
 use Rattle.std.proofs.lemmas.List.{append-nil, map-append}
 use Rattle.text_model.specs.Text.{fields_of, is_well_spaced}
 use Rattle.text_model.specs.Script as model
-use Rattle.text_model.specs.Script.{Command, LineFault, Line, Setting, ParsesScript, bad_line, bad_number, bad_hex, out_of_range, ◌>>=◌, value_given, value_of, value_in, command_of, command_in}
+use Rattle.text_model.specs.Script.{Command, LineFault, NumberedLine, Setting, ParsesScript, bad_line, bad_number, bad_hex, out_of_range, ◌>>=◌, value_given, value_of, value_in, command_of, command_in}
 use Rattle.text_model.specs.ScriptReading.{numbered_reading, significant_lines_after, setting_from, settings_from, commands_from, script_in}
 use Rattle.text_model.proofs.ScriptLemmas.{settings_ok}
 use Rattle.text_model.proofs.ScriptReads.{script_reads, fault_reads}
@@ -16,7 +16,7 @@ use Rattle.trace_script.specs.declared.fault.ScriptFault as script
 use Rattle.trace_script.specs.declared.fault.ScriptFault.TheVariants as scripts
 use Rattle.trace_script.specs.declared.fields.Fields.{Fields}
 use Rattle.trace_script.specs.declared.fields.Fields.TheVariants.{Two, Four, Other}
-use Rattle.trace_script.specs.ScriptFaults.{Fails, Gives, FailsAt, GivesAt, HasHeader, IsFirstFault, fault_at, reading_at}
+use Rattle.trace_script.specs.ScriptFaults.{Fails, Gives, FailsAt, GivesAt, HasScriptHeader, TellsFirstFault, fault_at, reading_at}
 use Rattle.trace_script.specs.ScriptFields.{AreFields}
 use Rattle.trace_script.specs.ScriptTypes.{shown_line}
 
@@ -32,7 +32,7 @@ fails_then {X} (scripts.BadHex n) read f h = ap (λ (read : Read X). read >>= f)
 fails_then {X} (scripts.OutOfRange n) read f h = ap (λ (read : Read X). read >>= f) h
 fails_then scripts.NoMemory read f h = tt
 
-abbrev setting_and : ℕ → List Line → Read (ℕ × List Line)
+abbrev setting_and : ℕ → List NumberedLine → Read (ℕ × List NumberedLine)
 setting_and value rest = Ok (value, rest)
 
 -- ---- one value of the header
@@ -96,25 +96,25 @@ gives_read {X} view number q r read h is =
     subst (λ (r : Result X script.ScriptFault). GivesAt view r (numbered_reading number read)) (sym is) (gives_numbered view number q read h)
 
 -- ---- one setting
-setting_from_line : (end : ℕ) (s : Setting) (left : List Line) (number : ℕ) (text : List ℕ) (rest : List Line) → left ≡ (number, text) ∷ rest
+setting_from_line : (end : ℕ) (s : Setting) (left : List NumberedLine) (number : ℕ) (text : List ℕ) (rest : List NumberedLine) → left ≡ (number, text) ∷ rest
     → setting_from end s left ≡ (numbered_reading number (value_in s text) >>= λ value. setting_and value rest)
 unfolding setting_from
 setting_from_line end s left number text rest h = ap (setting_from end s) h
 
-setting_and_gives : {X : Type 0} (view : X → ℕ) (r : Result X script.ScriptFault) (read : Read ℕ) (rest : List Line) → GivesAt view r read → GivesAt (λ x. (view x, rest)) r (read >>= λ value. setting_and value rest)
+setting_and_gives : {X : Type 0} (view : X → ℕ) (r : Result X script.ScriptFault) (read : Read ℕ) (rest : List NumberedLine) → GivesAt view r read → GivesAt (λ x. (view x, rest)) r (read >>= λ value. setting_and value rest)
 setting_and_gives view (Ok x) read rest h = ap (λ (read : Read ℕ). read >>= λ value. setting_and value rest) h
 setting_and_gives view (Err fault) read rest h = fails_then fault read (λ value. setting_and value rest) h
 
-pub setting_read : {X : Type 0} (view : X → ℕ) (end : ℕ) (s : Setting) (left : List Line) (number : ℕ) (text : List ℕ) (rest : List Line) (q : Result X line.LineFault) (r : Result X script.ScriptFault)
+pub setting_read : {X : Type 0} (view : X → ℕ) (end : ℕ) (s : Setting) (left : List NumberedLine) (number : ℕ) (text : List ℕ) (rest : List NumberedLine) (q : Result X line.LineFault) (r : Result X script.ScriptFault)
     → left ≡ (number, text) ∷ rest → Gives view q (value_in s text) → r ≡ reading_at number q → GivesAt (λ x. (view x, rest)) r (setting_from end s left)
 setting_read {X} view end s left number text rest q r h gives is =
     let here = setting_and_gives view (reading_at number q) (numbered_reading number (value_in s text)) rest (gives_numbered view number q (value_in s text) gives) in
-    let turned = subst (λ (read : Read (ℕ × List Line)). GivesAt (λ x. (view x, rest)) (reading_at number q) read) (sym (setting_from_line end s left number text rest h)) here in
+    let turned = subst (λ (read : Read (ℕ × List NumberedLine)). GivesAt (λ x. (view x, rest)) (reading_at number q) read) (sym (setting_from_line end s left number text rest h)) here in
     subst (λ (r : Result X script.ScriptFault). GivesAt (λ x. (view x, rest)) r (setting_from end s left)) (sym is) turned
 
-pub setting_missing : (end : ℕ) (s : Setting) (left : List Line) (number : ℕ) → left ≡ [] → end ≡ number → setting_from end s left ≡ Err (number, bad_line)
+pub setting_missing : (end : ℕ) (s : Setting) (left : List NumberedLine) (number : ℕ) → left ≡ [] → end ≡ number → setting_from end s left ≡ Err (number, bad_line)
 unfolding setting_from
-setting_missing end s left number h is = ap (setting_from end s) h ∙ ap (λ (n : ℕ). let r : Read (ℕ × List Line) = Err (n, bad_line) in r) is
+setting_missing end s left number h is = ap (setting_from end s) h ∙ ap (λ (n : ℕ). let r : Read (ℕ × List NumberedLine) = Err (n, bad_line) in r) is
 
 -- ---- one command
 command_of_other : (cpus collectors : ℕ) (fields : List (List ℕ)) → length fields ≢ 2 → length fields ≢ 4 → command_of cpus collectors fields ≡ Err bad_line
@@ -156,15 +156,15 @@ abbrev commands_onto : Commands → Commands → Read Commands
 commands_onto front commands = Ok (front ++ commands)
 
 -- the commands of the lines behind, and this one in front of them
-abbrev rest_then : ℕ → ℕ → ℕ → List Line → Command → Read Commands
+abbrev rest_then : ℕ → ℕ → ℕ → List NumberedLine → Command → Read Commands
 rest_then cpus collectors number rest command = commands_from cpus collectors rest >>= λ commands. Ok ((number, command) ∷ commands)
 
-commands_from_line : (cpus collectors : ℕ) (left : List Line) (number : ℕ) (text : List ℕ) (rest : List Line) → left ≡ (number, text) ∷ rest
+commands_from_line : (cpus collectors : ℕ) (left : List NumberedLine) (number : ℕ) (text : List ℕ) (rest : List NumberedLine) → left ≡ (number, text) ∷ rest
     → commands_from cpus collectors left ≡ (numbered_reading number (command_in cpus collectors text) >>= rest_then cpus collectors number rest)
 unfolding commands_from
 commands_from_line cpus collectors left number text rest h = ap (commands_from cpus collectors) h
 
-pub commands_fail : (cpus collectors : ℕ) (all left : List Line) (number : ℕ) (text : List ℕ) (rest : List Line) (front : Commands) (fault : script.ScriptFault)
+pub commands_fail : (cpus collectors : ℕ) (all left : List NumberedLine) (number : ℕ) (text : List ℕ) (rest : List NumberedLine) (front : Commands) (fault : script.ScriptFault)
     → commands_from cpus collectors all ≡ (commands_from cpus collectors left >>= commands_onto front) → left ≡ (number, text) ∷ rest
     → FailsAt fault (numbered_reading number (command_in cpus collectors text)) → FailsAt fault (commands_from cpus collectors all)
 commands_fail cpus collectors all left number text rest front fault so_far h fails =
@@ -177,7 +177,7 @@ onto_push : (front : Commands) (command : ℕ × Command) (r : Read Commands)
 onto_push front command (Ok commands) = ap (λ (cs : Commands). let r : Read Commands = Ok cs in r) (sym (append_assoc front (command ∷ []) commands))
 onto_push front command (Err e) = refl
 
-pub commands_turn : (cpus collectors : ℕ) (all left : List Line) (number : ℕ) (text : List ℕ) (rest : List Line) (front after : Commands) (command : Command)
+pub commands_turn : (cpus collectors : ℕ) (all left : List NumberedLine) (number : ℕ) (text : List ℕ) (rest : List NumberedLine) (front after : Commands) (command : Command)
     → commands_from cpus collectors all ≡ (commands_from cpus collectors left >>= commands_onto front) → left ≡ (number, text) ∷ rest
     → numbered_reading number (command_in cpus collectors text) ≡ Ok command → after ≡ front ++ (number, command) ∷ []
     → commands_from cpus collectors all ≡ (commands_from cpus collectors rest >>= commands_onto after)
@@ -188,12 +188,12 @@ commands_turn cpus collectors all left number text rest front after command so_f
     ∙ onto_push front (number, command) (commands_from cpus collectors rest)
     ∙ ap (λ (cs : Commands). commands_from cpus collectors rest >>= commands_onto cs) (sym more)
 
-pub commands_end : (cpus collectors : ℕ) (all left : List Line) (front : Commands)
+pub commands_end : (cpus collectors : ℕ) (all left : List NumberedLine) (front : Commands)
     → commands_from cpus collectors all ≡ (commands_from cpus collectors left >>= commands_onto front) → left ≡ [] → commands_from cpus collectors all ≡ Ok front
 unfolding commands_from
 commands_end cpus collectors all left front so_far h =
     so_far
-    ∙ ap (λ (ls : List Line). commands_from cpus collectors ls >>= commands_onto front) h
+    ∙ ap (λ (ls : List NumberedLine). commands_from cpus collectors ls >>= commands_onto front) h
     ∙ ap (λ (cs : Commands). let r : Read Commands = Ok cs in r) (append-nil front)
 
 -- one line more, as the reader keeps it
@@ -202,20 +202,20 @@ shown_push lines after x h = ap (λ (ls : List ScriptLine). map shown_line ls) h
 
 -- ---- the whole script
 -- the settings that are read stand in the first lines
-header_of : (text : List ℕ) (end : ℕ) (x : List ℕ × List Line) → settings_from end model.header_settings (significant_lines_after 0 text) ≡ Ok x → HasHeader text
+header_of : (text : List ℕ) (end : ℕ) (x : List ℕ × List NumberedLine) → settings_from end model.header_settings (significant_lines_after 0 text) ≡ Ok x → HasScriptHeader text
 unfolding significant_lines_after
 header_of text end x h =
     let there = settings_ok end model.header_settings (significant_lines_after 0 text) x h in
     record { header = there.0; behind = x.1; cut = there.1; values = x.0; settings = there.2 }
 
 -- the same of the reader's lines, of which none is passed
-pub header_there : (text : List ℕ) (end passed : ℕ) (rest : List ℕ) (x : List ℕ × List Line) → passed ≡ 0 → rest ≡ text
-    → settings_from end model.header_settings (significant_lines_after passed rest) ≡ Ok x → HasHeader text
+pub header_there : (text : List ℕ) (end passed : ℕ) (rest : List ℕ) (x : List ℕ × List NumberedLine) → passed ≡ 0 → rest ≡ text
+    → settings_from end model.header_settings (significant_lines_after passed rest) ≡ Ok x → HasScriptHeader text
 header_there text end passed rest x none whole h =
     header_of text end x (subst (λ (t : List ℕ). settings_from end model.header_settings (significant_lines_after 0 t) ≡ Ok x) whole
     (subst (λ (n : ℕ). settings_from end model.header_settings (significant_lines_after n rest) ≡ Ok x) none h))
 
-fault_of_reading : (text : List ℕ) (fault : script.ScriptFault) → FailsAt fault (script_in text) → IsFirstFault text fault
+fault_of_reading : (text : List ℕ) (fault : script.ScriptFault) → FailsAt fault (script_in text) → TellsFirstFault text fault
 fault_of_reading text (scripts.BadLine n) h = (fault_reads text n bad_line).1 h
 fault_of_reading text (scripts.BadNumber n) h = (fault_reads text n bad_number).1 h
 fault_of_reading text (scripts.BadHex n) h = (fault_reads text n bad_hex).1 h
@@ -226,6 +226,6 @@ pub script_found : {X : Type 0} (view : X → model.Script) (text : List ℕ) (r
 script_found view text (Ok x) h = (script_reads text (view x)).1 h
 script_found view text (Err fault) h = tt
 
-pub fault_found : {X : Type 0} (view : X → model.Script) (text : List ℕ) (r : Result X script.ScriptFault) → GivesAt view r (script_in text) → IfErr r (λ fault. IsFirstFault text fault)
+pub fault_found : {X : Type 0} (view : X → model.Script) (text : List ℕ) (r : Result X script.ScriptFault) → GivesAt view r (script_in text) → IfErr r (λ fault. TellsFirstFault text fault)
 fault_found view text (Ok x) h = tt
 fault_found view text (Err fault) h = fault_of_reading text fault h

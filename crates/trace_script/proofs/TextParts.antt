@@ -6,7 +6,7 @@ use Rattle.std.proofs.lemmas.Bool.{ltb-true, ltb-false, cases_Bool, cond-true, c
 use Rattle.std.proofs.lemmas.List.{take_rest}
 use Rattle.std.proofs.lemmas.List.Splits.{slice_split_first, slice_split-cons_yes, slice_split-cons_no}
 use Rattle.text_model.specs.Text.{lines_of, without_empty_end}
-use Rattle.text_model.specs.Script.{Line, is_significant}
+use Rattle.text_model.specs.Script.{NumberedLine, is_significant}
 use Rattle.text_model.specs.ScriptReading.{significant_lines_after, end_line_after}
 
 same_some : (m n : ℕ) → Some m ≡ Some n → m ≡ n
@@ -102,19 +102,19 @@ significant_line : (passed : ℕ) (text line rest : List ℕ) → lines_of text 
     → significant_lines_after passed text ≡ (passed + 1, line) ∷ significant_lines_after (passed + 1) rest
 unfolding significant_lines_after
 significant_line passed text line rest h says =
-    ap (λ (lines : List (List ℕ)). filter (λ (x : Line). is_significant x.1) (enumerate_from (passed + 1) lines)) h
+    ap (λ (lines : List (List ℕ)). filter (λ (x : NumberedLine). is_significant x.1) (enumerate_from (passed + 1) lines)) h
     ∙ cond-true (is_significant line) _ _ says
 
 skipped_line : (passed : ℕ) (text line rest : List ℕ) → lines_of text ≡ line ∷ lines_of rest → is_significant line ≡ false
     → significant_lines_after passed text ≡ significant_lines_after (passed + 1) rest
 unfolding significant_lines_after
 skipped_line passed text line rest h silent =
-    ap (λ (lines : List (List ℕ)). filter (λ (x : Line). is_significant x.1) (enumerate_from (passed + 1) lines)) h
+    ap (λ (lines : List (List ℕ)). filter (λ (x : NumberedLine). is_significant x.1) (enumerate_from (passed + 1) lines)) h
     ∙ cond-false (is_significant line) _ _ silent
 
 pub no_significant_lines : (passed : ℕ) (text : List ℕ) → lines_of text ≡ [] → significant_lines_after passed text ≡ []
 unfolding significant_lines_after
-no_significant_lines passed text h = ap (λ (lines : List (List ℕ)). filter (λ (x : Line). is_significant x.1) (enumerate_from (passed + 1) lines)) h
+no_significant_lines passed text h = ap (λ (lines : List (List ℕ)). filter (λ (x : NumberedLine). is_significant x.1) (enumerate_from (passed + 1) lines)) h
 
 -- the end stays where it is from line to line
 end_line_after_line : (passed : ℕ) (text line rest : List ℕ) → lines_of text ≡ line ∷ lines_of rest → end_line_after passed text ≡ end_line_after (passed + 1) rest
@@ -130,14 +130,14 @@ end_line_after_all passed text h = omega (arith, ap (λ (lines : List (List ℕ)
 abbrev IsNext : ℕ → ℕ → ℕ → Type 0
 IsNext passed number after = (number ≡ passed + 1) × (after ≡ passed + 1)
 
-pub significant_turn : (passed number after : ℕ) (text line rest : List ℕ) (all : List Line) → lines_of text ≡ line ∷ lines_of rest → IsNext passed number after
+pub significant_turn : (passed number after : ℕ) (text line rest : List ℕ) (all : List NumberedLine) → lines_of text ≡ line ∷ lines_of rest → IsNext passed number after
     → is_significant line ≡ true → significant_lines_after passed text ≡ all → all ≡ (number, line) ∷ significant_lines_after after rest
 significant_turn passed number after text line rest all cut next says left =
     sym left ∙ significant_line passed text line rest cut says
     ∙ ap (λ (n : ℕ). (n, line) ∷ significant_lines_after (passed + 1) rest) (sym next.0)
     ∙ ap (λ (n : ℕ). (number, line) ∷ significant_lines_after n rest) (sym next.1)
 
-pub skipped_turn : (passed number after : ℕ) (text line rest : List ℕ) (all : List Line) → lines_of text ≡ line ∷ lines_of rest → IsNext passed number after
+pub skipped_turn : (passed number after : ℕ) (text line rest : List ℕ) (all : List NumberedLine) → lines_of text ≡ line ∷ lines_of rest → IsNext passed number after
     → is_significant line ≡ false → significant_lines_after passed text ≡ all → significant_lines_after after rest ≡ all
 skipped_turn passed number after text line rest all cut next silent left =
     ap (λ (n : ℕ). significant_lines_after n rest) next.1 ∙ sym (skipped_line passed text line rest cut silent) ∙ left

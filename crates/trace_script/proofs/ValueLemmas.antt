@@ -10,12 +10,12 @@ use Rattle.std.proofs.lemmas.List.{take_all}
 use Rattle.std.proofs.lemmas.Str.{digit_value_digit}
 use Rattle.std.proofs.lemmas.Str.Parse.{digit_at, digits_value-take-le}
 use Rattle.text_model.specs.Text.{is_decimal}
-use Rattle.text_model.specs.Script.{LineFault, bad_number, number_in}
+use Rattle.text_model.specs.Script.{LineFault, bad_number, decimal_in}
 use Rattle.text_model.proofs.TextLemmas.{numerals}
 
 -- ---- numbers
-no_number : (field : List ℕ) → is_decimal field ≡ false → number_in field ≡ Err bad_number
-unfolding number_in
+no_number : (field : List ℕ) → is_decimal field ≡ false → decimal_in field ≡ Err bad_number
+unfolding decimal_in
 no_number field h = cond-false (is_decimal field) _ _ h
 
 -- the parts of the test
@@ -28,7 +28,7 @@ decimal_parts field h =
     (ltb-true _ _ d.0, leb-true _ _ d.1, b.1, ltb-true _ _ a.1)
 
 -- too few or too many digits
-pub number_of_length : (field : List ℕ) → (length field ≡ 0) ⊎ (20 < length field) → number_in field ≡ Err bad_number
+pub number_of_length : (field : List ℕ) → (length field ≡ 0) ⊎ (20 < length field) → decimal_in field ≡ Err bad_number
 number_of_length field (inl h) = no_number field (false_from_ne_true _ (λ yes. let parts = decimal_parts field yes in omega arith))
 number_of_length field (inr h) = no_number field (false_from_ne_true _ (λ yes. let parts = decimal_parts field yes in omega arith))
 
@@ -58,7 +58,7 @@ value_turn field i digit number next below is range value h =
 
 -- a byte that goes on to no number
 pub number_stops : (field : List ℕ) (i digit number : ℕ) → i < length field → digit ≡ get_or field i 0 → number ≡ digits_value 10 (take i field)
-    → (IsInRange 48 57 digit × (number * 10 + (digit - 48) < 2 ^ 64) → ⊥) → number_in field ≡ Err bad_number
+    → (IsInRange 48 57 digit × (number * 10 + (digit - 48) < 2 ^ 64) → ⊥) → decimal_in field ≡ Err bad_number
 number_stops field i digit number below is value h =
     no_number field (false_from_ne_true _ (λ yes.
     let parts = decimal_parts field yes in
@@ -68,15 +68,15 @@ number_stops field i digit number below is value h =
     h (range, omega arith)))
 
 pub number_whole : (field : List ℕ) (number : ℕ) → 0 < length field → length field ≤ 20 → all_ascii_digits field ≡ true → number ≡ digits_value 10 field → number < 2 ^ 64
-    → number_in field ≡ Ok number
-unfolding number_in is_decimal
+    → decimal_in field ≡ Ok number
+unfolding decimal_in is_decimal
 number_whole field number some few digits value small =
     cond-true (is_decimal field) _ _ (and_from _ _ (and_from _ _ (and_from _ _ (lt-ltb 0 (length field) some) (le-leb (length field) 20 few)) digits) (lt-ltb (digits_value 10 field) (2 ^ 64) (omega arith)))
     ∙ ap (λ (n : ℕ). let r : Result ℕ LineFault = Ok n in r) (sym value)
 
 -- the last digit is read
 pub number_ends : (field : List ℕ) (i number : ℕ) → (length field == 0) ≡ false → length field ≤ 20 → length field ≤ i → all_ascii_digits (take i field) ≡ true
-    → number ≡ digits_value 10 (take i field) → number < 2 ^ 64 → number_in field ≡ Ok number
+    → number ≡ digits_value 10 (take i field) → number < 2 ^ 64 → decimal_in field ≡ Ok number
 number_ends field i number some few whole digits value small =
     let all = take_all i field whole in
     let some_length : length field ≢ 0 = eqb-false (length field) 0 some in

@@ -3,7 +3,7 @@ use Rattle.std.specs.Prelude.{◌≡◌, ℕ, ⊤, List, ◌++◌, codes, Result
 use Rattle.hex.specs.declared.error.FromHexError.{FromHexError}
 use Rattle.hex.specs.declared.error.FromHexError.TheVariants.{OutOfMemory}
 use Rattle.text_model.specs.Script as model
-use Rattle.text_model.specs.Script.{Line, FirstScriptFault, GiveSettings, header_settings, significant_lines, bad_line, bad_number, bad_hex, out_of_range, fault_text}
+use Rattle.text_model.specs.Script.{NumberedLine, FirstScriptFault, GiveSettings, header_settings, significant_lines, bad_line, bad_number, bad_hex, out_of_range, fault_text}
 use Rattle.trace_script.specs.declared.fault.LineFault.{LineFault}
 use Rattle.trace_script.specs.declared.fault.LineFault.TheVariants as line
 use Rattle.trace_script.specs.declared.fault.ScriptFault.{ScriptFault}
@@ -54,17 +54,17 @@ GivesAt view (Ok x) read = read ≡ Ok (view x)
 GivesAt view (Err fault) read = FailsAt fault read
 
 -- this is the first fault of the text, or memory ran out
-abbrev pub IsFirstFault : List ℕ → ScriptFault → Type 0
-IsFirstFault text (script.BadLine number) = FirstScriptFault text number bad_line
-IsFirstFault text (script.BadNumber number) = FirstScriptFault text number bad_number
-IsFirstFault text (script.BadHex number) = FirstScriptFault text number bad_hex
-IsFirstFault text (script.OutOfRange number) = FirstScriptFault text number out_of_range
-IsFirstFault text script.NoMemory = ⊤
+abbrev pub TellsFirstFault : List ℕ → ScriptFault → Type 0
+TellsFirstFault text (script.BadLine number) = FirstScriptFault text number bad_line
+TellsFirstFault text (script.BadNumber number) = FirstScriptFault text number bad_number
+TellsFirstFault text (script.BadHex number) = FirstScriptFault text number bad_hex
+TellsFirstFault text (script.OutOfRange number) = FirstScriptFault text number out_of_range
+TellsFirstFault text script.NoMemory = ⊤
 
 -- the first significant lines of the text are the header of a script
-pub record HasHeader (text : List ℕ) : Type 0 where
-  pub header : List Line
-  pub behind : List Line
+pub record HasScriptHeader (text : List ℕ) : Type 0 where
+  pub header : List NumberedLine
+  pub behind : List NumberedLine
   pub cut : significant_lines text ≡ header ++ behind
   pub values : List ℕ
   pub settings : GiveSettings header header_settings values

@@ -29,7 +29,7 @@ pub fn cut_at(bytes: &[u8], separator: u8) -> (&[u8], Option<&[u8]>)
 
 /// A line of a text, without its line feed.
 #[derive(Clone, Copy)]
-pub struct Line<'a> {
+pub struct NumberedLine<'a> {
     /// Its number among all lines of the text, from 1.
     pub number: u64,
     pub text: &'a [u8],
@@ -68,7 +68,7 @@ impl<'a> Lines<'a> {
     }
 
     /// The next line.
-    fn next_line(&mut self) -> Option<Line<'a>>
+    fn next_line(&mut self) -> Option<NumberedLine<'a>>
         ensures lines { MatchOption result (lines_of self.old.rest.now ≡ []) (λ line.
             lines_of self.old.rest.now ≡ line.text.now ∷ lines_of self.new.rest.now) }
         ensures number { MatchOption result
@@ -83,14 +83,14 @@ impl<'a> Lines<'a> {
         let (text, rest) = cut_at(self.rest, b'\n');
         self.rest = rest.unwrap_or(&[]);
         self.passed += 1;
-        Some(Line {
+        Some(NumberedLine {
             number: self.passed,
             text,
         })
     }
 
     /// The next significant line.
-    pub fn next_significant(&mut self) -> Option<Line<'a>>
+    pub fn next_significant(&mut self) -> Option<NumberedLine<'a>>
         ensures left { MatchOption result
             (significant_lines_after self.old.passed self.old.rest.now ≡ [])
             (λ line. significant_lines_after self.old.passed self.old.rest.now

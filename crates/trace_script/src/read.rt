@@ -2,13 +2,13 @@
 ghost use Rattle.std.specs.Prelude.{◌≡◌, IfOk, IfErr, map};
 ghost use Rattle.text_model.specs.Script.{ParsesScript, command_in};
 ghost use Rattle.text_model.specs.ScriptReading.{numbered_reading, significant_lines_after, commands_from, script_in};
-ghost use Rattle.trace_script.specs.ScriptFaults.{GivesAt, HasHeader, IsFirstFault};
+ghost use Rattle.trace_script.specs.ScriptFaults.{GivesAt, HasScriptHeader, TellsFirstFault};
 ghost use Rattle.trace_script.specs.ScriptTypes.{shown_command, shown_line, script_of};
 
 use crate::command::{Command, command_in};
 use crate::fault::{ScriptFault, reading_at};
 use crate::header::read_header;
-use crate::lines::{Line, Lines};
+use crate::lines::{Lines, NumberedLine};
 use crate::script::{Script, ScriptLine};
 use std::alloc::Global;
 
@@ -17,7 +17,7 @@ fn command_at(
     alloc: Global,
     cpus: u32,
     collectors: usize,
-    line: Line,
+    line: NumberedLine,
 ) -> Result<Command, ScriptFault>
     ensures { GivesAt shown_command result
         (numbered_reading line.entry.number (command_in cpus collectors line.entry.text.now)) }
@@ -51,7 +51,7 @@ fn read_commands(
 #[tactic(auto, unfolding(text_model::specs::ScriptReading::script_from))]
 fn script_in(alloc: Global, text: &[u8]) -> Result<Script, ScriptFault>
     ensures gives { GivesAt script_of result (script_in text.now) }
-    ensures memory { result ≡ Err ScriptFault.NoMemory → HasHeader text.now }
+    ensures memory { result ≡ Err ScriptFault.NoMemory → HasScriptHeader text.now }
 {
     let mut lines = Lines::of(text);
     let header = read_header(&mut lines)?;
@@ -70,9 +70,9 @@ pub fn read_script(alloc: Global, text: &[u8]) -> Result<Script, ScriptFault>
     // What is read is what the text spells, which is one script.
     ensures script { IfOk result (λ script. ParsesScript text.now (script_of script)) }
     // A fault is the text's first one, unless memory ran out.
-    ensures fault { IfErr result (λ fault. IsFirstFault text.now fault) }
+    ensures fault { IfErr result (λ fault. TellsFirstFault text.now fault) }
     // A fault of the header is told whatever memory there is.
-    ensures memory { result ≡ Err ScriptFault.NoMemory → HasHeader text.now }
+    ensures memory { result ≡ Err ScriptFault.NoMemory → HasScriptHeader text.now }
 {
     script_in(alloc, text)
 }

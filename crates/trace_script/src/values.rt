@@ -3,7 +3,7 @@ ghost use Rattle.std.specs.Prelude.{◌≡◌, ◌≢◌, ◌+◌, ◌-◌, ◌*
 ghost use Rattle.std.specs.Int.{IsInRange};
 ghost use Rattle.std.specs.Char.{is_ascii_digit};
 ghost use Rattle.std.specs.List.{list_all};
-ghost use Rattle.text_model.specs.Script.{number_in, number_below, names_cpu, cpu_in, payload_in};
+ghost use Rattle.text_model.specs.Script.{decimal_in, number_below, names_cpu, cpu_in, payload_in};
 ghost use Rattle.trace_script.specs.ScriptFaults.{Gives, hex_fault};
 
 use crate::fault::LineFault;
@@ -26,7 +26,7 @@ fn with_digit(front: u64, digit: u8) -> Option<u64>
 
 /// The number that a field spells.
 pub fn number_of(field: &[u8]) -> Result<u64, LineFault>
-    ensures gives { Gives (λ n. n) result (number_in field.now) }
+    ensures gives { Gives (λ n. n) result (decimal_in field.now) }
     ensures never_out_of_memory { result ≢ Err LineFault.NoMemory }
 {
     if field.is_empty() || field.len() > MAX_NUMBER_DIGITS {

@@ -1,11 +1,11 @@
 //! Laws over numbers and bytes as text.
 ghost use Rattle.std.specs.Prelude.{◌≡◌, ℕ, ◌^◌, ◌<◌, List, Ok, All, decimal};
 ghost use Rattle.text_model.specs.Text.{hex_text};
-ghost use Rattle.text_model.specs.Script.{number_in, payload_in};
+ghost use Rattle.text_model.specs.Script.{decimal_in, payload_in};
 
 /// A number's decimal text reads back as the number.
 pub fn number_reads_back()
-    ensures { (n : ℕ) → n < 2 ^ 64 → number_in (decimal n) ≡ Ok n }
+    ensures { (n : ℕ) → n < 2 ^ 64 → decimal_in (decimal n) ≡ Ok n }
 {}
 
 /// The hexadecimal text of bytes reads back as the bytes.

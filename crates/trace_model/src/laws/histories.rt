@@ -1,7 +1,9 @@
 //! Laws over histories of frames.
 ghost use Rattle.std.specs.Prelude.{List, All};
+ghost use Rattle.std.specs.List.{AllByRecursion};
 ghost use Rattle.trace_model.specs.History.{Action, IsHistory, IsWritten, committed_records, reserved_records, settled_prefix};
 ghost use Rattle.trace_model.specs.HistoryLaws.{CommittedIsPrefix};
+ghost use Rattle.trace_model.specs.Packing.{FillsSlot};
 ghost use Rattle.trace_model.specs.Record.{IsRecord};
 ghost use Rattle.trace_model.specs.Sublist.{IsPrefix};
 
@@ -21,6 +23,13 @@ pub fn committed_records_stay()
 /// Each committed record of a history fills whole words.
 pub fn committed_records_are_records()
     ensures { (history : List Action) → All IsRecord (committed_records history) }
+{}
+
+/// Of a history that keeps the discipline of the stack, each reserved record has as many bytes as its slot, those that
+/// are still open counted as zeros: so the writer reckons the length of each fill right.
+pub fn reserved_records_fill_slots()
+    ensures fill { (history : List Action) → IsHistory history
+        → AllByRecursion FillsSlot (reserved_records history) }
 {}
 
 /// Of a history that keeps the discipline of the stack, each committed record has been written, by just

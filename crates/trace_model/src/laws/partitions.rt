@@ -22,14 +22,14 @@ pub fn pieces_have_first_numbers()
         slice_get piece.records i ≡ Some r → slice_get records (first + i) ≡ Some r }
 {}
 
-/// Parcels that are genuine for the partition of their CPU's records hold and miss only those records, under
-/// their numbers, and agree: no number has two records, and none is both held and lost.
+/// Parcels that are genuine for the partition of their CPU's records have and miss only those records, under
+/// their numbers, and agree: no number has two records, and none has one and is missing.
 pub fn genuine_parcels_agree()
-    ensures held { (records : ℕ → List Record) (pieces : ℕ → List Piece) (rest : ℕ → List Record)
+    ensures has { (records : ℕ → List Record) (pieces : ℕ → List Piece) (rest : ℕ → List Record)
         (parcels : List Parcel) (cpu number : ℕ) (r : Record) →
         ((c : ℕ) → IsPartition (records c) (pieces c) (rest c)) → AreGenuine parcels pieces →
         Has parcels cpu number r → slice_get (records cpu) number ≡ Some r }
-    ensures lost { (records : ℕ → List Record) (pieces : ℕ → List Piece) (rest : ℕ → List Record)
+    ensures misses { (records : ℕ → List Record) (pieces : ℕ → List Piece) (rest : ℕ → List Record)
         (parcels : List Parcel) (cpu number : ℕ) →
         ((c : ℕ) → IsPartition (records c) (pieces c) (rest c)) → AreGenuine parcels pieces →
         Misses parcels cpu number → number < length (records cpu) }

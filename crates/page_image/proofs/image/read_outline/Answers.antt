@@ -2,7 +2,7 @@ use Rattle.std.proofs.Common.{ℕ, ◌*◌, ◌≤◌, List, length, take, drop,
 use Rattle.std.proofs.lemmas.List.{take_rest}
 use Rattle.std.proofs.lemmas.Result.{err_from_is_err_and}
 use Rattle.trace_model.specs.Image.{TellsMissed}
-use Rattle.page_image.specs.Counting.{IsCounted, IsFirstFault}
+use Rattle.page_image.specs.Counting.{IsCounted, IsFirstWordFault}
 use Rattle.page_image.specs.Images.{missed_of, commit_with}
 use Rattle.page_image.proofs.ImageReads.{word_faulty, outlined}
 use Rattle.page_image.proofs.image.read_outline.Goals as goal
@@ -13,7 +13,7 @@ returns-in_err-count-clause-fault c =
     let header = c.in_ok-header.header in
     rw (p.1, p.2) (word_faulty c.args.bytes.now header (missed_of c.in_ok-missed.missed) c.in_err-count.field-0.0 c.in_ok-header.ensures.ok
     (λ ignored. subst (λ (b : List ℕ). TellsMissed (commit_with header.commit ignored) b (missed_of c.in_ok-missed.missed)) (c.split_at.ensures.back ∙ ap (drop header.commit.size) (take_rest c.args.bytes.now 16)) (c.in_ok-missed.ensures.told ignored))
-    (subst (λ (b : List ℕ). IsFirstFault b header.time c.in_err-count.field-0.0) (c.split_at.ensures.front ∙ ap (take header.commit.size) (take_rest c.args.bytes.now 16)) c.in_err-count.ensures.fault))
+    (subst (λ (b : List ℕ). IsFirstWordFault b header.time c.in_err-count.field-0.0) (c.split_at.ensures.front ∙ ap (take header.commit.size) (take_rest c.args.bytes.now 16)) c.in_err-count.ensures.fault))
 
 pub returns-clause-ok : goal.returns-clause-ok
 returns-clause-ok c =

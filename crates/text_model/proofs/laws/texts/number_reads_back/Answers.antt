@@ -1,5 +1,5 @@
-use Rattle.text_model.proofs.TextLemmas.{number_in-decimal}
+use Rattle.text_model.proofs.TextLemmas.{decimal_in-decimal}
 use Rattle.text_model.proofs.laws.texts.number_reads_back.Goals as goal
 
 pub returns : goal.returns
-returns c n small = number_in-decimal n small
+returns c n small = decimal_in-decimal n small

@@ -5,7 +5,7 @@ use Rattle.page_image.specs.declared.page.Page.{Page}
 use Rattle.trace_model.proofs.Appended.{EndsInRecord-nil}
 use Rattle.page_image.specs.Contents.{IsPage, records_of_page}
 use Rattle.trace_run.specs.PlainPages.{PlainPages}
-use Rattle.trace_run.proofs.TailRoom.{size-with_place, no_records_length, no_last_record}
+use Rattle.trace_run.proofs.TailRoom.{size-with_room, no_records_length, no_last_record}
 use Rattle.trace_run.proofs.plain_list.PlainList.open.Goals as goal
 
 pub invariant_of-self : goal.invariant_of-self
@@ -17,7 +17,7 @@ invariant_of-self c =
     let now = c.self-2.view_is in
     let place = ap (λ (p : PlainPages). length p.closed_pages) now in
     let most = ap (λ (p : PlainPages). p.max_pages) now in
-    let size : c.self-2.inside.size ≡ c.args.self.now.size = ap (λ (p : PlainPages). p.size) (now ∙ c.in_ok-body.ensures.ok) ∙ size-with_place c.args.self.now in
+    let size : c.self-2.inside.size ≡ c.args.self.now.size = ap (λ (p : PlainPages). p.size) (now ∙ c.in_ok-body.ensures.ok) ∙ size-with_room c.args.self.now in
     rw (c.replace-tail.ensures.after, c.fresh-fresh.ensures.blank) (record {
       some_pages = i.some_pages;
       room = rw c.push_back_reserved.ensures.capacity i.room;

@@ -3,7 +3,7 @@ use Rattle.trace_model.specs.Record.{Record}
 use Rattle.text_model.specs.Printing.{printed_collector}
 use Rattle.trace_run.specs.Collected.{collected_pairs}
 use Rattle.trace_cli.proofs.Lines.{numbered_more}
-use Rattle.trace_cli.proofs.printer.put_world.Goals as goal
+use Rattle.trace_cli.proofs.printer.put_collectors.Goals as goal
 
 pub loop-i-preserved : goal.loop-i-preserved
 loop-i-preserved c =

@@ -2,7 +2,7 @@ use Rattle.std.proofs.Common.{◌≡◌, ◌++◌, take, flat_map, map}
 use Rattle.std.specs.List.{enumerate_from}
 use Rattle.text_model.specs.Printing.{printed_collector}
 use Rattle.trace_run.specs.Collected.{collected_pairs}
-use Rattle.trace_cli.proofs.printer.put_world.Given as goal
+use Rattle.trace_cli.proofs.printer.put_collectors.Given as goal
 
 abbrev pub invariant-loop-i : goal.invariant-loop-i
 invariant-loop-i l =
