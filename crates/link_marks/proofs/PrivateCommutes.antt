@@ -5,7 +5,7 @@ use Rattle.trace_model.specs.History.{Action, Reservation}
 use Rattle.trace_model.specs.Links.{normal_link}
 use Rattle.trace_model.specs.Frames.{Frame}
 use Rattle.trace_model.specs.Ring.{Held, empty_page, Taken, page_at, link_into, links_with, ReaderPhase, loading_link, loading_done, storing_link, swapping, Reader, Core}
-use Rattle.trace_model.specs.Steps.{Event, Answer, swapped, tail_page, held_with_payload, contents_of, next_header, taken_fill, reader_after, after_swap, ReadStep, loads_header, loads_update, loads_owed, loads_passed, finds_none, finds_closed, swaps, swap_fails, Step, push_step, push_refused, close_step, close_refused, frame_step, frame_lacks, end_step, end_lacks, end_early, read_step, wish_step, Exchange}
+use Rattle.trace_model.specs.Steps.{Event, Answer, swapped, tail_page, held_with_payload, next_header, reader_after, after_swap, ReadStep, loads_header, loads_update, loads_owed, loads_passed, finds_none, finds_closed, swaps, swap_fails, Step, push_step, push_refused, close_step, close_refused, frame_step, frame_lacks, end_step, end_lacks, end_early, read_step, wish_step, Exchange}
 use Rattle.link_marks.specs.KeptLinks.{ReaderKept, LinksKept}
 use Rattle.link_marks.specs.KeptContents.{OpenPagesKept}
 use Rattle.link_marks.specs.RingKept.{IsRingKept}

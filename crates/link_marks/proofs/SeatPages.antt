@@ -1,10 +1,10 @@
 -- Which pages each of the two seats changes: a step of the reader none that the writer holds, and a private step of
 -- the writer no other.
-use Rattle.std.proofs.Common.{◌≡◌, ◌≢◌, ℕ, zero, suc, ◌+◌, ◌-◌, ◌%◌, ◌<◌, ◌≤◌, ⊎_elim, Bool, true, false, List, [], ◌∷◌, length, get_or, set, map, Option, Some, None, refl, sym, ap, ◌∙◌, subst, mod-lt, arith}
-use Rattle.std.specs.Prelude.{nat_lt, if◌then◌else◌}
-use Rattle.std.proofs.lemmas.Bool.{cond_both, ltb-false}
+use Rattle.std.proofs.Common.{◌≡◌, ◌≢◌, ℕ, zero, suc, ◌+◌, ◌-◌, ◌%◌, ◌<◌, ◌≤◌, List, [], ◌∷◌, length, get_or, set, Option, Some, None, refl, sym, ap, ◌∙◌, subst, mod-lt, arith}
+use Rattle.std.specs.Prelude.{nat_lt}
+use Rattle.std.proofs.lemmas.Bool.{cond_both}
 use Rattle.std.proofs.lemmas.List.{get_or-set_other}
-use Rattle.trace_model.specs.History.{Reservation, PushedFrame, writer_after, records_with_payload}
+use Rattle.trace_model.specs.History.{Reservation, PushedFrame, records_with_payload}
 use Rattle.trace_model.specs.Frames.{Kind, for_record, for_close, FrameState, waiting, reserved, left, Frame, pushed_onto, pushed_frames}
 use Rattle.trace_model.specs.Ring.{Held, empty_page, page_at, link_into, ReaderPhase, loading_link, loading_done, storing_link, swapping, Core}
 use Rattle.trace_model.specs.Links.{header_link}

@@ -12,7 +12,7 @@ use Rattle.trace_model.specs.Frames.{Kind, for_record, for_close, FrameState, wa
 use Rattle.trace_model.specs.Ring.{ReaderPhase, loading_link, loading_done, storing_link, swapping, Core, link_into}
 use Rattle.trace_model.specs.Steps.{Event, pushes, pushes_close, steps, ends, reads, wishes, Answer, Step}
 use Rattle.link_marks.specs.KeptLinks.{PhaseKept, LinksKept}
-use Rattle.link_marks.specs.KeptStack.{IsForRecord, MayBeIn, FramesAgree, StackKept}
+use Rattle.link_marks.specs.KeptStack.{IsForRecord, MayBeIn, StackKept}
 use Rattle.link_marks.specs.KeptProgress.{PhaseAdvances, FramesAdvance, ProgressKept}
 use Rattle.link_marks.specs.RingLaws.{MayAsk, EachEventIsAStep}
 use Rattle.link_marks.proofs.Positions.{at_position, link_turn}
