@@ -48,6 +48,7 @@ pub mod CountMoves
 -- the wish
 pub mod Tails
 pub mod WishSteps
+pub mod WishedPages
 -- the two seats, the writer's and the reader's
 pub mod SeatSteps
 pub mod PrivateSteps
