@@ -22,10 +22,6 @@ left-first bytes reached behind place number end more is =
     ∙ ap (λ (rs : List Record). enumerate_from number (take (suc (end - (number + 1))) rs)) is
     ∙ ap (λ (n : ℕ). let r : Record = record { moment = behind.moment; bytes = take n (drop place.start bytes) } in (number, r) ∷ entries_left bytes behind (number + 1) end) len
 
--- another word changes nothing
-pub left-same : (bytes : List ℕ) (reached behind : Reached) (number end : ℕ) → records_left bytes reached ≡ records_left bytes behind → entries_left bytes reached number end ≡ entries_left bytes behind number end
-left-same bytes reached behind number end is = ap (λ (rs : List Record). enumerate_from number (take (end - number) rs)) is
-
 -- where no record is left, there is no entry
 pub left-none : (bytes : List ℕ) (reached : Reached) (number end : ℕ) → records_left bytes reached ≡ [] → entries_left bytes reached number end ≡ []
 left-none bytes reached number end none = ap (λ (rs : List Record). enumerate_from number (take (end - number) rs)) none ∙ take_nil (end - number)
