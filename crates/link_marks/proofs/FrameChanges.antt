@@ -6,7 +6,7 @@ use Rattle.trace_model.specs.History.{Action, leave}
 use Rattle.trace_model.specs.Links.{Link}
 use Rattle.trace_model.specs.Frames.{Kind, for_record, for_close, FrameState, waiting, reserved, left, Phase, idle, releasing, wishing, Frame, owned_update}
 use Rattle.trace_model.specs.Ring.{Held, Core}
-use Rattle.trace_model.specs.Steps.{after_leave, after_begin, in_phase, closing_phase, held_with_payload, own_number}
+use Rattle.trace_model.specs.Steps.{after_leave, after_begin, closing_phase, held_with_payload, own_number}
 use Rattle.link_marks.specs.KeptLinks.{Stands, MoversDiffer, PhaseKept, FramesKept, LinkKept, is_normal, is_header, is_update, LinksKept}
 use Rattle.link_marks.proofs.FramePhases.{none_some, knows_idle, knows_releasing, knows_wishing}
 

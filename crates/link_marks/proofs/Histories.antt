@@ -1,5 +1,5 @@
 -- The frames as the history's stack, and the fills that were passed.
-use Rattle.std.proofs.Common.{◌≡◌, ℕ, zero, suc, ◌+◌, ◌<◌, ◌≤◌, ◌⊎◌, List, [], ◌∷◌, ◌++◌, Option, Some, None, refl, ap, ◌∙◌, inl, inr, ⊎_elim, arith}
+use Rattle.std.proofs.Common.{◌≡◌, ℕ, zero, suc, ◌<◌, ◌≤◌, ◌⊎◌, List, [], ◌∷◌, ◌++◌, Some, None, refl, ap, ◌∙◌, inl, inr, ⊎_elim, arith}
 use Rattle.trace_model.specs.History.{PushedFrame, MayOpen, MayLeave}
 use Rattle.trace_model.specs.Frames.{Kind, for_record, for_close, FrameState, waiting, reserved, left, Frame, pushed_frame, pushed_onto, pushed_frames}
 use Rattle.trace_model.specs.Ring.{Taken, Core}

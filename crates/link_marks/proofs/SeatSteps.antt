@@ -98,10 +98,6 @@ reader_side : Core → ReaderSide
 reader_side c = record { part = record { order = c.order; spare = c.spare; spare_link = c.spare_link; reader = c.reader }; wish = c.wish }
 
 module _ (n size : ℕ) where
-  leave_side : (c : Core) (frame : Frame) (below : List Frame) (payload : Option (List ℕ)) → reader_side (after_leave c frame below payload) ≡ reader_side c
-  unfolding reader_side
-  leave_side c frame below payload = refl
-
   begin_side : (kind : Kind) (state : FrameState) (c : Core) (frame : Frame) (below : List Frame) → reader_side (after_begin kind state c frame below) ≡ reader_side c
   unfolding reader_side
   begin_side (for_record moment len) waiting c frame below = refl

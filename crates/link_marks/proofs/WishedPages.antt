@@ -1,13 +1,12 @@
 -- The record of an outermost frame that has no fill to close stands on the page that the reader wishes for.
-use Rattle.std.proofs.Common.{◌≡◌, ℕ, ◌+◌, ◌-◌, ◌<◌, ◌≤◌, List, [], ◌∷◌, length, get_or, Some, sym, ap, ◌∙◌, subst, refl, arith}
+use Rattle.std.proofs.Common.{◌≡◌, ℕ, ◌+◌, ◌-◌, ◌<◌, ◌≤◌, List, [], length, get_or, sym, ap, ◌∙◌, subst, arith}
 use Rattle.std.specs.List.{slice_get}
 use Rattle.trace_model.specs.History.{Reservation, reserved_records}
 use Rattle.trace_model.specs.Packing.{opens_of, cut_from, tail_of}
-use Rattle.trace_model.specs.Frames.{reserved, Frame}
-use Rattle.trace_model.specs.Ring.{Held, empty_page, Core, page_at, first_of_fill}
-use Rattle.trace_model.specs.Steps.{ends, full, contents_of, Step}
+use Rattle.trace_model.specs.Frames.{Frame}
+use Rattle.trace_model.specs.Ring.{Held, page_at, first_of_fill}
+use Rattle.trace_model.specs.Steps.{contents_of}
 use Rattle.trace_model.proofs.PackedHistories.{tail_is}
-use Rattle.link_marks.specs.RingKept.{IsRingKept}
 use Rattle.link_marks.specs.KeptContents.{cut_fill}
 use Rattle.link_marks.specs.WishLaws.{EndsOnTheWishedPage}
 use Rattle.link_marks.proofs.Payloads.{reserved_lies_open}
@@ -24,7 +23,7 @@ ends_on_wished n size start c payload after frame number r top state last step =
     let xs : List Reservation = reserved_records c.history in
     let here : lies.fill ≡ c.done = omega arith in
     let holds = holds_as (contents_of c (page_at n c.order lies.fill)) (cut_fill start cuts xs c.done) number
-        (r.contents.each lies.fill (omega arith) high ∙ ap (cut_fill start cuts xs) here) lies.holds in
+    (r.contents.each lies.fill (omega arith) high ∙ ap (cut_fill start cuts xs) here) lies.holds in
     let index : c.done - start ≡ length cuts = omega arith in
     let tail : get_or (cut_from 0 cuts xs) (c.done - start) [] ≡ tail_of c.history = ap (λ (i : ℕ). get_or (cut_from 0 cuts xs) i []) index ∙ sym (tail_is c.history) in
     (holds.0, subst (λ (l : List Reservation). number < first_of_fill c.history start c.done + length l) tail holds.1)

@@ -1,7 +1,7 @@
 -- What each step of a ring keeps of its frames' history, and of the fills that were lost.
 use Rattle.std.specs.Prelude.{◌≡◌, ℕ, ◌+◌, ◌<◌, ◌≤◌, ◌⊎◌, List, [], ◌∷◌, Some}
 use Rattle.std.specs.List.{slice_get}
-use Rattle.trace_model.specs.History.{Action, writer_after, IsHistory}
+use Rattle.trace_model.specs.History.{writer_after, IsHistory}
 use Rattle.trace_model.specs.Frames.{Frame, pushed_frames}
 use Rattle.trace_model.specs.Ring.{Core, Taken}
 use Rattle.link_marks.specs.KeptLinks.{spot, passed_spot}

@@ -2,8 +2,8 @@
 use Rattle.std.specs.Prelude.{◌≡◌, ◌≢◌, ℕ, ◌+◌, ◌-◌, ◌<◌, ◌≤◌, ◌⊎◌, List, ◌∷◌, length, Some, None, slice_get, slice_index_or}
 use Rattle.trace_model.specs.History.{Reservation}
 use Rattle.trace_model.specs.Frames.{reserved, Frame}
-use Rattle.trace_model.specs.Ring.{Held, Core, page_at}
-use Rattle.trace_model.specs.Steps.{Event, ends, Answer, full, pending, Step, contents_of, held_with_payload}
+use Rattle.trace_model.specs.Ring.{Core, page_at}
+use Rattle.trace_model.specs.Steps.{ends, Answer, full, pending, Step, contents_of, held_with_payload}
 use Rattle.link_marks.specs.RingKept.{IsRingKept}
 
 -- the page holds the record of this number

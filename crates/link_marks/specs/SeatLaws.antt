@@ -1,7 +1,7 @@
 -- The laws of a ring's two seats, as statements: each is a clause of a function of src/laws/seats.rt.
-use Rattle.std.specs.Prelude.{◌≡◌, ℕ, List}
+use Rattle.std.specs.Prelude.{ℕ, List}
 use Rattle.trace_model.specs.Ring.{Core}
-use Rattle.trace_model.specs.Steps.{Event, Answer, Step, Exchange, Run}
+use Rattle.trace_model.specs.Steps.{Event, Answer, Step, Exchange}
 use Rattle.link_marks.specs.RingKept.{IsRingKept}
 use Rattle.link_marks.specs.Seats.{IsOfReader, ReaderPart, seen_by, WriterPart, written_by, OpenPagesHold, OtherPagesHold, WriterStays, ReaderStays, IsPrivate, PrivateRun, WordsStay}
 

@@ -24,7 +24,7 @@ pub const MAX_INPUT: usize = 268_435_456;
 /// A moment that is written is below this: 2^59.
 pub const MOMENT_LIMIT: u64 = 576_460_752_303_423_488;
 
-/// The number of a ring's first fill.
+/// The number of a ring's first fill, where nothing else is said.
 pub const START_FILL: u64 = 0;
 
 /// How many pages a link can name, 2^14: a page's number is below this.

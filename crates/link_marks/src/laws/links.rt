@@ -1,7 +1,7 @@
 //! Laws of a ring's links: each stands once, one is the HEADER, and an UPDATE has an owner.
 ghost use Rattle.link_marks.specs.LinkLaws.{HeadersAreOwed, HeadersAreSetOnce, LinksFitWords, LinksStandOnce, OneHeader, OwnersClear, StepsRaiseLinks, UpdatesAreClaimed};
 
-/// After every run each link of the ring has a word, and so has the spare's, if the ring has fewer than
+/// Each link of the ring has a word, and so has the spare's, if the ring has fewer than
 /// `LINK_PAGES` pages: the page and the fill that it tells have room in one.
 pub fn links_fit_words()
     ensures fit { LinksFitWords }
