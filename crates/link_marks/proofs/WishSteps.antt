@@ -9,7 +9,7 @@ use Rattle.trace_model.specs.Frames.{Kind, for_record, for_close, FrameState, wa
 use Rattle.trace_model.specs.Ring.{ReaderPhase, loading_link, loading_done, storing_link, swapping, Reader, Core, window_of}
 use Rattle.trace_model.specs.Steps.{Event, pushes, pushes_close, steps, ends, reads, wishes, Answer, gone, empty, IsGranted, with_new_tail, frames_after_leave, after_begin, BeginsAnew, reserves, finds_nothing, is_crowded, is_worn, notes, look_late, sees_free, sees_header, sees_update, claim_late, claims, claim_fails, next_late, sees_normal, sees_other, mark_late, marks, mark_fails, clears, open_late, opens, releases, releases_last, grants, closes_more, goes_away, IdleStep, FrameStep, loads_header, loads_update, loads_owed, loads_passed, finds_none, finds_closed, swaps, swap_fails, ReadStep, Step, push_step, push_refused, close_step, close_refused, frame_step, frame_lacks, end_step, end_lacks, end_early, read_step, wish_step, Exchange, Run}
 use Rattle.link_marks.specs.RingKept.{IsRingKept}
-use Rattle.link_marks.specs.WishLaws.{WishesAreHeld, GoneHasLooked, WishesAreAnswered, WishedTailsAreClosed, IsNoRead, WishBehindEmptyLosesNone}
+use Rattle.link_marks.specs.WishLaws.{WishesAreHeld, GoneHasLooked, WishesAreAnswered, WishedTailsAreClosed, WishBehindEmptyLosesNone}
 use Rattle.link_marks.proofs.RingsKept.{ring_step, ring_run}
 use Rattle.link_marks.proofs.ToldSteps.{leads_run, counts_rise}
 use Rattle.link_marks.proofs.AnswersRight.{empty_right}
@@ -280,41 +280,14 @@ wished_tails_closed n size start c after exchanges r stand asks some least run n
 
 -- ---- the wish loses nothing
 
--- where the reader doesn't look, it has seen what it had seen
-seen_stays : (n size : ℕ) (c : Core) (event : Event) (answer : Answer) (after : Core) → event ≢ reads → Step n size c event answer after → after.reader.seen ≡ c.reader.seen
-seen_stays n size c reads answer after other step = absurd (other refl)
-seen_stays n size c wishes answer after other step = wish_seen step
-  where
-    wish_seen : Step n size c wishes answer after → after.reader.seen ≡ c.reader.seen
-    wish_seen (push_step moment len e few fits early a is) = absurd (cc)
-    wish_seen (push_refused moment len why e refused a is) = absurd (cc)
-    wish_seen (close_step e few a is) = absurd (cc)
-    wish_seen (close_refused e many a is) = absurd (cc)
-    wish_seen (frame_step frame below e top step') = absurd (cc)
-    wish_seen (frame_lacks e none a is) = absurd (cc)
-    wish_seen (end_step payload frame below number moment len e top state kind slot a is) = absurd (cc)
-    wish_seen (end_lacks payload e none a is) = absurd (cc)
-    wish_seen (end_early payload frame below e top none a is) = absurd (cc)
-    wish_seen (read_step e step') = absurd (cc)
-    wish_seen (wish_step e a is) = ap (λ (x : Core). x.reader.seen) is
-seen_stays n size c (pushes moment len) answer after other step = ap (λ (r : Reader). r.seen) (writer_leaves_reader n size c (pushes moment len) answer after (λ is. is) step).reader
-seen_stays n size c pushes_close answer after other step = ap (λ (r : Reader). r.seen) (writer_leaves_reader n size c pushes_close answer after (λ is. is) step).reader
-seen_stays n size c steps answer after other step = ap (λ (r : Reader). r.seen) (writer_leaves_reader n size c steps answer after (λ is. is) step).reader
-seen_stays n size c (ends payload) answer after other step = ap (λ (r : Reader). r.seen) (writer_leaves_reader n size c (ends payload) answer after (λ is. is) step).reader
-
-seen_over : (n size : ℕ) (c after : Core) (exchanges : List Exchange) → IsNoRead exchanges → Run n size c exchanges after → after.reader.seen ≡ c.reader.seen
-seen_over n size c after [] none run = ap (λ (x : Core). x.reader.seen) (sym run)
-seen_over n size c after (x ∷ exchanges) none (between, step, run) = seen_over n size between after exchanges none.1 run ∙ seen_stays n size c x.event x.answer between none.0 step
-
 pub wish_loses_none : WishBehindEmptyLosesNone
-wish_loses_none n size start c empty_at granted_at between done event last_event exchanges more last_answer after r first none run granted on same step lost =
+wish_loses_none n size start c empty_at granted_at between done event last_event exchanges more last_answer after r first run asks granted on same step lost =
     let (head, closed, passed, taken, seen, here) = empty_right n size start c event done empty_at r first in
     let empty_kept = ring_step n size start c event (empty done) empty_at r first in
     let granted_kept = ring_run n size start empty_at granted_at exchanges empty_kept run in
     let kept = ring_run n size start granted_at between more granted_kept on in
-    let seen_yet = seen_over n size empty_at granted_at exchanges none run in
     let rises = counts_rise n size start empty_at granted_at exchanges empty_kept run in let heads = rises.0 in
     let later = counts_rise n size start granted_at between more granted_kept on in let later_heads = later.0 in
-    let wish = granted_kept.links.wish_le in let asks = granted.asks_tail in
+    let tail = granted.asks_tail in
     let some = kept.links.some_pages in let full = lost.0 in
     absurd (omega arith)

@@ -67,20 +67,16 @@ EndsOnTheWishedPage = (n size start : ℕ) (c : Core) (payload : List ℕ) (afte
     → (first_of_fill c.history start c.done ≤ number)
     × (number < first_of_fill c.history start c.done + length (tail_of c.history))
 
--- the reader doesn't look again in these
-abbrev pub IsNoRead : List Exchange → Type 0
-IsNoRead [] = Unit {0}
-IsNoRead (x ∷ exchanges) = (x.event ≢ reads) × IsNoRead exchanges
-
--- A wish right behind an answer that nothing closed is unread loses no fill: where a frame grants it before the
--- reader looks again, no fill is lost until the next one is begun, which is so behind a ring that isn't full.
+-- A wish right behind an answer that nothing closed is unread loses no fill: it is for the fill behind those that
+-- were closed there; where a frame grants it, no fill is lost until the next one is begun, which is so behind a ring
+-- that isn't full.
 abbrev pub WishBehindEmptyLosesNone : Type 0
 WishBehindEmptyLosesNone = (n size start : ℕ) (c empty_at granted_at between : Core) (done : ℕ)
     (event last_event : Event) (exchanges more : List Exchange) (last_answer : Answer) (after : Core)
     → IsRingKept n size start c
     → Step n size c event (empty done) empty_at
-    → IsNoRead exchanges
     → Run n size empty_at exchanges granted_at
+    → granted_at.wish ≡ done + 1
     → IsGranted n granted_at
     → Run n size granted_at more between
     → between.opened ≡ granted_at.opened
