@@ -66,6 +66,7 @@ impl<'a> Iterator for Records<'a> {
 
     ghost remaining = { item_count (λ left. left) };
 
+    #[inline(always)]
     fn next(&mut self) -> Option<Entry<'a>> {
         while self.number < self.end && self.reached.at < self.data.len() {
             let Ok(Some(passed)) = step_over_word(self.data, self.reached) else {

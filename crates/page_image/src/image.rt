@@ -2,7 +2,7 @@
 //!
 //! An image is a page as the kernel hands it out: a header of 16 bytes and the data behind it, told in
 //! `docs/FORMATS.md`, "Page image".
-ghost use Rattle.std.specs.Prelude.{◌≡◌, ℕ, ◌↔◌, IfOk, IfErr};
+ghost use Rattle.std.specs.Prelude.{◌≡◌, ℕ, ◌*◌, ◌≤◌, ◌↔◌, IfOk, IfErr, length};
 ghost use Rattle.trace_model.specs.Faults.{Cause};
 ghost use Rattle.trace_model.specs.Image.{DecodesImage, FirstImageFault, too_short, bad_size, bad_count, bad_word};
 ghost use Rattle.page_image.specs.Contents.{IsPage, records_of_page};
@@ -105,6 +105,7 @@ fn read(alloc: Global, bytes: &[u8]) -> Result<Image, ImageFault>
         (missed_of image.missed) (records_of_page image.page)) }
     ensures page { IfOk result (λ image. IsPage image.page) }
     ensures contents { IfOk result (λ image. image.page ≡ page_in bytes.now image.time image.size) }
+    ensures few { IfOk result (λ image. 4 * image.page.count ≤ length bytes.now) }
     ensures fault { IfErr result (λ f. IsImageFault bytes.now f) }
 {
     let outline = read_outline(bytes)?;
@@ -127,6 +128,7 @@ pub fn read_image(alloc: Global, bytes: &[u8]) -> Result<Image, ImageFault>
         (missed_of image.missed) (records_of_page image.page)) }
     ensures page { IfOk result (λ image. IsPage image.page) }
     ensures contents { IfOk result (λ image. image.page ≡ page_in bytes.now image.time image.size) }
+    ensures few { IfOk result (λ image. 4 * image.page.count ≤ length bytes.now) }
 
     ensures is_too_short { (result ≡ Err ImageFault.TooShort) ↔ FirstImageFault bytes.now too_short }
     ensures has_bad_size { (result ≡ Err ImageFault.BadSize) ↔ FirstImageFault bytes.now bad_size }

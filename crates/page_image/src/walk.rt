@@ -51,6 +51,7 @@ fn later_moment(moment: u64, delta: u64, at: usize) -> Result<u64, WordFault>
 
 /// Steps over one word more of the data of a page. Where the data ends with a padding, whatever follows, there is
 /// none; where no word can be read, its fault is told.
+#[inline(always)]
 pub fn step_over_word(data: &[u8], reached: Reached) -> Result<Option<Passed>, WordFault>
     requires inside { reached.at < length «data».now }
     requires few { 4 * reached.count ≤ reached.at }

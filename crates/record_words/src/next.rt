@@ -182,6 +182,7 @@ fn stamp(data: &[u8], at: usize, low: u32) -> Result<Word, WordFault>
 }
 
 /// The word at `at`, whose first four bytes are this number.
+#[inline(always)]
 fn word_at(data: &[u8], at: usize, first: u32) -> Result<Word, WordFault>
     requires head { at + 4 ≤ length «data».now }
     requires first_is { first ≡ from_le32 (drop at «data».now) }
@@ -205,6 +206,7 @@ fn word_at(data: &[u8], at: usize, first: u32) -> Result<Word, WordFault>
 /// The answer is `Cut` where the data ends within the word, and `BadLength` where the word states a
 /// length that none can have. A word with both faults is `BadLength`, unless the data ends within its
 /// first four bytes or within the stated length itself.
+#[inline(always)]
 pub fn next_word(data: &[u8], at: usize) -> Result<Word, WordFault>
     requires { at < length «data».now }
     ensures ok { IsOk result ↔ (HasWord (drop at «data».now) ⊎ HasEnding (drop at «data».now)) }

@@ -36,3 +36,8 @@ line_more f start first i copied records item before so_far out starts same insi
     let shown : so_far ≡ before ++ flat_map f (enumerate_from first (take i (map copy_of copied))) = subst (λ (rs : List Record). so_far ≡ before ++ flat_map f (enumerate_from first (take i rs))) (sym same) so_far_is in
     subst (λ (rs : List Record). out ≡ before ++ flat_map f (enumerate_from first (take (i + 1) rs))) same
     (numbered_more f copy_of first i (start + i) copied item before so_far out (ap (λ n. n + i) starts) inside is shown out_is)
+
+-- lines that don't tell numbers are those of the records alone
+pub lines_without_numbers : (line : Record → List ℕ) (number : ℕ) (records : List Record) → flat_map (λ (pair : ℕ × Record). line pair.1) (enumerate_from number records) ≡ flat_map line records
+lines_without_numbers line number [] = refl
+lines_without_numbers line number (r ∷ records) = ap (λ (text : List ℕ). line r ++ text) (lines_without_numbers line (number + 1) records)

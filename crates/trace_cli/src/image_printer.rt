@@ -1,14 +1,15 @@
 //! The printing of a page image.
-ghost use Rattle.std.specs.Prelude.{◌≡◌, ◌≢◌, ◌∷◌, ◌++◌, [], OnOk, IfOk, codes, flat_map};
+ghost use Rattle.std.specs.Prelude.{◌≡◌, ◌≢◌, ◌+◌, ◌^◌, ◌<◌, ◌∷◌, ◌++◌, [], OnOk, IfOk, codes, flat_map};
 ghost use Rattle.std.specs.Fmt.{decimal};
 ghost use Rattle.text_model.specs.Printing.{missed_text, printed_image, printed_image_record};
 ghost use Rattle.page_image.specs.Contents.{IsPage, records_of_page};
-ghost use Rattle.page_image.specs.Copies.{copies_of, copy_of};
 ghost use Rattle.page_image.specs.Images.{missed_of};
+ghost use Rattle.page_borrow.specs.Entries.{told};
 ghost use Rattle.trace_cli.specs.ImageFaults.{reader_fault_text, word_fault_text};
 
 use crate::printer::{put_number, put_payload};
-use page_image::{Image, ImageFault, Missed};
+use page_borrow::{Entry, records};
+use page_image::{Image, ImageFault, Missed, Page};
 use record_words::WordFault;
 use std::alloc::Global;
 use trace_model::NoMemory;
@@ -26,34 +27,37 @@ fn put_missed(out: &mut Vec<u8>, missed: Missed) -> Result<(), NoMemory>
     Ok(())
 }
 
-/// The line of a record as it was copied out of its page.
-fn put_copied(out: &mut Vec<u8>, copied: &(u64, Vec<u8>)) -> Result<(), NoMemory>
-    ensures { OnOk result (out.new.items ≡ out.old.items ++ printed_image_record (copy_of copied.now)) }
+/// The line of a record as it stands in its page.
+fn put_entry(out: &mut Vec<u8>, entry: Entry) -> Result<(), NoMemory>
+    ensures { OnOk result (out.new.items ≡ out.old.items ++ printed_image_record (told entry.entry).1) }
 {
-    let (moment, payload) = copied;
-    put_number(out, *moment)?;
+    put_number(out, entry.moment.0)?;
     out.push(b' ')?;
-    put_payload(out, payload)?;
+    put_payload(out, entry.bytes)?;
     out.push(b'\n')?;
     Ok(())
 }
 
-fn put_copies(out: &mut Vec<u8>, copies: &[(u64, Vec<u8>)]) -> Result<(), NoMemory>
-    ensures { OnOk result (out.new.items ≡ out.old.items ++ flat_map printed_image_record (copies_of copies.now)) }
+/// A line for each record of the page.
+fn put_entries(out: &mut Vec<u8>, page: &Page) -> Result<(), NoMemory>
+    requires reads { IsPage page.now }
+    requires numbers { page.now.first + page.now.count < 2 ^ 64 }
+    ensures { OnOk result (out.new.items
+        ≡ out.old.items ++ flat_map printed_image_record (records_of_page page.now)) }
 {
-    for copied in copies {
-        put_copied(out, copied)?;
+    for entry in records(page) {
+        put_entry(out, entry)?;
     }
     Ok(())
 }
 
 /// The text of this image: its head line, and a line for each record.
 pub fn print_image(alloc: Global, image: &Image) -> Result<Vec<u8>, NoMemory>
-    requires { IsPage image.now.page }
+    requires reads { IsPage image.now.page }
+    requires numbers { image.now.page.first + image.now.page.count < 2 ^ 64 }
     ensures { IfOk result (λ text. text.items ≡ printed_image image.now.time image.now.size
         (missed_of image.now.missed) (records_of_page image.now.page)) }
 {
-    let copies = image.page.copied(alloc)?;
     let mut text = Vec::from_slice(alloc, b"page ")?;
     put_number(&mut text, image.time)?;
     text.extend_from_slice(b" size ")?;
@@ -61,7 +65,7 @@ pub fn print_image(alloc: Global, image: &Image) -> Result<Vec<u8>, NoMemory>
     text.extend_from_slice(b" missed ")?;
     put_missed(&mut text, image.missed)?;
     text.push(b'\n')?;
-    put_copies(&mut text, copies.as_slice())?;
+    put_entries(&mut text, &image.page)?;
     Ok(text)
 }
 
