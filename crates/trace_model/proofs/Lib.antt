@@ -35,3 +35,4 @@ pub mod FillsJoined
 pub mod FillSizes
 pub mod PackedHistories
 pub mod FullFills
+pub mod OpenPages
