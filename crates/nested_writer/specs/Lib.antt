@@ -1,0 +1,4 @@
+pub mod Stack
+pub mod Inside
+pub mod Calls
+pub mod IsStack
