@@ -1,2 +1,4 @@
 pub mod Standing
 pub mod Pushing
+pub mod NewStack
+pub mod Reserving

@@ -1,10 +1,10 @@
 -- A frame that is pushed.
-use Rattle.std.proofs.Common.{◌≡◌, ℕ, ◌+◌, ◌<◌, ◌≤◌, List, [], ◌∷◌, ◌++◌, Option, Some, None, refl, sym, ap, ◌∙◌, subst}
+use Rattle.std.proofs.Common.{◌≡◌, ℕ, ◌+◌, ◌<◌, ◌≤◌, true, List, [], ◌∷◌, ◌++◌, Option, Some, None, refl, sym, ap, ◌∙◌, subst}
 use Rattle.std.specs.Prelude.{Bool}
 use Rattle.std.proofs.lemmas.Option.{none-some}
 use Rattle.trace_model.specs.declared.limits.TheConstants.{MOMENT_LIMIT}
 use Rattle.trace_model.specs.Words.{encoded_len}
-use Rattle.trace_model.specs.History.{Action, push, push_close, Reservation, WriterState, writer_after, reserved_records}
+use Rattle.trace_model.specs.History.{Action, push, push_close, Reservation, WriterState, PushedFrame, record_frame, close_frame, writer_after, reserved_records}
 use Rattle.trace_model.specs.Packing.{opens_of, is_wished}
 use Rattle.trace_model.specs.Frames.{for_record, for_close, pushed_of}
 use Rattle.trace_model.proofs.Allowed.{IsHistory-push}
@@ -38,19 +38,18 @@ of_pushed start cuts records found s purpose may k = record {
 }
 
 pub pushed_record : (start : ℕ) (h : List Action) (s : Stack) (moment len : ℕ) → encoded_len len 0 true ≤ s.size → moment < MOMENT_LIMIT → IsStack start h s → IsStack start (h ++ push moment len ∷ []) (with_frame s record { purpose = Record moment len; progress = Waiting None })
-pub pushed_close : (start : ℕ) (h : List Action) (s : Stack) → IsStack start h s → IsStack start (h ++ push_close ∷ []) (with_frame s record { purpose = Close; progress = Waiting None })
-
 pushed_record start h s moment len fits early k = record {
   keeps = IsHistory-push h (push moment len) k.keeps tt;
-  stack_is = ap (λ (w : WriterState). w.stack) (writer_snoc h (push moment len)) ∙ ap (λ (l : List _). _ ∷ l) k.stack_is;
+  stack_is = ap (λ (w : WriterState). w.stack) (writer_snoc h (push moment len)) ∙ ap (λ (l : List PushedFrame). record_frame moment len None ∷ l) k.stack_is;
   fit = fit_more s.size h (push moment len) k.fit tt;
   holds = same_of start (opens_of h) (opens_of (h ++ push moment len ∷ [])) (reserved_records h) (reserved_records (h ++ push moment len ∷ [])) (is_wished h) (is_wished (h ++ push moment len ∷ [])) _
       (opens_of-push h moment len) (records_snoc h (push moment len)) (is_wished-push h moment len) (of_pushed start (opens_of h) (reserved_records h) (is_wished h) s (Record moment len) (fits, early) k.holds);
 }
 
+pub pushed_close : (start : ℕ) (h : List Action) (s : Stack) → IsStack start h s → IsStack start (h ++ push_close ∷ []) (with_frame s record { purpose = Close; progress = Waiting None })
 pushed_close start h s k = record {
   keeps = IsHistory-push h push_close k.keeps tt;
-  stack_is = ap (λ (w : WriterState). w.stack) (writer_snoc h push_close) ∙ ap (λ (l : List _). _ ∷ l) k.stack_is;
+  stack_is = ap (λ (w : WriterState). w.stack) (writer_snoc h push_close) ∙ ap (λ (l : List PushedFrame). close_frame ∷ l) k.stack_is;
   fit = fit_more s.size h push_close k.fit tt;
   holds = same_of start (opens_of h) (opens_of (h ++ push_close ∷ [])) (reserved_records h) (reserved_records (h ++ push_close ∷ [])) (is_wished h) (is_wished (h ++ push_close ∷ [])) _
       (opens_of-push_close h) (records_snoc h push_close) (is_wished-push_close h) (of_pushed start (opens_of h) (reserved_records h) (is_wished h) s Close tt k.holds);
