@@ -2,3 +2,4 @@ pub mod Standing
 pub mod Pushing
 pub mod NewStack
 pub mod Reserving
+pub mod Leaving

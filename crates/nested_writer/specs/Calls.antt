@@ -1,8 +1,9 @@
 -- What each call makes of a writer's stack, and when it is refused.
-use Rattle.std.specs.Prelude.{◌≡◌, ◌≢◌, ℕ, ◌+◌, ◌-◌, ◌<◌, ◌≤◌, max, List, [], ◌∷◌, ◌++◌, length, Option, Some, None}
+use Rattle.std.specs.Prelude.{◌≡◌, ◌≢◌, ℕ, ◌+◌, ◌-◌, ◌<◌, ◌≤◌, max, List, [], ◌∷◌, ◌++◌, length, replicate, Option, Some, None}
 use Rattle.std.specs.List.{slice_get}
 use Rattle.trace_model.specs.declared.limits.TheConstants.{MAX_FRAMES, LINK_FILLS}
-use Rattle.trace_model.specs.Words.{encoded_len}
+use Rattle.trace_model.specs.Words.{encoded_len, encoding, slot_len}
+use Rattle.record_words.specs.declared.put.Place.{Place}
 use Rattle.page_image.specs.Contents.{Contents, is_blank}
 use Rattle.nested_writer.specs.declared.frame.Purpose.{Purpose}
 use Rattle.nested_writer.specs.declared.frame.Purpose.TheVariants.{Record, Close}
@@ -10,7 +11,7 @@ use Rattle.nested_writer.specs.declared.frame.Slot.{Slot}
 use Rattle.nested_writer.specs.declared.frame.Progress.{Progress}
 use Rattle.nested_writer.specs.declared.frame.Progress.TheVariants.{Waiting, Through, Reserved, Left}
 use Rattle.nested_writer.specs.declared.frame.Frame.{Frame}
-use Rattle.nested_writer.specs.Stack.{Stack, opened}
+use Rattle.nested_writer.specs.Stack.{Stack, opened, tail_fill, next_number}
 
 -- ---- states
 
@@ -85,3 +86,24 @@ IsCrowded s = opened s ≡ s.done + s.pages
 -- the tail is the last fill that may be begun
 abbrev pub IsWorn : Stack → Type 0
 IsWorn s = LINK_FILLS ≤ opened s + s.pages
+
+-- the record has room in the tail
+abbrev pub HasRecordRoom : Stack → (moment len : ℕ) → Type 0
+HasRecordRoom s moment len = end_with s moment len ≤ s.size
+
+-- the record of the frame on top is put behind those of the tail, its payload at this place, and nothing else changes
+pub record IsReserved (s : Stack) (top : Frame) (below : List Frame) (moment len : ℕ) (place : Place) (after : Stack)
+    : Type 0 where
+  pub bytes : after.tail.bytes
+      ≡ s.tail.bytes
+      ++ encoding (max moment s.last_moment - s.last_moment) (is_blank s.tail.bytes) (replicate (slot_len len) 0)
+  pub place_end : place.start + place.len ≡ length after.tail.bytes
+  pub place_len : place.len ≡ slot_len len
+  pub others : after
+      ≡ record s {
+        tail = after.tail;
+        last_moment = max moment s.last_moment;
+        frames = record top {
+          progress = Reserved record { number = next_number s; fill = tail_fill s; place = place };
+        } ∷ below;
+      }

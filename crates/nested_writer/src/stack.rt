@@ -1,4 +1,5 @@
 //! The writer's stack: its open pages and its frames.
+pub mod allot;
 pub mod push;
 
 use crate::frame::Frame;

@@ -1,0 +1,132 @@
+//! What the frame on top is allotted: the place of its record, or the answer that a page is needed.
+use crate::fault::WriteFault;
+use crate::frame::{Frame, Progress, Purpose, Slot};
+use crate::stack::WriterStack;
+use record_words::{Place, size_of};
+use trace_model::LINK_FILLS;
+
+/// What a frame gets.
+#[derive(Clone, Copy, Debug, PartialEq, Eq)]
+pub enum Allot {
+    /// The place of its record's payload; for a close frame, which needs no page, a place of length 0.
+    Fits(Place),
+    /// A page is needed first.
+    NeedsPage,
+}
+
+impl WriterStack {
+    ghost use Rattle.std.specs.Prelude.{◌≡◌, ℕ, ◌+◌, ◌-◌, ◌≤◌, ◌<◌, ◌↔◌, max, [], ◌∷◌, ◌++◌, List, length, IsTrue, IfOk, OnOk, OnErr, IsOk};
+    ghost use Rattle.trace_model.specs.declared.limits.TheConstants.{MAX_FRAMES, MOMENT_LIMIT};
+    ghost use Rattle.trace_model.specs.History.{Action, reserve, leave};
+    ghost use Rattle.page_image.specs.Contents.{Contents};
+    ghost use Rattle.nested_writer.specs.Stack.{opened, tail_fill, next_number};
+    ghost use Rattle.nested_writer.specs.Calls.{with_progress, after_leave, IsTop, HasLeft, IsUnchanged, WantsPage, NeedsPage, IsCrowded, IsWorn, IsReserved, HasRecordRoom};
+    ghost use Rattle.nested_writer.specs.IsStack.{IsStack};
+    ghost use Rattle.nested_writer.specs.declared.frame.Frame.{Frame};
+    ghost use Rattle.nested_writer.specs.declared.frame.Purpose.TheVariants.{Record, Close};
+    ghost use Rattle.nested_writer.specs.declared.frame.Progress.TheVariants.{Waiting, Through, Reserved, Left};
+
+    /// How many fills are begun, those closed counted.
+    fn opened(&self) -> u64
+        ensures { result ≡ opened self.now }
+    {
+        self.done + self.older.len() as u64 + 1
+    }
+
+    /// The frame on top has come so far.
+    fn go_on(&mut self, top: Frame, progress: Progress)
+        requires { (below : List Frame) × IsTop self.old top below }
+        ensures { (below : List Frame) → IsTop self.old top below → self.new ≡ with_progress self.old top below progress }
+    {
+        self.top = Some(Frame { progress, ..top });
+    }
+
+    /// The frame on top leaves: the bottom one stays.
+    fn leave(&mut self, top: Frame)
+        requires { (below : List Frame) × IsTop self.old top below }
+        ensures { (below : List Frame) → IsTop self.old top below → self.new ≡ after_leave self.old top below }
+    {
+        self.top = match self.below.pop_front() {
+            Some(next) => Some(next),
+            None => Some(Frame {
+                progress: Progress::Left(None),
+                ..top
+            }),
+        };
+    }
+
+    /// Whether a page is needed for the frame on top, which has no record.
+    fn wants_page(&self, top: Frame) -> bool
+        requires stack { (start : ℕ) × (history : List Action) × IsStack start history self.now }
+        requires top { (below : List Frame) × IsTop self.now top below }
+        ensures { IsTrue result ↔ WantsPage self.now top.purpose top.progress }
+    {
+        match (top.purpose, top.progress) {
+            (Purpose::Record { moment, len }, Progress::Waiting(_)) => {
+                let delta = moment.max(self.last_moment) - self.last_moment;
+                let end = self.tail.end();
+                self.size < end + size_of(len, delta, end == 0)
+            }
+            (Purpose::Close, Progress::Waiting(noted)) => {
+                self.tail.end() > 0 && noted.unwrap_or(self.opened()) == self.opened()
+            }
+            (Purpose::Close, Progress::Through(noted)) => {
+                self.tail.end() > 0 && noted == self.opened()
+            }
+            _ => false,
+        }
+    }
+
+    /// A page is needed for the frame on top: it notes that, or is refused and leaves.
+    fn note_need(&mut self, top: Frame) -> Result<(), WriteFault>
+        requires { (below : List Frame) × IsTop self.old top below }
+        ensures crowded { result ≡ Err WriteFault.Crowded ↔ IsCrowded self.old }
+        ensures worn { result ≡ Err WriteFault.Worn ↔ ((IsCrowded self.old → ⊥) × IsWorn self.old) }
+        ensures noted { IsOk result ↔ ((IsCrowded self.old → ⊥) × (IsWorn self.old → ⊥)) }
+        ensures ok { OnOk result ((below : List Frame) → IsTop self.old top below
+            → self.new ≡ with_progress self.old top below (Waiting (Some (opened self.old)))) }
+        ensures err { OnErr result ((below : List Frame) → IsTop self.old top below
+            → self.new ≡ after_leave self.old top below) }
+    {
+        if self.older.len() + 1 == self.pages {
+            self.leave(top);
+            return Err(WriteFault::Crowded);
+        }
+        let opened = self.opened();
+        if opened + self.pages as u64 >= LINK_FILLS {
+            self.leave(top);
+            return Err(WriteFault::Worn);
+        }
+        self.go_on(top, Progress::Waiting(Some(opened)));
+        Ok(())
+    }
+
+    /// Reserves the record of the frame on top, which fits in the tail.
+    fn reserve(&mut self, top: Frame, moment: u64, len: usize) -> Place
+        requires stack { (start : ℕ) × (history : List Action) × IsStack start history self.old }
+        requires top { (below : List Frame) × IsTop self.old top below }
+        requires purpose { top.purpose ≡ Record moment len }
+        requires waits { (noted : Option ℕ) × (top.progress ≡ Waiting noted) }
+        requires room { HasRecordRoom self.old moment len }
+        ensures reserved { (below : List Frame) → IsTop self.old top below
+            → IsReserved self.old top below moment len result self.new }
+        ensures stack { (start : ℕ) (history : List Action)
+            → IsStack start history self.old
+            → IsStack start (history ++ reserve ∷ []) self.new }
+    {
+        let moment = moment.max(self.last_moment);
+        let number = self.tail.first().0 + self.tail.count();
+        let fill = self.tail.fill().0;
+        let place = self.tail.put(self.last_moment, moment, len);
+        self.last_moment = moment;
+        self.top = Some(Frame {
+            progress: Progress::Reserved(Slot {
+                number,
+                fill,
+                place,
+            }),
+            ..top
+        });
+        place
+    }
+}
