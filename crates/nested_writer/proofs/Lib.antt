@@ -3,3 +3,6 @@ pub mod Pushing
 pub mod NewStack
 pub mod Reserving
 pub mod Leaving
+pub mod Tops
+pub mod Bounds
+pub mod Opening

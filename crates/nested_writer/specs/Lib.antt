@@ -2,3 +2,5 @@ pub mod Stack
 pub mod Inside
 pub mod Calls
 pub mod IsStack
+pub mod Allotted
+pub mod Ends
