@@ -6,3 +6,5 @@ pub mod Leaving
 pub mod Tops
 pub mod Bounds
 pub mod Opening
+pub mod Allotting
+pub mod Ending

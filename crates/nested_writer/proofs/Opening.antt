@@ -23,7 +23,7 @@ use Rattle.nested_writer.specs.declared.frame.Progress.{Progress}
 use Rattle.nested_writer.specs.declared.frame.Progress.TheVariants.{Waiting, Through, Reserved, Left}
 use Rattle.nested_writer.specs.declared.frame.Frame.{Frame}
 use Rattle.nested_writer.specs.Stack.{Stack, tail_fill, opened, next_number, blank_page, kind_of, state_of, model_frames}
-use Rattle.nested_writer.specs.Calls.{with_tail, HasNoted}
+use Rattle.nested_writer.specs.Calls.{with_tail, HasNoted, MayAddPage}
 use Rattle.nested_writer.specs.IsStack.{IsPageOf, IsOpenPage, is_tail, is_older, LiesOpen, StandsAt, MayBePushed, FramesStand, IsStackOf, IsStack}
 use Rattle.nested_writer.proofs.Pushing.{same_of}
 use Rattle.nested_writer.proofs.NewStack.{nothing}
@@ -149,3 +149,10 @@ page_added start h s top below page top_is has blank reads k =
       holds = same_of start (opens_of h ++ length (reserved_records h) ∷ []) (opens_of (h ++ open_fill ∷ [])) (reserved_records h) (reserved_records (h ++ open_fill ∷ [])) false (is_wished (h ++ open_fill ∷ [])) _
           (opens_of-open_fill h) (records_snoc h open_fill) (is_wished-open_fill h) (of_opened start (opens_of h) (reserved_records h) (is_wished h) s k.holds page blank reads);
     }
+
+pub page_may_be_added : (start : ℕ) (h : List Action) (s : Stack) (page : Contents) → MayAddPage s s.frames → page ≡ blank_page s.size (next_number s) (opened s) → IsPage page → IsStack start h s → IsStack start (h ++ open_fill ∷ []) (with_tail s page)
+page_may_be_added start h s page may blank reads k = by_frames s.frames refl may
+  where
+    by_frames : (frames : List Frame) → s.frames ≡ frames → MayAddPage s frames → IsStack start (h ++ open_fill ∷ []) (with_tail s page)
+    by_frames [] e none = absurd none
+    by_frames (top ∷ below) e has = page_added start h s top below page e has blank reads k

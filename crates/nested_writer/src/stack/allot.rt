@@ -15,7 +15,7 @@ pub enum Allot {
 }
 
 impl WriterStack {
-    ghost use Rattle.std.specs.Prelude.{◌≡◌, ℕ, ◌+◌, ◌-◌, ◌≤◌, ◌<◌, ◌↔◌, max, [], ◌∷◌, ◌++◌, List, Option, length, IsTrue, IfOk, OnOk, OnErr, IsOk};
+    ghost use Rattle.std.specs.Prelude.{◌≡◌, ℕ, ◌+◌, ◌-◌, ◌≤◌, ◌<◌, ◌↔◌, max, [], ◌∷◌, ◌++◌, List, Option, length, IsTrue, ◌⊎◌, IfOk, IfErr, OnOk, OnErr, IsOk};
     ghost use Rattle.trace_model.specs.declared.limits.TheConstants.{MAX_FRAMES, MOMENT_LIMIT};
     ghost use Rattle.trace_model.specs.History.{Action, reserve, leave};
     ghost use Rattle.page_image.specs.Contents.{Contents};
@@ -79,15 +79,13 @@ impl WriterStack {
     }
 
     /// A page is needed for the frame on top: it notes that, or is refused and leaves.
-    fn note_need(&mut self, top: Frame) -> Result<(), WriteFault>
-        requires { (below : List Frame) × IsTop self.old top below }
+    fn note_need(&mut self, top: Frame) -> Result<Allot, WriteFault>
+        requires top { (below : List Frame) × IsTop self.old top below }
+        requires wants { WantsPage self.old top.purpose top.progress }
         ensures crowded { result ≡ Err WriteFault.Crowded ↔ IsCrowded self.old }
         ensures worn { result ≡ Err WriteFault.Worn ↔ ((IsCrowded self.old → ⊥) × IsWorn self.old) }
-        ensures noted { IsOk result ↔ ((IsCrowded self.old → ⊥) × (IsWorn self.old → ⊥)) }
-        ensures ok { OnOk result ((below : List Frame) → IsTop self.old top below
-            → self.new ≡ with_progress self.old top below (Waiting (Some (opened self.old)))) }
-        ensures err { OnErr result ((below : List Frame) → IsTop self.old top below
-            → self.new ≡ after_leave self.old top below) }
+        ensures noted { result ≡ Ok Allot.NeedsPage ↔ ((IsCrowded self.old → ⊥) × (IsWorn self.old → ⊥)) }
+        ensures after { IsAllotted self.old self.old.frames result self.new }
     {
         if self.older.len() + 1 == self.pages {
             self.leave(top);
@@ -99,7 +97,7 @@ impl WriterStack {
             return Err(WriteFault::Worn);
         }
         self.go_on(top, Progress::Waiting(Some(opened)));
-        Ok(())
+        Ok(Allot::NeedsPage)
     }
 
     /// Reserves the record of the frame on top, which fits in the tail.
@@ -156,8 +154,7 @@ impl WriterStack {
             Progress::Through(noted) => Some(noted),
         };
         if self.wants_page(top) {
-            self.note_need(top)?;
-            return Ok(Allot::NeedsPage);
+            return self.note_need(top);
         }
         match top.purpose {
             Purpose::Record { moment, len } => Ok(Allot::Fits(self.reserve(top, moment, len))),

@@ -1,0 +1,1 @@
+-- A record frame that is ended.
