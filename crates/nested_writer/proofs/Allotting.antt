@@ -1,7 +1,8 @@
 -- What allot makes of a stack, by its answer.
 use Rattle.std.proofs.Common.{◌≡◌, ◌≢◌, ℕ, ◌+◌, ◌<◌, ◌≤◌, List, [], ◌∷◌, ◌++◌, length, Option, Some, None, Result, Ok, Err, refl, sym, ap, ◌∙◌, subst, arith, append-nil}
 use Rattle.std.specs.Prelude.{unwrap_or}
-use Rattle.trace_model.specs.History.{Action, leave}
+use Rattle.trace_model.specs.History.{Action, leave, reserved_records}
+use Rattle.trace_model.specs.Packing.{opens_of, is_wished}
 use Rattle.trace_model.specs.Frames.{waiting}
 use Rattle.record_words.specs.declared.put.Place.{Place}
 use Rattle.nested_writer.specs.declared.fault.WriteFault.{WriteFault}
@@ -61,8 +62,8 @@ module _ (s after : Stack) (top : Frame) (below : List Frame) (top_is : s.frames
       p' : s.frames ≡ top ∷ below
       p' = top_is
 
-  stands : (progress : Progress) → top.progress ≡ progress → (start : ℕ) (h : List Action) → IsStack start h s → StandsAt s.size s.done s.older s.tail _ _ _ (kind_of top.purpose) progress
-  stands progress q start h k = subst (StandsAt s.size s.done s.older s.tail _ _ _ (kind_of top.purpose)) q (subst (FramesStand s.size s.done s.older s.tail _ _ _) top_is k.holds.frames_are).1
+  stands : (progress : Progress) → top.progress ≡ progress → (start : ℕ) (h : List Action) → IsStack start h s → StandsAt s.size s.done s.older s.tail (opens_of h) (reserved_records h) (is_wished h) (kind_of top.purpose) progress
+  stands progress q start h k = subst (StandsAt s.size s.done s.older s.tail (opens_of h) (reserved_records h) (is_wished h) (kind_of top.purpose)) q (subst (FramesStand s.size s.done s.older s.tail (opens_of h) (reserved_records h) (is_wished h)) top_is k.holds.frames_are).1
 
   tried_first : (noted : Option ℕ) → IsNoted (opened s) noted → unwrap_or noted (opened s) ≤ opened s
   tried_first None n = omega arith

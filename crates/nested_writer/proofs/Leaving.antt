@@ -29,7 +29,7 @@ pub pushed_after_leave : (top : Frame) (below : List Frame) → pushed_of (model
 pushed_after_leave top [] = refl
 pushed_after_leave top (next ∷ below) = refl
 
-frames_left : (size done : ℕ) (older : List Contents) (tail : Contents) (cuts : List ℕ) (records : List Reservation) (found : Bool) (top : Frame) (below : List Frame) → MayBePushed size (kind_of top.purpose) → FramesStand size done older tail cuts records found below → FramesStand size done older tail cuts records found (frames_after_leave top below)
+pub frames_left : (size done : ℕ) (older : List Contents) (tail : Contents) (cuts : List ℕ) (records : List Reservation) (found : Bool) (top : Frame) (below : List Frame) → MayBePushed size (kind_of top.purpose) → FramesStand size done older tail cuts records found below → FramesStand size done older tail cuts records found (frames_after_leave top below)
 frames_left size done older tail cuts records found top [] may st = (may, (tt, (λ e. absurd (none-some _ e))), tt, (λ e. refl), tt)
 frames_left size done older tail cuts records found top (next ∷ below) may st = st
 
