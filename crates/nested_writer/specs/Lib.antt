@@ -4,3 +4,4 @@ pub mod Calls
 pub mod IsStack
 pub mod Allotted
 pub mod Ends
+pub mod Lending
