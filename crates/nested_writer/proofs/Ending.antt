@@ -86,7 +86,7 @@ last_finished (Some (suc zero)) (Some p) (x ∷ y ∷ xs) = last_finished (Some 
 last_finished (Some (suc (suc k))) (Some p) (x ∷ y ∷ xs) = last_finished (Some (suc k)) (Some p) (y ∷ xs)
 
 -- a place is that of a record of the data
-place_inside : (time : ℕ) (bytes : List ℕ) (k start len : ℕ) (fill : List Reservation) → HoldsRecords time bytes fill → IsPlaceOf bytes k start len → k < length fill
+pub place_inside : (time : ℕ) (bytes : List ℕ) (k start len : ℕ) (fill : List Reservation) → HoldsRecords time bytes fill → IsPlaceOf bytes k start len → k < length fill
 place_inside time bytes k start len fill h place =
     let within = place-within bytes start len place.place in
     let long : length (bytes_at start len bytes) ≡ len = length-take-le len (drop start bytes) (omega (arith, length-drop start bytes)) in
