@@ -1,10 +1,9 @@
 -- A payload written into the slot of the frame on top.
-use Rattle.std.proofs.Common.{◌≡◌, ◌≢◌, ℕ, zero, suc, ◌+◌, ◌-◌, ◌<◌, ◌≤◌, ◌⊎◌, Bool, true, false, cond, eqb, List, [], ◌∷◌, ◌++◌, length, get_or, take, drop, set, Option, Some, None, refl, sym, ap, ◌∙◌, subst, ⊎_elim, inl, inr, arith}
+use Rattle.std.proofs.Common.{◌≡◌, ◌≢◌, ℕ, zero, suc, ◌+◌, ◌-◌, ◌<◌, ◌≤◌, ◌⊎◌, Bool, true, false, cond, eqb, List, [], ◌∷◌, length, get_or, take, drop, Some, None, refl, sym, ap, ◌∙◌, subst, ⊎_elim, inl, inr, arith}
 use Rattle.std.specs.Prelude.{slice_set}
 use Rattle.std.specs.List.{slice_get}
-use Rattle.std.proofs.lemmas.Bool.{cond-true, cond-false, ne_eqb, eq-eqb}
 use Rattle.std.proofs.lemmas.List.{take_all, length-set}
-use Rattle.std.proofs.lemmas.Option.{none-some, slice_get_within, get_or_from_slice_get}
+use Rattle.std.proofs.lemmas.Option.{none-some, slice_get_within}
 use mathlib.Core.Logic.{dite}
 use native.Mathlib.Decide.{ℕ_discrete}
 use Rattle.trace_model.specs.Overwriting.{overwritten, IsPlaceOf}
@@ -14,11 +13,10 @@ use Rattle.trace_model.specs.Fitting.{AreFit}
 use Rattle.trace_model.specs.OpenPages.{HoldsRecords}
 use Rattle.trace_model.specs.Reading.{records_in}
 use Rattle.trace_model.proofs.Elements.{some_is}
-use Rattle.trace_model.proofs.FillCuts.{IsRising-least}
 use Rattle.trace_model.proofs.Overwritten.{length-overwritten}
 use Rattle.trace_model.proofs.Places.{IsPlaceOf-overwritten}
 use Rattle.trace_model.proofs.OpenPages.{AreOf-length, holds_written}
-use Rattle.page_image.specs.Contents.{Contents, IsPage}
+use Rattle.page_image.specs.Contents.{Contents}
 use Rattle.page_image.specs.Lending.{with_payload}
 use Rattle.trace_model.specs.Frames.{pushed_of}
 use Rattle.nested_writer.specs.declared.frame.Slot.{Slot}
@@ -26,7 +24,7 @@ use Rattle.nested_writer.specs.declared.frame.Frame.{Frame}
 use Rattle.nested_writer.specs.Stack.{Stack, tail_fill, model_frames}
 use Rattle.nested_writer.specs.Calls.{IsTopSlot}
 use Rattle.nested_writer.specs.Lending.{with_slot}
-use Rattle.nested_writer.specs.IsStack.{IsPageOf, IsOpenPage, is_tail, is_older, LiesOpen, IsStackOf, IsStack}
+use Rattle.nested_writer.specs.IsStack.{IsPageOf, is_tail, is_older, LiesOpen, IsStackOf, IsStack}
 use Rattle.nested_writer.proofs.Standing.{as_many, frames_on, all_before}
 use Rattle.nested_writer.proofs.Ending.{place_inside}
 use Rattle.nested_writer.proofs.Lending.{slot_lies, in_tail, in_older}
@@ -230,10 +228,10 @@ module _ (start : ℕ) (cuts : List ℕ) (xs : List Reservation) (found : Bool) 
   of_written = elim lies.open_page [
     | is_tail at is ↦ subst (IsStackOf start cuts xs found) (in_tail s slot part (at ∙ sym k.tail_is.fill_is)) (of_tail_written is)
     | is_older j at is ↦
-      let low = slice_get_within s.older j lies.page is in
-      let index : slot.fill - s.done ≡ j = omega arith in
-      let there : slice_get s.older (slot.fill - s.done) ≡ Some lies.page = ap (slice_get s.older) index ∙ is in
-      subst (IsStackOf start cuts xs found) (in_older s slot part lies.page (λ same. absurd (let fill = k.tail_is.fill_is in omega arith)) there) (of_older_written (slot.fill - s.done) there)
+        let low = slice_get_within s.older j lies.page is in
+        let index : slot.fill - s.done ≡ j = omega arith in
+        let there : slice_get s.older (slot.fill - s.done) ≡ Some lies.page = ap (slice_get s.older) index ∙ is in
+        subst (IsStackOf start cuts xs found) (in_older s slot part lies.page (λ same. absurd (let fill = k.tail_is.fill_is in omega arith)) there) (of_older_written (slot.fill - s.done) there)
   ]
 
 same_frames : (s : Stack) (slot : Slot) (part : List ℕ) (test : Bool) (one other : Stack) → one.frames ≡ s.frames → other.frames ≡ s.frames → (cond test one other).frames ≡ s.frames

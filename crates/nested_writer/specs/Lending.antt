@@ -1,10 +1,9 @@
 -- A payload that a stack lends out to be written.
-use Rattle.std.specs.Prelude.{◌≡◌, ℕ, ◌+◌, ◌-◌, if◌then◌else◌, ◌==◌, List, [], ◌∷◌, length, slice_set, slice_index_or}
+use Rattle.std.specs.Prelude.{ℕ, ◌-◌, if◌then◌else◌, ◌==◌, List, slice_set, slice_index_or}
 use Rattle.std.specs.Borrow.{Lends, MutBor, Fml, Array, u8}
-use Rattle.page_image.specs.Contents.{Contents}
 use Rattle.page_image.specs.Lending.{with_payload}
 use Rattle.nested_writer.specs.declared.frame.Slot.{Slot}
-use Rattle.nested_writer.specs.Stack.{Stack, tail_fill}
+use Rattle.nested_writer.specs.Stack.{Stack}
 use Rattle.nested_writer.specs.contracts.stack.WriterStack.{the_row}
 
 -- the stack with these bytes in the slot of an open page

@@ -1,6 +1,4 @@
-use Rattle.std.proofs.Common.{◌≡◌, ◌≢◌, ◌∷◌, ◌++◌, [], Some, List, length, refl, sym, ap, ◌∙◌, subst, arith}
-use Rattle.trace_model.specs.History.{wished}
-use Rattle.nested_writer.specs.declared.frame.Frame.{Frame}
+use Rattle.std.proofs.Common.{◌≡◌, ◌≢◌, ◌∷◌, [], length, sym, ap, ◌∙◌, subst}
 use Rattle.nested_writer.specs.Stack.{Stack, opened}
 use Rattle.nested_writer.specs.Inside.{shown, frames_from}
 use Rattle.nested_writer.specs.Calls.{IsAtBottom}

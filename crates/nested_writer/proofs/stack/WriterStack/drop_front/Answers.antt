@@ -1,12 +1,12 @@
-use Rattle.std.proofs.Common.{◌≡◌, ◌∷◌, ◌++◌, ◌+◌, [], ℕ, List, Option, refl, sym, ap, ◌∙◌, subst}
+use Rattle.std.proofs.Common.{◌≡◌, ◌∷◌, ◌++◌, Option, refl, sym, ap, ◌∙◌, subst}
 use Rattle.std.specs.Option.{option_to_list}
-use Rattle.trace_model.specs.History.{Action, reserved_records}
+use Rattle.trace_model.specs.History.{reserved_records}
 use Rattle.trace_model.specs.Packing.{opens_of, is_wished}
 use Rattle.page_image.specs.Contents.{Contents}
 use Rattle.nested_writer.specs.Stack.{Stack}
 use Rattle.nested_writer.specs.Inside.{shown}
 use Rattle.nested_writer.specs.Calls.{IsAtBottom}
-use Rattle.nested_writer.specs.IsStack.{IsStack, IsPageOf}
+use Rattle.nested_writer.specs.IsStack.{IsStack}
 use Rattle.nested_writer.proofs.Dropping.{oldest, released}
 use Rattle.nested_writer.proofs.stack.WriterStack.drop_front.Goals as goal
 

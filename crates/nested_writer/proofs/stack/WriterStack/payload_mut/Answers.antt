@@ -1,15 +1,12 @@
-use Rattle.std.proofs.Common.{◌≡◌, ◌+◌, ◌-◌, ◌<◌, ℕ, List, Some, length, slice_range, refl, sym, ap, ◌∙◌, subst, arith}
+use Rattle.std.proofs.Common.{◌≡◌, ◌+◌, ◌-◌, ℕ, List, Some, slice_range, refl, sym, ap, ◌∙◌, subst, arith}
 use Rattle.std.proofs.lemmas.Option.{get_or_from_slice_get}
-use Rattle.std.specs.List.{slice_get}
 use Rattle.trace_model.specs.History.{Action}
 use Rattle.trace_model.specs.Reading.{IsPlaceIn}
 use Rattle.page_image.specs.Contents.{Contents}
-use Rattle.page_image.specs.Lending.{with_payload}
 use Rattle.nested_writer.specs.declared.frame.Slot.{Slot}
-use Rattle.nested_writer.specs.Stack.{Stack, tail_fill}
+use Rattle.nested_writer.specs.Stack.{Stack}
 use Rattle.nested_writer.specs.Inside.{shown}
 use Rattle.nested_writer.specs.Calls.{IsTopSlot}
-use Rattle.nested_writer.specs.Lending.{with_slot}
 use Rattle.nested_writer.specs.IsStack.{is_tail, IsOpenPage, IsStack}
 use Rattle.nested_writer.proofs.Ending.{open_page_is}
 use Rattle.nested_writer.proofs.Written.{written}
