@@ -37,3 +37,4 @@ pub mod FillsJoined
 pub mod FillSizes
 pub mod PackedHistories
 pub mod FullFills
+pub mod OpenPages

@@ -38,6 +38,16 @@ pushed_onto kind waiting below = pushed_frame kind waiting ∷ below
 pushed_onto kind (reserved number) below = pushed_frame kind (reserved number) ∷ below
 pushed_onto kind left below = below
 
+-- a frame of the stack, whatever writer or ring it stands in
+pub record StackFrame : Type 0 where
+  pub kind : Kind
+  pub state : FrameState
+
+-- the frames of a stack, the top first, that haven't left, as the history has them
+abbrev pub pushed_of : List StackFrame → List PushedFrame
+pushed_of [] = []
+pushed_of (frame ∷ below) = pushed_onto frame.kind frame.state (pushed_of below)
+
 -- ---- the head's protocol
 
 -- Who moves the head: the frame that set the UPDATE, or one that found it.
@@ -66,10 +76,14 @@ pub record Frame : Type 0 where
   pub state : FrameState
   pub phase : Phase
 
+-- a ring's frames as those of a stack
+abbrev pub stack_of : List Frame → List StackFrame
+stack_of [] = []
+stack_of (frame ∷ below) = record { kind = frame.kind; state = frame.state } ∷ stack_of below
+
 -- the frames that haven't left, as the history has them
 abbrev pub pushed_frames : List Frame → List PushedFrame
-pushed_frames [] = []
-pushed_frames (frame ∷ below) = pushed_onto frame.kind frame.state (pushed_frames below)
+pushed_frames frames = pushed_of (stack_of frames)
 
 -- the fill that a frame is about to open, where it has noted one
 abbrev pub noted_fill : Phase → Option ℕ

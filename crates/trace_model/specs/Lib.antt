@@ -12,6 +12,7 @@ pub mod Laws
 pub mod Sublist
 pub mod History
 pub mod Packing
+pub mod OpenPages
 pub mod HistoryLaws
 -- a ring: its links, frames and counts, its state, and one step
 pub mod Links

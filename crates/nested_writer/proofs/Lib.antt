@@ -1,0 +1,13 @@
+pub mod Standing
+pub mod Pushing
+pub mod NewStack
+pub mod Reserving
+pub mod Leaving
+pub mod Tops
+pub mod Bounds
+pub mod Opening
+pub mod Allotting
+pub mod Ending
+pub mod Dropping
+pub mod Lending
+pub mod Written

@@ -1,0 +1,25 @@
+use Rattle.std.proofs.Common.{◌≡◌, ◌∷◌, ◌++◌, Option, refl, sym, ap, ◌∙◌, subst}
+use Rattle.std.specs.Option.{option_to_list}
+use Rattle.trace_model.specs.History.{reserved_records}
+use Rattle.trace_model.specs.Packing.{opens_of, is_wished}
+use Rattle.page_image.specs.Contents.{Contents}
+use Rattle.nested_writer.specs.Stack.{Stack}
+use Rattle.nested_writer.specs.Inside.{shown}
+use Rattle.nested_writer.specs.Calls.{IsAtBottom}
+use Rattle.nested_writer.specs.IsStack.{IsStack}
+use Rattle.nested_writer.proofs.Dropping.{oldest, released}
+use Rattle.nested_writer.proofs.stack.WriterStack.drop_front.Goals as goal
+
+pub returns-clause-stack : goal.returns-clause-stack
+returns-clause-stack c = λ start h old.
+    let s : Stack = shown c.self.inside in
+    let k : IsStack start h s = subst (IsStack start h) (sym c.self.view_is) old in
+    let bottom = subst (λ (x : Stack). IsAtBottom x.frames) (sym c.self.view_is) c.requires.bottom in
+    let older : s.older ≡ c.in-Some.page ∷ c.pop_front.new.self.items = c.pop_front.ensures.items ∙ ap (λ (o : Option Contents). option_to_list o ++ c.pop_front.new.self.items) c.in-Some.is in
+    released start h s c.in-Some.page c.pop_front.new.self.items _ older refl bottom k
+
+pub returns-clause-fill : goal.returns-clause-fill
+returns-clause-fill c = λ start h old.
+    let s : Stack = c.args.self.now in
+    let older : s.older ≡ c.in-Some.page ∷ c.pop_front.new.self.items = ap (λ (x : Stack). x.older) (sym c.self.view_is) ∙ c.pop_front.ensures.items ∙ ap (λ (o : Option Contents). option_to_list o ++ c.pop_front.new.self.items) c.in-Some.is in
+    oldest start (opens_of h) (reserved_records h) (is_wished h) s c.in-Some.page c.pop_front.new.self.items older old.holds

@@ -1,0 +1,38 @@
+-- What holds of the fields of a writer's stack.
+use Rattle.std.specs.Prelude.{◌≡◌, ◌+◌, ◌≤◌, ◌<◌, List, [], ◌∷◌, length, Option, Some, None}
+use Rattle.std.specs.VecDeque.{deque_capacity}
+use Rattle.trace_model.specs.declared.limits.TheConstants.{MIN_PAGES, MAX_PAGES, MIN_SIZE, MAX_SIZE, MAX_FRAMES, LINK_FILLS}
+use Rattle.nested_writer.specs.declared.frame.Frame.{Frame}
+use Rattle.nested_writer.specs.declared.stack.WriterStack.TheInside.{Inside}
+use Rattle.nested_writer.specs.Stack.{Stack}
+
+-- the frames, the top first
+abbrev pub frames_from : Option Frame → List Frame → List Frame
+frames_from None below = below
+frames_from (Some top) below = top ∷ below
+
+abbrev pub shown : Inside → Stack
+shown w = record {
+  pages = w.pages;
+  size = w.size;
+  done = w.done;
+  older = w.older.items;
+  tail = w.tail;
+  frames = frames_from w.top w.below.items;
+  last_moment = w.last_moment;
+}
+
+-- There is room for all pages and frames; where no frame stands, all fills but the tail are released; and the next fill
+-- has a number.
+pub record IsWriterStack (w : Inside) : Type 0 where
+  pub some_pages : MIN_PAGES ≤ w.pages
+  pub most_pages : w.pages ≤ MAX_PAGES
+  pub small : MIN_SIZE ≤ w.size
+  pub large : w.size ≤ MAX_SIZE
+  pub room : w.pages ≤ deque_capacity w.older
+  pub open_pages : length w.older.items < w.pages
+  pub frames_room : MAX_FRAMES ≤ deque_capacity w.below
+  pub frames : length (frames_from w.top w.below.items) ≤ MAX_FRAMES
+  pub top_first : w.top ≡ None → w.below.items ≡ []
+  pub at_rest : w.top ≡ None → w.older.items ≡ []
+  pub fills : w.done + length w.older.items + 1 + w.pages ≤ LINK_FILLS

@@ -1,0 +1,20 @@
+//! Why a write is refused.
+
+/// Why a write, or a step of its frame, is refused. Where several hold, the first of these is answered.
+#[derive(Clone, Copy, Debug, PartialEq, Eq)]
+pub enum WriteFault {
+    /// As many frames stand on the writer's stack as can: `MAX_FRAMES`.
+    TooDeep,
+    /// The payload doesn't fit a page.
+    TooLong,
+    /// The moment is not below `MOMENT_LIMIT`.
+    LateMoment,
+    /// A page is needed, and none is released: as many fills are begun and not closed as the ring has pages.
+    Crowded,
+    /// A page is needed, and the tail is the last fill that may be begun, so that links can tell their fills.
+    Worn,
+    /// No frame stands.
+    NoFrame,
+    /// The frame has reserved nothing, or was ended or refused.
+    NotReserved,
+}

@@ -1,0 +1,90 @@
+//! The writer's stack: its open pages and its frames.
+pub mod allot;
+pub mod leave;
+pub mod lend;
+pub mod pages;
+pub mod push;
+
+use crate::frame::Frame;
+use page_image::{Body, Page};
+use std::alloc::Global;
+use std::collections::VecDeque;
+use std::marker::Model;
+use trace_model::{FillNo, MAX_FRAMES, NoMemory, RecordNo, START_FILL};
+
+/// The frames of one ring's writers, over the pages of the fills that are begun and not closed.
+#[derive(Drop)]
+pub struct WriterStack {
+    pages: usize,
+    size: usize,
+    done: u64,
+    older: VecDeque<Page>,
+    tail: Page,
+    top: Option<Frame>,
+    below: VecDeque<Frame>,
+    last_moment: u64,
+}
+
+impl Model for WriterStack {
+    ghost use Rattle.nested_writer.specs.Stack.{Stack};
+
+    ghost Value = { Stack };
+
+    ghost use Rattle.nested_writer.specs.Inside.{shown, IsWriterStack};
+
+    ghost view = { shown };
+
+    ghost invariant = { IsWriterStack };
+}
+
+impl WriterStack {
+    ghost use Rattle.std.specs.Prelude.{◌≡◌, ◌+◌, ◌%◌, ◌≤◌, ◌<◌, [], length, IfOk};
+    ghost use Rattle.trace_model.specs.declared.limits.TheConstants.{MIN_PAGES, MAX_PAGES, MIN_SIZE, MAX_SIZE, LINK_FILLS, START_FILL};
+    ghost use Rattle.nested_writer.specs.Stack.{new_stack};
+    ghost use Rattle.nested_writer.specs.IsStack.{IsStack};
+
+    /// A stack without a frame, over one empty page of `size` bytes of data, in a ring of `pages` pages whose first
+    /// fill has the number `start`. All room is made here: no other call takes memory.
+    pub fn new_at(
+        alloc: Global,
+        pages: usize,
+        size: usize,
+        start: u64,
+    ) -> Result<WriterStack, NoMemory>
+        requires pages { MIN_PAGES ≤ pages }
+        requires most { pages ≤ MAX_PAGES }
+        requires small { MIN_SIZE ≤ size }
+        requires large { size ≤ MAX_SIZE }
+        requires words { size % 4 ≡ 0 }
+        requires start { start + pages < LINK_FILLS }
+        ensures blank { IfOk result (λ stack. stack ≡ new_stack pages size start) }
+        ensures stack { IfOk result (λ stack. IsStack start [] stack) }
+    {
+        let older = VecDeque::with_capacity(alloc, pages)?;
+        let below = VecDeque::with_capacity(alloc, MAX_FRAMES)?;
+        let body = Body::new(alloc, size)?;
+        Ok(WriterStack {
+            pages,
+            size,
+            done: start,
+            older,
+            tail: Page::fresh(body, RecordNo(0), FillNo(start)),
+            top: None,
+            below,
+            last_moment: 0,
+        })
+    }
+
+    /// A stack in a ring whose first fill has the number `START_FILL`.
+    pub fn new(alloc: Global, pages: usize, size: usize) -> Result<WriterStack, NoMemory>
+        requires pages { MIN_PAGES ≤ pages }
+        requires most { pages ≤ MAX_PAGES }
+        requires small { MIN_SIZE ≤ size }
+        requires large { size ≤ MAX_SIZE }
+        requires words { size % 4 ≡ 0 }
+        ensures blank { IfOk result (λ stack. stack ≡ new_stack pages size START_FILL) }
+        ensures stack { IfOk result (λ stack. IsStack START_FILL [] stack) }
+    {
+        WriterStack::new_at(alloc, pages, size, START_FILL)
+    }
+}

@@ -1,0 +1,168 @@
+//! What the frame on top is allotted: the place of its record, or the answer that a page is needed.
+use crate::fault::WriteFault;
+use crate::frame::{Frame, Progress, Purpose, Slot};
+use crate::stack::WriterStack;
+use record_words::{Place, size_of};
+use trace_model::LINK_FILLS;
+
+/// What a frame gets.
+#[derive(Clone, Copy, Debug, PartialEq, Eq)]
+pub enum Allot {
+    /// The place of its record's payload; for a close frame, which needs no page, a place of length 0.
+    Fits(Place),
+    /// A page is needed first.
+    NeedsPage,
+}
+
+impl WriterStack {
+    ghost use Rattle.std.specs.Prelude.{◌≡◌, ℕ, ◌+◌, ◌-◌, ◌≤◌, ◌<◌, ◌↔◌, max, [], ◌∷◌, ◌++◌, List, Option, length, IsTrue, ◌⊎◌, IfOk, IfErr, OnOk, OnErr, IsOk};
+    ghost use Rattle.trace_model.specs.declared.limits.TheConstants.{MAX_FRAMES, MOMENT_LIMIT};
+    ghost use Rattle.trace_model.specs.History.{Action, reserve, leave};
+    ghost use Rattle.page_image.specs.Contents.{Contents};
+    ghost use Rattle.nested_writer.specs.Stack.{opened, tail_fill, next_number};
+    ghost use Rattle.nested_writer.specs.Calls.{with_progress, after_leave, IsTop, HasLeft, IsUnchanged, WantsPage, NeedsPage, IsCrowded, IsWorn, IsReserved, HasRecordRoom, HasTopLeft};
+    ghost use Rattle.nested_writer.specs.IsStack.{IsStack};
+    ghost use Rattle.nested_writer.specs.Allotted.{IsAllotted};
+    ghost use Rattle.nested_writer.specs.declared.frame.Frame.{Frame};
+    ghost use Rattle.nested_writer.specs.declared.frame.Purpose.TheVariants.{Record, Close};
+    ghost use Rattle.nested_writer.specs.declared.frame.Progress.TheVariants.{Waiting, Through, Reserved, Left};
+
+    /// How many fills are begun, those closed counted.
+    pub(crate) fn opened(&self) -> u64
+        ensures { result ≡ opened self.now }
+    {
+        self.done + self.older.len() as u64 + 1
+    }
+
+    /// The frame on top has come so far.
+    fn go_on(&mut self, top: Frame, progress: Progress)
+        requires { (below : List Frame) × IsTop self.old top below }
+        ensures { (below : List Frame) → IsTop self.old top below → self.new ≡ with_progress self.old top below progress }
+    {
+        self.top = Some(Frame { progress, ..top });
+    }
+
+    /// The frame on top leaves: the bottom one stays.
+    pub(crate) fn leave(&mut self, top: Frame)
+        requires { (below : List Frame) × IsTop self.old top below }
+        ensures { (below : List Frame) → IsTop self.old top below → self.new ≡ after_leave self.old top below }
+    {
+        self.top = match self.below.pop_front() {
+            Some(next) => Some(next),
+            None => Some(Frame {
+                progress: Progress::Left(None),
+                ..top
+            }),
+        };
+    }
+
+    /// Whether a page is needed for the frame on top, which has no record.
+    fn wants_page(&self, top: Frame) -> bool
+        requires stack { (start : ℕ) × (history : List Action) × IsStack start history self.now }
+        requires top { (below : List Frame) × IsTop self.now top below }
+        ensures { IsTrue result ↔ WantsPage self.now top.purpose top.progress }
+    {
+        match (top.purpose, top.progress) {
+            (Purpose::Record { moment, len }, Progress::Waiting(_)) => {
+                let delta = moment.max(self.last_moment) - self.last_moment;
+                let end = self.tail.end();
+                self.size < end + size_of(len, delta, end == 0)
+            }
+            (Purpose::Close, Progress::Waiting(noted)) => {
+                self.tail.end() > 0 && noted.unwrap_or(self.opened()) == self.opened()
+            }
+            (Purpose::Close, Progress::Through(noted)) => {
+                self.tail.end() > 0 && noted == self.opened()
+            }
+            _ => false,
+        }
+    }
+
+    /// A page is needed for the frame on top: it notes that, or is refused and leaves.
+    fn note_need(&mut self, top: Frame) -> Result<Allot, WriteFault>
+        requires top { (below : List Frame) × IsTop self.old top below }
+        requires wants { WantsPage self.old top.purpose top.progress }
+        ensures crowded { result ≡ Err WriteFault.Crowded ↔ IsCrowded self.old }
+        ensures worn { result ≡ Err WriteFault.Worn ↔ ((IsCrowded self.old → ⊥) × IsWorn self.old) }
+        ensures noted { result ≡ Ok Allot.NeedsPage ↔ ((IsCrowded self.old → ⊥) × (IsWorn self.old → ⊥)) }
+        ensures after { IsAllotted self.old self.old.frames result self.new }
+    {
+        if self.older.len() + 1 == self.pages {
+            self.leave(top);
+            return Err(WriteFault::Crowded);
+        }
+        let opened = self.opened();
+        if opened + self.pages as u64 >= LINK_FILLS {
+            self.leave(top);
+            return Err(WriteFault::Worn);
+        }
+        self.go_on(top, Progress::Waiting(Some(opened)));
+        Ok(Allot::NeedsPage)
+    }
+
+    /// Reserves the record of the frame on top, which fits in the tail.
+    fn reserve(&mut self, top: Frame, moment: u64, len: usize) -> Place
+        requires stack { (start : ℕ) × (history : List Action) × IsStack start history self.old }
+        requires top { (below : List Frame) × IsTop self.old top below }
+        requires purpose { top.purpose ≡ Record moment len }
+        requires waits { (noted : Option ℕ) × (top.progress ≡ Waiting noted) }
+        requires room { HasRecordRoom self.old moment len }
+        ensures reserved { (below : List Frame) → IsTop self.old top below
+            → IsReserved self.old top below moment len result self.new }
+        ensures stack { (start : ℕ) (history : List Action)
+            → IsStack start history self.old
+            → IsStack start (history ++ reserve ∷ []) self.new }
+    {
+        let moment = moment.max(self.last_moment);
+        let number = self.tail.first().0 + self.tail.count();
+        let fill = self.tail.fill().0;
+        let place = self.tail.put(self.last_moment, moment, len);
+        self.last_moment = moment;
+        self.top = Some(Frame {
+            progress: Progress::Reserved(Slot {
+                number,
+                fill,
+                place,
+            }),
+            ..top
+        });
+        place
+    }
+
+    /// Reserves the record of the frame on top, whose moment is raised to that of the last one, or tells that a page is
+    /// needed; a reserved frame gets its place again. For a close frame a page is needed where the tail holds a record
+    /// and no page was added since its first call; else it gets a place of length 0. A frame that is refused as
+    /// `Crowded` or `Worn` leaves without a record.
+    pub fn allot(&mut self) -> Result<Allot, WriteFault>
+        requires stack { (start : ℕ) × (history : List Action) × IsStack start history self.old }
+        ensures crowded { result ≡ Err WriteFault.Crowded ↔ (NeedsPage self.old self.old.frames × IsCrowded self.old) }
+        ensures worn { result ≡ Err WriteFault.Worn
+            ↔ (NeedsPage self.old self.old.frames × (IsCrowded self.old → ⊥) × IsWorn self.old) }
+        ensures no_frame { result ≡ Err WriteFault.NoFrame ↔ self.old.frames ≡ [] }
+        ensures not_reserved { result ≡ Err WriteFault.NotReserved ↔ HasTopLeft self.old.frames }
+        ensures needs_page { result ≡ Ok Allot.NeedsPage
+            ↔ (NeedsPage self.old self.old.frames × (IsCrowded self.old → ⊥) × (IsWorn self.old → ⊥)) }
+        ensures after { IsAllotted self.old self.old.frames result self.new }
+    {
+        let Some(top) = self.top else {
+            return Err(WriteFault::NoFrame);
+        };
+        let noted = match top.progress {
+            Progress::Left(_) => return Err(WriteFault::NotReserved),
+            Progress::Reserved(slot) => return Ok(Allot::Fits(slot.place)),
+            Progress::Waiting(noted) => noted,
+            Progress::Through(noted) => Some(noted),
+        };
+        if self.wants_page(top) {
+            return self.note_need(top);
+        }
+        match top.purpose {
+            Purpose::Record { moment, len } => Ok(Allot::Fits(self.reserve(top, moment, len))),
+            Purpose::Close => {
+                let noted = noted.unwrap_or(self.opened());
+                self.go_on(top, Progress::Through(noted));
+                Ok(Allot::Fits(Place { start: 0, len: 0 }))
+            }
+        }
+    }
+}

@@ -1,0 +1,88 @@
+//! Frames that are pushed.
+use crate::fault::WriteFault;
+use crate::frame::{Frame, Progress, Purpose};
+use crate::stack::WriterStack;
+use record_words::size_of;
+use trace_model::{MAX_FRAMES, MOMENT_LIMIT};
+
+impl WriterStack {
+    ghost use Rattle.std.specs.Prelude.{◌≡◌, ℕ, ◌+◌, ◌≤◌, ◌<◌, ◌↔◌, [], ◌∷◌, ◌++◌, List, length, IsOk, OnOk, OnErr};
+    ghost use Rattle.trace_model.specs.declared.limits.TheConstants.{MAX_FRAMES, MOMENT_LIMIT};
+    ghost use Rattle.trace_model.specs.History.{Action, push, push_close};
+    ghost use Rattle.trace_model.specs.Steps.{IsTooLong};
+    ghost use Rattle.nested_writer.specs.Calls.{with_frame};
+    ghost use Rattle.nested_writer.specs.IsStack.{IsStack};
+    ghost use Rattle.nested_writer.specs.declared.frame.Purpose.TheVariants.{Record, Close};
+    ghost use Rattle.nested_writer.specs.declared.frame.Progress.TheVariants.{Waiting};
+
+    /// How many frames stand.
+    pub fn depth(&self) -> usize
+        ensures { result ≡ length self.now.frames }
+    {
+        match self.top {
+            Some(_) => 1 + self.below.len(),
+            None => 0,
+        }
+    }
+
+    /// One frame more on top, where fewer than `MAX_FRAMES` stand.
+    fn push(&mut self, purpose: Purpose)
+        requires { length self.old.frames < MAX_FRAMES }
+        ensures { self.new ≡ with_frame self.old (record { purpose = purpose; progress = Waiting None }) }
+    {
+        if let Some(top) = self.top {
+            self.below.push_front_reserved(top);
+        }
+        self.top = Some(Frame {
+            purpose,
+            progress: Progress::Waiting(None),
+        });
+    }
+
+    /// Pushes a frame for a record of this moment and of a payload of `len` bytes.
+    pub fn begin(&mut self, moment: u64, len: usize) -> Result<(), WriteFault>
+        ensures too_deep { result ≡ Err WriteFault.TooDeep ↔ MAX_FRAMES ≤ length self.old.frames }
+        ensures too_long { result ≡ Err WriteFault.TooLong
+            ↔ ((length self.old.frames < MAX_FRAMES) × IsTooLong self.old.size len) }
+        ensures late { result ≡ Err WriteFault.LateMoment
+            ↔ ((length self.old.frames < MAX_FRAMES) × (IsTooLong self.old.size len → ⊥) × (MOMENT_LIMIT ≤ moment)) }
+        ensures begun { IsOk result
+            ↔ ((length self.old.frames < MAX_FRAMES) × (IsTooLong self.old.size len → ⊥) × (moment < MOMENT_LIMIT)) }
+        ensures ok { OnOk result
+            (self.new ≡ with_frame self.old (record { purpose = Record moment len; progress = Waiting None })) }
+        ensures err { OnErr result (self.new ≡ self.old) }
+        ensures pushed { OnOk result ((start : ℕ) (history : List Action)
+            → IsStack start history self.old
+            → IsStack start (history ++ push moment len ∷ []) self.new) }
+    {
+        if self.depth() >= MAX_FRAMES {
+            return Err(WriteFault::TooDeep);
+        }
+        if len > self.size || size_of(len, 0, true) > self.size {
+            return Err(WriteFault::TooLong);
+        }
+        if moment >= MOMENT_LIMIT {
+            return Err(WriteFault::LateMoment);
+        }
+        self.push(Purpose::Record { moment, len });
+        Ok(())
+    }
+
+    /// Pushes a frame that leaves the tail page, where that holds a record.
+    pub fn begin_close(&mut self) -> Result<(), WriteFault>
+        ensures too_deep { result ≡ Err WriteFault.TooDeep ↔ MAX_FRAMES ≤ length self.old.frames }
+        ensures begun { IsOk result ↔ length self.old.frames < MAX_FRAMES }
+        ensures ok { OnOk result
+            (self.new ≡ with_frame self.old (record { purpose = Close; progress = Waiting None })) }
+        ensures err { OnErr result (self.new ≡ self.old) }
+        ensures pushed { OnOk result ((start : ℕ) (history : List Action)
+            → IsStack start history self.old
+            → IsStack start (history ++ push_close ∷ []) self.new) }
+    {
+        if self.depth() >= MAX_FRAMES {
+            return Err(WriteFault::TooDeep);
+        }
+        self.push(Purpose::Close);
+        Ok(())
+    }
+}
