@@ -1,13 +1,10 @@
 -- What a walk still comes by: one word more, an end, and at the front all records of a page that reads.
-use Rattle.std.proofs.Common.{◌≡◌, ℕ, ◌+◌, ◌^◌, ◌<◌, ◌≤◌, ltb, List, [], ◌∷◌, ◌++◌, length, drop, None, Some, refl, sym, ap, ap₂, ◌∙◌, subst, arith, append_assoc}
+use Rattle.std.proofs.Common.{◌≡◌, ℕ, ◌+◌, ◌^◌, ◌<◌, ◌≤◌, ltb, List, [], ◌∷◌, ◌++◌, drop, None, Some, refl, sym, ap, ap₂, ◌∙◌, subst, arith, append_assoc}
 use Rattle.std.specs.List.{AllByRecursion}
-use Rattle.std.proofs.lemmas.List.{drop_all}
 use Rattle.std.proofs.lemmas.Bool.{cond-true, cond-false, lt-ltb, le-ltb}
 use Rattle.trace_model.specs.Record.{Record}
 use Rattle.trace_model.specs.Words.{Word, short_data, long_data, padding, time_extend, time_stamp, IsWord, delta_of, moment_after, records_at, records_behind, records_of, MovesTime, FitsTime, Decodes}
 use Rattle.trace_model.specs.Reading.{IsData, payload_of, word_at_front, words_in, records_in}
-use Rattle.trace_model.specs.Overwriting.{bytes_at}
-use Rattle.trace_model.proofs.OneWord.{word_at_front-nil}
 use Rattle.trace_model.proofs.Unique.{words_in-IsJoined}
 use Rattle.trace_model.proofs.Stepped.{words_in-found, words_in-none}
 use Rattle.trace_model.proofs.Appended.{moment_after-push, moment_after-stamp}

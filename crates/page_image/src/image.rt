@@ -13,7 +13,7 @@ mod header;
 
 use crate::count::count_records;
 use crate::page::Page;
-pub(crate) use header::HEADER;
+pub(crate) use header::{Commit, HEADER};
 use header::{read_header, read_missed};
 use record_words::WordFault;
 use std::alloc::{AllocError, Global};

@@ -18,6 +18,8 @@ pub mod RecordsFill
 pub mod FirstFaults
 pub mod ImageParts
 pub mod Images
+pub mod ParcelParts
+pub mod Parcels
 pub mod Joined
 pub mod Windows
 pub mod Elements

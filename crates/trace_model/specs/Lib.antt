@@ -24,5 +24,6 @@ pub mod Steps
 -- what was taken: the partition, parcels, collections and listings
 pub mod Partition
 pub mod Parcel
+pub mod ParcelBytes
 pub mod Collection
 pub mod Listing

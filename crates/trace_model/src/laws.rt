@@ -6,6 +6,7 @@ pub mod images;
 pub mod limits;
 pub mod links;
 pub mod packings;
+pub mod parcels;
 pub mod partitions;
 pub mod windows;
 pub mod words;

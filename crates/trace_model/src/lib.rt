@@ -9,7 +9,7 @@ pub mod limits;
 pub mod numbers;
 
 pub use limits::{
-    LINK_FILLS, LINK_PAGES, MAX_FRAMES, MAX_IMAGE, MAX_INPUT, MAX_PAGES, MAX_SIZE, MIN_PAGES,
-    MIN_SIZE, MOMENT_LIMIT, START_FILL,
+    LINK_FILLS, LINK_PAGES, MAX_CPUS, MAX_FRAMES, MAX_IMAGE, MAX_INPUT, MAX_PAGES, MAX_SIZE,
+    MIN_PAGES, MIN_SIZE, MOMENT_LIMIT, START_FILL,
 };
 pub use numbers::{CpuId, FillNo, Moment, NoMemory, RecordNo};

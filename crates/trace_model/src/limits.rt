@@ -15,6 +15,9 @@ pub const MAX_SIZE: usize = 65_520;
 /// The longest page image that is read, in bytes.
 pub const MAX_IMAGE: usize = 65_536;
 
+/// The most CPUs: a CPU's number is below this.
+pub const MAX_CPUS: u32 = 256;
+
 /// The most frames that stand on the writer's stack of one ring at a time.
 pub const MAX_FRAMES: usize = 4;
 

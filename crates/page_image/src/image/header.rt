@@ -1,6 +1,7 @@
 //! What stands in front of the data of an image, and the count behind it.
-ghost use Rattle.std.specs.Prelude.{◌≡◌, ℕ, ◌+◌, ◌≤◌, ◌<◌, length, drop, IfOk, IfErr};
-ghost use Rattle.trace_model.specs.Image.{from_le64, TellsMissed};
+ghost use Rattle.std.specs.Prelude.{◌≡◌, ℕ, ◌+◌, ◌≤◌, ◌<◌, List, length, drop, IfOk, IfErr};
+ghost use Rattle.trace_model.specs.Image.{from_le64, commit_word, commit_of as commit_written, TellsMissed};
+ghost use Rattle.trace_model.specs.declared.limits.TheConstants.{MAX_SIZE};
 ghost use Rattle.page_image.specs.Images.{missed_of, commit_with, IsCommitWord, HasPartsOf, LacksCount, IsImageFault};
 
 use crate::image::{ImageFault, Missed};
@@ -55,6 +56,41 @@ fn commit_of(word: u64) -> Commit
         size: (word % STORED) as usize,
         is_stored: word / STORED % 2 == 1,
         is_missed: word / MISSED % 2 == 1,
+    }
+}
+
+impl Commit {
+    /// The commit word of an image that is written: for a page with this size and so many bytes of records, in front of
+    /// which so many events were missed. Their count is stored where there is room for it.
+    pub(crate) fn written(end: usize, missed: u64, size: usize) -> Commit
+        requires limit { size ≤ MAX_SIZE }
+        requires end { end ≤ size }
+        ensures commit { (contents : List ℕ) → length contents ≡ end
+            → commit_with result 0 ≡ commit_written contents missed size }
+        ensures size { result.size ≡ end }
+    {
+        Commit {
+            size: end,
+            is_stored: missed > 0 && end + NUMBER <= size,
+            is_missed: missed > 0,
+        }
+    }
+
+    /// A count of missed events stands behind the records.
+    pub(crate) fn stores_count(self) -> bool
+        ensures { result ≡ self.is_stored }
+    {
+        self.is_stored
+    }
+
+    /// The commit word as a number, with zeros in the bits that mean nothing.
+    pub(crate) fn word(self) -> u64
+        requires { self.size < STORED }
+        ensures { result ≡ commit_word (commit_with self 0) }
+    {
+        let stored = if self.is_stored { STORED } else { 0 };
+        let missed = if self.is_missed { MISSED } else { 0 };
+        self.size as u64 + stored + missed
     }
 }
 

@@ -1,5 +1,5 @@
 //! Images read and written, with their bytes written out: the header on one line, what stands behind it on the next.
-ghost use Rattle.std.specs.Prelude.{◌≡◌};
+ghost use Rattle.std.specs.Prelude.{◌≡◌, ◌≤◌, ◌%◌};
 
 use crate::image::HEADER;
 use crate::{Body, Image, ImageFault, Missed, Page, read_image};
@@ -215,6 +215,19 @@ fn an_image_is_at_most_as_long_as_the_largest_page(rt: HostRuntime) -> Result<()
     Ok(())
 }
 
+/// A page of this data size with one record, of moment 2 and 28 bytes of value 2.
+fn page_of_twos(alloc: Global, size: usize) -> Result<Page, NoMemory>
+    requires room { 36 ≤ size }
+    requires limit { size ≤ 40 }
+    requires words { size % 4 ≡ 0 }
+{
+    let mut page = Page::fresh(Body::new(alloc, size)?, RecordNo(1), FillNo(1));
+    let place = page.put(0, 2, 28);
+    page.payload_mut(place).copy_from_slice(&[2; 28]);
+    Ok(page)
+}
+
+/// A count of missed events is stored where eight bytes are left for it, and read back.
 #[test]
 fn missed_count_in_an_image(rt: HostRuntime) -> Result<(), Fail> {
     let records = &[Record {
@@ -256,7 +269,21 @@ fn missed_count_in_an_image(rt: HostRuntime) -> Result<(), Fail> {
             }),
         },
     ];
-    Ok(read_and_compare(&rt, rt.alloc(), &table)?)
+    read_and_compare(&rt, rt.alloc(), &table)?;
+    let full = page_of_twos(rt.alloc(), 36)?;
+    assert_eq!(rt; full.write_image(rt.alloc(), 1)?.as_slice(), table[0].image);
+    let roomy = page_of_twos(rt.alloc(), 40)?;
+    assert_eq!(rt;
+        roomy.write_image(rt.alloc(), 1)?.as_slice(),
+        table[1].image
+    );
+    let none_missed = roomy.write_image(rt.alloc(), 0)?;
+    assert_eq!(rt; &none_missed[8..16], b"\x20\0\0\0\0\0\0\0".as_slice());
+    assert!(rt; none_missed[48..].iter().all(|byte| *byte == 0));
+    let all_missed = roomy.write_image(rt.alloc(), u64::MAX)?;
+    assert_eq!(rt; &all_missed[8..16], b"\x20\0\0\xc0\0\0\0\0".as_slice());
+    assert_eq!(rt; &all_missed[48..], [0xff; 8].as_slice());
+    Ok(())
 }
 
 /// A page of one record, of moment 100 and the bytes 1 to 4.

@@ -1,6 +1,6 @@
 //! The limits, each by its value.
 ghost use Rattle.std.specs.Prelude.{◌≡◌, ◌^◌};
-ghost use Rattle.trace_model.specs.declared.limits.TheConstants.{LINK_FILLS, LINK_PAGES, MAX_FRAMES, MAX_IMAGE, MAX_INPUT, MAX_PAGES, MAX_SIZE, MIN_PAGES, MIN_SIZE, MOMENT_LIMIT, START_FILL};
+ghost use Rattle.trace_model.specs.declared.limits.TheConstants.{LINK_FILLS, LINK_PAGES, MAX_CPUS, MAX_FRAMES, MAX_IMAGE, MAX_INPUT, MAX_PAGES, MAX_SIZE, MIN_PAGES, MIN_SIZE, MOMENT_LIMIT, START_FILL};
 
 /// The limits have these values. All contracts and definitions name them, so that a limit that is changed
 /// is refused here alone.
@@ -10,6 +10,7 @@ pub fn constants_are()
     ensures min_size { MIN_SIZE ≡ 32 }
     ensures max_size { MAX_SIZE ≡ 65520 }
     ensures max_image { MAX_IMAGE ≡ 65536 }
+    ensures max_cpus { MAX_CPUS ≡ 256 }
     ensures max_frames { MAX_FRAMES ≡ 4 }
     ensures max_input { MAX_INPUT ≡ 268435456 }
     ensures moment_limit { MOMENT_LIMIT ≡ 2 ^ 59 }

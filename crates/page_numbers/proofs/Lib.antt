@@ -1,0 +1,3 @@
+mod Readings
+mod Answered
+mod Writing

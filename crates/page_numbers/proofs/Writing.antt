@@ -1,0 +1,29 @@
+-- The bytes of a parcel, part by part.
+use Rattle.std.proofs.Common.{◌≡◌, ℕ, ◌+◌, ◌-◌, ◌≤◌, List, [], ◌++◌, length, replicate, ap, ◌∙◌, arith, append_assoc, length-append}
+use Rattle.trace_model.specs.Image.{le64, commit_word, commit_of, stored_count, filled, image_of}
+use Rattle.trace_model.specs.ParcelBytes.{with_numbers}
+use Rattle.trace_model.proofs.ImageParts.{length-le64}
+
+-- an image that is as long as its page's size says holds all of the data
+pub contents_fit : (time : ℕ) (contents : List ℕ) (missed size : ℕ) → length (image_of time contents missed size) ≡ 16 + size → length contents ≤ size
+contents_fit time contents missed size whole =
+    let word : ℕ = commit_word (commit_of contents missed size) in
+    let stored : List ℕ = stored_count contents missed size in
+    omega (
+      arith,
+      whole,
+      length-append (le64 time) (le64 word ++ filled contents stored size),
+      length-append (le64 word) (filled contents stored size),
+      length-append contents (stored ++ replicate (size - length contents - length stored) 0),
+      length-le64 time,
+      length-le64 word,
+    )
+
+-- the numbers one behind the other, and the image
+pub put_all : (cpu fill first missed : ℕ) (image empty one two three four final : List ℕ) → empty ≡ [] → one ≡ empty ++ le64 cpu → two ≡ one ++ le64 fill → three ≡ two ++ le64 first → four ≡ three ++ le64 missed → final ≡ four ++ image
+    → final ≡ with_numbers cpu fill first missed image
+put_all cpu fill first missed image empty one two three four final none first_is second third fourth last =
+    last ∙ ap (λ (b : List ℕ). b ++ image) (fourth ∙ ap (λ (b : List ℕ). b ++ le64 missed) (third ∙ ap (λ (b : List ℕ). b ++ le64 first) (second ∙ ap (λ (b : List ℕ). b ++ le64 fill) (first_is ∙ ap (λ (b : List ℕ). b ++ le64 cpu) none))))
+    ∙ append_assoc ((le64 cpu ++ le64 fill) ++ le64 first) (le64 missed) image
+    ∙ append_assoc (le64 cpu ++ le64 fill) (le64 first) (le64 missed ++ image)
+    ∙ append_assoc (le64 cpu) (le64 fill) (le64 first ++ (le64 missed ++ image))

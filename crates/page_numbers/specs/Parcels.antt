@@ -1,0 +1,20 @@
+-- What contracts see of a parcel: the model's parcel, whose records are those of its page.
+use Rattle.std.specs.Prelude.{ℕ, List}
+use Rattle.std.specs.List.{enumerate_from}
+use Rattle.trace_model.specs.Record.{Record}
+use Rattle.trace_model.specs.Parcel.{Parcel}
+use Rattle.page_image.specs.Contents.{Contents, records_of_page}
+
+-- the parcel that a page is, under this CPU and with so many numbers missing in front of its records
+abbrev pub parcel_of : ℕ → Contents → ℕ → Parcel
+parcel_of cpu page missed = record {
+  cpu = cpu;
+  fill = page.fill;
+  first = page.first;
+  missed = missed;
+  records = records_of_page page;
+}
+
+-- the records of a parcel in their order, each under its number
+abbrev pub entries_of_parcel : Parcel → List (ℕ × Record)
+entries_of_parcel parcel = enumerate_from parcel.first parcel.records

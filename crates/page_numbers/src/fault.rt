@@ -1,0 +1,44 @@
+//! Why there is no such parcel.
+ghost use Rattle.std.specs.Prelude.{◌≡◌};
+ghost use Rattle.page_numbers.specs.Faults.{fault_of_image};
+ghost use Rattle.page_numbers.specs.declared.fault.ParcelFault.TheVariants.{NoMemory as MemoryIs};
+
+use page_image::ImageFault;
+use std::alloc::AllocFailed;
+
+/// Why a page can't be a parcel, or bytes can't be read as one. What is looked at first, in its bytes or in a page, is
+/// the CPU, then the image, and then the others in the order in which they stand here.
+#[derive(Clone, Copy, Debug, PartialEq, Eq)]
+pub enum ParcelFault {
+    /// The page image has this fault, or there are fewer bytes than 48, which is told before all else.
+    Image(ImageFault),
+    /// The number behind the last record's is above 2^64 - 1.
+    NumberOverflow,
+    /// More numbers are missing in front of the first record's than stand there.
+    MissedTooMany,
+    /// The image tells otherwise of missed events than the number that stands in front of it.
+    MissedDiffers,
+    /// The CPU's number isn't below `MAX_CPUS`.
+    BadCpu,
+    /// Memory was refused.
+    NoMemory,
+}
+
+impl From<ImageFault> for ParcelFault {
+    ghost from_gives = { λ f e. e ≡ fault_of_image f };
+
+    fn from(fault: ImageFault) -> ParcelFault {
+        match fault {
+            ImageFault::NoMemory => ParcelFault::NoMemory,
+            fault => ParcelFault::Image(fault),
+        }
+    }
+}
+
+impl<T: Drop> From<AllocFailed<T>> for ParcelFault {
+    ghost from_gives = { λ f e. e ≡ MemoryIs };
+
+    fn from(_refused: AllocFailed<T>) -> ParcelFault {
+        ParcelFault::NoMemory
+    }
+}

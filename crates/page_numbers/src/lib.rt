@@ -1,0 +1,15 @@
+//! Parcels: taken pages that are shared, each under its CPU, its fill and its records' numbers.
+//!
+//! A parcel has the records of one page and knows which numbers are missing in front of them. Its bytes are told in
+//! `docs/FORMATS.md`, "Parcel bytes".
+#![tactic(auto)]
+
+mod fault;
+mod numbers;
+mod parcel;
+
+pub use fault::ParcelFault;
+pub use parcel::Parcel;
+
+#[cfg(test)]
+mod tests;

@@ -1,0 +1,81 @@
+//! The numbers in front of the image of a parcel.
+ghost use Rattle.std.specs.Prelude.{◌≡◌, ℕ, ◌+◌, ◌≤◌, ◌<◌, ◌^◌, ◌++◌, List, length, drop, IfOk, IfErr, IsTrue, OnOk, OnErr, ◌↔◌};
+ghost use Rattle.trace_model.specs.Image.{from_le64, le64};
+ghost use Rattle.trace_model.specs.ParcelBytes.{HasNumbers, AgreesWith};
+ghost use Rattle.trace_model.specs.declared.limits.TheConstants.{MAX_CPUS};
+ghost use Rattle.page_image.specs.Images.{missed_of};
+
+use crate::fault::ParcelFault;
+use byteorder::{ByteOrder, LittleEndian};
+use page_image::{ImageFault, Missed};
+use trace_model::{CpuId, MAX_CPUS};
+
+/// How many bytes the four numbers take.
+pub(crate) const NUMBERS: usize = 32;
+
+/// The fewest bytes of a parcel: its numbers, and an image without data.
+const MIN_PARCEL: usize = 48;
+
+/// The numbers of a parcel, as they stand in its bytes.
+#[derive(Clone, Copy)]
+pub(crate) struct Numbers {
+    cpu: u64,
+    pub(crate) fill: u64,
+    pub(crate) first: u64,
+    pub(crate) missed: u64,
+}
+
+/// The number in the eight bytes at `at`.
+#[tactic(auto, unfolding(trace_model::specs::Image::from_le64))]
+fn number_at(bytes: &[u8], at: usize) -> u64
+    requires { at + 8 ≤ length bytes.now }
+    ensures { result ≡ from_le64 (drop at bytes.now) }
+{
+    LittleEndian::read_u64(&bytes[at..])
+}
+
+/// Reads the numbers of a parcel that has at least an image's header behind them.
+pub(crate) fn read_numbers(bytes: &[u8]) -> Result<Numbers, ParcelFault>
+    ensures numbers { IfOk result (λ numbers. HasNumbers bytes.now numbers.cpu numbers.fill numbers.first
+        numbers.missed (drop NUMBERS bytes.now)) }
+    ensures long { OnOk result (MIN_PARCEL ≤ length bytes.now) }
+    ensures fault { IfErr result (λ f. f ≡ ParcelFault.Image ImageFault.TooShort) }
+    ensures short { OnErr result (length bytes.now < MIN_PARCEL) }
+{
+    if bytes.len() < MIN_PARCEL {
+        return Err(ParcelFault::Image(ImageFault::TooShort));
+    }
+    Ok(Numbers {
+        cpu: number_at(bytes, 0),
+        fill: number_at(bytes, 8),
+        first: number_at(bytes, 16),
+        missed: number_at(bytes, 24),
+    })
+}
+
+impl Numbers {
+    /// The CPU that the first number names.
+    pub(crate) fn cpu(self) -> Result<CpuId, ParcelFault>
+        ensures cpu { IfOk result (λ cpu. cpu.0 ≡ self.cpu) }
+        ensures known { OnOk result (self.cpu < MAX_CPUS) }
+        ensures fault { IfErr result (λ f. f ≡ ParcelFault.BadCpu) }
+        ensures unknown { OnErr result (MAX_CPUS ≤ self.cpu) }
+    {
+        if self.cpu < u64::from(MAX_CPUS) {
+            Ok(CpuId(self.cpu as u32))
+        } else {
+            Err(ParcelFault::BadCpu)
+        }
+    }
+
+    /// Whether the image tells of missed events what the last number does.
+    pub(crate) fn agree_with(self, told: Missed) -> bool
+        ensures { IsTrue result ↔ AgreesWith (missed_of told) self.missed }
+    {
+        match told {
+            Missed::None => self.missed == 0,
+            Missed::Unknown => self.missed > 0,
+            Missed::Count(events) => self.missed > 0 && events == self.missed,
+        }
+    }
+}

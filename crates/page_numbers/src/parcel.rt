@@ -1,0 +1,158 @@
+//! A parcel, and what it tells.
+ghost use Rattle.std.specs.Prelude.{◌≡◌, ℕ, ◌+◌, ◌^◌, ◌<◌, ◌≤◌, length, IfErr, OnOk};
+ghost use Rattle.trace_model.specs.declared.limits.TheConstants.{MAX_CPUS};
+ghost use Rattle.page_image.specs.Contents.{IsPage, records_of_page};
+ghost use Rattle.page_numbers.specs.Parcels.{parcel_of};
+ghost use Rattle.page_numbers.specs.Faults.{IsRefused};
+
+mod bytes;
+
+use crate::fault::ParcelFault;
+use page_borrow::{Records, records};
+use page_image::Page;
+use std::alloc::Global;
+use std::marker::Model;
+use std::sync::Arc;
+use trace_model::{CpuId, FillNo, MAX_CPUS, NoMemory, RecordNo};
+
+/// A taken page, shared: the records of one fill of a CPU under their numbers, and how many numbers are missing in
+/// front of them, those between the last record taken before and the first one of this page.
+#[derive(Debug, Drop)]
+pub struct Parcel {
+    cpu: CpuId,
+    missed: u64,
+    page: Arc<Page, Global>,
+}
+
+impl Model for Parcel {
+    ghost use Rattle.trace_model.specs.Parcel.{Parcel as ParcelSeen};
+    ghost use Rattle.trace_model.specs.ParcelBytes.{IsParcel};
+    ghost use Rattle.page_image.specs.Contents.{IsPage};
+    ghost use Rattle.page_numbers.specs.Parcels.{parcel_of};
+
+    ghost Value = { ParcelSeen };
+
+    ghost view = { λ p. parcel_of p.cpu.0 p.page.value p.missed };
+
+    ghost invariant = { λ p. IsPage p.page.value × IsParcel (parcel_of p.cpu.0 p.page.value p.missed) };
+}
+
+impl Parcel {
+    ghost use Rattle.std.specs.Prelude.{◌≡◌, ℕ, ◌+◌, ◌^◌, ◌<◌, ◌≤◌, ◌↔◌, length, IfOk, IfErr, OnOk};
+    ghost use Rattle.trace_model.specs.ParcelBytes.{IsParcel};
+    ghost use Rattle.trace_model.specs.declared.limits.TheConstants.{MAX_CPUS};
+    ghost use Rattle.page_image.specs.Contents.{Contents, IsPage};
+    ghost use Rattle.page_borrow.specs.Entries.{AllStandInPage};
+    ghost use Rattle.page_numbers.specs.Parcels.{parcel_of, entries_of_parcel};
+    ghost use Rattle.page_numbers.specs.Faults.{IsRefused, NumbersOverflow, MissesTooMany};
+
+    /// The page as a parcel of this CPU, with so many numbers missing in front of its records. Where it is refused, the
+    /// page is dropped.
+    pub fn of(alloc: Global, cpu: CpuId, page: Page, missed: u64) -> Result<Parcel, ParcelFault>
+        requires page { IsPage page }
+        ensures parcel { IfOk result (λ parcel. parcel ≡ parcel_of cpu.0 page missed) }
+        ensures sound { IfOk result (λ parcel. IsParcel parcel) }
+        ensures is_bad_cpu { (result ≡ Err ParcelFault.BadCpu) ↔ (MAX_CPUS ≤ cpu.0) }
+        ensures overflows { (result ≡ Err ParcelFault.NumberOverflow) ↔ NumbersOverflow (parcel_of cpu.0 page missed) }
+        ensures misses_too_many { (result ≡ Err ParcelFault.MissedTooMany)
+            ↔ MissesTooMany (parcel_of cpu.0 page missed) }
+        ensures refused { IfErr result (λ fault. IsRefused (parcel_of cpu.0 page missed) fault) }
+    {
+        Parcel::checked(alloc, cpu, page, missed)
+    }
+
+    /// The same, each fault by what it says.
+    fn checked(alloc: Global, cpu: CpuId, page: Page, missed: u64) -> Result<Parcel, ParcelFault>
+        requires page { IsPage page }
+        ensures parcel { IfOk result (λ parcel. parcel ≡ parcel_of cpu.0 page missed) }
+        ensures sound { IfOk result (λ parcel. IsParcel parcel) }
+        ensures refused { IfErr result (λ fault. IsRefused (parcel_of cpu.0 page missed) fault) }
+    {
+        if cpu.0 >= MAX_CPUS {
+            return Err(ParcelFault::BadCpu);
+        }
+        check_numbers(&page, missed)?;
+        Ok(Parcel {
+            cpu,
+            missed,
+            page: Arc::new(alloc, page)?,
+        })
+    }
+
+    /// The CPU whose records these are.
+    pub fn cpu(&self) -> CpuId
+        ensures cpu { result.0 ≡ self.now.cpu }
+        ensures known { result.0 < MAX_CPUS }
+    {
+        self.cpu
+    }
+
+    /// Which fill of its CPU's ring the page was.
+    pub fn fill(&self) -> FillNo
+        ensures { result.0 ≡ self.now.fill }
+    {
+        self.page.fill()
+    }
+
+    /// The number of the first record.
+    pub fn first(&self) -> RecordNo
+        ensures first { result.0 ≡ self.now.first }
+        ensures numbers { result.0 + length self.now.records < 2 ^ 64 }
+    {
+        self.page.first()
+    }
+
+    /// How many records it has.
+    pub fn count(&self) -> u64
+        ensures { result ≡ length self.now.records }
+    {
+        self.page.count()
+    }
+
+    /// How many numbers are missing in front of the first record's.
+    pub fn missed(&self) -> u64
+        ensures missed { result ≡ self.now.missed }
+        ensures in_front { result ≤ self.now.first }
+    {
+        self.missed
+    }
+
+    /// The records in their order, numbered from the first number on, each with its bytes where they stand in the
+    /// page.
+    pub fn records(&self) -> Records<'_>
+        ensures entries { result ≡ entries_of_parcel self.now }
+        ensures own_bytes { (page : Contents) × (self.now ≡ parcel_of self.now.cpu page self.now.missed)
+            × AllStandInPage page result }
+    {
+        records(&self.page)
+    }
+
+    /// The same parcel once more, of the same page. No byte of it is copied.
+    pub fn share(&self) -> Result<Parcel, NoMemory>
+        ensures { IfOk result (λ parcel. parcel ≡ self.now) }
+    {
+        Ok(Parcel {
+            cpu: self.cpu,
+            missed: self.missed,
+            page: Arc::try_clone(&self.page)?,
+        })
+    }
+}
+
+/// Looks whether the page's records have numbers, and whether so many numbers stand in front of them.
+fn check_numbers(page: &Page, missed: u64) -> Result<(), ParcelFault>
+    requires page { IsPage page.now }
+    ensures numbers { OnOk result (page.now.first + length (records_of_page page.now) < 2 ^ 64) }
+    ensures missed { OnOk result (missed ≤ page.now.first) }
+    ensures refused { IfErr result (λ fault. (cpu : ℕ) → cpu < MAX_CPUS
+        → IsRefused (parcel_of cpu page.now missed) fault) }
+{
+    let first = page.first().0;
+    if first.checked_add(page.count()).is_none() {
+        return Err(ParcelFault::NumberOverflow);
+    }
+    if missed > first {
+        return Err(ParcelFault::MissedTooMany);
+    }
+    Ok(())
+}
