@@ -60,19 +60,18 @@ last_place bytes front w start len whole each holds len_is end_is = record {
 }
 
 -- the place of the payload that was written behind whole words
-place_behind : (bytes : List ℕ) (words : List Word) (delta : ℕ) (first : Bool) (slot start : ℕ) → bytes ≡ joined words → AllByRecursion IsWord (words ++ written_words delta first (replicate slot 0)) → start + slot ≡ length (bytes ++ encoding delta first (replicate slot 0)) → IsPlaceIn (bytes ++ encoding delta first (replicate slot 0)) start slot
-place_behind bytes words delta first slot start whole each end_is =
-    let payload : List ℕ = replicate slot 0 in
+place_behind : (bytes : List ℕ) (words : List Word) (delta : ℕ) (first : Bool) (payload : List ℕ) (start : ℕ) → bytes ≡ joined words → AllByRecursion IsWord (words ++ written_words delta first payload) → start + length payload ≡ length (bytes ++ encoding delta first payload) → IsPlaceIn (bytes ++ encoding delta first payload) start (length payload)
+place_behind bytes words delta first payload start whole each end_is =
     let d : ℕ = written_delta delta first in
     let split : words ++ written_words delta first payload ≡ (words ++ written_front delta first) ++ data_word d payload ∷ [] =
     ap (λ (ws : List Word). words ++ ws) (written_words-split delta first payload) ∙ sym (append_assoc words (written_front delta first) (data_word d payload ∷ [])) in
     let all : bytes ++ encoding delta first payload ≡ joined (words ++ written_words delta first payload) =
     ap (λ (b : List ℕ). b ++ encoding delta first payload) whole ∙ sym (flat_map-append bytes_of_word words (written_words delta first payload)) in
-    last_place (bytes ++ encoding delta first payload) (words ++ written_front delta first) (data_word d payload) start slot
+    last_place (bytes ++ encoding delta first payload) (words ++ written_front delta first) (data_word d payload) start (length payload)
     (all ∙ ap joined split)
     (subst (AllByRecursion IsWord) split each)
     (data_word-holds d payload).0
-    (sym (ap length (data_word-holds d payload).1 ∙ length-replicate slot 0))
+    (sym (ap length (data_word-holds d payload).1))
     end_is
 
 has_last : (records : List Record) (r : Record) (prev : ℕ) → IfSome (moment_of_last (records ++ r ∷ [])) (λ last. last ≡ prev) → EndsAt (records ++ r ∷ []) prev
@@ -95,47 +94,38 @@ ends_at byte bytes time prev ends reads behind = ⊎_elim
     subst Q (sym push) (has_last (records_of time last.0) _ prev (subst P push behind)))
     ends.last
 
--- What the data becomes when a record with a payload of zeros is put behind it: where it ends, and where the payload lies.
-pub record PutEnd (bytes : List ℕ) (prev moment slot : ℕ) : Type 0 where
-  pub ends : EndsInRecord (bytes ++ encoding (moment - prev) (is_blank bytes) (replicate slot 0))
-  pub place : (start : ℕ) → start + slot ≡ length (bytes ++ encoding (moment - prev) (is_blank bytes) (replicate slot 0)) → IsPlaceIn (bytes ++ encoding (moment - prev) (is_blank bytes) (replicate slot 0)) start slot
+-- What the data becomes when a record with this payload is put behind it: where it ends, and where the payload lies.
+pub record PutEnd (bytes : List ℕ) (prev moment : ℕ) (payload : List ℕ) : Type 0 where
+  pub ends : EndsInRecord (bytes ++ encoding (moment - prev) (is_blank bytes) payload)
+  pub place : (start : ℕ) → start + length payload ≡ length (bytes ++ encoding (moment - prev) (is_blank bytes) payload) → IsPlaceIn (bytes ++ encoding (moment - prev) (is_blank bytes) payload) start (length payload)
 
--- a payload of zeros can be written
+-- a payload that fills its slot can be written
 pub record IsSlot (payload : List ℕ) : Type 0 where
   pub whole : length payload % 4 ≡ 0
   pub some : 4 ≤ length payload
   pub fits : length payload + 4 < 2 ^ 32
 
-zeros_fit : (len : ℕ) → len ≤ 2 ^ 30 → IsSlot (replicate (slot_len len) 0)
-zeros_fit len limit =
-    let size : length (replicate {A = ℕ} (slot_len len) 0) ≡ slot_len len = length-replicate (slot_len len) 0 in
+pub IsSlot-of : (payload : List ℕ) (len : ℕ) → length payload ≡ slot_len len → len ≤ 2 ^ 30 → IsSlot payload
+IsSlot-of payload len size limit =
     record { whole = ap (λ (n : ℕ). n % 4) size ∙ slot_len-mod len; some = omega (arith, slot_len_ge_four len); fits = omega arith }
 
-pub put_end : (bytes : List ℕ) (prev moment len : ℕ) → EndsInRecord bytes → moment < MOMENT_LIMIT → len ≤ 2 ^ 30 → PutEnd bytes prev moment (slot_len len)
-put_end [] prev moment len ends small limit =
-    let payload : List ℕ = replicate (slot_len len) 0 in
-    let slot = zeros_fit len limit in
+pub put_end : (bytes : List ℕ) (prev moment : ℕ) (payload : List ℕ) → EndsInRecord bytes → moment < MOMENT_LIMIT → IsSlot payload → PutEnd bytes prev moment payload
+put_end [] prev moment payload ends small slot =
     record {
       ends = EndsInRecord-first (moment - prev) payload slot.whole slot.some slot.fits;
-      place = λ start end_is. place_behind [] [] (moment - prev) true (slot_len len) start refl (data_word-IsWord 0 payload (omega arith) slot.whole slot.some slot.fits, tt) end_is;
+      place = λ start end_is. place_behind [] [] (moment - prev) true payload start refl (data_word-IsWord 0 payload (omega arith) slot.whole slot.some slot.fits, tt) end_is;
     }
-put_end (byte ∷ bytes) prev moment len ends small limit =
-    let payload : List ℕ = replicate (slot_len len) 0 in
-    let slot = zeros_fit len limit in
+put_end (byte ∷ bytes) prev moment payload ends small slot =
     record {
       ends = EndsInRecord-appended (byte ∷ bytes) (moment - prev) payload ends (omega arith) slot.whole slot.some slot.fits;
-      place = λ start end_is. place_behind (byte ∷ bytes) ends.words (moment - prev) false (slot_len len) start ends.whole (each-append ends.words _ ends.each (written-each (moment - prev) payload (omega arith) slot.whole slot.some slot.fits)) end_is;
+      place = λ start end_is. place_behind (byte ∷ bytes) ends.words (moment - prev) false payload start ends.whole (each-append ends.words _ ends.each (written-each (moment - prev) payload (omega arith) slot.whole slot.some slot.fits)) end_is;
     }
 
-pub put_data : (bytes : List ℕ) (time prev moment len : ℕ) → EndsInRecord bytes → Decodes bytes time (records_in time bytes) → IfSome (moment_of_last (records_in time bytes)) (λ last. last ≡ prev) → prev ≤ moment → moment < MOMENT_LIMIT → len ≤ 2 ^ 30
-    → Decodes (bytes ++ encoding (moment - prev) (is_blank bytes) (replicate (slot_len len) 0)) (cond (is_blank bytes) moment time) (records_in time bytes ++ record { moment = moment; bytes = replicate (slot_len len) 0 } ∷ [])
-put_data [] time prev moment len ends reads behind order small limit =
-    let payload : List ℕ = replicate (slot_len len) 0 in
-    let slot = zeros_fit len limit in
+pub put_data : (bytes : List ℕ) (time prev moment : ℕ) (payload : List ℕ) → EndsInRecord bytes → Decodes bytes time (records_in time bytes) → IfSome (moment_of_last (records_in time bytes)) (λ last. last ≡ prev) → prev ≤ moment → moment < MOMENT_LIMIT → IsSlot payload
+    → Decodes (bytes ++ encoding (moment - prev) (is_blank bytes) payload) (cond (is_blank bytes) moment time) (records_in time bytes ++ record { moment = moment; bytes = payload } ∷ [])
+put_data [] time prev moment payload ends reads behind order small slot =
     subst (λ (rs : List Record). Decodes (encoding (moment - prev) true payload) moment (rs ++ record { moment = moment; bytes = payload } ∷ [])) (sym (records_in-blank time)) (Decodes-first moment (moment - prev) payload (omega arith) slot.whole slot.some slot.fits)
-put_data (byte ∷ bytes) time prev moment len ends reads behind order small limit =
-    let payload : List ℕ = replicate (slot_len len) 0 in
-    let slot = zeros_fit len limit in
+put_data (byte ∷ bytes) time prev moment payload ends reads behind order small slot =
     let there : prev + (moment - prev) ≡ moment = omega arith in
     subst (λ (m : ℕ). Decodes ((byte ∷ bytes) ++ encoding (moment - prev) false payload) time (records_in time (byte ∷ bytes) ++ record { moment = m; bytes = payload } ∷ [])) there
     (Decodes-appended (byte ∷ bytes) time (records_in time (byte ∷ bytes)) prev (moment - prev) payload ends reads (ends_at byte bytes time prev ends reads behind) (omega arith) (omega arith) slot.whole slot.some slot.fits)
@@ -162,47 +152,39 @@ no_place number start len there =
     ap length (flat_map-append bytes_of_word p.front (p.word ∷ p.behind)) ∙ length-append (joined p.front) (bytes_of_word p.word ++ joined p.behind) ∙ ap (λ (n : ℕ). length (joined p.front) + n) (length-append (bytes_of_word p.word) (joined p.behind)) in
     absurd (omega (arith, length-append (joined (p.front ++ p.word ∷ p.behind)) p.rest))
 
-put_places_stay : (bytes : List ℕ) (prev moment len : ℕ) → EndsInRecord bytes → moment < MOMENT_LIMIT → len ≤ 2 ^ 30 → (number at size : ℕ) → IsPlaceOf bytes number at size
-    → IsPlaceOf (bytes ++ encoding (moment - prev) (is_blank bytes) (replicate (slot_len len) 0)) number at size
-put_places_stay [] prev moment len ends small limit number at size there = absurd (no_place number at size there)
-put_places_stay (byte ∷ bytes) prev moment len ends small limit number at size there =
-    let slot = zeros_fit len limit in
-    IsPlaceOf-appended (byte ∷ bytes) number at size (moment - prev) (replicate (slot_len len) 0) ends there (omega arith) slot.whole slot.some slot.fits
+put_places_stay : (bytes : List ℕ) (prev moment : ℕ) (payload : List ℕ) → EndsInRecord bytes → moment < MOMENT_LIMIT → IsSlot payload → (number at size : ℕ) → IsPlaceOf bytes number at size
+    → IsPlaceOf (bytes ++ encoding (moment - prev) (is_blank bytes) payload) number at size
+put_places_stay [] prev moment payload ends small slot number at size there = absurd (no_place number at size there)
+put_places_stay (byte ∷ bytes) prev moment payload ends small slot number at size there =
+    IsPlaceOf-appended (byte ∷ bytes) number at size (moment - prev) payload ends there (omega arith) slot.whole slot.some slot.fits
 
-put_number : (bytes : List ℕ) (time prev moment len start : ℕ) → EndsInRecord bytes → Decodes bytes time (records_in time bytes) → moment < MOMENT_LIMIT → len ≤ 2 ^ 30
-    → start + slot_len len ≡ length (bytes ++ encoding (moment - prev) (is_blank bytes) (replicate (slot_len len) 0))
-    → IsPlaceOf (bytes ++ encoding (moment - prev) (is_blank bytes) (replicate (slot_len len) 0)) (length (records_in time bytes)) start (slot_len len)
-put_number [] time prev moment len start ends reads small limit end_is =
-    let payload : List ℕ = replicate (slot_len len) 0 in
-    let slot = zeros_fit len limit in
-    let size : length payload ≡ slot_len len = length-replicate (slot_len len) 0 in
-    subst (λ (n : ℕ). IsPlaceOf (encoding (moment - prev) true payload) n start (slot_len len)) (sym (ap length (records_in-blank time)))
-    (subst (IsPlaceOf (encoding (moment - prev) true payload) 0 start) size (IsPlaceOf-first (moment - prev) payload start slot.whole slot.some slot.fits (ap (λ (n : ℕ). start + n) size ∙ end_is)))
-put_number (byte ∷ bytes) time prev moment len start ends reads small limit end_is =
-    let payload : List ℕ = replicate (slot_len len) 0 in
-    let slot = zeros_fit len limit in
-    let size : length payload ≡ slot_len len = length-replicate (slot_len len) 0 in
-    subst (IsPlaceOf ((byte ∷ bytes) ++ encoding (moment - prev) false payload) (length (records_in time (byte ∷ bytes))) start) size
-    (IsPlaceOf-new (byte ∷ bytes) time (records_in time (byte ∷ bytes)) (moment - prev) payload start ends reads (omega arith) slot.whole slot.some slot.fits (ap (λ (n : ℕ). start + n) size ∙ end_is))
+put_number : (bytes : List ℕ) (time prev moment : ℕ) (payload : List ℕ) (start : ℕ) → EndsInRecord bytes → Decodes bytes time (records_in time bytes) → moment < MOMENT_LIMIT → IsSlot payload
+    → start + length payload ≡ length (bytes ++ encoding (moment - prev) (is_blank bytes) payload)
+    → IsPlaceOf (bytes ++ encoding (moment - prev) (is_blank bytes) payload) (length (records_in time bytes)) start (length payload)
+put_number [] time prev moment payload start ends reads small slot end_is =
+    subst (λ (n : ℕ). IsPlaceOf (encoding (moment - prev) true payload) n start (length payload)) (sym (ap length (records_in-blank time)))
+    (IsPlaceOf-first (moment - prev) payload start slot.whole slot.some slot.fits end_is)
+put_number (byte ∷ bytes) time prev moment payload start ends reads small slot end_is =
+    IsPlaceOf-new (byte ∷ bytes) time (records_in time (byte ∷ bytes)) (moment - prev) payload start ends reads (omega arith) slot.whole slot.some slot.fits end_is
 
 -- The page after a record was put, whatever else of it has changed.
-pub record PutPage (old new : Contents) (prev moment len start : ℕ) : Type 0 where
+pub record PutPage (old new : Contents) (prev moment : ℕ) (payload : List ℕ) (start : ℕ) : Type 0 where
   pub page : IsPage old → IsPage new
-  pub records : IsPage old → records_of_page new ≡ records_of_page old ++ record { moment = moment; bytes = replicate (slot_len len) 0 } ∷ []
+  pub records : IsPage old → records_of_page new ≡ records_of_page old ++ record { moment = moment; bytes = payload } ∷ []
   pub ends : EndsInRecord new.bytes
-  pub place : IsPlaceIn new.bytes start (slot_len len)
-  pub number : IsPage old → IsPlaceOf new.bytes old.count start (slot_len len)
+  pub place : IsPlaceIn new.bytes start (length payload)
+  pub number : IsPage old → IsPlaceOf new.bytes old.count start (length payload)
   pub places_stay : (number at size : ℕ) → IsPlaceOf old.bytes number at size → IsPlaceOf new.bytes number at size
 
-pub put_page : (old new : Contents) (prev moment len start : ℕ) → EndsInRecord old.bytes → IfSome (moment_of_last (records_of_page old)) (λ last. last ≡ prev) → prev ≤ moment → moment < MOMENT_LIMIT → len ≤ 2 ^ 30
-    → new.bytes ≡ old.bytes ++ encoding (moment - prev) (is_blank old.bytes) (replicate (slot_len len) 0) → new.time ≡ cond (is_blank old.bytes) moment old.time → new.count ≡ old.count + 1 → start + slot_len len ≡ length new.bytes
-    → PutPage old new prev moment len start
-put_page old new prev moment len start ends last order small limit bytes_is time_is count_is end_is =
-    let r : Record = record { moment = moment; bytes = replicate (slot_len len) 0 } in
-    let end = put_end old.bytes prev moment len ends small limit in
+pub put_page : (old new : Contents) (prev moment : ℕ) (payload : List ℕ) (start : ℕ) → EndsInRecord old.bytes → IfSome (moment_of_last (records_of_page old)) (λ last. last ≡ prev) → prev ≤ moment → moment < MOMENT_LIMIT → IsSlot payload
+    → new.bytes ≡ old.bytes ++ encoding (moment - prev) (is_blank old.bytes) payload → new.time ≡ cond (is_blank old.bytes) moment old.time → new.count ≡ old.count + 1 → start + length payload ≡ length new.bytes
+    → PutPage old new prev moment payload start
+put_page old new prev moment payload start ends last order small slot bytes_is time_is count_is end_is =
+    let r : Record = record { moment = moment; bytes = payload } in
+    let end = put_end old.bytes prev moment payload ends small slot in
     let reads : IsPage old → Decodes new.bytes new.time (records_of_page old ++ r ∷ []) = λ page.
     subst (λ (t : ℕ). Decodes new.bytes t (records_of_page old ++ r ∷ [])) (sym time_is)
-    (subst (λ (b : List ℕ). Decodes b (cond (is_blank old.bytes) moment old.time) (records_of_page old ++ r ∷ [])) (sym bytes_is) (put_data old.bytes old.time prev moment len ends page.reads last order small limit)) in
+    (subst (λ (b : List ℕ). Decodes b (cond (is_blank old.bytes) moment old.time) (records_of_page old ++ r ∷ [])) (sym bytes_is) (put_data old.bytes old.time prev moment payload ends page.reads last order small slot)) in
     let now : IsPage old → records_of_page new ≡ records_of_page old ++ r ∷ [] = λ page. records_in-Decodes new.bytes new.time (records_of_page old ++ r ∷ []) (reads page) in
     record {
       page = λ page. record {
@@ -212,9 +194,9 @@ put_page old new prev moment len start ends last order small limit bytes_is time
       };
       records = now;
       ends = subst EndsInRecord (sym bytes_is) end.ends;
-      place = subst (λ (b : List ℕ). IsPlaceIn b start (slot_len len)) (sym bytes_is) (end.place start (end_is ∙ ap length bytes_is));
-      number = λ page. subst (λ (b : List ℕ). IsPlaceOf b old.count start (slot_len len)) (sym bytes_is)
-          (subst (λ (n : ℕ). IsPlaceOf (old.bytes ++ encoding (moment - prev) (is_blank old.bytes) (replicate (slot_len len) 0)) n start (slot_len len)) (sym page.counted)
-          (put_number old.bytes old.time prev moment len start ends page.reads small limit (end_is ∙ ap length bytes_is)));
-      places_stay = λ number at size there. subst (λ (b : List ℕ). IsPlaceOf b number at size) (sym bytes_is) (put_places_stay old.bytes prev moment len ends small limit number at size there);
+      place = subst (λ (b : List ℕ). IsPlaceIn b start (length payload)) (sym bytes_is) (end.place start (end_is ∙ ap length bytes_is));
+      number = λ page. subst (λ (b : List ℕ). IsPlaceOf b old.count start (length payload)) (sym bytes_is)
+          (subst (λ (n : ℕ). IsPlaceOf (old.bytes ++ encoding (moment - prev) (is_blank old.bytes) payload) n start (length payload)) (sym page.counted)
+          (put_number old.bytes old.time prev moment payload start ends page.reads small slot (end_is ∙ ap length bytes_is)));
+      places_stay = λ number at size there. subst (λ (b : List ℕ). IsPlaceOf b number at size) (sym bytes_is) (put_places_stay old.bytes prev moment payload ends small slot number at size there);
     }

@@ -4,7 +4,7 @@ mod read;
 mod write;
 
 use crate::body::Body;
-use crate::put::put_behind;
+use crate::put::{put_behind, put_payload_behind};
 use record_words::Place;
 use std::marker::Model;
 use trace_model::{FillNo, RecordNo};
@@ -45,7 +45,7 @@ impl Page {
     ghost use Rattle.std.specs.Prelude.{◌≡◌, ◌+◌, ◌-◌, ◌≤◌, ◌<◌, [], ◌∷◌, ◌++◌, length, replicate, if◌then◌else◌, IfSome, slice_range, ℕ, List};
     ghost use Rattle.std.specs.Borrow.{sem};
     ghost use Rattle.page_image.specs.Lending.{LendsPayload, PayloadWritten};
-    ghost use Rattle.trace_model.specs.Words.{encoded_len, encoding, slot_len};
+    ghost use Rattle.trace_model.specs.Words.{encoded_len, encoding, padded, slot_len};
     ghost use Rattle.trace_model.specs.Reading.{EndsInRecord, IsPlaceIn};
     ghost use Rattle.trace_model.specs.Order.{moment_of_last};
     ghost use Rattle.trace_model.specs.Overwriting.{IsPlaceOf};
@@ -107,6 +107,45 @@ impl Page {
     {
         let is_first = self.end == 0;
         let place = put_behind(&mut self.body, self.end, moment - prev, is_first, len);
+        self.time = if is_first { moment } else { self.time };
+        self.end = place.start + place.len;
+        self.count += 1;
+        place
+    }
+
+    /// Adds a record of this moment and payload behind the others, where it must fit, and answers where its payload
+    /// lies: what `put` does, and then the payload written at the front of its place. `prev` is that of `put`.
+    pub fn put_payload(&mut self, prev: u64, moment: u64, payload: &[u8]) -> Place
+        requires room { length self.old.bytes
+            + encoded_len (length payload.now) (moment - prev) (is_blank self.old.bytes)
+            ≤ self.old.size }
+        requires order { prev ≤ moment }
+        requires moment { moment < MOMENT_LIMIT }
+        requires last { IfSome (moment_of_last (records_of_page self.old)) (λ last. last ≡ prev) }
+        requires open { EndsInRecord self.old.bytes }
+        ensures page { IsPage self.old → IsPage self.new }
+        ensures records { IsPage self.old
+            → records_of_page self.new
+            ≡ records_of_page self.old ++ record { moment = moment; bytes = padded payload.now } ∷ [] }
+        ensures bytes { self.new.bytes
+            ≡ self.old.bytes ++ encoding (moment - prev) (is_blank self.old.bytes) (padded payload.now) }
+        ensures time { self.new.time ≡ (if is_blank self.old.bytes then moment else self.old.time) }
+        ensures count { self.new.count ≡ self.old.count + 1 }
+        ensures first { self.new.first ≡ self.old.first }
+        ensures fill { self.new.fill ≡ self.old.fill }
+        ensures size { self.new.size ≡ self.old.size }
+        ensures open { EndsInRecord self.new.bytes }
+        ensures place { IsPlaceIn self.new.bytes result.start result.len }
+        ensures number { IsPage self.old
+            → IsPlaceOf self.new.bytes self.old.count result.start result.len }
+        ensures places_stay { (number start len : ℕ)
+            → IsPlaceOf self.old.bytes number start len
+            → IsPlaceOf self.new.bytes number start len }
+        ensures end { result.start + result.len ≡ length self.new.bytes }
+        ensures len { result.len ≡ slot_len (length payload.now) }
+    {
+        let is_first = self.end == 0;
+        let place = put_payload_behind(&mut self.body, self.end, moment - prev, is_first, payload);
         self.time = if is_first { moment } else { self.time };
         self.end = place.start + place.len;
         self.count += 1;

@@ -1,14 +1,21 @@
 //! A record written behind others.
-ghost use Rattle.std.specs.Prelude.{◌≡◌, ◌+◌, ◌≤◌, ◌<◌, ◌++◌, ◌⊎◌, true, length, take, replicate};
-ghost use Rattle.trace_model.specs.Words.{encoded_len, encoding, slot_len};
+ghost use Rattle.std.specs.Prelude.{◌≡◌, ◌+◌, ◌≤◌, ◌<◌, ◌++◌, ◌⊎◌, true, length, take, replicate, if◌then◌else◌};
+ghost use Rattle.trace_model.specs.Words.{encoded_len, encoding, padded, slot_len};
 ghost use Rattle.trace_model.specs.declared.limits.TheConstants.{MOMENT_LIMIT};
 ghost use Rattle.record_words.specs.declared.format.TheConstants.{MAX_PAYLOAD};
 
-use record_words::{Place, put_record};
+use record_words::{EXTEND_FROM, Place, SHORT_LIMIT, put_payload, put_record, put_short, slot_len};
 
-/// Writes a record with a zeroed payload behind the first `end` bytes, and answers where the payload lies. The
-/// record ends where its payload does.
-pub(crate) fn put_behind(body: &mut [u8], end: usize, delta: u64, first: bool, len: usize) -> Place
+/// The delta that a record's words state: the first record of a page has none.
+fn delta_in_words(delta: u64, first: bool) -> u64
+    ensures { result ≡ (if first then 0 else delta) }
+{
+    if first { 0 } else { delta }
+}
+
+/// `put_behind`, whatever the record's form, and however little room is left behind it.
+#[inline(never)]
+fn put_any(body: &mut [u8], end: usize, delta: u64, first: bool, len: usize) -> Place
     requires length { len ≤ MAX_PAYLOAD }
     requires time { (first ≡ true) ⊎ (delta < MOMENT_LIMIT) }
     requires room { end + encoded_len len delta first ≤ length body.old }
@@ -21,5 +28,47 @@ pub(crate) fn put_behind(body: &mut [u8], end: usize, delta: u64, first: bool, l
     Place {
         start: end + place.start,
         len: place.len,
+    }
+}
+
+/// Writes a record with a zeroed payload behind the first `end` bytes, and answers where the payload lies. The
+/// record ends where its payload does. What stands behind it may be lost.
+pub(crate) fn put_behind(body: &mut [u8], end: usize, delta: u64, first: bool, len: usize) -> Place
+    requires length { len ≤ MAX_PAYLOAD }
+    requires time { (first ≡ true) ⊎ (delta < MOMENT_LIMIT) }
+    requires room { end + encoded_len len delta first ≤ length body.old }
+    ensures bytes { take (result.start + result.len) body.new
+        ≡ take end body.old ++ encoding delta first (replicate (slot_len len) 0) }
+    ensures end { result.start + result.len ≡ end + encoded_len len delta first }
+    ensures len { result.len ≡ slot_len len }
+{
+    let slot = slot_len(len);
+    let word_delta = delta_in_words(delta, first);
+    if slot <= SHORT_LIMIT && word_delta < EXTEND_FROM && body.len() - end >= 4 + SHORT_LIMIT {
+        put_short(&mut body[end..], word_delta as u32, slot);
+        return Place {
+            start: end + 4,
+            len: slot,
+        };
+    }
+    put_any(body, end, delta, first, len)
+}
+
+/// Writes a record with this payload behind the first `end` bytes, and answers where the payload lies. The record
+/// ends where its payload does.
+pub(crate) fn put_payload_behind(body: &mut [u8], end: usize, delta: u64, first: bool, payload: &[u8]) -> Place
+    requires length { length payload.now ≤ MAX_PAYLOAD }
+    requires time { (first ≡ true) ⊎ (delta < MOMENT_LIMIT) }
+    requires room { end + encoded_len (length payload.now) delta first ≤ length body.old }
+    ensures bytes { take (result.start + result.len) body.new
+        ≡ take end body.old ++ encoding delta first (padded payload.now) }
+    ensures end { result.start + result.len ≡ end + encoded_len (length payload.now) delta first }
+    ensures len { result.len ≡ slot_len (length payload.now) }
+{
+    let size = put_payload(&mut body[end..], delta, first, payload);
+    let len = slot_len(payload.len());
+    Place {
+        start: end + size - len,
+        len,
     }
 }

@@ -1,7 +1,7 @@
 -- The words in front of a payload, and two writes one behind the other.
 use Rattle.std.proofs.Common.{◌≡◌, ℕ, ◌+◌, ◌-◌, ◌*◌, ◌/◌, ◌≤◌, ◌<◌, ◌^◌, Bool, true, false, cond, leb, List, [], ◌∷◌, ◌++◌, length, take, drop, replicate, suc, refl, sym, ap, ◌∙◌, arith, length-append, append_assoc, length-drop}
 use Rattle.std.proofs.lemmas.List.{take_at, drop_at, drop-drop, append-nil, drop_all, take_rest, length-replicate}
-use Rattle.std.proofs.lemmas.Bool.{lt-leb, true≢false}
+use Rattle.std.proofs.lemmas.Bool.{le-leb, lt-leb, true≢false}
 use borrow.Rule.Slice.PartMut.{put_mid}
 use Rattle.trace_model.specs.Words.{le32, first_word, data_word, bytes_of_word, short_data, long_data, time_extend, encoding, joined}
 use Rattle.record_words.specs.Puts.{Puts, data_header, header_len}
@@ -34,13 +34,19 @@ length-data_header delta slot = by_test (leb slot 112)
     by_test true = length-le32 _
     by_test false = length-append (first_word 0 delta) (le32 (slot + 4)) ∙ omega (arith, length-le32 (0 + 32 * delta), length-le32 (slot + 4))
 
--- a data word of zeros is its header and the zeros
-pub bytes-data_word : (delta slot : ℕ) → bytes_of_word (data_word delta (replicate slot 0)) ≡ data_header delta slot ++ replicate slot 0
-bytes-data_word delta slot = ap (λ (n : ℕ). bytes_of_word (cond (leb n 112) (short_data delta (replicate slot 0)) (long_data delta (replicate slot 0)))) (length-replicate slot 0) ∙ by_test (leb slot 112)
+-- a data word is its header and its payload
+pub bytes-data_word_of : (delta slot : ℕ) (payload : List ℕ) → length payload ≡ slot → bytes_of_word (data_word delta payload) ≡ data_header delta slot ++ payload
+bytes-data_word_of delta slot payload size = ap (λ (n : ℕ). bytes_of_word (cond (leb n 112) (short_data delta payload) (long_data delta payload))) size ∙ by_test (leb slot 112)
   where
-    by_test : (t : Bool) → bytes_of_word (cond t (short_data delta (replicate slot 0)) (long_data delta (replicate slot 0))) ≡ cond t (first_word (slot / 4) delta) (first_word 0 delta ++ le32 (slot + 4)) ++ replicate slot 0
-    by_test true = ap (λ (n : ℕ). first_word (n / 4) delta ++ replicate slot 0) (length-replicate slot 0)
-    by_test false = ap (λ (n : ℕ). (first_word 0 delta ++ le32 (n + 4)) ++ replicate slot 0) (length-replicate slot 0)
+    by_test : (t : Bool) → bytes_of_word (cond t (short_data delta payload) (long_data delta payload)) ≡ cond t (first_word (slot / 4) delta) (first_word 0 delta ++ le32 (slot + 4)) ++ payload
+    by_test true = ap (λ (n : ℕ). first_word (n / 4) delta ++ payload) size
+    by_test false = ap (λ (n : ℕ). (first_word 0 delta ++ le32 (n + 4)) ++ payload) size
+
+pub bytes-data_word : (delta slot : ℕ) → bytes_of_word (data_word delta (replicate slot 0)) ≡ data_header delta slot ++ replicate slot 0
+bytes-data_word delta slot = bytes-data_word_of delta slot (replicate slot 0) (length-replicate slot 0)
+
+pub data_header-short : (delta slot : ℕ) → slot ≤ 112 → data_header delta slot ≡ first_word (slot / 4) delta
+data_header-short delta slot short = ap (λ (t : Bool). cond t (first_word (slot / 4) delta) (first_word 0 delta ++ le32 (slot + 4))) (le-leb slot 112 short)
 
 pub data_header-long : (delta slot : ℕ) → 112 < slot → data_header delta slot ≡ first_word 0 delta ++ le32 (slot + 4)
 data_header-long delta slot long = ap (λ (t : Bool). cond t (first_word (slot / 4) delta) (first_word 0 delta ++ le32 (slot + 4))) (lt-leb slot 112 long)

@@ -1,2 +1,3 @@
 mod Headers
 mod WordReads
+mod Padded

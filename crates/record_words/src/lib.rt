@@ -9,10 +9,10 @@ mod next;
 mod put;
 mod size;
 
-pub use format::MAX_PAYLOAD;
+pub use format::{EXTEND_FROM, MAX_PAYLOAD, SHORT_LIMIT};
 pub use next::{Word, WordFault, next_word};
-pub use put::{Place, put_record};
-pub use size::size_of;
+pub use put::{Place, put_payload, put_record, put_short};
+pub use size::{size_of, slot_len};
 
 #[cfg(test)]
 mod tests;

@@ -1,6 +1,6 @@
 //! A record written in place.
-ghost use Rattle.std.specs.Prelude.{◌≡◌, ◌+◌, ◌≤◌, ◌<◌, ◌⊎◌, true, length, replicate};
-ghost use Rattle.trace_model.specs.Words.{le32, first_word, slot_len, encoded_len, encoding, data_word, bytes_of_word, time_extend};
+ghost use Rattle.std.specs.Prelude.{◌≡◌, ◌+◌, ◌≤◌, ◌<◌, ◌⊎◌, true, length, replicate, take};
+ghost use Rattle.trace_model.specs.Words.{le32, first_word, slot_len, padded, encoded_len, encoding, data_word, bytes_of_word, time_extend};
 ghost use Rattle.trace_model.specs.declared.limits.TheConstants.{MOMENT_LIMIT};
 ghost use Rattle.record_words.specs.Puts.{Puts, data_header, header_len};
 
@@ -104,4 +104,60 @@ pub fn put_record(out: &mut [u8], delta: u64, first: bool, len: usize) -> Place
         start: place.start + 8,
         len: place.len,
     }
+}
+
+/// Writes the word of a record in the short form and a zeroed payload of `slot` bytes at the front of `out`. What
+/// stands behind the record is lost, as far as the longest such record would reach: so few stores serve each length.
+pub fn put_short(out: &mut [u8], delta: u32, slot: usize)
+    requires delta_fits { delta < EXTEND_FROM }
+    requires limit { slot ≤ SHORT_LIMIT }
+    requires room { 4 + SHORT_LIMIT ≤ length out.old }
+    ensures put { take (4 + slot) out.new ≡ bytes_of_word (data_word delta (replicate slot 0)) }
+{
+    put_word(out, (slot / 4) as u32, delta);
+    out[4..4 + SHORT_LIMIT].fill(0);
+}
+
+/// Puts a payload at the front, and the zeros that fill its slot of `slot` bytes.
+fn put_padded(out: &mut [u8], slot: usize, payload: &[u8])
+    requires limit { length payload.now ≤ MAX_PAYLOAD }
+    requires slot { slot ≡ slot_len (length payload.now) }
+    requires room { slot ≤ length out.old }
+    ensures { Puts out.old out.new (padded payload.now) }
+{
+    put_number(&mut out[slot - 4..], 0);
+    out[..payload.len()].copy_from_slice(payload);
+}
+
+/// Puts a data word with this payload at the front, and answers how many bytes that takes.
+fn put_padded_data(out: &mut [u8], delta: u32, payload: &[u8]) -> usize
+    requires delta_fits { delta < EXTEND_FROM }
+    requires limit { length payload.now ≤ MAX_PAYLOAD }
+    requires room { header_len (slot_len (length payload.now)) + slot_len (length payload.now) ≤ length out.old }
+    ensures put { Puts out.old out.new (bytes_of_word (data_word delta (padded payload.now))) }
+    ensures len { result ≡ header_len (slot_len (length payload.now)) + slot_len (length payload.now) }
+{
+    let slot = slot_len(payload.len());
+    let start = put_header(out, delta, slot);
+    put_padded(&mut out[start..], slot, payload);
+    start + slot
+}
+
+/// Writes the words of a record, its payload and the zeros that fill its slot at the front of `out`, where it must
+/// fit, and answers how many bytes that takes. All bytes behind the record stay as they were.
+///
+/// `delta` is that of `put_record`.
+pub fn put_payload(out: &mut [u8], delta: u64, first: bool, payload: &[u8]) -> usize
+    requires length { length payload.now ≤ MAX_PAYLOAD }
+    requires time { (first ≡ true) ⊎ (delta < MOMENT_LIMIT) }
+    requires room { encoded_len (length payload.now) delta first ≤ length out.old }
+    ensures put { Puts out.old out.new (encoding delta first (padded payload.now)) }
+    ensures len { result ≡ encoded_len (length payload.now) delta first }
+{
+    let delta = if first { 0 } else { delta };
+    if delta < EXTEND_FROM {
+        return put_padded_data(out, delta as u32, payload);
+    }
+    put_extend(out, delta);
+    8 + put_padded_data(&mut out[8..], 0, payload)
 }

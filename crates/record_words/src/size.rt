@@ -6,7 +6,7 @@ ghost use Rattle.trace_model.specs.declared.limits.TheConstants.{MOMENT_LIMIT};
 use crate::format::{EXTEND_FROM, MAX_PAYLOAD, SHORT_LIMIT};
 
 /// How many bytes a payload of `len` bytes takes in a page: at least 4, and whole words.
-pub(crate) fn slot_len(len: usize) -> usize
+pub fn slot_len(len: usize) -> usize
     requires { len ≤ MAX_PAYLOAD }
     ensures { result ≡ slot_len len }
 {

@@ -1,11 +1,11 @@
-use Rattle.std.proofs.Common.{◌≡◌, ℕ, length, replicate, arith}
-use Rattle.std.proofs.lemmas.List.{length-replicate}
-use Rattle.trace_model.specs.Words.{encoding, encoded_len, slot_len}
-use Rattle.trace_model.proofs.Lengths.{length-encoding}
-use Rattle.page_image.proofs.Behind.{take-put_behind}
+use Rattle.std.proofs.Common.{◌≡◌, ◌+◌, ◌≤◌, ◌<◌, ◌^◌, ◌++◌, ℕ, length, take, replicate, ap, ◌∙◌, arith}
+use Rattle.trace_model.specs.Words.{encoding}
+use Rattle.page_image.proofs.Behind.{take-put_one}
 use Rattle.page_image.proofs.put.put_behind.Goals as goal
 
-pub returns-clause-bytes : goal.returns-clause-bytes
-returns-clause-bytes c =
-    let size : length (encoding c.args.delta c.args.first (replicate {A = ℕ} (slot_len c.args.len) 0)) ≡ encoded_len c.args.len c.args.delta c.args.first = length-encoding c.args.len c.args.delta c.args.first _ (length-replicate _ _) in
-    take-put_behind c.args.body.now c.put_record-place.new.out _ _ c.args.end _ _ (omega arith) (omega arith) c.put_record-place.ensures.put
+pub returns-then-body-end-clause-bytes : goal.returns-then-body-end-clause-bytes
+returns-then-body-end-clause-bytes c =
+    let small : c.delta_in_words-word_delta.result < 2 ^ 27 = omega arith in
+    let long : 4 + c.slot_len-slot.result ≤ length c.put_short.new.out = omega arith in
+    take-put_one c.args.body.now c.put_short.new.out (replicate c.slot_len-slot.result 0) c.args.end _ _ (4 + c.slot_len-slot.result) c.args.delta c.delta_in_words-word_delta.result c.args.first (omega arith) (omega arith) long c.put_short.ensures.put c.delta_in_words-word_delta.ensures small
+    ∙ ap (λ (n : ℕ). take c.args.end c.args.body.now ++ encoding c.args.delta c.args.first (replicate n 0)) c.slot_len-slot.ensures

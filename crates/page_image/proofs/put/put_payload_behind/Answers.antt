@@ -1,0 +1,10 @@
+use Rattle.std.proofs.Common.{◌≡◌, ◌+◌, ◌-◌, ℕ, List, length, take, ◌++◌, ap, sym, subst, arith}
+use Rattle.trace_model.specs.Words.{encoding, encoded_len, padded, slot_len}
+use Rattle.trace_model.proofs.Lengths.{length-encoding, length-padded}
+use Rattle.page_image.proofs.Behind.{take-put_behind}
+use Rattle.page_image.proofs.put.put_payload_behind.Goals as goal
+
+pub returns-clause-bytes : goal.returns-clause-bytes
+returns-clause-bytes c =
+    let size : length (encoding c.args.delta c.args.first (padded c.args.payload.now)) ≡ encoded_len (length c.args.payload.now) c.args.delta c.args.first = length-encoding (length c.args.payload.now) c.args.delta c.args.first _ (length-padded _) in
+    take-put_behind c.args.body.now c.put_payload-size.new.out _ _ c.args.end _ _ (omega arith) (omega arith) c.put_payload-size.ensures.put
