@@ -3,3 +3,4 @@ pub mod Pushing
 pub mod NewStack
 pub mod Reserving
 pub mod Leaving
+pub mod Releasing

@@ -2,3 +2,4 @@ pub mod Stack
 pub mod Inside
 pub mod Calls
 pub mod IsStack
+pub mod Released

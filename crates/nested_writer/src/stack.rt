@@ -1,6 +1,7 @@
 //! The writer's stack: its open pages and its frames.
 pub mod allot;
 pub mod push;
+pub mod release;
 
 use crate::frame::Frame;
 use page_image::{Body, Page};

@@ -1,0 +1,192 @@
+-- Pages that are handed out where no frame stands but one that has left, and what they hold.
+use Rattle.std.proofs.Common.{◌≡◌, ◌≢◌, ℕ, zero, suc, ◌+◌, ◌-◌, ◌<◌, ◌≤◌, true, List, [], ◌∷◌, length, get_or, take, drop, map, replicate, Option, Some, None, IfSome, refl, sym, ap, ◌∙◌, subst, arith}
+use Rattle.std.specs.Prelude.{All, IsSomeAnd, unwrap_or}
+use Rattle.std.specs.List.{slice_get}
+use Rattle.std.proofs.lemmas.List.{take_all, take-map, drop-map}
+use Rattle.std.proofs.lemmas.List.Elements.{All-nil, All-head, All-tail, All-take, All-drop}
+use Rattle.trace_model.specs.Record.{Record}
+use Rattle.trace_model.specs.History.{Action, Reservation, IsWritten, PushedFrame, as_record, writer_after, reserved_records, is_settled, settled_prefix, committed_records, IsHistory}
+use Rattle.trace_model.specs.Packing.{opens_of, cut_from, is_wished}
+use Rattle.trace_model.specs.Frames.{FrameState, left, number_of, pushed_onto, pushed_of}
+use Rattle.trace_model.specs.OpenPages.{IsOf, AreOf}
+use Rattle.trace_model.proofs.Committed.{whole_front}
+use Rattle.trace_model.proofs.CommittedWritten.{committed-IsWritten}
+use Rattle.trace_model.proofs.FillCuts.{length-cut_from}
+use Rattle.trace_model.proofs.FullFills.{packed_full}
+use Rattle.trace_model.proofs.OpenPages.{AreOf-length}
+use Rattle.trace_model.proofs.PackedHistories.{is_packed}
+use Rattle.page_image.specs.Contents.{Contents, records_of_page}
+use Rattle.nested_writer.specs.declared.frame.Progress.{Progress}
+use Rattle.nested_writer.specs.declared.frame.Progress.TheVariants.{Waiting, Through, Reserved, Left}
+use Rattle.nested_writer.specs.declared.frame.Frame.{Frame}
+use Rattle.nested_writer.specs.Stack.{Stack, tail_fill, kind_of, state_of, model_frames}
+use Rattle.nested_writer.specs.Calls.{HasLeft, IsAtBottom}
+use Rattle.nested_writer.specs.IsStack.{IsPageOf, AreBefore, FramesStand, IsStackOf, IsStack}
+use Rattle.nested_writer.specs.Released.{IsReleased}
+use Rattle.nested_writer.proofs.Standing.{as_many, frames_on}
+
+-- ---- records where no frame stands
+
+whole_prefix : (h : List Action) → (writer_after h).stack ≡ [] → settled_prefix h ≡ h
+whole_prefix h none = let settled : is_settled h ≡ true = rw none refl in whole_front (length h) h (omega arith) settled
+
+-- all of them are committed
+all_committed : (h : List Action) → (writer_after h).stack ≡ [] → committed_records h ≡ map as_record (reserved_records h)
+all_committed h none = ap (λ (front : List Action). map as_record (reserved_records front)) (whole_prefix h none)
+
+all_written : (h : List Action) → IsHistory h → (writer_after h).stack ≡ [] → All IsWritten (reserved_records h)
+all_written h keeps none = subst (λ (front : List Action). All IsWritten (reserved_records front)) (whole_prefix h none) (committed-IsWritten h keeps)
+
+-- ---- a fill of them
+
+fill_written : (from : ℕ) (cuts : List ℕ) (xs : List Reservation) (i : ℕ) → All IsWritten xs → All IsWritten (get_or (cut_from from cuts xs) i [])
+fill_written from [] xs zero all = All-drop IsWritten from xs all
+fill_written from [] xs (suc i) all = All-nil IsWritten
+fill_written from (cut ∷ cuts) xs zero all = All-take IsWritten (cut - from) (drop from xs) (All-drop IsWritten from xs all)
+fill_written from (cut ∷ cuts) xs (suc i) all = fill_written cut cuts xs i all
+
+take_counted : (n : ℕ) (xs : List Reservation) → take n xs ≡ take (length (take n xs)) xs
+take_counted zero xs = refl
+take_counted (suc n) [] = refl
+take_counted (suc n) (x ∷ xs) = ap (λ (ys : List Reservation). x ∷ ys) (take_counted n xs)
+
+-- it is as many of the records as it has, from its first number on
+fill_counted : (from : ℕ) (cuts : List ℕ) (xs : List Reservation) (i : ℕ) → i ≤ length cuts → get_or (cut_from from cuts xs) i [] ≡ take (length (get_or (cut_from from cuts xs) i [])) (drop (get_or (from ∷ cuts) i 0) xs)
+fill_counted from [] xs zero low = sym (take_all (length (drop from xs)) (drop from xs) (omega arith))
+fill_counted from [] xs (suc i) low = absurd (omega arith)
+fill_counted from (cut ∷ cuts) xs zero low = take_counted (cut - from) (drop from xs)
+fill_counted from (cut ∷ cuts) xs (suc i) low = fill_counted cut cuts xs i (omega arith)
+
+-- ---- what the data reads as
+
+bytes_read : (bytes : List ℕ) (written : Option (List ℕ)) (len : ℕ) → IfSome written (λ w. bytes ≡ w) → IsSomeAnd written (λ w. length w ≡ len) → bytes ≡ unwrap_or written (replicate len 0)
+bytes_read bytes None len is some = absurd some
+bytes_read bytes (Some w) len is some = is
+
+record_read : (r : Record) (s : Reservation) → IsOf r s → IsWritten s → r ≡ as_record s
+record_read r s is some = λ i. record { moment = is.moment_is i; bytes = bytes_read r.bytes s.bytes s.len is.bytes_are some i }
+
+records_read : (records : List Record) (fill : List Reservation) → AreOf records fill → All IsWritten fill → records ≡ map as_record fill
+records_read [] [] all written = refl
+records_read [] (s ∷ fill) all written = absurd all
+records_read (r ∷ records) [] all written = absurd all
+records_read (r ∷ records) (s ∷ fill) all written = λ i. record_read r s all.0 (All-head IsWritten s fill written) i ∷ records_read records fill all.1 (All-tail IsWritten s fill written) i
+
+-- a page of an open fill, where no frame stands
+pub page_released : (size start : ℕ) (h : List Action) (fill : ℕ) (page : Contents) → IsHistory h → (writer_after h).stack ≡ [] → fill - start ≤ length (opens_of h) → IsPageOf size fill (opens_of h) (reserved_records h) (fill - start) page → IsReleased size start h fill page
+page_released size start h fill page keeps none low p =
+    let xs : List Reservation = reserved_records h in
+    let its : List Reservation = get_or (cut_from 0 (opens_of h) xs) (fill - start) [] in
+    let from : ℕ = get_or (0 ∷ opens_of h) (fill - start) 0 in
+    let written : All IsWritten its = fill_written 0 (opens_of h) xs (fill - start) (all_written h keeps none) in
+    let are : records_of_page page ≡ map as_record its = records_read (records_of_page page) its p.holds.each written in
+    let count : length its ≡ page.count = sym (p.page_reads.counted ∙ AreOf-length (records_of_page page) its p.holds.each) in
+    record {
+      page_reads = p.page_reads;
+      size_is = p.size_is;
+      fill_is = p.fill_is;
+      first_is = p.first_is;
+      holds = p.holds;
+      written = written;
+      records_are = are;
+      committed = are ∙ ap (map as_record) (fill_counted 0 (opens_of h) xs (fill - start) low)
+          ∙ sym (take-map as_record (length its) (drop from xs))
+          ∙ ap (take (length its)) (sym (drop-map as_record from xs))
+          ∙ (λ i. take (count i) (drop (sym p.first_is i) (sym (all_committed h none) i)));
+    }
+
+-- ---- the bottom frame, which has left
+
+has_left : (progress : Progress) → HasLeft progress → state_of progress ≡ left
+has_left (Waiting noted) gone = absurd gone
+has_left (Through noted) gone = absurd gone
+has_left (Reserved slot) gone = absurd gone
+has_left (Left noted) gone = refl
+
+bottom_of : (frames : List Frame) → IsAtBottom frames → (bottom : Frame) × (frames ≡ bottom ∷ []) × (state_of bottom.progress ≡ left)
+bottom_of [] at = absurd at
+bottom_of (f ∷ []) at = (f, refl, has_left f.progress at)
+bottom_of (f ∷ next ∷ below) at = absurd at
+
+none_stands : (start : ℕ) (h : List Action) (s : Stack) → IsAtBottom s.frames → IsStack start h s → (writer_after h).stack ≡ []
+none_stands start h s at k = let bottom = bottom_of s.frames at in
+    k.stack_is ∙ ap (λ (fs : List Frame). pushed_of (model_frames fs)) bottom.1 ∙ ap (λ (state : FrameState). pushed_onto (kind_of bottom.0.purpose) state []) bottom.2
+
+-- ---- the oldest page goes
+
+module _ (start : ℕ) (h : List Action) (s : Stack) (page : Contents) (older : List Contents) (at : IsAtBottom s.frames) (is : s.older ≡ page ∷ older) (k : IsStack start h s) where
+  abbrev cuts : List ℕ
+  cuts = opens_of h
+
+  abbrev xs : List Reservation
+  xs = reserved_records h
+
+  long : length s.older ≡ suc (length older)
+  long = ap length is
+
+  front_page : IsPageOf s.size s.done cuts xs (s.done - start) page
+  front_page = subst (λ (n : ℕ). IsPageOf s.size n cuts xs (s.done - start) page) (plus_none s.done)
+      (subst (λ (n : ℕ). IsPageOf s.size (s.done + 0) cuts xs n page) (plus_none (s.done - start)) (k.holds.older_are 0 page (ap (λ (l : List Contents). slice_get l 0) is)))
+    where
+      plus_none : (n : ℕ) → n + 0 ≡ n
+      plus_none n = omega arith
+
+  -- a fill more is begun
+  not_last : s.done - start + 1 ≤ length cuts
+  not_last = let begun = k.holds.begun in let from = k.holds.from_start in let more = long in omega arith
+
+  pub front_released : IsReleased s.size start h s.done page
+  front_released = page_released s.size start h s.done page k.keeps (none_stands start h s at k) (let low = not_last in omega arith) front_page
+
+  pub front_some : 0 < page.count
+  front_some = let some = packed_full h s.size (s.done - start) (is_packed s.size h k.holds.room k.fit) (let low = not_last in let all = length-cut_from 0 cuts xs in omega arith) in
+      let count = front_page.page_reads.counted in let same = AreOf-length (records_of_page page) (get_or (cut_from 0 cuts xs) (s.done - start) []) front_page.holds.each in
+      let few = some_counted (get_or (cut_from 0 cuts xs) (s.done - start) []) some in omega arith
+    where
+      some_counted : (l : List Reservation) → l ≢ [] → 0 < length l
+      some_counted [] some = absurd (some refl)
+      some_counted (x ∷ l) some = omega arith
+
+  abbrev pub after : Stack
+  after = record s { done = s.done + 1; older = older }
+
+  bottom_alone : AreBefore 0 s.frames
+  bottom_alone = let bottom = bottom_of s.frames at in subst (AreBefore 0) (sym bottom.1) (subst (λ (state : FrameState). IfSome (number_of state) (λ number. number < 0)) (sym bottom.2) tt, tt)
+
+  as_many_begun : s.done + 1 + length older ≡ s.done + length s.older
+  as_many_begun = let more = long in omega arith
+
+  pub front_gone : IsStack start h after
+  front_gone = record {
+    keeps = k.keeps;
+    stack_is = k.stack_is;
+    fit = k.fit;
+    holds = record {
+      begun = let begun = k.holds.begun in let more = long in omega arith;
+      from_start = let from = k.holds.from_start in omega arith;
+      rising = k.holds.rising;
+      room = k.holds.room;
+      last_is = k.holds.last_is;
+      in_time = k.holds.in_time;
+      large = k.holds.large;
+      older_are = λ j other found. let from = k.holds.from_start in
+          subst (λ (n : ℕ). IsPageOf s.size n cuts xs (s.done + 1 - start + j) other) (let e : s.done + suc j ≡ s.done + 1 + j = omega arith in e)
+          (subst (λ (n : ℕ). IsPageOf s.size (s.done + suc j) cuts xs n other) (let e : s.done - start + suc j ≡ s.done + 1 - start + j = omega arith in e)
+          (k.holds.older_are (suc j) other (ap (λ (l : List Contents). slice_get l (suc j)) is ∙ found)));
+      tail_is = subst (λ (n : ℕ). IsPageOf s.size n cuts xs (length cuts) s.tail) (sym as_many_begun) k.holds.tail_is;
+      frames_are = frames_on s.size s.done s.older s.tail cuts xs (is_wished h) (s.done + 1) older s.tail cuts xs (is_wished h) 0
+          (as_many as_many_begun (λ kind state needs. needs)) (λ len slot low. absurd (omega arith)) s.frames bottom_alone k.holds.frames_are;
+    };
+  }
+
+-- ---- the tail, where no frame stands
+
+pub tail_released : (start : ℕ) (h : List Action) (s : Stack) → s.frames ≡ [] → s.older ≡ [] → IsStack start h s → IsReleased s.size start h s.done s.tail
+tail_released start h s none alone k =
+    let empty : (writer_after h).stack ≡ [] = k.stack_is ∙ ap (λ (fs : List Frame). pushed_of (model_frames fs)) none in
+    let few : length s.older ≡ 0 = ap length alone in
+    let begun = k.holds.begun in
+    let last : length (opens_of h) ≡ s.done - start = omega arith in
+    let fill : tail_fill s ≡ s.done = omega arith in
+    page_released s.size start h s.done s.tail k.keeps empty (omega arith)
+    (subst (λ (n : ℕ). IsPageOf s.size n (opens_of h) (reserved_records h) (s.done - start) s.tail) fill (subst (λ (n : ℕ). IsPageOf s.size (tail_fill s) (opens_of h) (reserved_records h) n s.tail) last k.holds.tail_is))
