@@ -29,7 +29,7 @@ pub pushed_after_leave : (top : Frame) (below : List Frame) → pushed_of (model
 pushed_after_leave top [] = refl
 pushed_after_leave top (next ∷ below) = refl
 
-frames_left : (size done : ℕ) (older : List Contents) (tail : Contents) (cuts : List ℕ) (records : List Reservation) (found : Bool) (top : Frame) (below : List Frame) → MayBePushed size (kind_of top.purpose) → FramesStand size done older tail cuts records found below → FramesStand size done older tail cuts records found (frames_after_leave top below)
+pub frames_left : (size done : ℕ) (older : List Contents) (tail : Contents) (cuts : List ℕ) (records : List Reservation) (found : Bool) (top : Frame) (below : List Frame) → MayBePushed size (kind_of top.purpose) → FramesStand size done older tail cuts records found below → FramesStand size done older tail cuts records found (frames_after_leave top below)
 frames_left size done older tail cuts records found top [] may st = (may, (tt, (λ e. absurd (none-some _ e))), tt, (λ e. refl), tt)
 frames_left size done older tail cuts records found top (next ∷ below) may st = st
 
@@ -130,6 +130,12 @@ gone_through start h s top below noted top_is purpose waits le k = is_progress s
 
 -- ---- the bottom frame, which has left
 
+pub left_is : (progress : Progress) → HasLeft progress → state_of progress ≡ left
+left_is (Waiting noted) gone = absurd gone
+left_is (Through noted) gone = absurd gone
+left_is (Reserved slot) gone = absurd gone
+left_is (Left noted) gone = refl
+
 left_empty : (start : ℕ) (h : List Action) (s : Stack) (bottom : Frame) → s.frames ≡ bottom ∷ [] → state_of bottom.progress ≡ left → IsStack start h s → (writer_after h).stack ≡ []
 left_empty start h s bottom top_is gone k = k.stack_is ∙ ap (λ (fs : List Frame). pushed_of (model_frames fs)) top_is ∙ ap (λ (state : FrameState). pushed_onto (kind_of bottom.purpose) state []) gone
 
@@ -177,3 +183,9 @@ popped start h s bottom top_is gone k = let o = k.holds in record {
     frames_are = tt;
   };
 }
+
+-- the same, by the number as it is worked out
+pub asked_at : (start : ℕ) (h : List Action) (s : Stack) (bottom : Frame) (below : List Frame) (noted : ℕ) → noted ≡ opened s → s.frames ≡ bottom ∷ below → IsAtBottom (bottom ∷ below) → s.tail.bytes ≢ [] → IsStack start h s
+    → IsStack start (h ++ wished ∷ []) (record s { frames = record bottom { progress = Left (Some noted) } ∷ below })
+asked_at start h s bottom [] noted is top_is gone some k = rw is (asked start h s bottom top_is (left_is bottom.progress gone) some k)
+asked_at start h s bottom (next ∷ below) noted is top_is gone some k = absurd gone

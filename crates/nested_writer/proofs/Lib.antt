@@ -4,3 +4,8 @@ pub mod NewStack
 pub mod Reserving
 pub mod Leaving
 pub mod Releasing
+pub mod Tops
+pub mod Bounds
+pub mod Opening
+pub mod Allotting
+pub mod Ending

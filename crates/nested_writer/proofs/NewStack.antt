@@ -12,7 +12,7 @@ use Rattle.page_image.specs.Contents.{IsPage}
 use Rattle.nested_writer.specs.Stack.{blank_page, new_stack}
 use Rattle.nested_writer.specs.IsStack.{IsStack}
 
-nothing : (rs : List Record) → 0 ≡ length rs → rs ≡ []
+pub nothing : (rs : List Record) → 0 ≡ length rs → rs ≡ []
 nothing [] e = refl
 nothing (r ∷ rs) e = cc
 

@@ -289,3 +289,18 @@ reserved_record start h s top below moment len noted tail' place top_is purpose 
           (opens_of-reserve h) (records_reserved h moment len rest stack) (is_wished-reserve h)
           (of_reserved start (opens_of h) xs (is_wished h) s o top below moment len tail' place p top_is purpose early low);
     }
+
+-- the same, by the numbers as they are worked out
+pub reserved_with : (start : ℕ) (h : List Action) (s : Stack) (top : Frame) (below : List Frame) (moment len : ℕ) (noted : Option ℕ) (tail' : Contents) (place : Place) (raised number fill : ℕ)
+    → raised ≡ max moment s.last_moment
+    → number ≡ next_number s
+    → fill ≡ tail_fill s
+    → s.frames ≡ top ∷ below
+    → top.purpose ≡ ForRecord moment len
+    → top.progress ≡ Waiting noted
+    → length tail'.bytes ≤ s.size
+    → IsPut s.tail tail' s.last_moment raised len place
+    → IsStack start h s
+    → IsStack start (h ++ reserve ∷ []) (record s { tail = tail'; last_moment = raised; frames = record top { progress = Reserved record { number = number; fill = fill; place = place } } ∷ below })
+reserved_with start h s top below moment len noted tail' place raised number fill a b d top_is purpose waits low p k =
+    rw (a, b, d) (reserved_record start h s top below moment len noted tail' place top_is purpose waits low (subst (λ (m : ℕ). IsPut s.tail tail' s.last_moment m len place) a p) k)

@@ -31,6 +31,14 @@ frames_after_leave top (next ∷ below) = next ∷ below
 abbrev pub after_leave : Stack → Frame → List Frame → Stack
 after_leave s top below = record s { frames = frames_after_leave top below }
 
+-- the bottom frame, which has left, was asked to close the tail when so many fills were begun
+abbrev pub asked_frames : List Frame → Option ℕ → List Frame
+asked_frames [] noted = []
+asked_frames (bottom ∷ below) noted = record bottom { progress = Left noted } ∷ below
+
+abbrev pub with_bottom : Stack → Option ℕ → Stack
+with_bottom s noted = record s { frames = asked_frames s.frames noted }
+
 -- a page more is the tail
 abbrev pub with_tail : Stack → Contents → Stack
 with_tail s page = record s { older = s.older ++ s.tail ∷ []; tail = page }
@@ -47,6 +55,11 @@ HasLeft (Waiting noted) = ⊥
 HasLeft (Through noted) = ⊥
 HasLeft (Reserved slot) = ⊥
 HasLeft (Left noted) = Unit {0}
+
+-- the frame on top was ended or refused
+abbrev pub HasTopLeft : List Frame → Type 0
+HasTopLeft [] = ⊥
+HasTopLeft (top ∷ below) = HasLeft top.progress
 
 -- only the bottom frame stands, ended or refused
 abbrev pub IsAtBottom : List Frame → Type 0
@@ -86,6 +99,19 @@ IsCrowded s = opened s ≡ s.done + s.pages
 -- the tail is the last fill that may be begun
 abbrev pub IsWorn : Stack → Type 0
 IsWorn s = LINK_FILLS ≤ opened s + s.pages
+
+-- The frame found that it needs a page, and none was added since: a record frame and a close frame at their last allot,
+-- one that has left when the tail was asked to be closed.
+abbrev pub HasNoted : Stack → Progress → Type 0
+HasNoted s (Waiting noted) = noted ≡ Some (opened s)
+HasNoted s (Through noted) = ⊥
+HasNoted s (Reserved slot) = ⊥
+HasNoted s (Left noted) = noted ≡ Some (opened s)
+
+-- the next fill is one that the frame on top needs
+abbrev pub MayAddPage : Stack → List Frame → Type 0
+MayAddPage s [] = ⊥
+MayAddPage s (top ∷ below) = HasNoted s top.progress
 
 -- the record has room in the tail
 abbrev pub HasRecordRoom : Stack → (moment len : ℕ) → Type 0

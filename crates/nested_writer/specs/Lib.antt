@@ -3,3 +3,5 @@ pub mod Inside
 pub mod Calls
 pub mod IsStack
 pub mod Released
+pub mod Allotted
+pub mod Ends

@@ -15,19 +15,20 @@ pub enum Allot {
 }
 
 impl WriterStack {
-    ghost use Rattle.std.specs.Prelude.{◌≡◌, ℕ, ◌+◌, ◌-◌, ◌≤◌, ◌<◌, ◌↔◌, max, [], ◌∷◌, ◌++◌, List, length, IsTrue, IfOk, OnOk, OnErr, IsOk};
+    ghost use Rattle.std.specs.Prelude.{◌≡◌, ℕ, ◌+◌, ◌-◌, ◌≤◌, ◌<◌, ◌↔◌, max, [], ◌∷◌, ◌++◌, List, Option, length, IsTrue, ◌⊎◌, IfOk, IfErr, OnOk, OnErr, IsOk};
     ghost use Rattle.trace_model.specs.declared.limits.TheConstants.{MAX_FRAMES, MOMENT_LIMIT};
     ghost use Rattle.trace_model.specs.History.{Action, reserve, leave};
     ghost use Rattle.page_image.specs.Contents.{Contents};
     ghost use Rattle.nested_writer.specs.Stack.{opened, tail_fill, next_number};
-    ghost use Rattle.nested_writer.specs.Calls.{with_progress, after_leave, IsTop, HasLeft, IsUnchanged, WantsPage, NeedsPage, IsCrowded, IsWorn, IsReserved, HasRecordRoom};
+    ghost use Rattle.nested_writer.specs.Calls.{with_progress, after_leave, IsTop, HasLeft, IsUnchanged, WantsPage, NeedsPage, IsCrowded, IsWorn, IsReserved, HasRecordRoom, HasTopLeft};
     ghost use Rattle.nested_writer.specs.IsStack.{IsStack};
+    ghost use Rattle.nested_writer.specs.Allotted.{IsAllotted};
     ghost use Rattle.nested_writer.specs.declared.frame.Frame.{Frame};
     ghost use Rattle.nested_writer.specs.declared.frame.Purpose.TheVariants.{Record, Close};
     ghost use Rattle.nested_writer.specs.declared.frame.Progress.TheVariants.{Waiting, Through, Reserved, Left};
 
     /// How many fills are begun, those closed counted.
-    fn opened(&self) -> u64
+    pub(crate) fn opened(&self) -> u64
         ensures { result ≡ opened self.now }
     {
         self.done + self.older.len() as u64 + 1
@@ -42,7 +43,7 @@ impl WriterStack {
     }
 
     /// The frame on top leaves: the bottom one stays.
-    fn leave(&mut self, top: Frame)
+    pub(crate) fn leave(&mut self, top: Frame)
         requires { (below : List Frame) × IsTop self.old top below }
         ensures { (below : List Frame) → IsTop self.old top below → self.new ≡ after_leave self.old top below }
     {
@@ -78,15 +79,13 @@ impl WriterStack {
     }
 
     /// A page is needed for the frame on top: it notes that, or is refused and leaves.
-    fn note_need(&mut self, top: Frame) -> Result<(), WriteFault>
-        requires { (below : List Frame) × IsTop self.old top below }
+    fn note_need(&mut self, top: Frame) -> Result<Allot, WriteFault>
+        requires top { (below : List Frame) × IsTop self.old top below }
+        requires wants { WantsPage self.old top.purpose top.progress }
         ensures crowded { result ≡ Err WriteFault.Crowded ↔ IsCrowded self.old }
         ensures worn { result ≡ Err WriteFault.Worn ↔ ((IsCrowded self.old → ⊥) × IsWorn self.old) }
-        ensures noted { IsOk result ↔ ((IsCrowded self.old → ⊥) × (IsWorn self.old → ⊥)) }
-        ensures ok { OnOk result ((below : List Frame) → IsTop self.old top below
-            → self.new ≡ with_progress self.old top below (Waiting (Some (opened self.old)))) }
-        ensures err { OnErr result ((below : List Frame) → IsTop self.old top below
-            → self.new ≡ after_leave self.old top below) }
+        ensures noted { result ≡ Ok Allot.NeedsPage ↔ ((IsCrowded self.old → ⊥) × (IsWorn self.old → ⊥)) }
+        ensures after { IsAllotted self.old self.old.frames result self.new }
     {
         if self.older.len() + 1 == self.pages {
             self.leave(top);
@@ -98,7 +97,7 @@ impl WriterStack {
             return Err(WriteFault::Worn);
         }
         self.go_on(top, Progress::Waiting(Some(opened)));
-        Ok(())
+        Ok(Allot::NeedsPage)
     }
 
     /// Reserves the record of the frame on top, which fits in the tail.
@@ -128,5 +127,42 @@ impl WriterStack {
             ..top
         });
         place
+    }
+
+    /// Reserves the record of the frame on top, whose moment is raised to that of the last one, or tells that a page is
+    /// needed; a reserved frame gets its place again. For a close frame a page is needed where the tail holds a record
+    /// and no page was added since its first call; else it gets a place of length 0. A frame that is refused as
+    /// `Crowded` or `Worn` leaves without a record.
+    pub fn allot(&mut self) -> Result<Allot, WriteFault>
+        requires stack { (start : ℕ) × (history : List Action) × IsStack start history self.old }
+        ensures crowded { result ≡ Err WriteFault.Crowded ↔ (NeedsPage self.old self.old.frames × IsCrowded self.old) }
+        ensures worn { result ≡ Err WriteFault.Worn
+            ↔ (NeedsPage self.old self.old.frames × (IsCrowded self.old → ⊥) × IsWorn self.old) }
+        ensures no_frame { result ≡ Err WriteFault.NoFrame ↔ self.old.frames ≡ [] }
+        ensures not_reserved { result ≡ Err WriteFault.NotReserved ↔ HasTopLeft self.old.frames }
+        ensures needs_page { result ≡ Ok Allot.NeedsPage
+            ↔ (NeedsPage self.old self.old.frames × (IsCrowded self.old → ⊥) × (IsWorn self.old → ⊥)) }
+        ensures after { IsAllotted self.old self.old.frames result self.new }
+    {
+        let Some(top) = self.top else {
+            return Err(WriteFault::NoFrame);
+        };
+        let noted = match top.progress {
+            Progress::Left(_) => return Err(WriteFault::NotReserved),
+            Progress::Reserved(slot) => return Ok(Allot::Fits(slot.place)),
+            Progress::Waiting(noted) => noted,
+            Progress::Through(noted) => Some(noted),
+        };
+        if self.wants_page(top) {
+            return self.note_need(top);
+        }
+        match top.purpose {
+            Purpose::Record { moment, len } => Ok(Allot::Fits(self.reserve(top, moment, len))),
+            Purpose::Close => {
+                let noted = noted.unwrap_or(self.opened());
+                self.go_on(top, Progress::Through(noted));
+                Ok(Allot::Fits(Place { start: 0, len: 0 }))
+            }
+        }
     }
 }

@@ -1,0 +1,33 @@
+use Rattle.std.proofs.Common.{◌≡◌, ◌∷◌, ◌++◌, ◌+◌, [], ℕ, List, length, refl, sym, ap, ◌∙◌, subst, arith}
+use Rattle.trace_model.specs.History.{open_fill, reserved_records}
+use Rattle.trace_model.specs.Packing.{opens_of, is_wished}
+use Rattle.page_image.specs.Contents.{Contents, IsPage}
+use Rattle.nested_writer.specs.declared.frame.Frame.{Frame}
+use Rattle.nested_writer.specs.Stack.{Stack, tail_fill, opened, next_number, blank_page}
+use Rattle.nested_writer.specs.Inside.{shown}
+use Rattle.nested_writer.specs.Calls.{with_tail, MayAddPage}
+use Rattle.nested_writer.specs.IsStack.{IsStack}
+use Rattle.nested_writer.proofs.Bounds.{number_fits}
+use Rattle.nested_writer.proofs.Opening.{page_may_be_added}
+use Rattle.nested_writer.proofs.stack.WriterStack.add_page.Goals as goal
+
+pub overflow_add-first : goal.overflow_add-first
+overflow_add-first c =
+    let (start, history, k) = c.requires.stack in
+    let s : Stack = shown c.self.inside in
+    let k' = (subst (IsStack start history) (sym c.self.view_is) k).holds in
+    let fills = c.self.invariant.fills in
+    let fits = number_fits start (opens_of history) (reserved_records history) (is_wished history) s k' (omega arith) in
+    omega (arith, c.first.ensures, c.count.ensures)
+
+pub returns-clause-stack : goal.returns-clause-stack
+returns-clause-stack c = λ start history old.
+    let s : Stack = shown c.self.inside in
+    let k : IsStack start history s = subst (IsStack start history) (sym c.self.view_is) old in
+    let needs = subst (λ (x : Stack). MayAddPage x x.frames) (sym c.self.view_is) c.requires.needs in
+    let size : length c.args.body ≡ s.size = c.requires.size ∙ ap (λ (x : Stack). x.size) (sym c.self.view_is) in
+    let fill : c.fill-fill.result.0 + 1 ≡ opened s = ap (λ (n : ℕ). n + 1) (c.fill-fill.ensures ∙ k.holds.tail_is.fill_is) in
+    let first : c.first.result.0 + c.count.result ≡ next_number s = (λ i. c.first.ensures i + c.count.ensures i) in
+    let blank : c.fresh-page.result ≡ blank_page s.size (next_number s) (opened s) = c.fresh-page.ensures.blank ∙ (λ i. blank_page (size i) (first i) (fill i)) in
+    let added = page_may_be_added start history s c.fresh-page.result needs blank c.fresh-page.ensures.page k in
+    rw (c.push_back_reserved.ensures.items, c.replace-tail.ensures.value, c.replace-tail.ensures.after) added

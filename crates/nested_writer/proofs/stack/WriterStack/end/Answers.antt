@@ -1,0 +1,27 @@
+use Rattle.std.proofs.Common.{◌≡◌, ◌∷◌, ◌++◌, [], ℕ, List, Option, Some, None, refl, sym, ap, ◌∙◌, subst, ⊎_elim}
+use Rattle.nested_writer.specs.declared.frame.Slot.{Slot}
+use Rattle.nested_writer.specs.declared.frame.Frame.{Frame}
+use Rattle.nested_writer.specs.declared.frame.Progress.{Progress}
+use Rattle.nested_writer.specs.declared.frame.Progress.TheVariants.{Through, Reserved}
+use Rattle.trace_model.specs.History.{Action, leave}
+use Rattle.nested_writer.specs.Stack.{Stack, state_of}
+use Rattle.nested_writer.specs.Inside.{frames_from}
+use Rattle.nested_writer.specs.Ends.{HasEnded, IsEnd}
+use Rattle.nested_writer.specs.IsStack.{IsStack}
+use Rattle.nested_writer.proofs.Leaving.{left_none}
+use Rattle.nested_writer.proofs.Ending.{ended}
+use Rattle.nested_writer.proofs.stack.WriterStack.end.Goals as goal
+
+pub returns-clause-ok : goal.returns-clause-ok
+returns-clause-ok c =
+    let s : Stack = c.args.self.now in
+    let top : Frame = c.in-Some.top in
+    let below : List Frame = c.self.inside.below.items in
+    let after : Stack = c.leave.new.self in
+    let frames : s.frames ≡ top ∷ below = ap (λ (x : Stack). x.frames) (sym c.self.view_is) ∙ ap (λ (t : Option Frame). frames_from t c.self.inside.below.items) c.in-Some.is in
+    let is = c.leave.ensures below frames in
+    let left : HasEnded s top.progress after = ⊎_elim
+    (λ (noted, has). subst (λ (p : Progress). HasEnded s p after) (sym has) (λ start h k. subst (IsStack start (h ++ leave None ∷ [])) (sym is) (left_none start h s top below frames (ap state_of has) k)))
+    (λ (slot, has). subst (λ (p : Progress). HasEnded s p after) (sym has) (λ page there start h k. subst (IsStack start _) (sym is) (ended start h s top below slot page frames has there k)))
+    c.in-Through.is in
+    subst (λ (fs : List Frame). IsEnd s fs after) (sym frames) (is, left)

@@ -1,0 +1,81 @@
+//! Frames that leave.
+use crate::fault::WriteFault;
+use crate::frame::{Frame, Progress};
+use crate::stack::WriterStack;
+
+/// How a frame was ended.
+#[derive(Clone, Copy, Debug, PartialEq, Eq)]
+pub enum Ended {
+    /// A frame stands below it: its record is committed once that one, and all below, have left too.
+    Pending,
+    /// It is the bottom frame, which stays until all closed fills are released.
+    Full,
+}
+
+impl WriterStack {
+    ghost use Rattle.std.specs.Prelude.{◌≡◌, ◌≢◌, ℕ, ◌≤◌, ◌<◌, ◌↔◌, [], ◌∷◌, ◌++◌, List, Some, length, IsTrue, OnOk, OnErr, IsOk};
+    ghost use Rattle.trace_model.specs.History.{Action, wished};
+    ghost use Rattle.nested_writer.specs.Stack.{opened};
+    ghost use Rattle.nested_writer.specs.Calls.{with_bottom, IsAtBottom};
+    ghost use Rattle.nested_writer.specs.Allotted.{HasActed};
+    ghost use Rattle.nested_writer.specs.Ends.{MayEndTop, MayNotEndTop, IsEnd};
+    ghost use Rattle.nested_writer.specs.IsStack.{IsStack};
+
+    /// Ends the frame on top, whose record is reserved, or which is a close frame that needs no page.
+    pub fn end(&mut self) -> Result<Ended, WriteFault>
+        requires stack { (start : ℕ) × (history : List Action) × IsStack start history self.old }
+        ensures no_frame { result ≡ Err WriteFault.NoFrame ↔ self.old.frames ≡ [] }
+        ensures not_reserved { result ≡ Err WriteFault.NotReserved ↔ MayNotEndTop self.old.frames }
+        ensures pending { result ≡ Ok Ended.Pending ↔ (MayEndTop self.old.frames × (1 < length self.old.frames)) }
+        ensures full { result ≡ Ok Ended.Full ↔ (MayEndTop self.old.frames × (length self.old.frames ≤ 1)) }
+        ensures ok { OnOk result (IsEnd self.old self.old.frames self.new) }
+        ensures err { OnErr result (self.new ≡ self.old) }
+    {
+        let Some(top) = self.top else {
+            return Err(WriteFault::NoFrame);
+        };
+        match top.progress {
+            Progress::Waiting(_) | Progress::Left(_) => return Err(WriteFault::NotReserved),
+            Progress::Through(_) | Progress::Reserved(_) => {}
+        }
+        let ended = if self.below.is_empty() {
+            Ended::Full
+        } else {
+            Ended::Pending
+        };
+        self.leave(top);
+        Ok(ended)
+    }
+
+    /// Whether the tail holds a record, so that it can be closed for the reader: then a page may be added for the bottom
+    /// frame, the only one that stands, which has left.
+    pub fn ask_close(&mut self) -> bool
+        requires bottom { IsAtBottom self.old.frames }
+        ensures asked { IsTrue result ↔ self.old.tail.bytes ≢ [] }
+        ensures yes { IsTrue result → self.new ≡ with_bottom self.old (Some (opened self.old)) }
+        ensures wished { IsTrue result → HasActed self.old (wished ∷ []) self.new }
+        ensures no { self.old.tail.bytes ≡ [] → self.new ≡ self.old }
+    {
+        if self.tail.end() == 0 {
+            return false;
+        }
+        let opened = self.opened();
+        if let Some(bottom) = self.top {
+            self.top = Some(Frame {
+                progress: Progress::Left(Some(opened)),
+                ..bottom
+            });
+        }
+        true
+    }
+
+    /// Takes the bottom frame off, which has left, where all fills but the tail are released.
+    pub fn pop_bottom(&mut self)
+        requires bottom { IsAtBottom self.old.frames }
+        requires released { self.old.older ≡ [] }
+        ensures popped { self.new ≡ record self.old { frames = [] } }
+        ensures stack { HasActed self.old [] self.new }
+    {
+        self.top = None;
+    }
+}
