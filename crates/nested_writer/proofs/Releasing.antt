@@ -1,5 +1,5 @@
 -- Pages that are handed out where no frame stands but one that has left, and what they hold.
-use Rattle.std.proofs.Common.{◌≡◌, ◌≢◌, ℕ, zero, suc, ◌+◌, ◌-◌, ◌<◌, ◌≤◌, true, List, [], ◌∷◌, length, get_or, take, drop, map, replicate, Option, Some, None, IfSome, refl, sym, ap, ◌∙◌, subst, arith}
+use Rattle.std.proofs.Common.{◌≡◌, ◌≢◌, ℕ, zero, suc, ◌+◌, ◌-◌, ◌<◌, ◌≤◌, true, List, [], ◌∷◌, ◌++◌, length, get_or, take, drop, map, replicate, Option, Some, None, IfSome, refl, sym, ap, ◌∙◌, subst, arith, append-nil}
 use Rattle.std.specs.Prelude.{All, IsSomeAnd, unwrap_or}
 use Rattle.std.specs.List.{slice_get}
 use Rattle.std.proofs.lemmas.List.{take_all, take-map, drop-map}
@@ -8,6 +8,7 @@ use Rattle.trace_model.specs.Record.{Record}
 use Rattle.trace_model.specs.History.{Action, Reservation, IsWritten, PushedFrame, as_record, writer_after, reserved_records, is_settled, settled_prefix, committed_records, IsHistory}
 use Rattle.trace_model.specs.Packing.{opens_of, cut_from, is_wished}
 use Rattle.trace_model.specs.Frames.{FrameState, left, number_of, pushed_onto, pushed_of}
+use Rattle.trace_model.specs.Ring.{first_of_fill, fill_of}
 use Rattle.trace_model.specs.OpenPages.{IsOf, AreOf}
 use Rattle.trace_model.proofs.Committed.{whole_front}
 use Rattle.trace_model.proofs.CommittedWritten.{committed-IsWritten}
@@ -16,14 +17,13 @@ use Rattle.trace_model.proofs.FullFills.{packed_full}
 use Rattle.trace_model.proofs.OpenPages.{AreOf-length}
 use Rattle.trace_model.proofs.PackedHistories.{is_packed}
 use Rattle.page_image.specs.Contents.{Contents, records_of_page}
-use Rattle.nested_writer.specs.declared.frame.Progress.{Progress}
-use Rattle.nested_writer.specs.declared.frame.Progress.TheVariants.{Waiting, Through, Reserved, Left}
 use Rattle.nested_writer.specs.declared.frame.Frame.{Frame}
 use Rattle.nested_writer.specs.Stack.{Stack, tail_fill, kind_of, state_of, model_frames}
-use Rattle.nested_writer.specs.Calls.{HasLeft, IsAtBottom}
+use Rattle.nested_writer.specs.Calls.{IsAtBottom}
 use Rattle.nested_writer.specs.IsStack.{IsPageOf, AreBefore, FramesStand, IsStackOf, IsStack}
-use Rattle.nested_writer.specs.Released.{IsReleased}
+use Rattle.nested_writer.specs.Released.{IsWrittenPage, AreCommitted}
 use Rattle.nested_writer.proofs.Standing.{as_many, frames_on}
+use Rattle.nested_writer.proofs.Leaving.{left_is}
 
 -- ---- records where no frame stands
 
@@ -72,40 +72,44 @@ records_read [] (s ∷ fill) all written = absurd all
 records_read (r ∷ records) [] all written = absurd all
 records_read (r ∷ records) (s ∷ fill) all written = λ i. record_read r s all.0 (All-head IsWritten s fill written) i ∷ records_read records fill all.1 (All-tail IsWritten s fill written) i
 
--- a page of an open fill, where no frame stands
-pub page_released : (size start : ℕ) (h : List Action) (fill : ℕ) (page : Contents) → IsHistory h → (writer_after h).stack ≡ [] → fill - start ≤ length (opens_of h) → IsPageOf size fill (opens_of h) (reserved_records h) (fill - start) page → IsReleased size start h fill page
-page_released size start h fill page keeps none low p =
-    let xs : List Reservation = reserved_records h in
-    let its : List Reservation = get_or (cut_from 0 (opens_of h) xs) (fill - start) [] in
-    let from : ℕ = get_or (0 ∷ opens_of h) (fill - start) 0 in
-    let written : All IsWritten its = fill_written 0 (opens_of h) xs (fill - start) (all_written h keeps none) in
-    let are : records_of_page page ≡ map as_record its = records_read (records_of_page page) its p.holds.each written in
-    let count : length its ≡ page.count = sym (p.page_reads.counted ∙ AreOf-length (records_of_page page) its p.holds.each) in
-    record {
-      page_reads = p.page_reads;
-      size_is = p.size_is;
-      fill_is = p.fill_is;
-      first_is = p.first_is;
-      holds = p.holds;
-      written = written;
-      records_are = are;
-      committed = are ∙ ap (map as_record) (fill_counted 0 (opens_of h) xs (fill - start) low)
-          ∙ sym (take-map as_record (length its) (drop from xs))
-          ∙ ap (take (length its)) (sym (drop-map as_record from xs))
-          ∙ (λ i. take (count i) (drop (sym p.first_is i) (sym (all_committed h none) i)));
-    }
+-- ---- a page of an open fill, where no frame stands
+
+module _ (size start : ℕ) (h : List Action) (fill : ℕ) (page : Contents) (keeps : IsHistory h) (none : (writer_after h).stack ≡ []) (p : IsPageOf size fill (opens_of h) (reserved_records h) (fill - start) page) where
+  abbrev its : List Reservation
+  its = (fill_of h start fill).records
+
+  its_written : All IsWritten its
+  its_written = fill_written 0 (opens_of h) (reserved_records h) (fill - start) (all_written h keeps none)
+
+  reads_as : records_of_page page ≡ map as_record its
+  reads_as = records_read (records_of_page page) its p.holds.each its_written
+
+  pub page_written : IsWrittenPage size fill (fill_of h start fill) page
+  page_written = record {
+    page_reads = p.page_reads;
+    size_is = p.size_is;
+    fill_is = p.fill_is;
+    first_is = p.first_is;
+    holds = p.holds;
+    written = its_written;
+    records_are = reads_as;
+  }
+
+  pub page_committed : fill - start ≤ length (opens_of h) → AreCommitted h page
+  page_committed low =
+      let from : ℕ = first_of_fill h start fill in
+      let count : length its ≡ page.count = sym (p.page_reads.counted ∙ AreOf-length (records_of_page page) its p.holds.each) in
+      reads_as
+      ∙ ap (map as_record) (fill_counted 0 (opens_of h) (reserved_records h) (fill - start) low)
+      ∙ sym (take-map as_record (length its) (drop from (reserved_records h)))
+      ∙ ap (take (length its)) (sym (drop-map as_record from (reserved_records h)))
+      ∙ (λ i. take (count i) (drop (sym p.first_is i) (sym (all_committed h none) i)))
 
 -- ---- the bottom frame, which has left
 
-has_left : (progress : Progress) → HasLeft progress → state_of progress ≡ left
-has_left (Waiting noted) gone = absurd gone
-has_left (Through noted) gone = absurd gone
-has_left (Reserved slot) gone = absurd gone
-has_left (Left noted) gone = refl
-
 bottom_of : (frames : List Frame) → IsAtBottom frames → (bottom : Frame) × (frames ≡ bottom ∷ []) × (state_of bottom.progress ≡ left)
 bottom_of [] at = absurd at
-bottom_of (f ∷ []) at = (f, refl, has_left f.progress at)
+bottom_of (f ∷ []) at = (f, refl, left_is f.progress at)
 bottom_of (f ∷ next ∷ below) at = absurd at
 
 none_stands : (start : ℕ) (h : List Action) (s : Stack) → IsAtBottom s.frames → IsStack start h s → (writer_after h).stack ≡ []
@@ -135,8 +139,11 @@ module _ (start : ℕ) (h : List Action) (s : Stack) (page : Contents) (older : 
   not_last : s.done - start + 1 ≤ length cuts
   not_last = let begun = k.holds.begun in let from = k.holds.from_start in let more = long in omega arith
 
-  pub front_released : IsReleased s.size start h s.done page
-  front_released = page_released s.size start h s.done page k.keeps (none_stands start h s at k) (let low = not_last in omega arith) front_page
+  pub front_written : IsWrittenPage s.size s.done (fill_of h start s.done) page
+  front_written = page_written s.size start h s.done page k.keeps (none_stands start h s at k) front_page
+
+  pub front_committed : AreCommitted h page
+  front_committed = page_committed s.size start h s.done page k.keeps (none_stands start h s at k) front_page (let low = not_last in omega arith)
 
   pub front_some : 0 < page.count
   front_some = let some = packed_full h s.size (s.done - start) (is_packed s.size h k.holds.room k.fit) (let low = not_last in let all = length-cut_from 0 cuts xs in omega arith) in
@@ -156,8 +163,8 @@ module _ (start : ℕ) (h : List Action) (s : Stack) (page : Contents) (older : 
   as_many_begun : s.done + 1 + length older ≡ s.done + length s.older
   as_many_begun = let more = long in omega arith
 
-  pub front_gone : IsStack start h after
-  front_gone = record {
+  gone : IsStack start h after
+  gone = record {
     keeps = k.keeps;
     stack_is = k.stack_is;
     fit = k.fit;
@@ -179,14 +186,25 @@ module _ (start : ℕ) (h : List Action) (s : Stack) (page : Contents) (older : 
     };
   }
 
+  pub front_gone : IsStack start (h ++ []) after
+  front_gone = subst (λ (g : List Action). IsStack start g after) (sym (append-nil h)) gone
+
 -- ---- the tail, where no frame stands
 
-pub tail_released : (start : ℕ) (h : List Action) (s : Stack) → s.frames ≡ [] → s.older ≡ [] → IsStack start h s → IsReleased s.size start h s.done s.tail
-tail_released start h s none alone k =
-    let empty : (writer_after h).stack ≡ [] = k.stack_is ∙ ap (λ (fs : List Frame). pushed_of (model_frames fs)) none in
-    let few : length s.older ≡ 0 = ap length alone in
-    let begun = k.holds.begun in
-    let last : length (opens_of h) ≡ s.done - start = omega arith in
-    let fill : tail_fill s ≡ s.done = omega arith in
-    page_released s.size start h s.done s.tail k.keeps empty (omega arith)
-    (subst (λ (n : ℕ). IsPageOf s.size n (opens_of h) (reserved_records h) (s.done - start) s.tail) fill (subst (λ (n : ℕ). IsPageOf s.size (tail_fill s) (opens_of h) (reserved_records h) n s.tail) last k.holds.tail_is))
+module _ (start : ℕ) (h : List Action) (s : Stack) (none : s.frames ≡ []) (alone : s.older ≡ []) (k : IsStack start h s) where
+  all_left : (writer_after h).stack ≡ []
+  all_left = k.stack_is ∙ ap (λ (fs : List Frame). pushed_of (model_frames fs)) none
+
+  last_fill : length (opens_of h) ≡ s.done - start
+  last_fill = let few : length s.older ≡ 0 = ap length alone in let begun = k.holds.begun in omega arith
+
+  tail_page : IsPageOf s.size s.done (opens_of h) (reserved_records h) (s.done - start) s.tail
+  tail_page = let few : length s.older ≡ 0 = ap length alone in
+      subst (λ (n : ℕ). IsPageOf s.size n (opens_of h) (reserved_records h) (s.done - start) s.tail) (let fill : tail_fill s ≡ s.done = omega arith in fill)
+      (subst (λ (n : ℕ). IsPageOf s.size (tail_fill s) (opens_of h) (reserved_records h) n s.tail) last_fill k.holds.tail_is)
+
+  pub tail_written : IsWrittenPage s.size s.done (fill_of h start s.done) s.tail
+  tail_written = page_written s.size start h s.done s.tail k.keeps all_left tail_page
+
+  pub tail_committed : AreCommitted h s.tail
+  tail_committed = page_committed s.size start h s.done s.tail k.keeps all_left tail_page (let last = last_fill in omega arith)

@@ -5,8 +5,10 @@ use page_image::Page;
 impl WriterStack {
     ghost use Rattle.std.specs.Prelude.{◌≡◌, ◌≢◌, ℕ, ◌+◌, ◌<◌, [], ◌∷◌, List};
     ghost use Rattle.trace_model.specs.History.{Action};
+    ghost use Rattle.trace_model.specs.Ring.{fill_of};
     ghost use Rattle.nested_writer.specs.Calls.{IsAtBottom};
-    ghost use Rattle.nested_writer.specs.Released.{IsReleased};
+    ghost use Rattle.nested_writer.specs.Allotted.{HasActed};
+    ghost use Rattle.nested_writer.specs.Released.{IsWrittenPage, AreCommitted};
     ghost use Rattle.nested_writer.specs.IsStack.{IsStack};
 
     /// Releases the oldest open page, behind which another one is begun: its fill is closed. Only the bottom frame
@@ -16,12 +18,13 @@ impl WriterStack {
         requires older { self.old.older ≢ [] }
         ensures page { self.old.older ≡ result ∷ self.new.older }
         ensures others { self.new ≡ record self.old { done = self.old.done + 1; older = self.new.older } }
-        ensures stack { (start : ℕ) (history : List Action)
+        ensures stack { HasActed self.old [] self.new }
+        ensures written { (start : ℕ) (history : List Action)
             → IsStack start history self.old
-            → IsStack start history self.new }
-        ensures released { (start : ℕ) (history : List Action)
+            → IsWrittenPage self.old.size self.old.done (fill_of history start self.old.done) result }
+        ensures committed { (start : ℕ) (history : List Action)
             → IsStack start history self.old
-            → IsReleased self.old.size start history self.old.done result }
+            → AreCommitted history result }
         ensures holds_some { (start : ℕ) (history : List Action)
             → IsStack start history self.old
             → 0 < result.count }
@@ -38,9 +41,12 @@ impl WriterStack {
         requires rest { self.frames ≡ [] }
         requires released { self.older ≡ [] }
         ensures tail { result ≡ self.tail }
-        ensures released { (start : ℕ) (history : List Action)
+        ensures written { (start : ℕ) (history : List Action)
             → IsStack start history self
-            → IsReleased self.size start history self.done result }
+            → IsWrittenPage self.size self.done (fill_of history start self.done) result }
+        ensures committed { (start : ℕ) (history : List Action)
+            → IsStack start history self
+            → AreCommitted history result }
     {
         let WriterStack { tail, .. } = self;
         tail

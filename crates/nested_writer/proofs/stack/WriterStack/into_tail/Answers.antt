@@ -1,10 +1,16 @@
-use Rattle.std.proofs.Common.{sym, subst}
+use Rattle.std.proofs.Common.{sym, ap, subst}
+use Rattle.trace_model.specs.Ring.{fill_of}
 use Rattle.nested_writer.specs.Stack.{Stack}
-use Rattle.nested_writer.specs.Released.{IsReleased}
-use Rattle.nested_writer.proofs.Releasing.{tail_released}
+use Rattle.nested_writer.specs.Released.{IsWrittenPage, AreCommitted}
+use Rattle.nested_writer.proofs.Releasing.{tail_written, tail_committed}
 use Rattle.nested_writer.proofs.stack.WriterStack.into_tail.Goals as goal
 
-pub returns-clause-released : goal.returns-clause-released
-returns-clause-released c = λ start history k.
-    subst (λ (s : Stack). IsReleased c.args.self.size start history c.args.self.done s.tail) (sym c.self.view_is)
-    (tail_released start history c.args.self c.requires.rest c.requires.released k)
+pub returns-clause-written : goal.returns-clause-written
+returns-clause-written c = λ start history k.
+    subst (λ (s : Stack). IsWrittenPage c.args.self.size c.args.self.done (fill_of history start c.args.self.done) s.tail) (sym c.self.view_is)
+    (tail_written start history c.args.self c.requires.rest c.requires.released k)
+
+pub returns-clause-committed : goal.returns-clause-committed
+returns-clause-committed c = λ start history k.
+    subst (λ (s : Stack). AreCommitted history s.tail) (sym c.self.view_is)
+    (tail_committed start history c.args.self c.requires.rest c.requires.released k)
