@@ -61,6 +61,13 @@ abbrev pub HasTopLeft : List Frame → Type 0
 HasTopLeft [] = ⊥
 HasTopLeft (top ∷ below) = HasLeft top.progress
 
+-- it has reserved no record
+abbrev pub HasNoSlot : Progress → Type 0
+HasNoSlot (Waiting noted) = Unit {0}
+HasNoSlot (Through noted) = Unit {0}
+HasNoSlot (Reserved slot) = ⊥
+HasNoSlot (Left noted) = Unit {0}
+
 -- only the bottom frame stands, ended or refused
 abbrev pub IsAtBottom : List Frame → Type 0
 IsAtBottom [] = ⊥
@@ -133,3 +140,13 @@ pub record IsReserved (s : Stack) (top : Frame) (below : List Frame) (moment len
           progress = Reserved record { number = next_number s; fill = tail_fill s; place = place };
         } ∷ below;
       }
+
+-- a frame stands on top that has reserved no record
+abbrev pub LacksSlot : List Frame → Type 0
+LacksSlot [] = ⊥
+LacksSlot (top ∷ below) = HasNoSlot top.progress
+
+-- the record of the frame on top stands here
+abbrev pub IsTopSlot : List Frame → Slot → Type 0
+IsTopSlot [] slot = ⊥
+IsTopSlot (top ∷ below) slot = top.progress ≡ Reserved slot

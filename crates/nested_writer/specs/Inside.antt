@@ -22,7 +22,8 @@ shown w = record {
   last_moment = w.last_moment;
 }
 
--- There is room for all pages and frames, and the next fill has a number.
+-- There is room for all pages and frames; where no frame stands, all fills but the tail are released; and the next fill
+-- has a number.
 pub record IsWriterStack (w : Inside) : Type 0 where
   pub some_pages : MIN_PAGES ≤ w.pages
   pub most_pages : w.pages ≤ MAX_PAGES
@@ -33,4 +34,5 @@ pub record IsWriterStack (w : Inside) : Type 0 where
   pub frames_room : MAX_FRAMES ≤ deque_capacity w.below
   pub frames : length (frames_from w.top w.below.items) ≤ MAX_FRAMES
   pub top_first : w.top ≡ None → w.below.items ≡ []
+  pub at_rest : w.top ≡ None → w.older.items ≡ []
   pub fills : w.done + length w.older.items + 1 + w.pages ≤ LINK_FILLS

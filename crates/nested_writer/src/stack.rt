@@ -1,6 +1,7 @@
 //! The writer's stack: its open pages and its frames.
 pub mod allot;
 pub mod leave;
+pub mod lend;
 pub mod pages;
 pub mod push;
 pub mod release;

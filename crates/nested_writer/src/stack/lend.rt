@@ -1,0 +1,46 @@
+//! The payload of the frame on top, lent to be written.
+use crate::fault::WriteFault;
+use crate::frame::{Progress, Slot};
+use crate::stack::WriterStack;
+
+impl WriterStack {
+    ghost use Rattle.std.specs.Prelude.{◌≡◌, ℕ, ◌+◌, ◌≤◌, ◌<◌, ◌↔◌, [], ◌∷◌, List, length, IfOk, IfErr, OnOk, OnErr, slice_range};
+    ghost use Rattle.std.specs.Borrow.{sem};
+    ghost use Rattle.trace_model.specs.History.{Action};
+    ghost use Rattle.page_image.specs.Contents.{Contents};
+    ghost use Rattle.nested_writer.specs.Lending.{LendsSlot};
+    ghost use Rattle.nested_writer.specs.Calls.{LacksSlot, IsTopSlot};
+    ghost use Rattle.nested_writer.specs.IsStack.{IsStack, IsOpenPage};
+
+    /// Where the record of the frame on top stands.
+    fn top_slot(&self) -> Result<Slot, WriteFault>
+        ensures no_frame { result ≡ Err WriteFault.NoFrame ↔ self.now.frames ≡ [] }
+        ensures not_reserved { result ≡ Err WriteFault.NotReserved ↔ LacksSlot self.now.frames }
+        ensures slot { IfOk result (λ slot. IsTopSlot self.now.frames slot) }
+    {
+        let Some(top) = self.top else {
+            return Err(WriteFault::NoFrame);
+        };
+        match top.progress {
+            Progress::Reserved(slot) => Ok(slot),
+            Progress::Waiting(_) | Progress::Through(_) | Progress::Left(_) => {
+                Err(WriteFault::NotReserved)
+            }
+        }
+    }
+
+    /// The payload in this slot of an open page.
+    fn payload_mut(&mut self, slot: Slot) -> &mut [u8]
+        requires stack { (start : ℕ) × (history : List Action) × IsStack start history self.old }
+        requires slot { IsTopSlot self.old.frames slot }
+        ensures* lends { sem 𝓛 (LendsSlot self.entry slot result) }
+        ensures payload { (page : Contents)
+            → IsOpenPage self.old.done self.old.older self.old.tail slot.fill page
+            → result.now ≡ slice_range page.bytes slot.place.start (slot.place.start + slot.place.len) }
+    {
+        if slot.fill == self.tail.fill().0 {
+            return self.tail.payload_mut(slot.place);
+        }
+        self.older[(slot.fill - self.done) as usize].payload_mut(slot.place)
+    }
+}
