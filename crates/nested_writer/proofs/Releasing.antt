@@ -19,6 +19,8 @@ use Rattle.trace_model.proofs.PackedHistories.{is_packed}
 use Rattle.page_image.specs.Contents.{Contents, records_of_page}
 use Rattle.nested_writer.specs.declared.frame.Frame.{Frame}
 use Rattle.nested_writer.specs.Stack.{Stack, tail_fill, kind_of, state_of, model_frames}
+use Rattle.nested_writer.specs.declared.stack.WriterStack.TheInside.{Inside}
+use Rattle.nested_writer.specs.Inside.{shown, frames_from}
 use Rattle.nested_writer.specs.Calls.{IsAtBottom}
 use Rattle.nested_writer.specs.IsStack.{IsPageOf, AreBefore, FramesStand, IsStackOf, IsStack}
 use Rattle.nested_writer.specs.Released.{IsWrittenPage, AreCommitted}
@@ -112,7 +114,7 @@ bottom_of [] at = absurd at
 bottom_of (f ∷ []) at = (f, refl, left_is f.progress at)
 bottom_of (f ∷ next ∷ below) at = absurd at
 
-none_stands : (start : ℕ) (h : List Action) (s : Stack) → IsAtBottom s.frames → IsStack start h s → (writer_after h).stack ≡ []
+pub none_stands : (start : ℕ) (h : List Action) (s : Stack) → IsAtBottom s.frames → IsStack start h s → (writer_after h).stack ≡ []
 none_stands start h s at k = let bottom = bottom_of s.frames at in
     k.stack_is ∙ ap (λ (fs : List Frame). pushed_of (model_frames fs)) bottom.1 ∙ ap (λ (state : FrameState). pushed_onto (kind_of bottom.0.purpose) state []) bottom.2
 
@@ -191,8 +193,16 @@ module _ (start : ℕ) (h : List Action) (s : Stack) (page : Contents) (older : 
 
 -- ---- the tail, where no frame stands
 
+no_top : (top : Option Frame) (below : List Frame) → frames_from top below ≡ [] → top ≡ None
+no_top None below e = refl
+no_top (Some f) below e = cc
+
+-- it is the only open page
+pub only_tail : (w : Inside) (s : Stack) → shown w ≡ s → (w.top ≡ None → w.older.items ≡ []) → s.frames ≡ [] → s.older ≡ []
+only_tail w s is rest none = ap (λ (x : Stack). x.older) (sym is) ∙ rest (no_top w.top w.below.items (ap (λ (x : Stack). x.frames) is ∙ none))
+
 module _ (start : ℕ) (h : List Action) (s : Stack) (none : s.frames ≡ []) (alone : s.older ≡ []) (k : IsStack start h s) where
-  all_left : (writer_after h).stack ≡ []
+  pub all_left : (writer_after h).stack ≡ []
   all_left = k.stack_is ∙ ap (λ (fs : List Frame). pushed_of (model_frames fs)) none
 
   last_fill : length (opens_of h) ≡ s.done - start

@@ -32,39 +32,4 @@ impl WriterStack {
         let tail = mem::replace(&mut self.tail, page);
         self.older.push_back_reserved(tail);
     }
-
-    /// Releases the oldest page, where it isn't the tail and only the bottom frame stands, which has left: the first fill
-    /// that isn't closed, of which all records are committed.
-    pub fn drop_front(&mut self) -> Page
-        requires more { 0 < length self.old.older }
-        requires bottom { IsAtBottom self.old.frames }
-        ensures oldest { self.old.older ≡ result ∷ self.new.older }
-        ensures released { self.new ≡ record self.old { done = self.old.done + 1; older = self.new.older } }
-        ensures stack { HasActed self.old [] self.new }
-        ensures fill { (start : ℕ) (history : List Action)
-            → IsStack start history self.old
-            → IsPageOf self.old.size self.old.done (opens_of history) (reserved_records history) (self.old.done - start)
-            result }
-        ensures settled { (start : ℕ) (history : List Action)
-            → IsStack start history self.old
-            → IsTrue (is_settled history) }
-    {
-        match self.older.pop_front() {
-            Some(page) => {
-                self.done += 1;
-                page
-            }
-            None => unreachable!(),
-        }
-    }
-
-    /// The tail page of a stack on which no frame stands, the only open one.
-    pub fn into_tail(self) -> Page
-        requires none { self.frames ≡ [] }
-        ensures tail { result ≡ self.tail }
-        ensures alone { self.older ≡ [] }
-    {
-        let WriterStack { tail, .. } = self;
-        tail
-    }
 }

@@ -3,8 +3,8 @@ use crate::stack::WriterStack;
 use page_image::Page;
 
 impl WriterStack {
-    ghost use Rattle.std.specs.Prelude.{◌≡◌, ◌≢◌, ℕ, ◌+◌, ◌<◌, [], ◌∷◌, List};
-    ghost use Rattle.trace_model.specs.History.{Action};
+    ghost use Rattle.std.specs.Prelude.{◌≡◌, ℕ, ◌+◌, ◌<◌, [], ◌∷◌, List, length, IsTrue};
+    ghost use Rattle.trace_model.specs.History.{Action, is_settled};
     ghost use Rattle.trace_model.specs.Ring.{fill_of};
     ghost use Rattle.nested_writer.specs.Calls.{IsAtBottom};
     ghost use Rattle.nested_writer.specs.Allotted.{HasActed};
@@ -14,10 +14,10 @@ impl WriterStack {
     /// Releases the oldest open page, behind which another one is begun: its fill is closed. Only the bottom frame
     /// stands, which has left, so that all records are committed.
     pub fn drop_front(&mut self) -> Page
+        requires more { 0 < length self.old.older }
         requires bottom { IsAtBottom self.old.frames }
-        requires older { self.old.older ≢ [] }
-        ensures page { self.old.older ≡ result ∷ self.new.older }
-        ensures others { self.new ≡ record self.old { done = self.old.done + 1; older = self.new.older } }
+        ensures oldest { self.old.older ≡ result ∷ self.new.older }
+        ensures released { self.new ≡ record self.old { done = self.old.done + 1; older = self.new.older } }
         ensures stack { HasActed self.old [] self.new }
         ensures written { (start : ℕ) (history : List Action)
             → IsStack start history self.old
@@ -25,6 +25,9 @@ impl WriterStack {
         ensures committed { (start : ℕ) (history : List Action)
             → IsStack start history self.old
             → AreCommitted history result }
+        ensures settled { (start : ℕ) (history : List Action)
+            → IsStack start history self.old
+            → IsTrue (is_settled history) }
         ensures holds_some { (start : ℕ) (history : List Action)
             → IsStack start history self.old
             → 0 < result.count }
@@ -36,17 +39,20 @@ impl WriterStack {
         page
     }
 
-    /// The tail, where no frame stands: all other pages are released then.
+    /// The tail, where no frame stands: all other pages are released then, and all records are committed.
     pub fn into_tail(self) -> Page
-        requires rest { self.frames ≡ [] }
-        requires released { self.older ≡ [] }
+        requires none { self.frames ≡ [] }
         ensures tail { result ≡ self.tail }
+        ensures alone { self.older ≡ [] }
         ensures written { (start : ℕ) (history : List Action)
             → IsStack start history self
             → IsWrittenPage self.size self.done (fill_of history start self.done) result }
         ensures committed { (start : ℕ) (history : List Action)
             → IsStack start history self
             → AreCommitted history result }
+        ensures settled { (start : ℕ) (history : List Action)
+            → IsStack start history self
+            → IsTrue (is_settled history) }
     {
         let WriterStack { tail, .. } = self;
         tail
