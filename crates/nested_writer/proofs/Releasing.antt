@@ -6,16 +6,17 @@ use Rattle.std.proofs.lemmas.List.{take_all, take-map, drop-map}
 use Rattle.std.proofs.lemmas.List.Elements.{All-nil, All-head, All-tail, All-take, All-drop}
 use Rattle.trace_model.specs.Record.{Record}
 use Rattle.trace_model.specs.History.{Action, Reservation, IsWritten, PushedFrame, as_record, writer_after, reserved_records, is_settled, settled_prefix, committed_records, IsHistory}
-use Rattle.trace_model.specs.Packing.{opens_of, cut_from, is_wished}
+use Rattle.trace_model.specs.Packing.{opens_of, cut_from, tail_of, is_wished}
+use Rattle.trace_model.specs.Fitting.{tail_at}
 use Rattle.trace_model.specs.Frames.{FrameState, left, number_of, pushed_onto, pushed_of}
 use Rattle.trace_model.specs.Ring.{first_of_fill, fill_of}
-use Rattle.trace_model.specs.OpenPages.{IsOf, AreOf}
+use Rattle.trace_model.specs.OpenPages.{IsOf, AreOf, HoldsRecords}
 use Rattle.trace_model.proofs.Committed.{whole_front}
 use Rattle.trace_model.proofs.CommittedWritten.{committed-IsWritten}
 use Rattle.trace_model.proofs.FillCuts.{length-cut_from}
 use Rattle.trace_model.proofs.FullFills.{packed_full}
-use Rattle.trace_model.proofs.OpenPages.{AreOf-length}
-use Rattle.trace_model.proofs.PackedHistories.{is_packed}
+use Rattle.trace_model.proofs.OpenPages.{AreOf-length, fill_len-some}
+use Rattle.trace_model.proofs.PackedHistories.{is_packed, tail_is}
 use Rattle.page_image.specs.Contents.{Contents, records_of_page}
 use Rattle.nested_writer.specs.declared.frame.Frame.{Frame}
 use Rattle.nested_writer.specs.Stack.{Stack, tail_fill, kind_of, state_of, model_frames}
@@ -25,6 +26,7 @@ use Rattle.nested_writer.specs.Calls.{IsAtBottom}
 use Rattle.nested_writer.specs.IsStack.{IsPageOf, AreBefore, FramesStand, IsStackOf, IsStack}
 use Rattle.nested_writer.specs.Released.{IsWrittenPage, AreCommitted}
 use Rattle.nested_writer.proofs.Standing.{as_many, frames_on}
+use Rattle.nested_writer.proofs.Reserving.{tail_some}
 use Rattle.nested_writer.proofs.Leaving.{left_is}
 
 -- ---- records where no frame stands
@@ -201,10 +203,10 @@ no_top (Some f) below e = cc
 pub only_tail : (w : Inside) (s : Stack) → shown w ≡ s → (w.top ≡ None → w.older.items ≡ []) → s.frames ≡ [] → s.older ≡ []
 only_tail w s is rest none = ap (λ (x : Stack). x.older) (sym is) ∙ rest (no_top w.top w.below.items (ap (λ (x : Stack). x.frames) is ∙ none))
 
-module _ (start : ℕ) (h : List Action) (s : Stack) (none : s.frames ≡ []) (alone : s.older ≡ []) (k : IsStack start h s) where
-  pub all_left : (writer_after h).stack ≡ []
-  all_left = k.stack_is ∙ ap (λ (fs : List Frame). pushed_of (model_frames fs)) none
+pub all_left : (start : ℕ) (h : List Action) (s : Stack) → s.frames ≡ [] → IsStack start h s → (writer_after h).stack ≡ []
+all_left start h s none k = k.stack_is ∙ ap (λ (fs : List Frame). pushed_of (model_frames fs)) none
 
+module _ (start : ℕ) (h : List Action) (s : Stack) (none : s.frames ≡ []) (alone : s.older ≡ []) (k : IsStack start h s) where
   last_fill : length (opens_of h) ≡ s.done - start
   last_fill = let few : length s.older ≡ 0 = ap length alone in let begun = k.holds.begun in omega arith
 
@@ -214,7 +216,19 @@ module _ (start : ℕ) (h : List Action) (s : Stack) (none : s.frames ≡ []) (a
       (subst (λ (n : ℕ). IsPageOf s.size (tail_fill s) (opens_of h) (reserved_records h) n s.tail) last_fill k.holds.tail_is)
 
   pub tail_written : IsWrittenPage s.size s.done (fill_of h start s.done) s.tail
-  tail_written = page_written s.size start h s.done s.tail k.keeps all_left tail_page
+  tail_written = page_written s.size start h s.done s.tail k.keeps (all_left start h s none k) tail_page
 
   pub tail_committed : AreCommitted h s.tail
-  tail_committed = page_committed s.size start h s.done s.tail k.keeps all_left tail_page (let last = last_fill in omega arith)
+  tail_committed = page_committed s.size start h s.done s.tail k.keeps (all_left start h s none k) tail_page (let last = last_fill in omega arith)
+
+-- ---- whether the tail holds a record
+
+empty_fill : (page : Contents) (fill : List Reservation) → HoldsRecords page.time page.bytes fill → page.bytes ≡ [] → fill ≡ []
+empty_fill page [] holds none = refl
+empty_fill page (r ∷ fill) holds none = absurd (let long = holds.len_is in let few = ap length none in let some = fill_len-some r fill in omega arith)
+
+pub tail_empty : (start : ℕ) (h : List Action) (s : Stack) → IsStack start h s → s.tail.bytes ≡ [] → tail_of h ≡ []
+tail_empty start h s k none = tail_is h ∙ empty_fill s.tail (tail_at (opens_of h) (reserved_records h)) k.holds.tail_is.holds none
+
+pub tail_holds : (start : ℕ) (h : List Action) (s : Stack) → IsStack start h s → s.tail.bytes ≢ [] → tail_of h ≢ []
+tail_holds start h s k some none = tail_some start (opens_of h) (reserved_records h) (is_wished h) s k.holds some (sym (tail_is h) ∙ none)

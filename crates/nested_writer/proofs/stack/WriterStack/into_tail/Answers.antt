@@ -17,4 +17,4 @@ returns-clause-committed c = λ start history k.
     (tail_committed start history c.args.self c.requires.none (only_tail c.self.inside c.args.self c.self.view_is c.self.invariant.at_rest c.requires.none) k)
 
 pub returns-clause-settled : goal.returns-clause-settled
-returns-clause-settled c = λ start history k. settled_at_rest history (all_left start history c.args.self c.requires.none (only_tail c.self.inside c.args.self c.self.view_is c.self.invariant.at_rest c.requires.none) k)
+returns-clause-settled c = λ start history k. settled_at_rest history (all_left start history c.args.self c.requires.none k)
