@@ -9,3 +9,5 @@ pub mod Bounds
 pub mod Opening
 pub mod Allotting
 pub mod Ending
+pub mod Dropping
+pub mod Lending

@@ -1,14 +1,13 @@
 -- Pages that are handed out where no frame stands but one that has left, and what they hold.
-use Rattle.std.proofs.Common.{◌≡◌, ◌≢◌, ℕ, zero, suc, ◌+◌, ◌-◌, ◌<◌, ◌≤◌, true, List, [], ◌∷◌, ◌++◌, length, get_or, take, drop, map, replicate, Option, Some, None, IfSome, refl, sym, ap, ◌∙◌, subst, arith, append-nil}
+use Rattle.std.proofs.Common.{◌≡◌, ◌≢◌, ℕ, zero, suc, ◌+◌, ◌-◌, ◌<◌, ◌≤◌, true, List, [], ◌∷◌, length, get_or, take, drop, map, replicate, Option, Some, None, IfSome, refl, sym, ap, ◌∙◌, subst, arith}
 use Rattle.std.specs.Prelude.{All, IsSomeAnd, unwrap_or}
-use Rattle.std.specs.List.{slice_get}
 use Rattle.std.proofs.lemmas.List.{take_all, take-map, drop-map}
 use Rattle.std.proofs.lemmas.List.Elements.{All-nil, All-head, All-tail, All-take, All-drop}
 use Rattle.trace_model.specs.Record.{Record}
-use Rattle.trace_model.specs.History.{Action, Reservation, IsWritten, PushedFrame, as_record, writer_after, reserved_records, is_settled, settled_prefix, committed_records, IsHistory}
+use Rattle.trace_model.specs.History.{Action, Reservation, IsWritten, as_record, writer_after, reserved_records, is_settled, settled_prefix, committed_records, IsHistory}
 use Rattle.trace_model.specs.Packing.{opens_of, cut_from, tail_of, is_wished}
 use Rattle.trace_model.specs.Fitting.{tail_at}
-use Rattle.trace_model.specs.Frames.{FrameState, left, number_of, pushed_onto, pushed_of}
+use Rattle.trace_model.specs.Frames.{FrameState, left, pushed_onto, pushed_of}
 use Rattle.trace_model.specs.Ring.{first_of_fill, fill_of}
 use Rattle.trace_model.specs.OpenPages.{IsOf, AreOf, HoldsRecords}
 use Rattle.trace_model.proofs.Committed.{whole_front}
@@ -23,11 +22,11 @@ use Rattle.nested_writer.specs.Stack.{Stack, tail_fill, kind_of, state_of, model
 use Rattle.nested_writer.specs.declared.stack.WriterStack.TheInside.{Inside}
 use Rattle.nested_writer.specs.Inside.{shown, frames_from}
 use Rattle.nested_writer.specs.Calls.{IsAtBottom}
-use Rattle.nested_writer.specs.IsStack.{IsPageOf, AreBefore, FramesStand, IsStackOf, IsStack}
+use Rattle.nested_writer.specs.IsStack.{IsPageOf, IsStack}
 use Rattle.nested_writer.specs.Released.{IsWrittenPage, AreCommitted}
-use Rattle.nested_writer.proofs.Standing.{as_many, frames_on}
 use Rattle.nested_writer.proofs.Reserving.{tail_some}
 use Rattle.nested_writer.proofs.Leaving.{left_is}
+use Rattle.nested_writer.proofs.Dropping.{oldest}
 
 -- ---- records where no frame stands
 
@@ -133,11 +132,7 @@ module _ (start : ℕ) (h : List Action) (s : Stack) (page : Contents) (older : 
   long = ap length is
 
   front_page : IsPageOf s.size s.done cuts xs (s.done - start) page
-  front_page = subst (λ (n : ℕ). IsPageOf s.size n cuts xs (s.done - start) page) (plus_none s.done)
-      (subst (λ (n : ℕ). IsPageOf s.size (s.done + 0) cuts xs n page) (plus_none (s.done - start)) (k.holds.older_are 0 page (ap (λ (l : List Contents). slice_get l 0) is)))
-    where
-      plus_none : (n : ℕ) → n + 0 ≡ n
-      plus_none n = omega arith
+  front_page = oldest start cuts xs (is_wished h) s page older is k.holds
 
   -- a fill more is begun
   not_last : s.done - start + 1 ≤ length cuts
@@ -157,41 +152,6 @@ module _ (start : ℕ) (h : List Action) (s : Stack) (page : Contents) (older : 
       some_counted : (l : List Reservation) → l ≢ [] → 0 < length l
       some_counted [] some = absurd (some refl)
       some_counted (x ∷ l) some = omega arith
-
-  abbrev pub after : Stack
-  after = record s { done = s.done + 1; older = older }
-
-  bottom_alone : AreBefore 0 s.frames
-  bottom_alone = let bottom = bottom_of s.frames at in subst (AreBefore 0) (sym bottom.1) (subst (λ (state : FrameState). IfSome (number_of state) (λ number. number < 0)) (sym bottom.2) tt, tt)
-
-  as_many_begun : s.done + 1 + length older ≡ s.done + length s.older
-  as_many_begun = let more = long in omega arith
-
-  gone : IsStack start h after
-  gone = record {
-    keeps = k.keeps;
-    stack_is = k.stack_is;
-    fit = k.fit;
-    holds = record {
-      begun = let begun = k.holds.begun in let more = long in omega arith;
-      from_start = let from = k.holds.from_start in omega arith;
-      rising = k.holds.rising;
-      room = k.holds.room;
-      last_is = k.holds.last_is;
-      in_time = k.holds.in_time;
-      large = k.holds.large;
-      older_are = λ j other found. let from = k.holds.from_start in
-          subst (λ (n : ℕ). IsPageOf s.size n cuts xs (s.done + 1 - start + j) other) (let e : s.done + suc j ≡ s.done + 1 + j = omega arith in e)
-          (subst (λ (n : ℕ). IsPageOf s.size (s.done + suc j) cuts xs n other) (let e : s.done - start + suc j ≡ s.done + 1 - start + j = omega arith in e)
-          (k.holds.older_are (suc j) other (ap (λ (l : List Contents). slice_get l (suc j)) is ∙ found)));
-      tail_is = subst (λ (n : ℕ). IsPageOf s.size n cuts xs (length cuts) s.tail) (sym as_many_begun) k.holds.tail_is;
-      frames_are = frames_on s.size s.done s.older s.tail cuts xs (is_wished h) (s.done + 1) older s.tail cuts xs (is_wished h) 0
-          (as_many as_many_begun (λ kind state needs. needs)) (λ len slot low. absurd (omega arith)) s.frames bottom_alone k.holds.frames_are;
-    };
-  }
-
-  pub front_gone : IsStack start (h ++ []) after
-  front_gone = subst (λ (g : List Action). IsStack start g after) (sym (append-nil h)) gone
 
 -- ---- the tail, where no frame stands
 

@@ -4,7 +4,6 @@ pub mod leave;
 pub mod lend;
 pub mod pages;
 pub mod push;
-pub mod release;
 
 use crate::frame::Frame;
 use page_image::{Body, Page};

@@ -8,7 +8,8 @@ impl WriterStack {
     ghost use Rattle.std.specs.Borrow.{sem};
     ghost use Rattle.trace_model.specs.History.{Action};
     ghost use Rattle.page_image.specs.Contents.{Contents};
-    ghost use Rattle.nested_writer.specs.Lending.{LendsSlot};
+    ghost use Rattle.nested_writer.specs.Lending.{LendsSlot, LendsTop};
+    ghost use Rattle.nested_writer.specs.declared.frame.Slot.{Slot};
     ghost use Rattle.nested_writer.specs.Calls.{LacksSlot, IsTopSlot};
     ghost use Rattle.nested_writer.specs.IsStack.{IsStack, IsOpenPage};
 
@@ -42,5 +43,20 @@ impl WriterStack {
             return self.tail.payload_mut(slot.place);
         }
         self.older[(slot.fill - self.done) as usize].payload_mut(slot.place)
+    }
+
+    /// The payload of the frame on top, whose record is reserved, to be written: as many bytes as its slot has.
+    pub fn top_mut(&mut self) -> Result<&mut [u8], WriteFault>
+        requires stack { (start : ℕ) × (history : List Action) × IsStack start history self.old }
+        ensures* lends { sem 𝓛 (LendsTop self.entry result) }
+        ensures no_frame { result ≡ Err WriteFault.NoFrame ↔ self.old.frames ≡ [] }
+        ensures not_reserved { result ≡ Err WriteFault.NotReserved ↔ LacksSlot self.old.frames }
+        ensures payload { IfOk result (λ lent. (slot : Slot) (page : Contents)
+            → IsTopSlot self.old.frames slot
+            → IsOpenPage self.old.done self.old.older self.old.tail slot.fill page
+            → lent.now ≡ slice_range page.bytes slot.place.start (slot.place.start + slot.place.len)) }
+    {
+        let slot = self.top_slot()?;
+        Ok(self.payload_mut(slot))
     }
 }

@@ -1,0 +1,49 @@
+-- The slot of the frame on top, which is lent.
+use Rattle.std.proofs.Common.{◌≡◌, ◌≢◌, ℕ, zero, suc, ◌+◌, ◌-◌, ◌<◌, ◌≤◌, ◌⊎◌, Bool, true, false, cond, eqb, List, [], ◌∷◌, ◌++◌, length, get_or, Option, Some, None, refl, sym, ap, ◌∙◌, subst, arith}
+use Rattle.std.specs.Prelude.{slice_set}
+use Rattle.std.specs.List.{slice_get}
+use Rattle.std.proofs.lemmas.Bool.{cond-true, cond-false, ne_eqb, eq-eqb}
+use Rattle.std.proofs.lemmas.Option.{slice_get_within, get_or_from_slice_get}
+use Rattle.trace_model.specs.History.{Action, Reservation, reserved_records}
+use Rattle.trace_model.specs.Packing.{opens_of, is_wished}
+use Rattle.page_image.specs.Contents.{Contents}
+use Rattle.page_image.specs.Lending.{with_payload}
+use Rattle.nested_writer.specs.declared.frame.Slot.{Slot}
+use Rattle.nested_writer.specs.declared.frame.Progress.{Progress}
+use Rattle.nested_writer.specs.declared.frame.Progress.TheVariants.{Reserved}
+use Rattle.nested_writer.specs.declared.frame.Frame.{Frame}
+use Rattle.nested_writer.specs.Stack.{Stack, tail_fill, kind_of}
+use Rattle.nested_writer.specs.Calls.{IsTopSlot}
+use Rattle.nested_writer.specs.Lending.{with_slot}
+use Rattle.nested_writer.specs.IsStack.{IsOpenPage, is_tail, is_older, LiesOpen, StandsAt, FramesStand, IsStackOf, IsStack}
+
+-- its record lies open
+pub slot_lies : (start : ℕ) (h : List Action) (s : Stack) (slot : Slot) → IsTopSlot s.frames slot → IsStack start h s → (len : ℕ) × LiesOpen s.done s.older s.tail (reserved_records h) len slot
+slot_lies start h s slot is k = by_frames s.frames is k.holds.frames_are
+  where
+    by_frames : (frames : List Frame) → IsTopSlot frames slot → FramesStand s.size s.done s.older s.tail (opens_of h) (reserved_records h) (is_wished h) frames → (len : ℕ) × LiesOpen s.done s.older s.tail (reserved_records h) len slot
+    by_frames [] none st = absurd none
+    by_frames (top ∷ below) has st = let (moment, len, kind, lies) = subst (StandsAt s.size s.done s.older s.tail (opens_of h) (reserved_records h) (is_wished h) (kind_of top.purpose)) has st.1 in (len, lies)
+
+-- a page that isn't the tail is an older one, at the place that its fill tells
+pub record IsOlder (s : Stack) (slot : Slot) (page : Contents) : Type 0 where
+  pub from : s.done ≤ slot.fill
+  pub inside : slot.fill - s.done < length s.older
+  pub at : slice_get s.older (slot.fill - s.done) ≡ Some page
+
+pub older_page : (s : Stack) (slot : Slot) (page : Contents) → (slot.fill ≡ tail_fill s → ⊥) → IsOpenPage s.done s.older s.tail slot.fill page → IsOlder s slot page
+older_page s slot page other (is_tail at is) = absurd (other at)
+older_page s slot page other (is_older j at is) = let same : slot.fill - s.done ≡ j = omega arith in let low = slice_get_within s.older j page is in record {
+  from = omega arith;
+  inside = omega arith;
+  at = ap (slice_get s.older) same ∙ is;
+}
+
+pub in_tail : (s : Stack) (slot : Slot) (part : List ℕ) → slot.fill ≡ s.tail.fill → record s { tail = with_payload s.tail slot.place.start part } ≡ with_slot s slot part
+in_tail s slot part same = sym (cond-true (eqb slot.fill s.tail.fill) _ _ (eq-eqb slot.fill s.tail.fill same))
+
+pub in_older : (s : Stack) (slot : Slot) (part : List ℕ) (page : Contents) → (slot.fill ≡ s.tail.fill → ⊥) → slice_get s.older (slot.fill - s.done) ≡ Some page
+    → record s { older = slice_set s.older (slot.fill - s.done) (with_payload page slot.place.start part) } ≡ with_slot s slot part
+in_older s slot part page other at =
+    ap (λ (p : Contents). let t : Stack = record s { older = slice_set s.older (slot.fill - s.done) (with_payload p slot.place.start part) } in t) (sym (get_or_from_slice_get s.older (slot.fill - s.done) page s.tail at))
+    ∙ sym (cond-false (eqb slot.fill s.tail.fill) _ _ (ne_eqb slot.fill s.tail.fill other))
