@@ -1,13 +1,11 @@
 -- What allot makes of a stack, by its answer.
-use Rattle.std.proofs.Common.{◌≡◌, ◌≢◌, ℕ, ◌+◌, ◌<◌, ◌≤◌, List, [], ◌∷◌, ◌++◌, length, Option, Some, None, Result, Ok, Err, refl, sym, ap, ◌∙◌, subst, arith, append-nil}
+use Rattle.std.proofs.Common.{◌≡◌, ℕ, ◌≤◌, List, [], ◌∷◌, ◌++◌, Option, Some, None, Ok, Err, refl, sym, ap, ◌∙◌, subst, arith, append-nil}
 use Rattle.std.specs.Prelude.{unwrap_or}
 use Rattle.trace_model.specs.History.{Action, leave, reserved_records}
 use Rattle.trace_model.specs.Packing.{opens_of, is_wished}
 use Rattle.trace_model.specs.Frames.{waiting}
 use Rattle.record_words.specs.declared.put.Place.{Place}
-use Rattle.nested_writer.specs.declared.fault.WriteFault.{WriteFault}
 use Rattle.nested_writer.specs.declared.fault.WriteFault.TheVariants.{Crowded, Worn}
-use Rattle.nested_writer.specs.declared.stack.allot.Allot.{Allot}
 use Rattle.nested_writer.specs.declared.stack.allot.Allot.TheVariants.{Fits, NeedsPage}
 use Rattle.nested_writer.specs.declared.frame.Purpose.{Purpose}
 use Rattle.nested_writer.specs.declared.frame.Purpose.TheVariants.{Record, Close}
@@ -15,7 +13,6 @@ use Rattle.nested_writer.specs.declared.frame.Progress.{Progress}
 use Rattle.nested_writer.specs.declared.frame.Progress.TheVariants.{Waiting, Through, Reserved, Left}
 use Rattle.nested_writer.specs.declared.frame.Frame.{Frame}
 use Rattle.nested_writer.specs.Stack.{Stack, opened, kind_of, state_of}
-use Rattle.nested_writer.specs.Inside.{frames_from}
 use Rattle.nested_writer.specs.Calls.{with_progress, after_leave, WantsPage}
 use Rattle.nested_writer.specs.Allotted.{HasActed, HasFit, first_try, IsAllotted}
 use Rattle.nested_writer.specs.IsStack.{IsNoted, StandsAt, FramesStand, IsStack}

@@ -1,17 +1,17 @@
 -- How many records can be reserved, and the moment of the tail's last one.
-use Rattle.std.proofs.Common.{◌≡◌, ◌≢◌, ℕ, ◌+◌, ◌-◌, ◌*◌, ◌^◌, ◌<◌, ◌≤◌, List, [], ◌∷◌, length, flat_map, IfSome, refl, sym, ap, ◌∙◌, subst, arith}
+use Rattle.std.proofs.Common.{◌≡◌, ℕ, ◌+◌, ◌*◌, ◌^◌, ◌<◌, ◌≤◌, List, [], ◌∷◌, length, IfSome, refl, subst, arith}
 use Rattle.std.specs.Prelude.{Bool}
 use Rattle.trace_model.specs.declared.limits.TheConstants.{MAX_SIZE, LINK_FILLS}
 use Rattle.trace_model.specs.Record.{Record}
 use Rattle.trace_model.specs.Order.{moment_of_last}
 use Rattle.trace_model.specs.History.{Reservation, last_moment}
-use Rattle.trace_model.specs.Packing.{cut_from, fill_len}
+use Rattle.trace_model.specs.Packing.{cut_from}
 use Rattle.trace_model.specs.Fitting.{tail_at}
 use Rattle.trace_model.specs.OpenPages.{AreOf}
 use Rattle.trace_model.proofs.FillCuts.{length-cut_from}
 use Rattle.trace_model.proofs.FillsJoined.{joined_all}
 use Rattle.trace_model.proofs.FillSizes.{fills_hold}
-use Rattle.trace_model.proofs.OpenPages.{AreOf-length, AreOf-last}
+use Rattle.trace_model.proofs.OpenPages.{AreOf-last}
 use Rattle.page_image.specs.Contents.{records_of_page}
 use Rattle.nested_writer.specs.Stack.{Stack, opened, next_number}
 use Rattle.nested_writer.specs.IsStack.{IsStackOf}

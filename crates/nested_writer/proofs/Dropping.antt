@@ -1,16 +1,15 @@
 -- The oldest page, released.
-use Rattle.std.proofs.Common.{◌≡◌, ℕ, suc, ◌+◌, ◌-◌, ◌<◌, ◌≤◌, List, [], ◌∷◌, ◌++◌, length, Option, Some, None, IfSome, refl, sym, ap, ◌∙◌, subst, arith, append-nil}
+use Rattle.std.proofs.Common.{◌≡◌, ℕ, suc, ◌+◌, ◌-◌, ◌<◌, List, [], ◌∷◌, ◌++◌, length, IfSome, sym, ap, ◌∙◌, subst, arith, append-nil}
 use Rattle.std.specs.Prelude.{Bool}
 use Rattle.std.specs.List.{slice_get}
 use Rattle.trace_model.specs.History.{Action, Reservation, reserved_records}
 use Rattle.trace_model.specs.Packing.{opens_of, is_wished}
 use Rattle.trace_model.specs.Frames.{FrameState, number_of}
 use Rattle.page_image.specs.Contents.{Contents}
-use Rattle.nested_writer.specs.declared.frame.Progress.{Progress}
 use Rattle.nested_writer.specs.declared.frame.Frame.{Frame}
-use Rattle.nested_writer.specs.Stack.{Stack, tail_fill, state_of}
+use Rattle.nested_writer.specs.Stack.{Stack, tail_fill}
 use Rattle.nested_writer.specs.Calls.{IsAtBottom}
-use Rattle.nested_writer.specs.IsStack.{IsPageOf, AreBefore, FramesStand, IsStackOf, IsStack}
+use Rattle.nested_writer.specs.IsStack.{IsPageOf, AreBefore, IsStackOf, IsStack}
 use Rattle.nested_writer.proofs.Standing.{as_many, frames_on}
 use Rattle.nested_writer.proofs.Leaving.{left_is}
 

@@ -1,9 +1,8 @@
 -- A record frame that is ended: its record gets the bytes that stand in its slot.
-use Rattle.std.proofs.Common.{◌≡◌, ◌≢◌, ℕ, zero, suc, ◌+◌, ◌-◌, ◌<◌, ◌≤◌, ◌⊎◌, cond, ltb, Bool, List, [], ◌∷◌, ◌++◌, length, get_or, take, drop, map, Option, Some, None, IfSome, refl, sym, ap, ◌∙◌, subst, ⊎_elim, inl, inr, arith, length-append, length-drop, length-take-le}
+use Rattle.std.proofs.Common.{◌≡◌, ℕ, zero, suc, ◌+◌, ◌-◌, ◌<◌, ◌≤◌, ltb, Bool, List, [], ◌∷◌, ◌++◌, length, get_or, take, drop, map, Option, Some, None, IfSome, refl, sym, ap, ◌∙◌, subst, arith, length-append, length-drop, length-take-le}
 use Rattle.std.specs.List.{slice_get}
 use Rattle.std.proofs.lemmas.Bool.{cond-true, cond-false, le-ltb, lt-ltb}
-use Rattle.std.proofs.lemmas.Option.{none-some, slice_get_within, slice_get-get_or}
-use Rattle.std.proofs.lemmas.List.{length-map}
+use Rattle.std.proofs.lemmas.Option.{slice_get_within}
 use mathlib.Core.Logic.{dite}
 use native.Mathlib.Decide.{ℕ_discrete, dec_le}
 use Rattle.trace_model.specs.Record.{Record}
@@ -13,7 +12,7 @@ use Rattle.trace_model.specs.Overwriting.{IsPlaceOf, bytes_at}
 use Rattle.trace_model.specs.History.{Action, leave, Reservation, PushedFrame, record_frame, last_moment, records_with_payload, writer_after, reserved_records, MayLeave}
 use Rattle.trace_model.specs.Packing.{opens_of, cut_from, is_wished}
 use Rattle.trace_model.specs.Fitting.{IsRising}
-use Rattle.trace_model.specs.Frames.{Kind, for_record, reserved, number_of, pushed_onto, pushed_of}
+use Rattle.trace_model.specs.Frames.{Kind, reserved, number_of, pushed_onto, pushed_of}
 use Rattle.trace_model.specs.Ring.{Held}
 use Rattle.trace_model.specs.OpenPages.{HoldsRecords}
 use Rattle.trace_model.proofs.Elements.{some_is}
@@ -29,7 +28,6 @@ use Rattle.trace_model.proofs.PackedHistories.{plain, plain-finished, room_alike
 use Rattle.trace_model.proofs.OpenPages.{AreOf-length, bytes_of_place, holds_finished}
 use Rattle.page_image.specs.Contents.{Contents}
 use Rattle.nested_writer.specs.declared.frame.Slot.{Slot}
-use Rattle.nested_writer.specs.declared.frame.Purpose.{Purpose}
 use Rattle.nested_writer.specs.declared.frame.Progress.{Progress}
 use Rattle.nested_writer.specs.declared.frame.Progress.TheVariants.{Reserved}
 use Rattle.nested_writer.specs.declared.frame.Frame.{Frame}
@@ -86,7 +84,7 @@ last_finished (Some (suc zero)) (Some p) (x ∷ y ∷ xs) = last_finished (Some 
 last_finished (Some (suc (suc k))) (Some p) (x ∷ y ∷ xs) = last_finished (Some (suc k)) (Some p) (y ∷ xs)
 
 -- a place is that of a record of the data
-place_inside : (time : ℕ) (bytes : List ℕ) (k start len : ℕ) (fill : List Reservation) → HoldsRecords time bytes fill → IsPlaceOf bytes k start len → k < length fill
+pub place_inside : (time : ℕ) (bytes : List ℕ) (k start len : ℕ) (fill : List Reservation) → HoldsRecords time bytes fill → IsPlaceOf bytes k start len → k < length fill
 place_inside time bytes k start len fill h place =
     let within = place-within bytes start len place.place in
     let long : length (bytes_at start len bytes) ≡ len = length-take-le len (drop start bytes) (omega (arith, length-drop start bytes)) in

@@ -1,17 +1,16 @@
 -- A frame that leaves, and one that goes on waiting.
-use Rattle.std.proofs.Common.{◌≡◌, ◌≢◌, ℕ, zero, suc, ◌+◌, ◌-◌, ◌<◌, ◌≤◌, ◌⊎◌, Bool, true, List, [], ◌∷◌, ◌++◌, length, Option, Some, None, IfSome, refl, sym, ap, ◌∙◌, subst, arith}
+use Rattle.std.proofs.Common.{◌≡◌, ◌≢◌, ℕ, ◌<◌, ◌≤◌, Bool, true, List, [], ◌∷◌, ◌++◌, Some, None, IfSome, refl, sym, ap, ◌∙◌, subst, arith}
 use Rattle.std.proofs.lemmas.Option.{none-some}
-use Rattle.trace_model.specs.History.{Action, leave, wished, Reservation, PushedFrame, record_frame, close_frame, WriterState, records_after_leave, writer_after, reserved_records, reservation_for, MayLeave, MayWish}
-use Rattle.trace_model.specs.Packing.{opens_of, is_wished, fill_len}
-use Rattle.trace_model.specs.Fitting.{tail_at, NeedsFill}
-use Rattle.trace_model.specs.Frames.{Kind, for_record, for_close, FrameState, waiting, reserved, left, number_of, pushed_frame, pushed_onto, pushed_of}
+use Rattle.trace_model.specs.History.{Action, leave, wished, Reservation, PushedFrame, records_after_leave, writer_after, reserved_records, MayLeave, MayWish}
+use Rattle.trace_model.specs.Packing.{opens_of, is_wished}
+use Rattle.trace_model.specs.Fitting.{NeedsFill}
+use Rattle.trace_model.specs.Frames.{Kind, for_record, for_close, FrameState, waiting, left, number_of, pushed_frame, pushed_onto, pushed_of}
 use Rattle.trace_model.proofs.Allowed.{IsHistory-push}
 use Rattle.trace_model.proofs.NextAction.{left_stack, wished_stack}
 use Rattle.trace_model.proofs.NextRecords.{records_snoc, records_left}
 use Rattle.trace_model.proofs.FillCuts.{opens_of-leave, opens_of-wished}
 use Rattle.trace_model.proofs.PackedHistories.{fit_more, is_wished-leave, is_wished-wished}
 use Rattle.page_image.specs.Contents.{Contents}
-use Rattle.nested_writer.specs.declared.frame.Purpose.{Purpose}
 use Rattle.nested_writer.specs.declared.frame.Purpose.TheVariants.{Record, Close}
 use Rattle.nested_writer.specs.declared.frame.Progress.{Progress}
 use Rattle.nested_writer.specs.declared.frame.Progress.TheVariants.{Waiting, Through, Reserved, Left}

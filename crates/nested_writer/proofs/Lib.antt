@@ -11,3 +11,4 @@ pub mod Allotting
 pub mod Ending
 pub mod Dropping
 pub mod Lending
+pub mod Written

@@ -1,5 +1,5 @@
 -- A new stack.
-use Rattle.std.proofs.Common.{◌≡◌, ℕ, ◌+◌, ◌≤◌, List, [], ◌∷◌, length, refl, sym, ap, ◌∙◌, arith}
+use Rattle.std.proofs.Common.{◌≡◌, ℕ, ◌≤◌, List, [], ◌∷◌, length, refl, arith}
 use Rattle.std.proofs.lemmas.Option.{none-some}
 use Rattle.trace_model.specs.declared.limits.TheConstants.{MAX_SIZE}
 use Rattle.trace_model.specs.Record.{Record}

@@ -1,12 +1,12 @@
 -- A page that is added: the tail of the next fill.
-use Rattle.std.proofs.Common.{◌≡◌, ◌≢◌, ℕ, zero, suc, ◌+◌, ◌-◌, ◌<◌, ◌≤◌, ◌⊎◌, Bool, false, List, [], ◌∷◌, ◌++◌, length, get_or, Option, Some, None, IfSome, refl, sym, ap, ◌∙◌, subst, inl, inr, ⊎_elim, arith, length-append}
+use Rattle.std.proofs.Common.{◌≡◌, ℕ, zero, suc, ◌+◌, ◌-◌, ◌<◌, ◌≤◌, ◌⊎◌, Bool, false, List, [], ◌∷◌, ◌++◌, length, get_or, Some, refl, sym, ap, ◌∙◌, subst, inl, inr, ⊎_elim, arith}
 use Rattle.std.specs.List.{slice_get}
 use Rattle.std.proofs.lemmas.Option.{none-some, slice_get_within}
 use Rattle.std.proofs.lemmas.List.{length_push}
 use Rattle.trace_model.specs.History.{Action, open_fill, Reservation, PushedFrame, writer_after, reserved_records, MayOpen}
 use Rattle.trace_model.specs.Packing.{opens_of, cut_from, is_wished}
-use Rattle.trace_model.specs.Fitting.{tail_at, NeedsFill, FitsPage}
-use Rattle.trace_model.specs.Frames.{Kind, for_record, for_close, FrameState, waiting, reserved, left, pushed_onto, pushed_of}
+use Rattle.trace_model.specs.Fitting.{NeedsFill, FitsPage}
+use Rattle.trace_model.specs.Frames.{Kind, for_record, for_close, left, pushed_onto, pushed_of}
 use Rattle.trace_model.specs.OpenPages.{HoldsRecords}
 use Rattle.trace_model.specs.Reading.{records_in}
 use Rattle.trace_model.proofs.Elements.{some_is, get_in_front, get_behind}
@@ -24,10 +24,10 @@ use Rattle.nested_writer.specs.declared.frame.Progress.TheVariants.{Waiting, Thr
 use Rattle.nested_writer.specs.declared.frame.Frame.{Frame}
 use Rattle.nested_writer.specs.Stack.{Stack, tail_fill, opened, next_number, blank_page, kind_of, state_of, model_frames}
 use Rattle.nested_writer.specs.Calls.{with_tail, HasNoted, MayAddPage}
-use Rattle.nested_writer.specs.IsStack.{IsPageOf, IsOpenPage, is_tail, is_older, LiesOpen, StandsAt, MayBePushed, FramesStand, IsStackOf, IsStack}
+use Rattle.nested_writer.specs.IsStack.{IsPageOf, is_tail, is_older, LiesOpen, StandsAt, MayBePushed, FramesStand, IsStackOf, IsStack}
 use Rattle.nested_writer.proofs.Pushing.{same_of}
 use Rattle.nested_writer.proofs.NewStack.{nothing}
-use Rattle.nested_writer.proofs.Standing.{BecomesOther, more, frames_on, all_before}
+use Rattle.nested_writer.proofs.Standing.{more, frames_on, all_before}
 use Rattle.nested_writer.proofs.Reserving.{cuts_are, number_is}
 
 -- the first number of a fill that was begun before

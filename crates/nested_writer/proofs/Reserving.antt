@@ -1,17 +1,16 @@
 -- A record that is reserved in the tail.
-use Rattle.std.proofs.Common.{◌≡◌, ◌≢◌, ℕ, zero, suc, ◌+◌, ◌-◌, ◌<◌, ◌≤◌, max, Bool, true, false, cond, List, [], ◌∷◌, ◌++◌, length, get_or, drop, replicate, Option, Some, None, IfSome, refl, sym, ap, ◌∙◌, subst, arith, length-append, length-drop}
+use Rattle.std.proofs.Common.{◌≡◌, ◌≢◌, ℕ, zero, suc, ◌+◌, ◌-◌, ◌<◌, ◌≤◌, max, Bool, true, false, cond, List, [], ◌∷◌, ◌++◌, length, get_or, drop, replicate, Option, Some, None, refl, sym, ap, ◌∙◌, subst, arith, length-drop}
 use Rattle.std.specs.List.{slice_get}
-use Rattle.std.proofs.lemmas.Option.{none-some, same_Some, slice_get_within}
+use Rattle.std.proofs.lemmas.Option.{same_Some, slice_get_within}
 use Rattle.std.proofs.lemmas.List.{length_push}
 use Rattle.trace_model.specs.declared.limits.TheConstants.{MOMENT_LIMIT}
-use Rattle.trace_model.specs.Record.{Record}
 use Rattle.trace_model.specs.Words.{slot_len, encoded_len}
 use Rattle.trace_model.specs.Reading.{EndsInRecord}
 use Rattle.trace_model.specs.Overwriting.{IsPlaceOf}
-use Rattle.trace_model.specs.History.{Action, reserve, Reservation, PushedFrame, record_frame, WriterState, last_moment, reservation_for, writer_after, reserved_records, MayReserve}
+use Rattle.trace_model.specs.History.{Action, reserve, Reservation, PushedFrame, record_frame, last_moment, reservation_for, writer_after, reserved_records, MayReserve}
 use Rattle.trace_model.specs.Packing.{opens_of, cut_from, tail_of, fill_len, FitsBehind, is_wished}
-use Rattle.trace_model.specs.Fitting.{IsRising, tail_at, NeedsFill}
-use Rattle.trace_model.specs.Frames.{Kind, FrameState, for_record, reserved, pushed_onto, pushed_of}
+use Rattle.trace_model.specs.Fitting.{IsRising, tail_at}
+use Rattle.trace_model.specs.Frames.{Kind, reserved, pushed_onto, pushed_of}
 use Rattle.trace_model.specs.OpenPages.{HoldsRecords}
 use Rattle.trace_model.proofs.Elements.{get_in_front, get_behind}
 use Rattle.trace_model.proofs.FillCuts.{IsRising-more, reserved_before, reserved_last, opens_of-reserve}
@@ -19,7 +18,7 @@ use Rattle.trace_model.proofs.PackedHistories.{room_reserved, needs_reserved, fi
 use Rattle.trace_model.proofs.Allowed.{IsHistory-push}
 use Rattle.trace_model.proofs.NextAction.{reserved_stack}
 use Rattle.trace_model.proofs.NextRecords.{records_reserved}
-use Rattle.trace_model.proofs.OpenPages.{AreOf-length, PutBehind, holds_put_first, holds_put_behind, fill_len-some, fill_len-first, fill_len-push, encoded_len-slot}
+use Rattle.trace_model.proofs.OpenPages.{AreOf-length, holds_put_first, holds_put_behind, fill_len-some, fill_len-first, fill_len-push, encoded_len-slot}
 use Rattle.page_image.specs.Contents.{Contents, IsPage, records_of_page, is_blank}
 use Rattle.record_words.specs.declared.put.Place.{Place}
 use Rattle.nested_writer.specs.declared.frame.Purpose.{Purpose}
@@ -27,11 +26,11 @@ use Rattle.nested_writer.specs.declared.frame.Purpose.TheVariants.{Record as For
 use Rattle.nested_writer.specs.declared.frame.Slot.{Slot}
 use Rattle.nested_writer.specs.declared.frame.Progress.TheVariants.{Waiting, Reserved}
 use Rattle.nested_writer.specs.declared.frame.Frame.{Frame}
-use Rattle.nested_writer.specs.Stack.{Stack, tail_fill, opened, next_number, kind_of, state_of, model_frames}
-use Rattle.nested_writer.specs.IsStack.{IsPageOf, IsOpenPage, is_tail, is_older, LiesOpen, AreBefore, MayBePushed, FramesStand, IsStackOf, IsStack}
+use Rattle.nested_writer.specs.Stack.{Stack, tail_fill, next_number, kind_of, state_of, model_frames}
+use Rattle.nested_writer.specs.IsStack.{is_tail, is_older, LiesOpen, AreBefore, MayBePushed, FramesStand, IsStackOf, IsStack}
 use Rattle.nested_writer.specs.Calls.{end_with}
 use Rattle.nested_writer.proofs.Pushing.{same_of}
-use Rattle.nested_writer.proofs.Standing.{BecomesOther, as_many, frames_on, all_before}
+use Rattle.nested_writer.proofs.Standing.{as_many, frames_on, all_before}
 
 -- ---- the last fill
 
@@ -212,21 +211,26 @@ module _ (start : ℕ) (cuts : List ℕ) (records : List Reservation) (found : B
         };
         frames_are = (
           frames.0,
-          (moment, len, ap kind_of purpose, record {
-            page = tail';
-            open_page = is_tail refl refl;
-            first_le = let stays = p.first in omega arith;
-            place = subst (λ (n : ℕ). IsPlaceOf tail'.bytes n place.start place.len) (let stays = p.first in let e : s.tail.count ≡ next_number s - tail'.first = omega arith in e) (p.number page);
-            fills_slot = p.len_is;
-            reservation = r;
-            at = ap (slice_get (records ++ r ∷ [])) (number ∙ plus_none (length records)) ∙ get_behind records (r ∷ []) 0;
-            len_is = refl;
-            unwritten = refl;
-          }),
+          (
+            moment,
+            len,
+            ap kind_of purpose,
+            record {
+              page = tail';
+              open_page = is_tail refl refl;
+              first_le = let stays = p.first in omega arith;
+              place = subst (λ (n : ℕ). IsPlaceOf tail'.bytes n place.start place.len) (let stays = p.first in let e : s.tail.count ≡ next_number s - tail'.first = omega arith in e) (p.number page);
+              fills_slot = p.len_is;
+              reservation = r;
+              at = ap (slice_get (records ++ r ∷ [])) (number ∙ plus_none (length records)) ∙ get_behind records (r ∷ []) 0;
+              len_is = refl;
+              unwritten = refl;
+            },
+          ),
           subst (λ (n : ℕ). AreBefore n below) (sym number) all,
           λ e. cc,
           frames_on s.size s.done s.older s.tail cuts records found s.done s.older tail' cuts (records ++ r ∷ []) found (length records)
-          (as_many refl (λ kind state needs. needs_reserved s.size cuts records r found kind state k.rising needs)) lies_on below all frames.4,
+              (as_many refl (λ kind state needs. needs_reserved s.size cuts records r found kind state k.rising needs)) lies_on below all frames.4,
         );
       }
     where

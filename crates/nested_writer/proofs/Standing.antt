@@ -1,10 +1,9 @@
 -- How frames keep standing where what is around them changes.
-use Rattle.std.proofs.Common.{◌≡◌, ◌≢◌, ℕ, ◌+◌, ◌<◌, ◌≤◌, ◌⊎◌, Bool, List, [], ◌∷◌, length, Option, Some, None, IfSome, refl, sym, ap, ◌∙◌, subst, inl, inr, ⊎_elim, arith}
-use Rattle.std.specs.List.{slice_get}
+use Rattle.std.proofs.Common.{◌≡◌, ℕ, ◌+◌, ◌<◌, ◌≤◌, Bool, List, [], ◌∷◌, length, Option, Some, None, IfSome, ap, ◌∙◌, arith}
 use Rattle.std.proofs.lemmas.Option.{none-some, slice_get_within}
 use Rattle.trace_model.specs.History.{Reservation}
 use Rattle.trace_model.specs.Fitting.{NeedsFill}
-use Rattle.trace_model.specs.Frames.{Kind, FrameState, waiting, reserved, left, number_of}
+use Rattle.trace_model.specs.Frames.{Kind, FrameState, waiting, left, number_of}
 use Rattle.trace_model.proofs.Elements.{some_is}
 use Rattle.page_image.specs.Contents.{Contents}
 use Rattle.nested_writer.specs.declared.frame.Slot.{Slot}
@@ -12,7 +11,7 @@ use Rattle.nested_writer.specs.declared.frame.Progress.{Progress}
 use Rattle.nested_writer.specs.declared.frame.Progress.TheVariants.{Waiting, Through, Reserved, Left}
 use Rattle.nested_writer.specs.declared.frame.Frame.{Frame}
 use Rattle.nested_writer.specs.Stack.{kind_of, state_of}
-use Rattle.nested_writer.specs.IsStack.{LiesOpen, IsNoted, StandsAt, MayBePushed, AreBefore, FramesStand}
+use Rattle.nested_writer.specs.IsStack.{LiesOpen, IsNoted, StandsAt, AreBefore, FramesStand}
 
 -- what a frame noted, where more fills are begun
 noted_later : (o o' : ℕ) (noted : Option ℕ) → o ≤ o' → IsNoted o noted → IsNoted o' noted

@@ -1,7 +1,6 @@
 -- What each call makes of a writer's stack, and when it is refused.
 use Rattle.std.specs.Prelude.{◌≡◌, ◌≢◌, ℕ, ◌+◌, ◌-◌, ◌<◌, ◌≤◌, max, List, [], ◌∷◌, ◌++◌, length, replicate, Option, Some, None}
-use Rattle.std.specs.List.{slice_get}
-use Rattle.trace_model.specs.declared.limits.TheConstants.{MAX_FRAMES, LINK_FILLS}
+use Rattle.trace_model.specs.declared.limits.TheConstants.{LINK_FILLS}
 use Rattle.trace_model.specs.Words.{encoded_len, encoding, slot_len}
 use Rattle.record_words.specs.declared.put.Place.{Place}
 use Rattle.page_image.specs.Contents.{Contents, is_blank}

@@ -1,9 +1,8 @@
 -- What the end of a frame makes of a writer's stack and of its history.
-use Rattle.std.specs.Prelude.{◌≡◌, ℕ, List, [], ◌∷◌, Some, None, Result, Ok, Err}
-use Rattle.trace_model.specs.History.{Action, leave}
+use Rattle.std.specs.Prelude.{◌≡◌, List, [], ◌∷◌, Some, None}
+use Rattle.trace_model.specs.History.{leave}
 use Rattle.trace_model.specs.Overwriting.{bytes_at}
 use Rattle.page_image.specs.Contents.{Contents}
-use Rattle.nested_writer.specs.declared.frame.Slot.{Slot}
 use Rattle.nested_writer.specs.declared.frame.Progress.{Progress}
 use Rattle.nested_writer.specs.declared.frame.Progress.TheVariants.{Waiting, Through, Reserved, Left}
 use Rattle.nested_writer.specs.declared.frame.Frame.{Frame}

@@ -45,7 +45,12 @@ impl WriterStack {
 
     /// A stack without a frame, over one empty page of `size` bytes of data, in a ring of `pages` pages whose first
     /// fill has the number `start`. All room is made here: no other call takes memory.
-    pub fn new_at(alloc: Global, pages: usize, size: usize, start: u64) -> Result<WriterStack, NoMemory>
+    pub fn new_at(
+        alloc: Global,
+        pages: usize,
+        size: usize,
+        start: u64,
+    ) -> Result<WriterStack, NoMemory>
         requires pages { MIN_PAGES ≤ pages }
         requires most { pages ≤ MAX_PAGES }
         requires small { MIN_SIZE ≤ size }

@@ -8,13 +8,13 @@ impl WriterStack {
     ghost use Rattle.std.specs.Borrow.{sem};
     ghost use Rattle.trace_model.specs.History.{Action};
     ghost use Rattle.page_image.specs.Contents.{Contents};
-    ghost use Rattle.nested_writer.specs.Lending.{LendsSlot, LendsTop};
+    ghost use Rattle.nested_writer.specs.Lending.{LendsSlot, with_slot};
     ghost use Rattle.nested_writer.specs.declared.frame.Slot.{Slot};
     ghost use Rattle.nested_writer.specs.Calls.{LacksSlot, IsTopSlot};
     ghost use Rattle.nested_writer.specs.IsStack.{IsStack, IsOpenPage};
 
     /// Where the record of the frame on top stands.
-    fn top_slot(&self) -> Result<Slot, WriteFault>
+    pub fn top_slot(&self) -> Result<Slot, WriteFault>
         ensures no_frame { result ≡ Err WriteFault.NoFrame ↔ self.now.frames ≡ [] }
         ensures not_reserved { result ≡ Err WriteFault.NotReserved ↔ LacksSlot self.now.frames }
         ensures slot { IfOk result (λ slot. IsTopSlot self.now.frames slot) }
@@ -30,33 +30,23 @@ impl WriterStack {
         }
     }
 
-    /// The payload in this slot of an open page.
-    fn payload_mut(&mut self, slot: Slot) -> &mut [u8]
+    /// The payload in the slot of the frame on top, to be written. All else stays as it is, and what is written there
+    /// leaves the stack that of its history.
+    pub fn payload_mut(&mut self, slot: Slot) -> &mut [u8]
         requires stack { (start : ℕ) × (history : List Action) × IsStack start history self.old }
         requires slot { IsTopSlot self.old.frames slot }
         ensures* lends { sem 𝓛 (LendsSlot self.entry slot result) }
         ensures payload { (page : Contents)
             → IsOpenPage self.old.done self.old.older self.old.tail slot.fill page
             → result.now ≡ slice_range page.bytes slot.place.start (slot.place.start + slot.place.len) }
+        ensures written { (start : ℕ) (history : List Action) (part : List ℕ)
+            → IsStack start history self.old
+            → length part ≡ slot.place.len
+            → IsStack start history (with_slot self.old slot part) }
     {
         if slot.fill == self.tail.fill().0 {
             return self.tail.payload_mut(slot.place);
         }
         self.older[(slot.fill - self.done) as usize].payload_mut(slot.place)
-    }
-
-    /// The payload of the frame on top, whose record is reserved, to be written: as many bytes as its slot has.
-    pub fn top_mut(&mut self) -> Result<&mut [u8], WriteFault>
-        requires stack { (start : ℕ) × (history : List Action) × IsStack start history self.old }
-        ensures* lends { sem 𝓛 (LendsTop self.entry result) }
-        ensures no_frame { result ≡ Err WriteFault.NoFrame ↔ self.old.frames ≡ [] }
-        ensures not_reserved { result ≡ Err WriteFault.NotReserved ↔ LacksSlot self.old.frames }
-        ensures payload { IfOk result (λ lent. (slot : Slot) (page : Contents)
-            → IsTopSlot self.old.frames slot
-            → IsOpenPage self.old.done self.old.older self.old.tail slot.fill page
-            → lent.now ≡ slice_range page.bytes slot.place.start (slot.place.start + slot.place.len)) }
-    {
-        let slot = self.top_slot()?;
-        Ok(self.payload_mut(slot))
     }
 }

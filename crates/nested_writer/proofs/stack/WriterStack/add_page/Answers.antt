@@ -1,11 +1,9 @@
-use Rattle.std.proofs.Common.{◌≡◌, ◌∷◌, ◌++◌, ◌+◌, [], ℕ, List, length, refl, sym, ap, ◌∙◌, subst, arith}
-use Rattle.trace_model.specs.History.{open_fill, reserved_records}
+use Rattle.std.proofs.Common.{◌≡◌, ◌+◌, ℕ, length, sym, ap, ◌∙◌, subst, arith}
+use Rattle.trace_model.specs.History.{reserved_records}
 use Rattle.trace_model.specs.Packing.{opens_of, is_wished}
-use Rattle.page_image.specs.Contents.{Contents, IsPage}
-use Rattle.nested_writer.specs.declared.frame.Frame.{Frame}
-use Rattle.nested_writer.specs.Stack.{Stack, tail_fill, opened, next_number, blank_page}
+use Rattle.nested_writer.specs.Stack.{Stack, opened, next_number, blank_page}
 use Rattle.nested_writer.specs.Inside.{shown}
-use Rattle.nested_writer.specs.Calls.{with_tail, MayAddPage}
+use Rattle.nested_writer.specs.Calls.{MayAddPage}
 use Rattle.nested_writer.specs.IsStack.{IsStack}
 use Rattle.nested_writer.proofs.Bounds.{number_fits}
 use Rattle.nested_writer.proofs.Opening.{page_may_be_added}

@@ -1,4 +1,4 @@
-use Rattle.std.proofs.Common.{◌≡◌, ap, arith}
+use Rattle.std.proofs.Common.{ap, arith}
 use Rattle.nested_writer.specs.Stack.{Stack}
 use Rattle.nested_writer.proofs.Pushing.{pushed_record}
 use Rattle.nested_writer.proofs.stack.WriterStack.begin.Goals as goal

@@ -1,9 +1,7 @@
-use Rattle.std.proofs.Common.{◌≡◌, ◌∷◌, ◌++◌, [], ℕ, List, Option, Some, None, refl, sym, ap, ◌∙◌, subst, ⊎_elim}
-use Rattle.nested_writer.specs.declared.frame.Slot.{Slot}
+use Rattle.std.proofs.Common.{◌≡◌, ◌∷◌, ◌++◌, [], List, Option, None, sym, ap, ◌∙◌, subst, ⊎_elim}
 use Rattle.nested_writer.specs.declared.frame.Frame.{Frame}
 use Rattle.nested_writer.specs.declared.frame.Progress.{Progress}
-use Rattle.nested_writer.specs.declared.frame.Progress.TheVariants.{Through, Reserved}
-use Rattle.trace_model.specs.History.{Action, leave}
+use Rattle.trace_model.specs.History.{leave}
 use Rattle.nested_writer.specs.Stack.{Stack, state_of}
 use Rattle.nested_writer.specs.Inside.{frames_from}
 use Rattle.nested_writer.specs.Ends.{HasEnded, IsEnd}

@@ -1,6 +1,6 @@
-use Rattle.std.proofs.Common.{◌≡◌, ℕ, List, ap, ◌∙◌, length, subst, sym}
+use Rattle.std.proofs.Common.{◌≡◌, ℕ, ap, ◌∙◌, length, subst}
 use Rattle.std.proofs.lemmas.List.{length-replicate}
-use Rattle.page_image.specs.Contents.{Contents, IsPage}
+use Rattle.page_image.specs.Contents.{IsPage}
 use Rattle.nested_writer.specs.Stack.{blank_page}
 use Rattle.nested_writer.proofs.NewStack.{new_is}
 use Rattle.nested_writer.proofs.stack.WriterStack.new_at.Goals as goal

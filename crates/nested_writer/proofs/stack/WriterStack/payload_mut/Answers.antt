@@ -1,17 +1,15 @@
-use Rattle.std.proofs.Common.{◌≡◌, ◌+◌, ◌-◌, ◌<◌, ℕ, List, Some, length, slice_range, refl, sym, ap, ◌∙◌, subst, arith}
+use Rattle.std.proofs.Common.{◌≡◌, ◌+◌, ◌-◌, ℕ, List, Some, slice_range, refl, sym, ap, ◌∙◌, subst, arith}
 use Rattle.std.proofs.lemmas.Option.{get_or_from_slice_get}
-use Rattle.std.specs.List.{slice_get}
 use Rattle.trace_model.specs.History.{Action}
 use Rattle.trace_model.specs.Reading.{IsPlaceIn}
 use Rattle.page_image.specs.Contents.{Contents}
-use Rattle.page_image.specs.Lending.{with_payload}
 use Rattle.nested_writer.specs.declared.frame.Slot.{Slot}
-use Rattle.nested_writer.specs.Stack.{Stack, tail_fill}
+use Rattle.nested_writer.specs.Stack.{Stack}
 use Rattle.nested_writer.specs.Inside.{shown}
 use Rattle.nested_writer.specs.Calls.{IsTopSlot}
-use Rattle.nested_writer.specs.Lending.{with_slot}
 use Rattle.nested_writer.specs.IsStack.{is_tail, IsOpenPage, IsStack}
 use Rattle.nested_writer.proofs.Ending.{open_page_is}
+use Rattle.nested_writer.proofs.Written.{written}
 use Rattle.nested_writer.proofs.Lending.{IsOlder, slot_lies, older_page, in_tail, in_older}
 use Rattle.nested_writer.proofs.stack.WriterStack.payload_mut.Goals as goal
 
@@ -32,6 +30,7 @@ returns-then-slot-fill c =
         lends = tt;
         payload = λ page there. c.payload_mut.ensures.payload ∙ ap (λ (p : Contents). slice_range p.bytes c.args.slot.place.start (c.args.slot.place.start + c.args.slot.place.len))
             (open_page_is c.self.inside.done c.self.inside.older.items c.self.inside.tail c.args.slot.fill c.self.inside.tail page (is_tail (same ∙ k'.holds.tail_is.fill_is) refl) there);
+        written = λ start' history part k'' fills. written start' history (shown c.self.inside) c.args.slot part (subst (λ (x : Stack). IsTopSlot x.frames c.args.slot) (sym c.self.view_is) c.requires.slot) fills k'';
       },
     )
 
@@ -51,7 +50,7 @@ payload_mut-requires-2 c =
 pub returns : goal.returns
 returns c =
     let s : Stack = shown c.self.inside in
-    let other = λ same. c.if-slot-fill.false (same ∙ sym c.fill.ensures) in
+    let other : (c.args.slot.fill ≡ s.tail.fill → ⊥) = λ same. c.if-slot-fill.false (same ∙ sym c.fill.ensures) in
     let is = found s c.args.slot (subst (λ (x : Stack). (start : ℕ) × (h : List Action) × IsStack start h x) (sym c.self.view_is) c.requires.stack) (subst (λ (x : Stack). IsTopSlot x.frames c.args.slot) (sym c.self.view_is) c.requires.slot) other in
     let lent : c.index_mut.result.now ≡ is.0 = c.index_mut.ensures.value ∙ get_or_from_slice_get s.older (c.args.slot.fill - s.done) is.0 c.index_mut.result.now is.1.at in
     rw (← c.self.view_is) (
@@ -60,5 +59,6 @@ returns c =
         lends = tt;
         payload = λ page there. c.payload_mut-2.ensures.payload ∙ ap (λ (p : Contents). slice_range p.bytes c.args.slot.place.start (c.args.slot.place.start + c.args.slot.place.len))
             (lent ∙ open_page_is c.self.inside.done c.self.inside.older.items c.self.inside.tail c.args.slot.fill is.0 page is.3 there);
+        written = λ start' history part k'' fills. written start' history (shown c.self.inside) c.args.slot part (subst (λ (x : Stack). IsTopSlot x.frames c.args.slot) (sym c.self.view_is) c.requires.slot) fills k'';
       },
     )

@@ -1,10 +1,10 @@
-use Rattle.std.proofs.Common.{◌≡◌, ℕ, ◌+◌, ◌-◌, ◌≤◌, ◌<◌, max, Bool, [], ◌∷◌, ◌++◌, List, length, replicate, sym, ap, ◌∙◌, subst, arith, rules, length-append}
+use Rattle.std.proofs.Common.{◌≡◌, ℕ, ◌+◌, ◌-◌, ◌≤◌, max, Bool, ◌∷◌, List, length, replicate, sym, ap, ◌∙◌, subst, arith, rules, length-append}
 use Rattle.std.proofs.lemmas.List.{length-replicate}
-use Rattle.trace_model.specs.History.{Action, reserve, reserved_records}
+use Rattle.trace_model.specs.History.{reserved_records}
 use Rattle.trace_model.specs.Packing.{opens_of, is_wished}
 use Rattle.trace_model.specs.Words.{encoding, encoded_len, slot_len}
 use Rattle.trace_model.proofs.Lengths.{length-encoding}
-use Rattle.page_image.specs.Contents.{Contents, is_blank}
+use Rattle.page_image.specs.Contents.{is_blank}
 use Rattle.nested_writer.specs.declared.frame.Frame.{Frame}
 use Rattle.nested_writer.specs.Stack.{Stack, tail_fill}
 use Rattle.nested_writer.specs.Inside.{shown, frames_from}
@@ -12,7 +12,7 @@ use Rattle.nested_writer.specs.Calls.{HasRecordRoom}
 use Rattle.nested_writer.specs.IsStack.{IsStack}
 use Rattle.nested_writer.proofs.Tops.{top_is}
 use Rattle.nested_writer.proofs.Bounds.{tail_ends_at, number_fits}
-use Rattle.nested_writer.proofs.Reserving.{IsPut, reserved_with}
+use Rattle.nested_writer.proofs.Reserving.{reserved_with}
 use Rattle.nested_writer.proofs.stack.WriterStack.reserve.Goals as goal
 
 pub overflow_add-number : goal.overflow_add-number
