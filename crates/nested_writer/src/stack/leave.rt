@@ -48,8 +48,8 @@ impl WriterStack {
         Ok(ended)
     }
 
-    /// Whether the tail holds a record, so that it can be closed for the reader: then a page may be added for the bottom
-    /// frame, the only one that stands, which has left.
+    /// Whether the tail holds a record, so that it can be closed for the reader: then a page may be added once for the
+    /// bottom frame, the only one that stands, which has left.
     pub fn ask_close(&mut self) -> bool
         requires bottom { IsAtBottom self.old.frames }
         ensures asked { IsTrue result ↔ self.old.tail.bytes ≢ [] }

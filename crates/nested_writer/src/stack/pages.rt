@@ -1,4 +1,8 @@
 //! Pages that come to the stack, and go.
+//!
+//! A ring uses them so: as it begins a fill, it hands in the body of the page at that position; as it closes one, it
+//! lays the page handed out back there, with its number, its first record's number and all records written, for the
+//! reader to take; and where it comes to rest, the tail is the only page left, of which all records are committed too.
 use crate::stack::WriterStack;
 use page_image::{Body, Page};
 use std::mem;
@@ -34,8 +38,8 @@ impl WriterStack {
         self.older.push_back_reserved(tail);
     }
 
-    /// Releases the oldest page, where it isn't the tail and only the bottom frame stands, which has left: the first fill
-    /// that isn't closed, of which all records are committed.
+    /// Releases the oldest page, where it isn't the tail and only the bottom frame stands, which has left: the first
+    /// fill that isn't closed, of which all records are committed.
     pub fn drop_front(&mut self) -> Page
         requires more { 0 < length self.old.older }
         requires bottom { IsAtBottom self.old.frames }
