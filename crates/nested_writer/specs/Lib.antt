@@ -5,3 +5,4 @@ pub mod IsStack
 pub mod Allotted
 pub mod Ends
 pub mod Lending
+pub mod Runs
