@@ -12,3 +12,4 @@ pub mod Ending
 pub mod Dropping
 pub mod Lending
 pub mod Written
+pub mod Runs

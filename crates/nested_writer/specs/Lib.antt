@@ -6,3 +6,4 @@ pub mod Released
 pub mod Allotted
 pub mod Ends
 pub mod Lending
+pub mod Runs
