@@ -3,6 +3,7 @@ pub mod Pushing
 pub mod NewStack
 pub mod Reserving
 pub mod Leaving
+pub mod Releasing
 pub mod Tops
 pub mod Bounds
 pub mod Opening
@@ -11,3 +12,4 @@ pub mod Ending
 pub mod Dropping
 pub mod Lending
 pub mod Written
+pub mod Runs

@@ -7,7 +7,10 @@
 
 mod fault;
 pub mod frame;
+pub mod laws;
 pub mod stack;
 
 pub use fault::WriteFault;
 pub use stack::WriterStack;
+pub use stack::allot::Allot;
+pub use stack::leave::Ended;

@@ -108,7 +108,7 @@ committed_prefix h = committed_from [] h record { agrees = refl; within = omega 
 
 -- ---- how many are committed
 
-whole_front : (m : ℕ) (h : List Action) → length h ≤ m → is_settled h ≡ true → settled_prefix_within m h ≡ h
+pub whole_front : (m : ℕ) (h : List Action) → length h ≤ m → is_settled h ≡ true → settled_prefix_within m h ≡ h
 whole_front zero [] low t = refl
 whole_front zero (a ∷ h) low t = absurd (omega arith)
 whole_front (suc m) h low t = let whole : take (suc m) h ≡ h = take_all (suc m) h low in (λ i. cond (is_settled (whole i)) (whole i) (settled_prefix_within m h)) ∙ cond-true _ _ _ t

@@ -15,6 +15,7 @@ pub enum Ended {
 impl WriterStack {
     ghost use Rattle.std.specs.Prelude.{◌≡◌, ◌≢◌, ℕ, ◌≤◌, ◌<◌, ◌↔◌, [], ◌∷◌, ◌++◌, List, Some, length, IsTrue, OnOk, OnErr, IsOk};
     ghost use Rattle.trace_model.specs.History.{Action, wished};
+    ghost use Rattle.trace_model.specs.Packing.{tail_of};
     ghost use Rattle.nested_writer.specs.Stack.{opened};
     ghost use Rattle.nested_writer.specs.Calls.{with_bottom, IsAtBottom};
     ghost use Rattle.nested_writer.specs.Allotted.{HasActed};
@@ -47,11 +48,14 @@ impl WriterStack {
         Ok(ended)
     }
 
-    /// Whether the tail holds a record, so that it can be closed for the reader: then a page may be added for the bottom
-    /// frame, the only one that stands, which has left.
+    /// Whether the tail holds a record, so that it can be closed for the reader: then a page may be added once for the
+    /// bottom frame, the only one that stands, which has left.
     pub fn ask_close(&mut self) -> bool
         requires bottom { IsAtBottom self.old.frames }
         ensures asked { IsTrue result ↔ self.old.tail.bytes ≢ [] }
+        ensures holds_record { (start : ℕ) (history : List Action)
+            → IsStack start history self.old
+            → (IsTrue result ↔ tail_of history ≢ []) }
         ensures yes { IsTrue result → self.new ≡ with_bottom self.old (Some (opened self.old)) }
         ensures wished { IsTrue result → HasActed self.old (wished ∷ []) self.new }
         ensures no { self.old.tail.bytes ≡ [] → self.new ≡ self.old }

@@ -1,4 +1,8 @@
 //! Pages that come to the stack, and go.
+//!
+//! A ring uses them so: as it begins a fill, it hands in the body of the page at that position; as it closes one, it
+//! lays the page handed out back there, with its number, its first record's number and all records written, for the
+//! reader to take; and where it comes to rest, the tail is the only page left, of which all records are committed too.
 use crate::stack::WriterStack;
 use page_image::{Body, Page};
 use std::mem;
@@ -7,12 +11,13 @@ use trace_model::{FillNo, RecordNo};
 impl WriterStack {
     ghost use Rattle.std.specs.Prelude.{◌≡◌, ℕ, ◌+◌, ◌-◌, ◌≤◌, ◌<◌, [], ◌∷◌, ◌++◌, List, length, IsTrue};
     ghost use Rattle.trace_model.specs.declared.limits.TheConstants.{LINK_FILLS};
-    ghost use Rattle.trace_model.specs.History.{Action, open_fill, reserved_records, is_settled};
-    ghost use Rattle.trace_model.specs.Packing.{opens_of};
+    ghost use Rattle.trace_model.specs.History.{Action, open_fill, is_settled};
+    ghost use Rattle.trace_model.specs.Ring.{fill_of};
     ghost use Rattle.nested_writer.specs.Stack.{opened, tail_fill, next_number, blank_page};
     ghost use Rattle.nested_writer.specs.Calls.{with_tail, MayAddPage, IsAtBottom, IsCrowded, IsWorn};
     ghost use Rattle.nested_writer.specs.Allotted.{HasActed};
-    ghost use Rattle.nested_writer.specs.IsStack.{IsStack, IsPageOf};
+    ghost use Rattle.nested_writer.specs.Released.{IsWrittenPage, AreCommitted};
+    ghost use Rattle.nested_writer.specs.IsStack.{IsStack};
 
     /// Begins the next fill in this body, for the frame on top, which was told that it needs a page, or which was asked
     /// to close the tail; no page was added since.
@@ -33,18 +38,23 @@ impl WriterStack {
         self.older.push_back_reserved(tail);
     }
 
-    /// Releases the oldest page, where it isn't the tail and only the bottom frame stands, which has left: the first fill
-    /// that isn't closed, of which all records are committed.
+    /// Releases the oldest page, where it isn't the tail and only the bottom frame stands, which has left: the first
+    /// fill that isn't closed, of which all records are committed.
     pub fn drop_front(&mut self) -> Page
         requires more { 0 < length self.old.older }
         requires bottom { IsAtBottom self.old.frames }
         ensures oldest { self.old.older ≡ result ∷ self.new.older }
         ensures released { self.new ≡ record self.old { done = self.old.done + 1; older = self.new.older } }
         ensures stack { HasActed self.old [] self.new }
-        ensures fill { (start : ℕ) (history : List Action)
+        ensures written { (start : ℕ) (history : List Action)
             → IsStack start history self.old
-            → IsPageOf self.old.size self.old.done (opens_of history) (reserved_records history) (self.old.done - start)
-            result }
+            → IsWrittenPage self.old.size self.old.done (fill_of history start self.old.done) result }
+        ensures committed { (start : ℕ) (history : List Action)
+            → IsStack start history self.old
+            → AreCommitted history result }
+        ensures holds_some { (start : ℕ) (history : List Action)
+            → IsStack start history self.old
+            → 0 < result.count }
         ensures settled { (start : ℕ) (history : List Action)
             → IsStack start history self.old
             → IsTrue (is_settled history) }
@@ -58,11 +68,20 @@ impl WriterStack {
         }
     }
 
-    /// The tail page of a stack on which no frame stands, the only open one.
+    /// The tail page of a stack on which no frame stands, the only open one, of which all records are committed.
     pub fn into_tail(self) -> Page
         requires none { self.frames ≡ [] }
         ensures tail { result ≡ self.tail }
         ensures alone { self.older ≡ [] }
+        ensures written { (start : ℕ) (history : List Action)
+            → IsStack start history self
+            → IsWrittenPage self.size self.done (fill_of history start self.done) result }
+        ensures committed { (start : ℕ) (history : List Action)
+            → IsStack start history self
+            → AreCommitted history result }
+        ensures settled { (start : ℕ) (history : List Action)
+            → IsStack start history self
+            → IsTrue (is_settled history) }
     {
         let WriterStack { tail, .. } = self;
         tail

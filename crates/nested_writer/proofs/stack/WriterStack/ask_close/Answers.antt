@@ -1,9 +1,12 @@
-use Rattle.std.proofs.Common.{◌≡◌, ◌≢◌, ◌∷◌, [], length, sym, ap, ◌∙◌, subst}
+use Rattle.std.proofs.Common.{◌≡◌, ◌≢◌, ◌∷◌, [], length, refl, sym, ap, ◌∙◌, subst, arith}
+use Rattle.std.specs.Prelude.{IsTrue, false}
+use Rattle.std.proofs.lemmas.List.{nil_from_length}
 use Rattle.nested_writer.specs.Stack.{Stack, opened}
 use Rattle.nested_writer.specs.Inside.{shown, frames_from}
 use Rattle.nested_writer.specs.Calls.{IsAtBottom}
 use Rattle.nested_writer.specs.IsStack.{IsStack}
 use Rattle.nested_writer.proofs.Leaving.{asked_at}
+use Rattle.nested_writer.proofs.Releasing.{tail_empty, tail_holds}
 use Rattle.nested_writer.proofs.stack.WriterStack.ask_close.Goals as goal
 
 pub returns-in-Some-clause-wished : goal.returns-in-Some-clause-wished
@@ -14,3 +17,20 @@ returns-in-Some-clause-wished c = λ yes start history old.
     let bottom : IsAtBottom (c.in-Some.bottom ∷ c.self.inside.below.items) = subst IsAtBottom (ap (λ (x : Stack). x.frames) (sym c.self.view_is) ∙ frames) c.requires.bottom in
     let some : s.tail.bytes ≢ [] = λ none. c.if-end-eq0.false (c.end.ensures ∙ ap length none) in
     asked_at start history s c.in-Some.bottom c.self.inside.below.items c.opened-opened.result (c.opened-opened.ensures ∙ ap opened (sym c.self.view_is)) frames bottom some k
+
+pub returns-then-end-eq0-clause-holds_record : goal.returns-then-end-eq0-clause-holds_record
+returns-then-end-eq0-clause-holds_record c = λ start history old.
+    let s : Stack = shown c.self.inside in
+    let k : IsStack start history s = subst (IsStack start history) (sym c.self.view_is) old in
+    let none : s.tail.bytes ≡ [] = nil_from_length s.tail.bytes (omega (arith, c.end.ensures, c.if-end-eq0.true)) in
+    (λ truth. absurd (false_is_not_true truth), λ some. absurd (some (tail_empty start history s k none)))
+  where
+    false_is_not_true : IsTrue false → ⊥
+    false_is_not_true truth = cc
+
+pub returns-in-Some-clause-holds_record : goal.returns-in-Some-clause-holds_record
+returns-in-Some-clause-holds_record c = λ start history old.
+    let s : Stack = shown c.self.inside in
+    let k : IsStack start history s = subst (IsStack start history) (sym c.self.view_is) old in
+    let some : s.tail.bytes ≢ [] = λ none. c.if-end-eq0.false (c.end.ensures ∙ ap length none) in
+    (λ yes. tail_holds start history s k some, λ holds. refl)

@@ -1,13 +1,12 @@
-use Rattle.std.proofs.Common.{◌≡◌, ◌∷◌, ◌++◌, Option, refl, sym, ap, ◌∙◌, subst}
+use Rattle.std.proofs.Common.{◌≡◌, ◌∷◌, ◌++◌, ◌+◌, Option, refl, sym, ap, ◌∙◌, subst}
 use Rattle.std.specs.Option.{option_to_list}
-use Rattle.trace_model.specs.History.{reserved_records}
-use Rattle.trace_model.specs.Packing.{opens_of, is_wished}
 use Rattle.page_image.specs.Contents.{Contents}
 use Rattle.nested_writer.specs.Stack.{Stack}
 use Rattle.nested_writer.specs.Inside.{shown}
 use Rattle.nested_writer.specs.Calls.{IsAtBottom}
 use Rattle.nested_writer.specs.IsStack.{IsStack}
-use Rattle.nested_writer.proofs.Dropping.{oldest, released}
+use Rattle.nested_writer.proofs.Dropping.{released}
+use Rattle.nested_writer.proofs.Releasing.{front_written, front_committed, front_some}
 use Rattle.nested_writer.proofs.stack.WriterStack.drop_front.Goals as goal
 
 pub returns-clause-stack : goal.returns-clause-stack
@@ -18,8 +17,17 @@ returns-clause-stack c = λ start h old.
     let older : s.older ≡ c.in-Some.page ∷ c.pop_front.new.self.items = c.pop_front.ensures.items ∙ ap (λ (o : Option Contents). option_to_list o ++ c.pop_front.new.self.items) c.in-Some.is in
     released start h s c.in-Some.page c.pop_front.new.self.items _ older refl bottom k
 
-pub returns-clause-fill : goal.returns-clause-fill
-returns-clause-fill c = λ start h old.
-    let s : Stack = c.args.self.now in
-    let older : s.older ≡ c.in-Some.page ∷ c.pop_front.new.self.items = ap (λ (x : Stack). x.older) (sym c.self.view_is) ∙ c.pop_front.ensures.items ∙ ap (λ (o : Option Contents). option_to_list o ++ c.pop_front.new.self.items) c.in-Some.is in
-    oldest start (opens_of h) (reserved_records h) (is_wished h) s c.in-Some.page c.pop_front.new.self.items older old.holds
+pub returns-clause-written : goal.returns-clause-written
+returns-clause-written c = λ start h k.
+    let older = ap (λ (x : Stack). x.older) (sym c.self.view_is) ∙ c.in-Some.ensures.items in
+    front_written start h c.args.self.now c.in-Some.page c.pop_front.new.self.items c.requires.bottom older k
+
+pub returns-clause-committed : goal.returns-clause-committed
+returns-clause-committed c = λ start h k.
+    let older = ap (λ (x : Stack). x.older) (sym c.self.view_is) ∙ c.in-Some.ensures.items in
+    front_committed start h c.args.self.now c.in-Some.page c.pop_front.new.self.items c.requires.bottom older k
+
+pub returns-clause-holds_some : goal.returns-clause-holds_some
+returns-clause-holds_some c = λ start h k.
+    let older = ap (λ (x : Stack). x.older) (sym c.self.view_is) ∙ c.in-Some.ensures.items in
+    front_some start h c.args.self.now c.in-Some.page c.pop_front.new.self.items c.requires.bottom older k

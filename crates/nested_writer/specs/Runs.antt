@@ -1,0 +1,49 @@
+-- Lists of calls on a writer's stack, and what holds behind them.
+use Rattle.std.specs.Prelude.{◌≡◌, ℕ, List, [], ◌∷◌, length, Result}
+use Rattle.trace_model.specs.History.{Action, push, push_close, open_fill, wished}
+use Rattle.trace_model.specs.Packing.{IsPacked}
+use Rattle.nested_writer.specs.declared.fault.WriteFault.{WriteFault}
+use Rattle.nested_writer.specs.declared.stack.allot.Allot.{Allot}
+use Rattle.nested_writer.specs.declared.frame.Slot.{Slot}
+use Rattle.nested_writer.specs.Stack.{Stack}
+use Rattle.nested_writer.specs.Calls.{IsTopSlot}
+use Rattle.nested_writer.specs.Allotted.{HasActed, IsAllotted}
+use Rattle.nested_writer.specs.Ends.{IsEnd}
+use Rattle.nested_writer.specs.Lending.{with_slot}
+use Rattle.nested_writer.specs.IsStack.{IsStack}
+
+-- What one call makes of a stack, by the clauses of the calls: begin, begin_close, allot, a payload of the slot's length
+-- written into the slot that payload_mut lends, end, add_page, drop_front and pop_bottom, ask_close; or a call that is
+-- refused.
+pub data IsCall (s after : Stack) : Type 0 where
+  begins : (moment len : ℕ) → HasActed s (push moment len ∷ []) after → IsCall s after
+  begins_close : HasActed s (push_close ∷ []) after → IsCall s after
+  allots : (result : Result Allot WriteFault) → IsAllotted s s.frames result after → IsCall s after
+  writes : (slot : Slot) (part : List ℕ)
+      → IsTopSlot s.frames slot
+      → length part ≡ slot.place.len
+      → after ≡ with_slot s slot part
+      → IsCall s after
+  ends : IsEnd s s.frames after → IsCall s after
+  adds_page : HasActed s (open_fill ∷ []) after → IsCall s after
+  takes_off : HasActed s [] after → IsCall s after
+  asks : HasActed s (wished ∷ []) after → IsCall s after
+  is_refused : after ≡ s → IsCall s after
+
+-- one call behind the other, with the stacks that they leave
+abbrev pub IsRun : Stack → List Stack → Stack → Type 0
+IsRun s [] after = after ≡ s
+IsRun s (next ∷ more) after = IsCall s next × IsRun next more after
+
+-- The stack is what a packed history leaves: its open pages hold the last fills of the history's reserved records.
+pub record HoldsLastFills (start : ℕ) (s : Stack) : Type 0 where
+  pub history : List Action
+  pub is_stack : IsStack start history s
+  pub packed : IsPacked history s.size
+
+-- from a new stack on, after any list of calls, refused ones among them
+abbrev pub RunsHoldLastFills : Type 0
+RunsHoldLastFills = (start : ℕ) (s : Stack) (between : List Stack) (after : Stack)
+    → IsStack start [] s
+    → IsRun s between after
+    → HoldsLastFills start after
