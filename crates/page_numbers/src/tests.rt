@@ -1,5 +1,5 @@
-//! Parcels read from bytes and made of pages. The bytes are written out: the numbers on two lines, the image's header on
-//! the next, and the data behind it.
+//! Parcels read from bytes and made of pages. The bytes are written out: the numbers on two lines, the image's header
+//! on the next, and the data behind it.
 ghost use Rattle.std.specs.Prelude.{IfOk};
 ghost use Rattle.page_image.specs.Contents.{IsPage};
 

@@ -25,9 +25,9 @@ impl Parcel {
     ghost use Rattle.page_numbers.specs.Faults.{parcel_fault, IsParcelFault, HasReadableImage};
     ghost use Rattle.page_numbers.specs.Written.{IsWritten};
 
-    /// Reads a parcel from its bytes: 32 bytes of numbers, and a page image of at most `MAX_IMAGE` bytes. Memory is asked
-    /// for where the image has a reading: for its page before its records' numbers are looked at, and behind all faults
-    /// for sharing it.
+    /// Reads a parcel from its bytes: 32 bytes of numbers, and a page image of at most `MAX_IMAGE` bytes. Memory is
+    /// asked for where the image has a reading: for its page before its records' numbers are looked at, and behind
+    /// all faults for sharing it.
     pub fn from_bytes(alloc: Global, bytes: &[u8]) -> Result<Parcel, ParcelFault>
         ensures reads { IfOk result (λ parcel. DecodesParcel bytes.now parcel) }
         ensures fault { (cause : ParcelCause) → (result ≡ Err (parcel_fault cause))
