@@ -163,26 +163,6 @@ asked start h s bottom top_is gone some k =
           };
     }
 
--- it goes away
-pub popped : (start : ℕ) (h : List Action) (s : Stack) (bottom : Frame) → s.frames ≡ bottom ∷ [] → state_of bottom.progress ≡ left → IsStack start h s → IsStack start h (record s { frames = [] })
-popped start h s bottom top_is gone k = let o = k.holds in record {
-  keeps = k.keeps;
-  stack_is = left_empty start h s bottom top_is gone k;
-  fit = k.fit;
-  holds = record {
-    begun = o.begun;
-    from_start = o.from_start;
-    rising = o.rising;
-    room = o.room;
-    last_is = o.last_is;
-    in_time = o.in_time;
-    large = o.large;
-    older_are = o.older_are;
-    tail_is = o.tail_is;
-    frames_are = tt;
-  };
-}
-
 -- the same, by the number as it is worked out
 pub asked_at : (start : ℕ) (h : List Action) (s : Stack) (bottom : Frame) (below : List Frame) (noted : ℕ) → noted ≡ opened s → s.frames ≡ bottom ∷ below → IsAtBottom (bottom ∷ below) → s.tail.bytes ≢ [] → IsStack start h s
     → IsStack start (h ++ wished ∷ []) (record s { frames = record bottom { progress = Left (Some noted) } ∷ below })

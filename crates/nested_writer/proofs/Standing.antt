@@ -23,14 +23,6 @@ noted_before : (o o' : ℕ) (noted : Option ℕ) → o < o' → IsNoted o noted 
 noted_before o o' None low n e = none-some o' e
 noted_before o o' (Some k) low n e = let same : k ≡ o' = some_is k o' e in omega arith
 
-pub before_more : (number number' : ℕ) (frames : List Frame) → number ≤ number' → AreBefore number frames → AreBefore number' frames
-before_more number number' [] le b = tt
-before_more number number' (f ∷ below) le b = (some_more (number_of (state_of f.progress)) b.0, before_more number number' below le b.1)
-  where
-    some_more : (n : Option ℕ) → IfSome n (λ k. k < number) → IfSome n (λ k. k < number')
-    some_more None low = tt
-    some_more (Some k) low = omega arith
-
 -- What is around frames becomes other: as many fills are begun, and what was needed is needed; or more are.
 pub data BecomesOther (size done : ℕ) (older : List Contents) (cuts : List ℕ) (records : List Reservation) (found : Bool)
     (done' : ℕ) (older' : List Contents) (cuts' : List ℕ) (records' : List Reservation) (found' : Bool) : Type 0 where

@@ -21,10 +21,6 @@ HasActed s actions after = (start : ℕ) (history : List Action)
     → IsStack start history s
     → IsStack start (history ++ actions) after
 
--- the stack is as it was
-abbrev pub IsUnmoved : Stack → Stack → Type 0
-IsUnmoved s after = after ≡ s
-
 -- when a close frame tried first
 abbrev pub first_try : Stack → Progress → ℕ
 first_try s (Waiting None) = opened s

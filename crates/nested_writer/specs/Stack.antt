@@ -28,10 +28,6 @@ tail_fill s = s.done + length s.older
 abbrev pub opened : Stack → ℕ
 opened s = tail_fill s + 1
 
--- the open pages, the oldest first
-abbrev pub open_pages : Stack → List Contents
-open_pages s = s.older ++ s.tail ∷ []
-
 -- the number of the next record
 abbrev pub next_number : Stack → ℕ
 next_number s = s.tail.first + s.tail.count

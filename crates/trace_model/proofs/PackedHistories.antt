@@ -123,6 +123,9 @@ is_wished-push h moment len = fold-append _ false h (push moment len ∷ [])
 pub is_wished-push_close : (h : List Action) → is_wished (h ++ push_close ∷ []) ≡ is_wished h
 is_wished-push_close h = fold-append _ false h (push_close ∷ [])
 
+pub is_wished-open_fill : (h : List Action) → is_wished (h ++ open_fill ∷ []) ≡ false
+is_wished-open_fill h = fold-append _ false h (open_fill ∷ [])
+
 pub is_wished-reserve : (h : List Action) → is_wished (h ++ reserve ∷ []) ≡ is_wished h
 is_wished-reserve h = fold-append _ false h (reserve ∷ [])
 
