@@ -4,7 +4,7 @@ use Rattle.trace_model.specs.declared.limits.TheConstants.{LINK_FILLS}
 use Rattle.trace_model.specs.Packing.{tail_of}
 use Rattle.trace_model.specs.Frames.{reserved, wishing, Frame}
 use Rattle.trace_model.specs.Ring.{Core, first_of_fill}
-use Rattle.trace_model.specs.Steps.{Event, ends, reads, wishes, Answer, gone, full, empty, wished_for, IsGranted, Step, Exchange, Run}
+use Rattle.trace_model.specs.Steps.{Event, ends, wishes, Answer, gone, full, empty, wished_for, IsGranted, Step, Exchange, Run}
 use Rattle.link_marks.specs.RingKept.{IsRingKept}
 use Rattle.link_marks.specs.WindowLaws.{HeadIsLost}
 

@@ -1,13 +1,12 @@
 -- Data that holds the records of a fill: one record more, a payload written, and a record whose frame leaves.
-use Rattle.std.proofs.Common.{◌≡◌, ◌≢◌, ℕ, zero, suc, ◌+◌, ◌-◌, ◌<◌, ◌≤◌, Bool, true, false, cond, ltb, leb, ◌^◌, List, [], ◌∷◌, ◌++◌, length, take, drop, replicate, map, Option, Some, None, IfSome, refl, sym, ap, ◌∙◌, subst, arith, length-append, length-drop, length-take-le}
+use Rattle.std.proofs.Common.{◌≡◌, ℕ, zero, suc, ◌+◌, ◌-◌, ◌<◌, Bool, true, false, cond, ltb, leb, ◌^◌, List, [], ◌∷◌, ◌++◌, length, drop, replicate, map, Option, Some, None, IfSome, refl, sym, ap, ◌∙◌, subst, arith, length-drop, length-take-le}
 use Rattle.std.specs.List.{slice_get}
-use Rattle.std.proofs.lemmas.Option.{none-some}
 use Rattle.std.proofs.lemmas.List.{length-replicate}
 use Rattle.trace_model.specs.Record.{Record}
 use Rattle.trace_model.specs.Words.{Decodes, slot_len, encoded_len, padded}
 use Rattle.trace_model.specs.Reading.{records_in, EndsInRecord}
 use Rattle.trace_model.specs.Order.{moment_of_last}
-use Rattle.trace_model.specs.Overwriting.{overwritten, bytes_at, IsReplacedAt, IsPlaceOf}
+use Rattle.trace_model.specs.Overwriting.{overwritten, bytes_at, IsPlaceOf}
 use Rattle.trace_model.specs.History.{Reservation, last_moment, records_with_payload}
 use Rattle.trace_model.specs.Packing.{len_behind, fill_len}
 use Rattle.trace_model.specs.OpenPages.{IsOf, AreOf, first_moment, HoldsRecords}

@@ -1,4 +1,4 @@
-use Rattle.std.proofs.Common.{◌≡◌, ◌+◌, ◌≤◌, ◌<◌, ◌^◌, ◌++◌, ℕ, length, take, replicate, ap, ◌∙◌, arith}
+use Rattle.std.proofs.Common.{◌+◌, ◌≤◌, ◌<◌, ◌^◌, ◌++◌, ℕ, length, take, replicate, ap, ◌∙◌, arith}
 use Rattle.trace_model.specs.Words.{encoding}
 use Rattle.page_image.proofs.Behind.{take-put_one}
 use Rattle.page_image.proofs.put.put_behind.Goals as goal

@@ -1,5 +1,5 @@
-use Rattle.std.proofs.Common.{◌≡◌, ◌+◌, ◌-◌, ℕ, List, length, take, ◌++◌, ap, sym, subst, arith}
-use Rattle.trace_model.specs.Words.{encoding, encoded_len, padded, slot_len}
+use Rattle.std.proofs.Common.{◌≡◌, length, arith}
+use Rattle.trace_model.specs.Words.{encoding, encoded_len, padded}
 use Rattle.trace_model.proofs.Lengths.{length-encoding, length-padded}
 use Rattle.page_image.proofs.Behind.{take-put_behind}
 use Rattle.page_image.proofs.put.put_payload_behind.Goals as goal
