@@ -56,7 +56,13 @@ pub(crate) fn put_behind(body: &mut [u8], end: usize, delta: u64, first: bool, l
 
 /// Writes a record with this payload behind the first `end` bytes, and answers where the payload lies. The record
 /// ends where its payload does.
-pub(crate) fn put_payload_behind(body: &mut [u8], end: usize, delta: u64, first: bool, payload: &[u8]) -> Place
+pub(crate) fn put_payload_behind(
+    body: &mut [u8],
+    end: usize,
+    delta: u64,
+    first: bool,
+    payload: &[u8],
+) -> Place
     requires length { length payload.now ≤ MAX_PAYLOAD }
     requires time { (first ≡ true) ⊎ (delta < MOMENT_LIMIT) }
     requires room { end + encoded_len (length payload.now) delta first ≤ length body.old }
