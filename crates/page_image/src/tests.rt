@@ -50,6 +50,27 @@ fn add(rt: &impl Abort, page: &mut Page, prev: u64, given: Given)
     write(page.payload_mut(place), given.payload);
 }
 
+/// Adds a record behind one of moment `prev` by `put_payload`.
+fn add_at_once(rt: &impl Abort, page: &mut Page, prev: u64, given: Given)
+    requires page { IsPage page.old }
+    requires last { IfSome (moment_of_last (records_of_page page.old)) (λ last. last ≡ prev) }
+    requires open { EndsInRecord page.old.bytes }
+    ensures page { IsPage page.new }
+    ensures last { IfSome (moment_of_last (records_of_page page.new)) (λ last. last ≡ given.moment) }
+    ensures open { EndsInRecord page.new.bytes }
+{
+    let len = given.payload.len();
+    assert!(rt; prev <= given.moment);
+    assert!(rt; given.moment < MOMENT_LIMIT);
+    assert!(rt; len <= MAX_SIZE);
+    let size = size_of(len, given.moment - prev, page.end() == 0);
+    assert!(rt; size <= MAX_SIZE);
+    assert!(rt; page.end() <= MAX_SIZE);
+    assert!(rt; page.end() + size <= page.size());
+    let place = page.put_payload(prev, given.moment, given.payload);
+    assert_eq!(rt; page.end() - place.len, place.start);
+}
+
 /// A page of this data size without a record.
 fn blank_page(rt: &impl Abort, alloc: Global, size: usize) -> Result<Page, NoMemory>
     ensures page { IfOk result (λ page. IsPage page) }
@@ -71,6 +92,24 @@ fn page_of(rt: &impl Abort, alloc: Global, size: usize, records: &[Given]) -> Re
     let mut prev = 0;
     for given in records {
         add(rt, &mut page, prev, *given);
+        prev = given.moment;
+    }
+    Ok(page)
+}
+
+/// A page of this data size with these records, each added by `put_payload`.
+fn page_at_once(
+    rt: &impl Abort,
+    alloc: Global,
+    size: usize,
+    records: &[Given],
+) -> Result<Page, NoMemory>
+    ensures { IfOk result (λ page. IsPage page) }
+{
+    let mut page = blank_page(rt, alloc, size)?;
+    let mut prev = 0;
+    for given in records {
+        add_at_once(rt, &mut page, prev, *given);
         prev = given.moment;
     }
     Ok(page)
@@ -118,6 +157,8 @@ fn put_and_compare(
         for (i, byte) in data.iter().enumerate() {
             assert_eq!(rt; *byte, row.byte_at(i), "at {i}");
         }
+        let at_once = page_at_once(rt, alloc, size, row.records)?;
+        assert!(rt; at_once.data() == data);
     }
     Ok(())
 }

@@ -1,7 +1,7 @@
 //! Records written and words read, with their bytes written out.
 ghost use Rattle.std.specs.Prelude.{◌≤◌};
 
-use crate::{Place, Word, WordFault, next_word, put_record, size_of};
+use crate::{Place, Word, WordFault, next_word, put_payload, put_record, size_of};
 use std::process::Abort;
 use trace_model::MOMENT_LIMIT;
 
@@ -57,6 +57,16 @@ fn write_and_compare(rt: &impl Abort, table: &[Row]) {
         payload.copy_from_slice(row.payload);
         for (i, byte) in out.iter().enumerate() {
             assert_eq!(rt; *byte, row.byte_at(i), "at {i}");
+        }
+        if row.payload.len() == row.len {
+            let mut whole = [UNTOUCHED; ROOM];
+            assert_eq!(rt;
+                put_payload(&mut whole, row.delta, row.first, row.payload),
+                row.size
+            );
+            for (i, byte) in whole.iter().enumerate() {
+                assert_eq!(rt; *byte, row.byte_at(i), "at {i}");
+            }
         }
     }
 }
