@@ -1,7 +1,6 @@
 -- After any list of calls the stack is what a packed history leaves.
-use Rattle.std.proofs.Common.{◌≡◌, ℕ, List, [], ◌∷◌, ◌++◌, length, Option, Some, None, Result, Ok, Err, refl, sym, ap, ◌∙◌, subst}
-use Rattle.trace_model.specs.History.{Action, push, push_close, open_fill, reserve, leave, wished, reserved_records}
-use Rattle.trace_model.specs.Packing.{opens_of, is_wished}
+use Rattle.std.proofs.Common.{◌≡◌, ℕ, List, [], ◌∷◌, ◌++◌, Some, None, Result, Ok, Err, refl, sym, subst}
+use Rattle.trace_model.specs.History.{Action, push, push_close, open_fill, reserve, leave, wished}
 use Rattle.trace_model.specs.Overwriting.{bytes_at}
 use Rattle.trace_model.proofs.PackedHistories.{is_packed}
 use Rattle.record_words.specs.declared.put.Place.{Place}
@@ -17,7 +16,7 @@ use Rattle.nested_writer.specs.declared.frame.Progress.TheVariants.{Waiting, Thr
 use Rattle.nested_writer.specs.declared.frame.Frame.{Frame}
 use Rattle.nested_writer.specs.Stack.{Stack}
 use Rattle.nested_writer.specs.Calls.{IsTopSlot}
-use Rattle.nested_writer.specs.Allotted.{HasActed, HasFit, IsAllottedTop, IsAllotted}
+use Rattle.nested_writer.specs.Allotted.{HasActed, HasFit, IsAllotted}
 use Rattle.nested_writer.specs.Ends.{HasEnded, IsEnd}
 use Rattle.nested_writer.specs.Runs.{IsCall, begins, begins_close, allots, writes, ends, adds_page, takes_off, asks, is_refused, IsRun, HoldsLastFills}
 use Rattle.nested_writer.specs.IsStack.{IsStack}

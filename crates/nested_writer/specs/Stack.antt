@@ -1,5 +1,5 @@
 -- What contracts see of a writer's stack.
-use Rattle.std.specs.Prelude.{ℕ, ◌+◌, List, [], ◌∷◌, ◌++◌, length}
+use Rattle.std.specs.Prelude.{ℕ, ◌+◌, List, [], ◌∷◌, length}
 use Rattle.trace_model.specs.Frames.{Kind, for_record, for_close, FrameState, waiting, reserved, left, StackFrame}
 use Rattle.page_image.specs.Contents.{Contents}
 use Rattle.nested_writer.specs.declared.frame.Purpose.{Purpose}

@@ -1,17 +1,16 @@
 -- Each record of a page that reads stands at its place, and its bytes are those that stand there.
-use Rattle.std.proofs.Common.{◌≡◌, ◌⊎◌, inl, inr, ℕ, zero, suc, ◌+◌, ◌-◌, List, [], ◌∷◌, ◌++◌, length, length-append, take, drop, slice_range, Some, refl, sym, ap, ◌∙◌, subst, ⊎_elim, arith}
+use Rattle.std.proofs.Common.{◌≡◌, ◌⊎◌, inl, inr, ℕ, zero, suc, ◌+◌, ◌-◌, List, [], ◌∷◌, ◌++◌, length, length-append, take, drop, Some, refl, sym, ap, ◌∙◌, subst, ⊎_elim, arith}
 use Rattle.std.specs.List.{enumerate_from, slice_get}
 use Rattle.std.proofs.lemmas.Option.{none-some}
 use Rattle.trace_model.specs.Record.{Record}
-use Rattle.trace_model.specs.Words.{Word, short_data, long_data, padding, time_extend, time_stamp, joined, records_at, records_behind, records_of, moment_after, IsJoined}
+use Rattle.trace_model.specs.Words.{Word, short_data, long_data, padding, time_extend, time_stamp, joined, records_at, records_behind, moment_after, IsJoined}
 use Rattle.trace_model.specs.Reading.{IsData, payload_of, IsPlaceIn}
-use Rattle.trace_model.specs.Overwriting.{IsPlaceOf}
 use Rattle.trace_model.proofs.Elements.{some_is}
 use Rattle.trace_model.proofs.Appended.{records_at-data}
 use Rattle.trace_model.proofs.Overwritten.{head_of, bytes_of_word-data, place-payload}
 use Rattle.trace_model.proofs.Places.{records_of-count}
 use Rattle.page_image.specs.Contents.{Contents, IsPage, records_of_page}
-use Rattle.page_borrow.specs.Entries.{entries_of, StandsInPage, AllStandInPage}
+use Rattle.page_borrow.specs.Entries.{entries_of, AllStandInPage}
 
 -- among words behind others, the one that holds the record of this index
 record HoldsRecord (time : ℕ) (before words : List Word) (index : ℕ) (r : Record) : Type 0 where

@@ -1,5 +1,4 @@
-use Rattle.std.proofs.Common.{◌≡◌, ◌∙◌, subst, sym, List, ℕ}
-use Rattle.trace_model.specs.Record.{Record}
+use Rattle.std.proofs.Common.{◌≡◌, ◌∙◌, subst, sym}
 use Rattle.page_borrow.specs.Entries.{entries_of, AllStandInPage}
 use Rattle.page_borrow.proofs.Left.{left-whole}
 use Rattle.page_borrow.proofs.OwnBytes.{all-stand}

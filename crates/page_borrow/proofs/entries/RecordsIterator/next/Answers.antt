@@ -1,4 +1,4 @@
-use Rattle.std.proofs.Common.{◌≡◌, ◌∙◌, sym, ap, refl, arith, length}
+use Rattle.std.proofs.Common.{◌∙◌, sym, ap, arith, length}
 use Rattle.page_borrow.proofs.Left.{left-first, left-ended, left-all}
 use Rattle.page_borrow.proofs.entries.RecordsIterator.next.Goals.{then-loop-self-test+else-self, else-loop-self-test}
 use Rattle.page_borrow.proofs.entries.RecordsIterator.next.Goals as goal
