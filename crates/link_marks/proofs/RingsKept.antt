@@ -177,6 +177,11 @@ ring_step n size start c event answer after r step = record {
   partition = partition_step n size start c event answer after r.links r.history r.contents r.closed r.partition step;
 }
 
+-- a run with one more step behind it
+pub run_snoc : (n size : ℕ) (c s after : Core) (front : List Exchange) (x : Exchange) → Run n size c front s → Step n size s x.event x.answer after → Run n size c (front ++ x ∷ []) after
+run_snoc n size c s after [] x run step = (after, subst (λ (y : Core). Step n size y x.event x.answer after) (sym run) step, refl)
+run_snoc n size c s after (y ∷ front) x (between, first, run) step = (between, first, run_snoc n size between s after front x run step)
+
 pub ring_run : (n size start : ℕ) (c after : Core) (exchanges : List Exchange) → IsRingKept n size start c → Run n size c exchanges after → IsRingKept n size start after
 ring_run n size start c after [] r run = subst (IsRingKept n size start) run r
 ring_run n size start c after (x ∷ exchanges) r (between, step, run) = ring_run n size start between after exchanges (ring_step n size start c x.event x.answer between r step) run

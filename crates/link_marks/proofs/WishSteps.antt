@@ -10,7 +10,7 @@ use Rattle.trace_model.specs.Ring.{ReaderPhase, loading_link, loading_done, stor
 use Rattle.trace_model.specs.Steps.{Event, Answer, gone, empty, IsGranted, with_new_tail, frames_after_leave, after_begin, BeginsAnew, reserves, finds_nothing, is_crowded, is_worn, notes, look_late, sees_free, sees_header, sees_update, claim_late, claims, claim_fails, next_late, sees_normal, sees_other, mark_late, marks, mark_fails, clears, open_late, opens, releases, releases_last, grants, closes_more, goes_away, IdleStep, FrameStep, loads_header, loads_update, loads_owed, loads_passed, finds_none, finds_closed, swaps, swap_fails, ReadStep, Step, push_step, push_refused, close_step, close_refused, frame_step, frame_lacks, end_step, end_lacks, end_early, read_step, wish_step, Exchange, Run}
 use Rattle.link_marks.specs.RingKept.{IsRingKept}
 use Rattle.link_marks.specs.WishLaws.{WishesAreHeld, GoneHasLooked, WishesAreAnswered, WishedTailsAreClosed, WishBehindEmptyLosesNone}
-use Rattle.link_marks.proofs.RingsKept.{ring_step, ring_run}
+use Rattle.link_marks.proofs.RingsKept.{run_snoc, ring_step, ring_run}
 use Rattle.link_marks.proofs.ToldSteps.{leads_run, counts_rise}
 use Rattle.link_marks.proofs.AnswersRight.{empty_right}
 use Rattle.link_marks.proofs.Tails.{tail_over}
@@ -263,10 +263,6 @@ module _ (n size start : ℕ) (c : Core) where
       none_or_some : {B : Type 0} (frames : List Frame) → (frames ≡ [] → B) → (frames ≢ [] → B) → B
       none_or_some [] f g = f refl
       none_or_some (frame ∷ below) f g = g (some_stands frame below)
-
-      run_snoc : (n size : ℕ) (c s after : Core) (front : List Exchange) (x : Exchange) → Run n size c front s → Step n size s x.event x.answer after → Run n size c (front ++ x ∷ []) after
-      run_snoc n size c s after [] x run step = (after, subst (λ (y : Core). Step n size y x.event x.answer after) (sym run) step, refl)
-      run_snoc n size c s after (y ∷ front) x (between, first, run) step = (between, first, run_snoc n size between s after front x run step)
 
 pub wishes_answered : WishesAreAnswered
 wishes_answered n size start c before exchanges event answer after r asks run step stand none =

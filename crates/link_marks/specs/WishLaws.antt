@@ -18,10 +18,11 @@ WishesAreHeld = (n size start : ℕ) (c : Core) (answer : Answer) (after : Core)
     × (after ≡ record c { wish = c.reader.seen + 1 })
     × (c.reader.seen ≤ c.done)
 
--- the last frame leaves the stack by its look for a wish alone; and where the reader's wish is for the tail, that holds no
--- record or is the last fill
+-- the last frame leaves the stack by its look for a wish alone; and where the reader's wish is for the tail, that
+-- holds no record or is the last fill
 abbrev pub GoneHasLooked : Type 0
-GoneHasLooked = (n size : ℕ) (c : Core) (event : Event) (answer : Answer) (after : Core) (frame : Frame) (below : List Frame)
+GoneHasLooked = (n size : ℕ) (c : Core) (event : Event) (answer : Answer) (after : Core)
+    (frame : Frame) (below : List Frame)
     → c.frames ≡ frame ∷ below
     → Step n size c event answer after
     → after.frames ≡ []
