@@ -5,10 +5,12 @@
 #include <stdlib.h>
 #include <string.h>
 
-enum { SIZE = 4080, POOL = 128 };
+enum { SIZE = 4080, POOL = 256 };
 
 size_t write_in_place(const uint8_t *pool, size_t pool_len, const uint8_t *lens, size_t lens_len);
 size_t write_at_once(const uint8_t *pool, size_t pool_len, const uint8_t *lens, size_t lens_len);
+size_t write_in_steps(const uint8_t *pool, size_t pool_len, const uint8_t *lens, size_t lens_len);
+size_t write_in_one(const uint8_t *pool, size_t pool_len, const uint8_t *lens, size_t lens_len);
 
 static uint8_t page[SIZE];
 
@@ -16,7 +18,7 @@ __attribute__((noinline)) static size_t write_bare(const uint8_t *pool, const ui
 {
     size_t end = 0;
     for (size_t i = 0; i < count; i++) {
-        size_t len = lens[i] % POOL;
+        size_t len = lens[i];
         if (SIZE - end < len)
             end = 0;
         memcpy(page + end, pool, len);
@@ -30,7 +32,7 @@ __attribute__((noinline)) static size_t write_plain(const uint8_t *pool, const u
     size_t end = 0;
     uint64_t prev = 0;
     for (size_t i = 0; i < count; i++) {
-        size_t len = lens[i] % POOL;
+        size_t len = lens[i];
         size_t slot = len ? (len + 3) & ~(size_t)3 : 4;
         uint64_t delta = end ? i - prev : 0;
         size_t extend = delta >> 27 ? 8 : 0;
@@ -86,6 +88,10 @@ int main(int argc, char **argv)
         end = write_in_place(pool, POOL, lens, count);
     else if (!strcmp(argv[1], "at_once"))
         end = write_at_once(pool, POOL, lens, count);
+    else if (!strcmp(argv[1], "in_steps"))
+        end = write_in_steps(pool, POOL, lens, count);
+    else if (!strcmp(argv[1], "in_one"))
+        end = write_in_one(pool, POOL, lens, count);
     else
         return 2;
     printf("%zu\n", end);

@@ -1,10 +1,12 @@
 -- The slot of the frame on top, which is lent.
-use Rattle.std.proofs.Common.{◌≡◌, ℕ, ◌-◌, ◌<◌, ◌≤◌, eqb, List, [], ◌∷◌, length, Some, sym, ap, ◌∙◌, subst, arith}
-use Rattle.std.specs.Prelude.{slice_set}
+use Rattle.std.proofs.Common.{◌≡◌, ℕ, ◌+◌, ◌-◌, ◌<◌, ◌≤◌, eqb, List, [], ◌∷◌, length, Some, sym, ap, ◌∙◌, subst, arith, drop, length-drop, length-take-le}
+use Rattle.std.specs.Prelude.{slice_set, slice_range}
 use Rattle.std.specs.List.{slice_get}
 use Rattle.std.proofs.lemmas.Bool.{cond-true, cond-false, ne_eqb, eq-eqb}
 use Rattle.std.proofs.lemmas.Option.{slice_get_within, get_or_from_slice_get}
 use Rattle.trace_model.specs.History.{Action, reserved_records}
+use Rattle.trace_model.specs.Reading.{IsPlaceIn}
+use Rattle.trace_model.proofs.Overwritten.{place-within}
 use Rattle.trace_model.specs.Packing.{opens_of, is_wished}
 use Rattle.page_image.specs.Contents.{Contents}
 use Rattle.page_image.specs.Lending.{with_payload}
@@ -13,6 +15,7 @@ use Rattle.nested_writer.specs.declared.frame.Frame.{Frame}
 use Rattle.nested_writer.specs.Stack.{Stack, tail_fill, kind_of}
 use Rattle.nested_writer.specs.Calls.{IsTopSlot}
 use Rattle.nested_writer.specs.Lending.{with_slot}
+use Rattle.nested_writer.proofs.Ending.{open_page_is}
 use Rattle.nested_writer.specs.IsStack.{IsOpenPage, is_tail, is_older, LiesOpen, StandsAt, FramesStand, IsStack}
 
 -- its record lies open
@@ -45,3 +48,14 @@ pub in_older : (s : Stack) (slot : Slot) (part : List ℕ) (page : Contents) →
 in_older s slot part page other at =
     ap (λ (p : Contents). let t : Stack = record s { older = slice_set s.older (slot.fill - s.done) (with_payload p slot.place.start part) } in t) (sym (get_or_from_slice_get s.older (slot.fill - s.done) page s.tail at))
     ∙ sym (cond-false (eqb slot.fill s.tail.fill) _ _ (ne_eqb slot.fill s.tail.fill other))
+
+-- what stands there is as long as the slot
+pub lent_len : (start : ℕ) (h : List Action) (s : Stack) (slot : Slot) (page : Contents) → IsTopSlot s.frames slot → IsOpenPage s.done s.older s.tail slot.fill page → IsStack start h s
+    → length (slice_range page.bytes slot.place.start (slot.place.start + slot.place.len)) ≡ slot.place.len
+lent_len start h s slot page is there k =
+    let (len, lies) = slot_lies start h s slot is k in
+    let same : lies.page ≡ page = open_page_is s.done s.older s.tail slot.fill lies.page page lies.open_page there in
+    let within = place-within page.bytes slot.place.start slot.place.len (subst (λ (p : Contents). IsPlaceIn p.bytes slot.place.start slot.place.len) same lies.place.place) in
+    let behind = length-drop slot.place.start page.bytes in
+    let long = length-take-le (slot.place.start + slot.place.len - slot.place.start) (drop slot.place.start page.bytes) (omega arith) in
+    omega arith

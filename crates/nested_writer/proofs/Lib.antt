@@ -12,4 +12,7 @@ pub mod Ending
 pub mod Dropping
 pub mod Lending
 pub mod Written
+pub mod AtOnce
+pub mod Staying
 pub mod Runs
+pub mod Answering

@@ -29,8 +29,8 @@ first_try s (Through noted) = noted
 first_try s (Reserved slot) = opened s
 first_try s (Left noted) = opened s
 
--- A frame that gets a place: a reserved one has it already, a record frame reserves its record there, and a close frame is
--- through.
+-- A frame that gets a place: a reserved one has it already, a record frame reserves its record there, and a close
+-- frame is through.
 abbrev pub HasFit : Stack → Frame → List Frame → Purpose → Progress → Place → Stack → Type 0
 HasFit s top below purpose (Reserved slot) place after = (after ≡ s) × (place ≡ slot.place)
 HasFit s top below (Record moment len) (Waiting noted) place after =

@@ -42,6 +42,11 @@ with_bottom s noted = record s { frames = asked_frames s.frames noted }
 abbrev pub with_tail : Stack → Contents → Stack
 with_tail s page = record s { older = s.older ++ s.tail ∷ []; tail = page }
 
+-- the frame on top
+abbrev pub top_of : List Frame → Option Frame
+top_of [] = None
+top_of (top ∷ below) = Some top
+
 -- ---- conditions
 
 -- this frame is on top of these
@@ -83,8 +88,8 @@ abbrev pub IsUnchanged : Stack → Option ℕ → Type 0
 IsUnchanged s None = Unit {0}
 IsUnchanged s (Some noted) = noted ≡ opened s
 
--- A page is needed: the record doesn't fit in the tail; or the tail holds a record, and no page was added since the close
--- frame's first try.
+-- A page is needed: the record doesn't fit in the tail; or the tail holds a record, and no page was added since the
+-- close frame's first try.
 abbrev pub WantsPage : Stack → Purpose → Progress → Type 0
 WantsPage s (Record moment len) (Waiting noted) = s.size < end_with s moment len
 WantsPage s Close (Waiting noted) = (s.tail.bytes ≢ []) × IsUnchanged s noted

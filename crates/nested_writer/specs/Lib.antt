@@ -4,6 +4,8 @@ pub mod Calls
 pub mod IsStack
 pub mod Released
 pub mod Allotted
+pub mod Answered
 pub mod Ends
 pub mod Lending
+pub mod AtOnce
 pub mod Runs

@@ -1,6 +1,6 @@
 -- Lists of calls on a writer's stack, and what holds behind them.
-use Rattle.std.specs.Prelude.{◌≡◌, ℕ, List, [], ◌∷◌, length, Result}
-use Rattle.trace_model.specs.History.{Action, push, push_close, open_fill, wished}
+use Rattle.std.specs.Prelude.{◌≡◌, ℕ, List, [], ◌∷◌, length, Some, Result}
+use Rattle.trace_model.specs.History.{Action, push, push_close, open_fill, reserve, leave, wished}
 use Rattle.trace_model.specs.Packing.{IsPacked}
 use Rattle.nested_writer.specs.declared.fault.WriteFault.{WriteFault}
 use Rattle.nested_writer.specs.declared.stack.allot.Allot.{Allot}
@@ -12,9 +12,9 @@ use Rattle.nested_writer.specs.Ends.{IsEnd}
 use Rattle.nested_writer.specs.Lending.{with_slot}
 use Rattle.nested_writer.specs.IsStack.{IsStack}
 
--- What one call makes of a stack, by the clauses of the calls: begin, begin_close, allot, a payload of the slot's length
--- written into the slot that payload_mut lends, end, add_page, drop_front and pop_bottom, ask_close; or a call that is
--- refused.
+-- What one call makes of a stack, by the clauses of the calls: begin, begin_close, allot, a payload of the slot's
+-- length written into the slot that payload_mut lends, end, add_page, drop_front and pop_bottom, ask_close, write; or a
+-- call that is refused.
 pub data IsCall (s after : Stack) : Type 0 where
   begins : (moment len : ℕ) → HasActed s (push moment len ∷ []) after → IsCall s after
   begins_close : HasActed s (push_close ∷ []) after → IsCall s after
@@ -28,6 +28,9 @@ pub data IsCall (s after : Stack) : Type 0 where
   adds_page : HasActed s (open_fill ∷ []) after → IsCall s after
   takes_off : HasActed s [] after → IsCall s after
   asks : HasActed s (wished ∷ []) after → IsCall s after
+  writes_at_once : (moment : ℕ) (payload : List ℕ)
+      → HasActed s (push moment (length payload) ∷ reserve ∷ leave (Some payload) ∷ []) after
+      → IsCall s after
   is_refused : after ≡ s → IsCall s after
 
 -- one call behind the other, with the stacks that they leave

@@ -14,3 +14,7 @@ pub use fault::WriteFault;
 pub use stack::WriterStack;
 pub use stack::allot::Allot;
 pub use stack::leave::Ended;
+pub use stack::write::Wrote;
+
+#[cfg(test)]
+mod tests;

@@ -2,8 +2,10 @@
 pub mod allot;
 pub mod leave;
 pub mod lend;
+pub mod look;
 pub mod pages;
 pub mod push;
+pub mod write;
 
 use crate::frame::Frame;
 use page_image::{Body, Page};
@@ -41,7 +43,7 @@ impl WriterStack {
     ghost use Rattle.std.specs.Prelude.{◌≡◌, ◌+◌, ◌%◌, ◌≤◌, ◌<◌, [], length, IfOk};
     ghost use Rattle.trace_model.specs.declared.limits.TheConstants.{MIN_PAGES, MAX_PAGES, MIN_SIZE, MAX_SIZE, LINK_FILLS, START_FILL};
     ghost use Rattle.nested_writer.specs.Stack.{new_stack};
-    ghost use Rattle.nested_writer.specs.IsStack.{IsStack};
+    ghost use Rattle.nested_writer.specs.IsStack.{IsStack, Stands};
 
     /// A stack without a frame, over one empty page of `size` bytes of data, in a ring of `pages` pages whose first
     /// fill has the number `start`. All room is made here: no other call takes memory.
@@ -59,6 +61,7 @@ impl WriterStack {
         requires start { start + pages < LINK_FILLS }
         ensures blank { IfOk result (λ stack. stack ≡ new_stack pages size start) }
         ensures stack { IfOk result (λ stack. IsStack start [] stack) }
+        ensures stands { IfOk result (λ stack. Stands stack) }
     {
         let older = VecDeque::with_capacity(alloc, pages)?;
         let below = VecDeque::with_capacity(alloc, MAX_FRAMES)?;
@@ -84,6 +87,7 @@ impl WriterStack {
         requires words { size % 4 ≡ 0 }
         ensures blank { IfOk result (λ stack. stack ≡ new_stack pages size START_FILL) }
         ensures stack { IfOk result (λ stack. IsStack START_FILL [] stack) }
+        ensures stands { IfOk result (λ stack. Stands stack) }
     {
         WriterStack::new_at(alloc, pages, size, START_FILL)
     }

@@ -21,23 +21,18 @@ impl WriterStack {
     ghost use Rattle.page_image.specs.Contents.{Contents};
     ghost use Rattle.nested_writer.specs.Stack.{opened, tail_fill, next_number};
     ghost use Rattle.nested_writer.specs.Calls.{with_progress, after_leave, IsTop, HasLeft, IsUnchanged, WantsPage, NeedsPage, IsCrowded, IsWorn, IsReserved, HasRecordRoom, HasTopLeft};
-    ghost use Rattle.nested_writer.specs.IsStack.{IsStack};
+    ghost use Rattle.nested_writer.specs.IsStack.{IsStack, Stands};
     ghost use Rattle.nested_writer.specs.Allotted.{IsAllotted};
+    ghost use Rattle.nested_writer.specs.Answered.{IsAnswered};
     ghost use Rattle.nested_writer.specs.declared.frame.Frame.{Frame};
     ghost use Rattle.nested_writer.specs.declared.frame.Purpose.TheVariants.{Record, Close};
     ghost use Rattle.nested_writer.specs.declared.frame.Progress.TheVariants.{Waiting, Through, Reserved, Left};
 
-    /// How many fills are begun, those closed counted.
-    pub(crate) fn opened(&self) -> u64
-        ensures { result ≡ opened self.now }
-    {
-        self.done + self.older.len() as u64 + 1
-    }
-
     /// The frame on top has come so far.
     fn go_on(&mut self, top: Frame, progress: Progress)
         requires { (below : List Frame) × IsTop self.old top below }
-        ensures { (below : List Frame) → IsTop self.old top below → self.new ≡ with_progress self.old top below progress }
+        ensures { (below : List Frame) → IsTop self.old top below
+            → self.new ≡ with_progress self.old top below progress }
     {
         self.top = Some(Frame { progress, ..top });
     }
@@ -58,7 +53,7 @@ impl WriterStack {
 
     /// Whether a page is needed for the frame on top, which has no record.
     fn wants_page(&self, top: Frame) -> bool
-        requires stack { (start : ℕ) × (history : List Action) × IsStack start history self.now }
+        requires stack { Stands self.now }
         requires top { (below : List Frame) × IsTop self.now top below }
         ensures { IsTrue result ↔ WantsPage self.now top.purpose top.progress }
     {
@@ -86,6 +81,9 @@ impl WriterStack {
         ensures worn { result ≡ Err WriteFault.Worn ↔ ((IsCrowded self.old → ⊥) × IsWorn self.old) }
         ensures noted { result ≡ Ok Allot.NeedsPage ↔ ((IsCrowded self.old → ⊥) × (IsWorn self.old → ⊥)) }
         ensures after { IsAllotted self.old self.old.frames result self.new }
+        ensures answered { (start : ℕ) (history : List Action)
+            → IsStack start history self.old
+            → IsAnswered self.old history self.old.frames result }
     {
         if self.older.len() + 1 == self.pages {
             self.leave(top);
@@ -102,7 +100,7 @@ impl WriterStack {
 
     /// Reserves the record of the frame on top, which fits in the tail.
     fn reserve(&mut self, top: Frame, moment: u64, len: usize) -> Place
-        requires stack { (start : ℕ) × (history : List Action) × IsStack start history self.old }
+        requires stack { Stands self.old }
         requires top { (below : List Frame) × IsTop self.old top below }
         requires purpose { top.purpose ≡ Record moment len }
         requires waits { (noted : Option ℕ) × (top.progress ≡ Waiting noted) }
@@ -134,7 +132,7 @@ impl WriterStack {
     /// and no page was added since its first call; else it gets a place of length 0. A frame that is refused as
     /// `Crowded` or `Worn` leaves without a record.
     pub fn allot(&mut self) -> Result<Allot, WriteFault>
-        requires stack { (start : ℕ) × (history : List Action) × IsStack start history self.old }
+        requires stack { Stands self.old }
         ensures crowded { result ≡ Err WriteFault.Crowded ↔ (NeedsPage self.old self.old.frames × IsCrowded self.old) }
         ensures worn { result ≡ Err WriteFault.Worn
             ↔ (NeedsPage self.old self.old.frames × (IsCrowded self.old → ⊥) × IsWorn self.old) }
@@ -143,6 +141,10 @@ impl WriterStack {
         ensures needs_page { result ≡ Ok Allot.NeedsPage
             ↔ (NeedsPage self.old self.old.frames × (IsCrowded self.old → ⊥) × (IsWorn self.old → ⊥)) }
         ensures after { IsAllotted self.old self.old.frames result self.new }
+        ensures stays { Stands self.new }
+        ensures answered { (start : ℕ) (history : List Action)
+            → IsStack start history self.old
+            → IsAnswered self.old history self.old.frames result }
     {
         let Some(top) = self.top else {
             return Err(WriteFault::NoFrame);

@@ -20,15 +20,16 @@ impl WriterStack {
     ghost use Rattle.nested_writer.specs.Calls.{with_bottom, IsAtBottom};
     ghost use Rattle.nested_writer.specs.Allotted.{HasActed};
     ghost use Rattle.nested_writer.specs.Ends.{MayEndTop, MayNotEndTop, IsEnd};
-    ghost use Rattle.nested_writer.specs.IsStack.{IsStack};
+    ghost use Rattle.nested_writer.specs.IsStack.{IsStack, Stands};
 
     /// Ends the frame on top, whose record is reserved, or which is a close frame that needs no page.
     pub fn end(&mut self) -> Result<Ended, WriteFault>
-        requires stack { (start : ℕ) × (history : List Action) × IsStack start history self.old }
+        requires stack { Stands self.old }
         ensures no_frame { result ≡ Err WriteFault.NoFrame ↔ self.old.frames ≡ [] }
         ensures not_reserved { result ≡ Err WriteFault.NotReserved ↔ MayNotEndTop self.old.frames }
         ensures pending { result ≡ Ok Ended.Pending ↔ (MayEndTop self.old.frames × (1 < length self.old.frames)) }
         ensures full { result ≡ Ok Ended.Full ↔ (MayEndTop self.old.frames × (length self.old.frames ≤ 1)) }
+        ensures stays { Stands self.new }
         ensures ok { OnOk result (IsEnd self.old self.old.frames self.new) }
         ensures err { OnErr result (self.new ≡ self.old) }
     {
@@ -58,6 +59,7 @@ impl WriterStack {
             → (IsTrue result ↔ tail_of history ≢ []) }
         ensures yes { IsTrue result → self.new ≡ with_bottom self.old (Some (opened self.old)) }
         ensures wished { IsTrue result → HasActed self.old (wished ∷ []) self.new }
+        ensures stays { Stands self.old → Stands self.new }
         ensures no { self.old.tail.bytes ≡ [] → self.new ≡ self.old }
     {
         if self.tail.end() == 0 {
@@ -79,6 +81,7 @@ impl WriterStack {
         requires released { self.old.older ≡ [] }
         ensures popped { self.new ≡ record self.old { frames = [] } }
         ensures stack { HasActed self.old [] self.new }
+        ensures stays { Stands self.old → Stands self.new }
     {
         self.top = None;
     }

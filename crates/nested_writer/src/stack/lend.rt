@@ -11,7 +11,7 @@ impl WriterStack {
     ghost use Rattle.nested_writer.specs.Lending.{LendsSlot, with_slot};
     ghost use Rattle.nested_writer.specs.declared.frame.Slot.{Slot};
     ghost use Rattle.nested_writer.specs.Calls.{LacksSlot, IsTopSlot};
-    ghost use Rattle.nested_writer.specs.IsStack.{IsStack, IsOpenPage};
+    ghost use Rattle.nested_writer.specs.IsStack.{IsStack, Stands, IsOpenPage};
 
     /// Where the record of the frame on top stands.
     pub fn top_slot(&self) -> Result<Slot, WriteFault>
@@ -33,16 +33,18 @@ impl WriterStack {
     /// The payload in the slot of the frame on top, to be written. All else stays as it is, and what is written there
     /// leaves the stack that of its history.
     pub fn payload_mut(&mut self, slot: Slot) -> &mut [u8]
-        requires stack { (start : ℕ) × (history : List Action) × IsStack start history self.old }
+        requires stack { Stands self.old }
         requires slot { IsTopSlot self.old.frames slot }
         ensures* lends { sem 𝓛 (LendsSlot self.entry slot result) }
         ensures payload { (page : Contents)
             → IsOpenPage self.old.done self.old.older self.old.tail slot.fill page
             → result.now ≡ slice_range page.bytes slot.place.start (slot.place.start + slot.place.len) }
+        ensures len { length result.now ≡ slot.place.len }
         ensures written { (start : ℕ) (history : List Action) (part : List ℕ)
             → IsStack start history self.old
             → length part ≡ slot.place.len
             → IsStack start history (with_slot self.old slot part) }
+        ensures stays { (part : List ℕ) → length part ≡ slot.place.len → Stands (with_slot self.old slot part) }
     {
         if slot.fill == self.tail.fill().0 {
             return self.tail.payload_mut(slot.place);

@@ -11,19 +11,9 @@ impl WriterStack {
     ghost use Rattle.trace_model.specs.History.{Action, push, push_close};
     ghost use Rattle.trace_model.specs.Steps.{IsTooLong};
     ghost use Rattle.nested_writer.specs.Calls.{with_frame};
-    ghost use Rattle.nested_writer.specs.IsStack.{IsStack};
+    ghost use Rattle.nested_writer.specs.IsStack.{IsStack, Stands};
     ghost use Rattle.nested_writer.specs.declared.frame.Purpose.TheVariants.{Record, Close};
     ghost use Rattle.nested_writer.specs.declared.frame.Progress.TheVariants.{Waiting};
-
-    /// How many frames stand.
-    pub fn depth(&self) -> usize
-        ensures { result ≡ length self.now.frames }
-    {
-        match self.top {
-            Some(_) => 1 + self.below.len(),
-            None => 0,
-        }
-    }
 
     /// One frame more on top, where fewer than `MAX_FRAMES` stand.
     fn push(&mut self, purpose: Purpose)
@@ -51,6 +41,7 @@ impl WriterStack {
         ensures ok { OnOk result
             (self.new ≡ with_frame self.old (record { purpose = Record moment len; progress = Waiting None })) }
         ensures err { OnErr result (self.new ≡ self.old) }
+        ensures stays { Stands self.old → Stands self.new }
         ensures pushed { OnOk result ((start : ℕ) (history : List Action)
             → IsStack start history self.old
             → IsStack start (history ++ push moment len ∷ []) self.new) }
@@ -75,6 +66,7 @@ impl WriterStack {
         ensures ok { OnOk result
             (self.new ≡ with_frame self.old (record { purpose = Close; progress = Waiting None })) }
         ensures err { OnErr result (self.new ≡ self.old) }
+        ensures stays { Stands self.old → Stands self.new }
         ensures pushed { OnOk result ((start : ℕ) (history : List Action)
             → IsStack start history self.old
             → IsStack start (history ++ push_close ∷ []) self.new) }

@@ -1,12 +1,14 @@
-use Rattle.std.proofs.Common.{◌≡◌, ◌+◌, ℕ, length, sym, ap, ◌∙◌, subst, arith}
-use Rattle.trace_model.specs.History.{reserved_records}
+use Rattle.std.proofs.Common.{◌≡◌, ◌+◌, ℕ, ◌∷◌, [], length, sym, ap, ◌∙◌, subst, arith}
+use Rattle.trace_model.specs.History.{open_fill, reserved_records}
 use Rattle.trace_model.specs.Packing.{opens_of, is_wished}
 use Rattle.nested_writer.specs.Stack.{Stack, opened, next_number, blank_page}
 use Rattle.nested_writer.specs.Inside.{shown}
 use Rattle.nested_writer.specs.Calls.{MayAddPage}
 use Rattle.nested_writer.specs.IsStack.{IsStack}
 use Rattle.nested_writer.proofs.Bounds.{number_fits}
+use Rattle.nested_writer.proofs.Answering.{number_counts}
 use Rattle.nested_writer.proofs.Opening.{page_may_be_added}
+use Rattle.nested_writer.proofs.Staying.{acted_stays}
 use Rattle.nested_writer.proofs.stack.WriterStack.add_page.Goals as goal
 
 pub overflow_add-first : goal.overflow_add-first
@@ -29,3 +31,9 @@ returns-clause-stack c = λ start history old.
     let blank : c.fresh-page.result ≡ blank_page s.size (next_number s) (opened s) = c.fresh-page.ensures.blank ∙ (λ i. blank_page (size i) (first i) (fill i)) in
     let added = page_may_be_added start history s c.fresh-page.result needs blank c.fresh-page.ensures.page k in
     rw (c.push_back_reserved.ensures.items, c.replace-tail.ensures.value, c.replace-tail.ensures.after) added
+
+pub returns-clause-numbered : goal.returns-clause-numbered
+returns-clause-numbered c = λ start history k. number_counts start history c.args.self.now k
+
+pub returns-clause-stays : goal.returns-clause-stays
+returns-clause-stays c = acted_stays c.args.self.now _ (open_fill ∷ []) (returns-clause-stack c) c.requires.stack

@@ -7,6 +7,8 @@ use Rattle.nested_writer.specs.Calls.{IsAtBottom}
 use Rattle.nested_writer.specs.IsStack.{IsStack}
 use Rattle.nested_writer.proofs.Leaving.{asked_at}
 use Rattle.nested_writer.proofs.Releasing.{tail_empty, tail_holds}
+use Rattle.trace_model.specs.History.{wished}
+use Rattle.nested_writer.proofs.Staying.{acted_stays}
 use Rattle.nested_writer.proofs.stack.WriterStack.ask_close.Goals as goal
 
 pub returns-in-Some-clause-wished : goal.returns-in-Some-clause-wished
@@ -16,7 +18,7 @@ returns-in-Some-clause-wished c = λ yes start history old.
     let frames : s.frames ≡ c.in-Some.bottom ∷ c.self.inside.below.items = ap (λ t. frames_from t c.self.inside.below.items) c.in-Some.is in
     let bottom : IsAtBottom (c.in-Some.bottom ∷ c.self.inside.below.items) = subst IsAtBottom (ap (λ (x : Stack). x.frames) (sym c.self.view_is) ∙ frames) c.requires.bottom in
     let some : s.tail.bytes ≢ [] = λ none. c.if-end-eq0.false (c.end.ensures ∙ ap length none) in
-    asked_at start history s c.in-Some.bottom c.self.inside.below.items c.opened-opened.result (c.opened-opened.ensures ∙ ap opened (sym c.self.view_is)) frames bottom some k
+    asked_at start history s c.in-Some.bottom c.self.inside.below.items c.opened-opened.result (c.opened-opened.ensures.begun ∙ ap opened (sym c.self.view_is)) frames bottom some k
 
 pub returns-then-end-eq0-clause-holds_record : goal.returns-then-end-eq0-clause-holds_record
 returns-then-end-eq0-clause-holds_record c = λ start history old.
@@ -34,3 +36,6 @@ returns-in-Some-clause-holds_record c = λ start history old.
     let k : IsStack start history s = subst (IsStack start history) (sym c.self.view_is) old in
     let some : s.tail.bytes ≢ [] = λ none. c.if-end-eq0.false (c.end.ensures ∙ ap length none) in
     (λ yes. tail_holds start history s k some, λ holds. refl)
+
+pub returns-in-Some-clause-stays : goal.returns-in-Some-clause-stays
+returns-in-Some-clause-stays c = acted_stays c.args.self.now _ (wished ∷ []) (returns-in-Some-clause-wished c refl)

@@ -1,4 +1,4 @@
-use Rattle.std.proofs.Common.{◌≡◌, ◌∷◌, ◌++◌, Option, refl, sym, ap, ◌∙◌, subst}
+use Rattle.std.proofs.Common.{[], ◌≡◌, ◌∷◌, ◌++◌, Option, refl, sym, ap, ◌∙◌, subst}
 use Rattle.std.specs.Option.{option_to_list}
 use Rattle.page_image.specs.Contents.{Contents}
 use Rattle.nested_writer.specs.Stack.{Stack}
@@ -7,6 +7,7 @@ use Rattle.nested_writer.specs.Calls.{IsAtBottom}
 use Rattle.nested_writer.specs.IsStack.{IsStack}
 use Rattle.nested_writer.proofs.Dropping.{released}
 use Rattle.nested_writer.proofs.Releasing.{front_written, front_committed, front_some}
+use Rattle.nested_writer.proofs.Staying.{acted_stays}
 use Rattle.nested_writer.proofs.stack.WriterStack.drop_front.Goals as goal
 
 pub returns-clause-stack : goal.returns-clause-stack
@@ -31,3 +32,6 @@ pub returns-clause-holds_some : goal.returns-clause-holds_some
 returns-clause-holds_some c = λ start h k.
     let older = ap (λ (x : Stack). x.older) (sym c.self.view_is) ∙ c.in-Some.ensures.items in
     front_some start h c.args.self.now c.in-Some.page c.pop_front.new.self.items c.requires.bottom older k
+
+pub returns-clause-stays : goal.returns-clause-stays
+returns-clause-stays c = acted_stays c.args.self.now _ [] (returns-clause-stack c)

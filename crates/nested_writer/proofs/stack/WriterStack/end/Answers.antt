@@ -8,6 +8,7 @@ use Rattle.nested_writer.specs.Ends.{HasEnded, IsEnd}
 use Rattle.nested_writer.specs.IsStack.{IsStack}
 use Rattle.nested_writer.proofs.Leaving.{left_none}
 use Rattle.nested_writer.proofs.Ending.{ended}
+use Rattle.nested_writer.proofs.Staying.{ended_stays}
 use Rattle.nested_writer.proofs.stack.WriterStack.end.Goals as goal
 
 pub returns-clause-ok : goal.returns-clause-ok
@@ -23,3 +24,6 @@ returns-clause-ok c =
     (λ (slot, has). subst (λ (p : Progress). HasEnded s p after) (sym has) (λ page there start h k. subst (IsStack start _) (sym is) (ended start h s top below slot page frames has there k)))
     c.in-Through.is in
     subst (λ (fs : List Frame). IsEnd s fs after) (sym frames) (is, left)
+
+pub returns-clause-stays : goal.returns-clause-stays
+returns-clause-stays c = ended_stays c.args.self.now c.leave.new.self (returns-clause-ok c) c.requires.stack

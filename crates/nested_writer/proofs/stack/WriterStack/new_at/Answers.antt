@@ -1,4 +1,4 @@
-use Rattle.std.proofs.Common.{◌≡◌, ℕ, ap, ◌∙◌, length, subst}
+use Rattle.std.proofs.Common.{◌≡◌, ℕ, [], ap, ◌∙◌, length, subst}
 use Rattle.std.proofs.lemmas.List.{length-replicate}
 use Rattle.page_image.specs.Contents.{IsPage}
 use Rattle.nested_writer.specs.Stack.{blank_page}
@@ -11,3 +11,6 @@ returns-clause-stack c =
     let blank : c.fresh.result ≡ blank_page c.args.size 0 c.args.start = c.fresh.ensures.blank ∙ ap (λ (n : ℕ). blank_page n 0 c.args.start) long in
     let none = c.in_ok-older.ensures.items in let below = c.in_ok-below.ensures.items in
     rw (none, below, blank) (new_is c.args.pages c.args.size c.args.start c.requires.large (subst IsPage blank c.fresh.ensures.page))
+
+pub returns-clause-stands : goal.returns-clause-stands
+returns-clause-stands c = (c.args.start, [], returns-clause-stack c)

@@ -1,4 +1,4 @@
-use Rattle.std.proofs.Common.{◌≡◌, ◌+◌, ◌-◌, ℕ, List, Some, slice_range, refl, sym, ap, ◌∙◌, subst, arith}
+use Rattle.std.proofs.Common.{◌≡◌, ◌+◌, ◌-◌, ℕ, List, length, Some, slice_range, refl, sym, ap, ◌∙◌, subst, arith}
 use Rattle.std.proofs.lemmas.Option.{get_or_from_slice_get}
 use Rattle.trace_model.specs.History.{Action}
 use Rattle.trace_model.specs.Reading.{IsPlaceIn}
@@ -10,7 +10,7 @@ use Rattle.nested_writer.specs.Calls.{IsTopSlot}
 use Rattle.nested_writer.specs.IsStack.{is_tail, IsOpenPage, IsStack}
 use Rattle.nested_writer.proofs.Ending.{open_page_is}
 use Rattle.nested_writer.proofs.Written.{written}
-use Rattle.nested_writer.proofs.Lending.{IsOlder, slot_lies, older_page, in_tail, in_older}
+use Rattle.nested_writer.proofs.Lending.{IsOlder, slot_lies, older_page, in_tail, in_older, lent_len}
 use Rattle.nested_writer.proofs.stack.WriterStack.payload_mut.Goals as goal
 
 -- the page of the slot isn't the tail
@@ -30,7 +30,9 @@ returns-then-slot-fill c =
         lends = tt;
         payload = λ page there. c.payload_mut.ensures.payload ∙ ap (λ (p : Contents). slice_range p.bytes c.args.slot.place.start (c.args.slot.place.start + c.args.slot.place.len))
             (open_page_is c.self.inside.done c.self.inside.older.items c.self.inside.tail c.args.slot.fill c.self.inside.tail page (is_tail (same ∙ k'.holds.tail_is.fill_is) refl) there);
+        len = ap length c.payload_mut.ensures.payload ∙ lent_len c.requires.stack.0 c.requires.stack.1 (shown c.self.inside) c.args.slot c.self.inside.tail (subst (λ (x : Stack). IsTopSlot x.frames c.args.slot) (sym c.self.view_is) c.requires.slot) (is_tail (same ∙ k'.holds.tail_is.fill_is) refl) (subst (IsStack c.requires.stack.0 c.requires.stack.1) (sym c.self.view_is) c.requires.stack.2);
         written = λ start' history part k'' fills. written start' history (shown c.self.inside) c.args.slot part (subst (λ (x : Stack). IsTopSlot x.frames c.args.slot) (sym c.self.view_is) c.requires.slot) fills k'';
+        stays = λ part fills. (c.requires.stack.0, c.requires.stack.1, written c.requires.stack.0 c.requires.stack.1 (shown c.self.inside) c.args.slot part (subst (λ (x : Stack). IsTopSlot x.frames c.args.slot) (sym c.self.view_is) c.requires.slot) fills (subst (IsStack c.requires.stack.0 c.requires.stack.1) (sym c.self.view_is) c.requires.stack.2));
       },
     )
 
@@ -59,6 +61,8 @@ returns c =
         lends = tt;
         payload = λ page there. c.payload_mut-2.ensures.payload ∙ ap (λ (p : Contents). slice_range p.bytes c.args.slot.place.start (c.args.slot.place.start + c.args.slot.place.len))
             (lent ∙ open_page_is c.self.inside.done c.self.inside.older.items c.self.inside.tail c.args.slot.fill is.0 page is.3 there);
+        len = ap length c.payload_mut-2.ensures.payload ∙ ap (λ (p : Contents). length (slice_range p.bytes c.args.slot.place.start (c.args.slot.place.start + c.args.slot.place.len))) lent ∙ lent_len c.requires.stack.0 c.requires.stack.1 s c.args.slot is.0 (subst (λ (x : Stack). IsTopSlot x.frames c.args.slot) (sym c.self.view_is) c.requires.slot) is.3 (subst (IsStack c.requires.stack.0 c.requires.stack.1) (sym c.self.view_is) c.requires.stack.2);
         written = λ start' history part k'' fills. written start' history (shown c.self.inside) c.args.slot part (subst (λ (x : Stack). IsTopSlot x.frames c.args.slot) (sym c.self.view_is) c.requires.slot) fills k'';
+        stays = λ part fills. (c.requires.stack.0, c.requires.stack.1, written c.requires.stack.0 c.requires.stack.1 (shown c.self.inside) c.args.slot part (subst (λ (x : Stack). IsTopSlot x.frames c.args.slot) (sym c.self.view_is) c.requires.slot) fills (subst (IsStack c.requires.stack.0 c.requires.stack.1) (sym c.self.view_is) c.requires.stack.2));
       },
     )

@@ -1,0 +1,216 @@
+-- A record written at once: its frame is pushed, reserves, gets its payload and leaves.
+use Rattle.std.proofs.Common.{◌≡◌, ℕ, zero, suc, ◌+◌, ◌-◌, ◌<◌, ◌≤◌, max, cond, List, [], ◌∷◌, ◌++◌, length, replicate, Option, Some, None, refl, sym, ap, ◌∙◌, subst, arith, rules, inr, append_assoc}
+use Rattle.std.specs.Prelude.{true}
+use Rattle.std.specs.List.{slice_get}
+use Rattle.std.proofs.lemmas.List.{same_lists, places, take_all, length-replicate}
+use mathlib.Core.Logic.{dite}
+use native.Mathlib.Decide.{dec_le}
+use Rattle.trace_model.specs.declared.limits.TheConstants.{MOMENT_LIMIT}
+use Rattle.trace_model.specs.Record.{Record}
+use Rattle.trace_model.specs.Words.{Decodes, slot_len, padded, encoded_len}
+use Rattle.trace_model.specs.Reading.{records_in, EndsInRecord, IsPlaceIn}
+use Rattle.trace_model.specs.Overwriting.{overwritten, bytes_at, IsPlaceOf}
+use Rattle.trace_model.specs.History.{Action, push, reserve, leave, Reservation, PushedFrame, record_frame, records_with_payload, writer_after, reserved_records, MayLeave, IsHistory}
+use Rattle.trace_model.specs.Steps.{IsTooLong}
+use Rattle.trace_model.specs.Packing.{opens_of, is_wished}
+use Rattle.trace_model.specs.Fitting.{AreFit}
+use Rattle.trace_model.proofs.Allowed.{IsHistory-push}
+use Rattle.trace_model.proofs.NextAction.{left_stack}
+use Rattle.trace_model.proofs.NextRecords.{records_left}
+use Rattle.trace_model.proofs.FillCuts.{opens_of-leave}
+use Rattle.trace_model.proofs.PackedHistories.{fit_more, is_wished-leave}
+use Rattle.trace_model.proofs.Elements.{get_behind}
+use Rattle.trace_model.proofs.Lengths.{length-padded, padded_whole, slot_len-slot_len}
+use Rattle.trace_model.proofs.Overwritten.{length-overwritten}
+use Rattle.trace_model.proofs.Places.{EndsInRecord-overwritten, IsPlaceOf-overwritten, overwritten-reads, records_in-overwritten_end}
+use Rattle.trace_model.proofs.OpenPages.{bytes_of_place}
+use Rattle.page_image.specs.Contents.{Contents, IsPage, records_of_page, is_blank}
+use Rattle.page_image.specs.Lending.{with_payload}
+use Rattle.record_words.specs.declared.put.Place.{Place}
+use Rattle.nested_writer.specs.declared.frame.Purpose.TheVariants.{Record as ForRecord}
+use Rattle.nested_writer.specs.declared.frame.Slot.{Slot}
+use Rattle.nested_writer.specs.declared.frame.Progress.TheVariants.{Waiting, Reserved, Left}
+use Rattle.nested_writer.specs.declared.frame.Frame.{Frame}
+use Rattle.trace_model.specs.Frames.{pushed_of}
+use Rattle.nested_writer.specs.Stack.{Stack, tail_fill, next_number, model_frames}
+use Rattle.nested_writer.specs.Inside.{frames_from}
+use Rattle.nested_writer.specs.Calls.{after_leave}
+use Rattle.nested_writer.specs.IsStack.{is_tail, IsStack}
+use Rattle.nested_writer.proofs.Pushing.{pushed_record, same_of}
+use Rattle.nested_writer.proofs.Reserving.{IsPut, reserved_record}
+use Rattle.nested_writer.proofs.Lending.{in_tail}
+use Rattle.nested_writer.proofs.Written.{written}
+use Rattle.nested_writer.proofs.Ending.{ended}
+
+-- ---- the page
+
+-- What a record put behind those of a page leaves, with this payload in its slot.
+pub record IsPutWith (tail tail' : Contents) (prev moment len : ℕ) (part : List ℕ) (place : Place) : Type 0 where
+  pub page : IsPage tail → IsPage tail'
+  pub records : IsPage tail → records_of_page tail' ≡ records_of_page tail ++ record { moment = moment; bytes = part } ∷ []
+  pub long : length tail'.bytes ≡ length tail.bytes + encoded_len len (moment - prev) (is_blank tail.bytes)
+  pub time : tail'.time ≡ cond (is_blank tail.bytes) moment tail.time
+  pub count : tail'.count ≡ tail.count + 1
+  pub first : tail'.first ≡ tail.first
+  pub fill : tail'.fill ≡ tail.fill
+  pub size : tail'.size ≡ tail.size
+  pub ends : EndsInRecord tail'.bytes
+  pub lies : IsPlaceIn tail'.bytes place.start place.len
+  pub number : IsPage tail → IsPlaceOf tail'.bytes tail.count place.start place.len
+  pub places_stay : (number start len : ℕ) → IsPlaceOf tail.bytes number start len → IsPlaceOf tail'.bytes number start len
+  pub place_end : place.start + place.len ≡ length tail'.bytes
+  pub len_is : place.len ≡ slot_len len
+  pub fills : length part ≡ slot_len len
+
+-- bytes up to the end, written anew and then as they were
+written_back : (bytes other : List ℕ) (start len : ℕ) → start + len ≡ length bytes → length other ≡ len → overwritten (overwritten bytes start other) start (bytes_at start len bytes) ≡ bytes
+written_back bytes other start len end same =
+    same_lists _ _ (search (rules, places)) (λ k d h. grind (arith, places))
+
+module _ (tail tail' : Contents) (prev moment len : ℕ) (part : List ℕ) (place : Place) (is : IsPage tail) (p : IsPutWith tail tail' prev moment len part place) where
+  abbrev zeros : List ℕ
+  zeros = replicate (slot_len len) 0
+
+  -- the page as it is before the payload is written
+  abbrev pub zeroed : Contents
+  zeroed = with_payload tail' place.start zeros
+
+  zeros_fill : length zeros ≡ place.len
+  zeros_fill = length-replicate (slot_len len) 0 ∙ sym p.len_is
+
+  kept : length (overwritten tail'.bytes place.start zeros) ≡ length tail'.bytes
+  kept = length-overwritten tail'.bytes place.start place.len p.lies zeros zeros_fill
+
+  zeroed_bytes : zeroed.bytes ≡ overwritten tail'.bytes place.start zeros
+  zeroed_bytes = take_all (length tail'.bytes) (overwritten tail'.bytes place.start zeros) (let same = kept in omega arith)
+
+  pub put_zeroed : IsPut tail zeroed prev moment len place
+  put_zeroed = record {
+    page = λ page. let t = p.page page in let h = overwritten-reads tail'.bytes tail'.time (records_of_page tail') place.start place.len zeros p.lies zeros_fill t.reads in record {
+      reads = subst (λ (b : List ℕ). Decodes b tail'.time (records_in tail'.time b)) (sym zeroed_bytes) h.0;
+      counted = t.counted ∙ sym h.1 ∙ ap (λ (b : List ℕ). length (records_in tail'.time b)) (sym zeroed_bytes);
+      in_time = t.in_time;
+    };
+    records = λ page. ap (records_in tail'.time) zeroed_bytes
+        ∙ records_in-overwritten_end tail'.bytes tail'.time (records_of_page tail) record { moment = moment; bytes = part } place.start place.len zeros p.lies p.place_end zeros_fill (subst (Decodes tail'.bytes tail'.time) (p.records page) (p.page page).reads);
+    long = ap length zeroed_bytes ∙ kept ∙ p.long;
+    time = p.time;
+    count = p.count;
+    first = p.first;
+    fill = p.fill;
+    size = p.size;
+    ends = subst EndsInRecord (sym zeroed_bytes) (EndsInRecord-overwritten tail'.bytes place.start place.len zeros p.lies zeros_fill p.ends);
+    number = λ page. subst (λ (b : List ℕ). IsPlaceOf b tail.count place.start place.len) (sym zeroed_bytes) (IsPlaceOf-overwritten tail'.bytes tail.count place.start place.len place.start place.len zeros (p.number page) p.lies zeros_fill);
+    places_stay = λ number start len' there. subst (λ (b : List ℕ). IsPlaceOf b number start len') (sym zeroed_bytes) (IsPlaceOf-overwritten tail'.bytes number start len' place.start place.len zeros (p.places_stay number start len' there) p.lies zeros_fill);
+    len_is = p.len_is;
+  }
+
+  -- the payload stands in its place
+  pub part_at : bytes_at place.start place.len tail'.bytes ≡ part
+  part_at =
+      let r : Record = record { moment = moment; bytes = part } in
+      let at : tail.count ≡ length (records_of_page tail) + 0 = omega (arith, is.counted) in
+      let last : slice_get (records_of_page tail') tail.count ≡ Some r = ap (λ (rs : List Record). slice_get rs tail.count) (p.records is) ∙ ap (slice_get (records_of_page tail ++ r ∷ [])) at ∙ get_behind (records_of_page tail) (r ∷ []) 0 in
+      sym (bytes_of_place tail'.time tail'.bytes tail.count place.start place.len r (p.page is).reads (p.number is) last)
+
+  -- and written there it makes the page
+  pub written_page : with_payload zeroed place.start part ≡ tail'
+  written_page =
+      let whole : overwritten zeroed.bytes place.start part ≡ tail'.bytes =
+      ap (λ (b : List ℕ). overwritten b place.start part) zeroed_bytes ∙ ap (overwritten (overwritten tail'.bytes place.start zeros) place.start) (sym part_at) ∙ written_back tail'.bytes zeros place.start place.len p.place_end zeros_fill in
+      let size : length zeroed.bytes ≡ length tail'.bytes = ap length zeroed_bytes ∙ kept in
+      let bytes : (with_payload zeroed place.start part).bytes ≡ tail'.bytes = take_all (length zeroed.bytes) (overwritten zeroed.bytes place.start part) (omega (arith, ap length whole)) ∙ whole in
+      ap (λ (b : List ℕ). let q : Contents = record tail' { bytes = b } in q) bytes
+
+-- ---- the history
+
+padded_twice : (payload : List ℕ) → padded (padded payload) ≡ padded payload
+padded_twice payload = padded_whole (padded payload) (ap slot_len (length-padded payload) ∙ slot_len-slot_len (length payload) ∙ sym (length-padded payload))
+
+-- a record gets the same bytes, whether its payload comes with the zeros behind it or without them
+same_padded : (number : ℕ) (payload : List ℕ) (xs : List Reservation) → records_with_payload (Some number) (Some payload) xs ≡ records_with_payload (Some number) (Some (padded payload)) xs
+same_padded number payload [] = refl
+same_padded zero payload (x ∷ xs) = ap (λ (b : List ℕ). let r : Reservation = record x { bytes = Some b } in r ∷ xs) (sym (padded_twice payload))
+same_padded (suc number) payload (x ∷ xs) = ap (λ (l : List Reservation). x ∷ l) (same_padded number payload xs)
+
+left_unpadded : (start : ℕ) (h : List Action) (s : Stack) (moment len number : ℕ) (below : List PushedFrame) (payload : List ℕ) → (writer_after h).stack ≡ record_frame moment len (Some number) ∷ below → slot_len (length payload) ≡ slot_len len → IsHistory h → AreFit s.size h
+    → IsStack start (h ++ leave (Some (padded payload)) ∷ []) s
+    → IsStack start (h ++ leave (Some payload) ∷ []) s
+left_unpadded start h s moment len number below payload stack fills keeps fit k =
+    let f : PushedFrame = record_frame moment len (Some number) in
+    let p : Option (List ℕ) = Some payload in
+    let q : Option (List ℕ) = Some (padded payload) in
+    record {
+      keeps = IsHistory-push h (leave p) keeps (subst (λ (st : List PushedFrame). MayLeave st p) (sym stack) fills);
+      stack_is = left_stack h f below p stack ∙ sym (left_stack h f below q stack) ∙ k.stack_is;
+      fit = fit_more s.size h (leave p) fit tt;
+      holds = same_of start (opens_of (h ++ leave q ∷ [])) (opens_of (h ++ leave p ∷ [])) (reserved_records (h ++ leave q ∷ [])) (reserved_records (h ++ leave p ∷ [])) (is_wished (h ++ leave q ∷ [])) (is_wished (h ++ leave p ∷ [])) s
+          (opens_of-leave h p ∙ sym (opens_of-leave h q)) (records_left h f below p stack ∙ same_padded number payload (reserved_records h) ∙ sym (records_left h f below q stack)) (is_wished-leave h p ∙ sym (is_wished-leave h q)) k.holds;
+    }
+
+-- ---- the stack
+
+module _ (start : ℕ) (h : List Action) (s : Stack) (moment : ℕ) (payload : List ℕ) (tail' : Contents) (place : Place) (none : s.frames ≡ []) (fits : encoded_len (length payload) 0 true ≤ s.size) (early : moment < MOMENT_LIMIT) (low : length tail'.bytes ≤ s.size) (p : IsPutWith s.tail tail' s.last_moment (max moment s.last_moment) (length payload) (padded payload) place) (k : IsStack start h s) where
+  abbrev raised : ℕ
+  raised = max moment s.last_moment
+
+  abbrev waits : Frame
+  waits = record { purpose = ForRecord moment (length payload); progress = Waiting None }
+
+  abbrev slot : Slot
+  slot = record { number = next_number s; fill = tail_fill s; place = place }
+
+  abbrev holds : Frame
+  holds = record { purpose = ForRecord moment (length payload); progress = Reserved slot }
+
+  abbrev has_left : Frame
+  has_left = record { purpose = ForRecord moment (length payload); progress = Left None }
+
+  abbrev page : Contents
+  page = zeroed s.tail tail' s.last_moment raised (length payload) (padded payload) place k.holds.tail_is.page_reads p
+
+  -- each state on the way
+  abbrev pushed : Stack
+  pushed = record s { frames = waits ∷ s.frames }
+
+  abbrev allotted : Stack
+  allotted = record s { tail = page; frames = holds ∷ s.frames; last_moment = raised }
+
+  abbrev filled : Stack
+  filled = record s { tail = tail'; frames = holds ∷ s.frames; last_moment = raised }
+
+  is_pushed : IsStack start (h ++ push moment (length payload) ∷ []) pushed
+  is_pushed = pushed_record start h s moment (length payload) fits early k
+
+  is_allotted : IsStack start ((h ++ push moment (length payload) ∷ []) ++ reserve ∷ []) allotted
+  is_allotted =
+      let put = put_zeroed s.tail tail' s.last_moment raised (length payload) (padded payload) place k.holds.tail_is.page_reads p in
+      reserved_record start (h ++ push moment (length payload) ∷ []) pushed waits s.frames moment (length payload) None page place refl refl refl (let long = put.long in let long' = p.long in omega arith) put is_pushed
+
+  is_filled : IsStack start ((h ++ push moment (length payload) ∷ []) ++ reserve ∷ []) filled
+  is_filled =
+      let whole = written_page s.tail tail' s.last_moment raised (length payload) (padded payload) place k.holds.tail_is.page_reads p in
+      let there : slot.fill ≡ page.fill = sym k.holds.tail_is.fill_is ∙ sym p.fill in
+      subst (IsStack start ((h ++ push moment (length payload) ∷ []) ++ reserve ∷ [])) (sym (in_tail allotted slot (padded payload) there) ∙ ap (λ (q : Contents). let t : Stack = record s { tail = q; frames = holds ∷ s.frames; last_moment = raised } in t) whole)
+      (written start ((h ++ push moment (length payload) ∷ []) ++ reserve ∷ []) allotted slot (padded payload) refl (length-padded payload ∙ sym p.len_is) is_allotted)
+
+  is_left : IsStack start (((h ++ push moment (length payload) ∷ []) ++ reserve ∷ []) ++ leave (Some payload) ∷ []) (record s { tail = tail'; frames = has_left ∷ []; last_moment = raised })
+  is_left =
+      let before : List Action = (h ++ push moment (length payload) ∷ []) ++ reserve ∷ [] in
+      let frames : filled.frames ≡ holds ∷ [] = ap (λ (fs : List Frame). holds ∷ fs) none in
+      let there : bytes_at place.start place.len tail'.bytes ≡ padded payload = part_at s.tail tail' s.last_moment raised (length payload) (padded payload) place k.holds.tail_is.page_reads p in
+      left_unpadded start before (after_leave filled holds []) moment (length payload) (next_number s) [] payload (is_filled.stack_is ∙ ap (λ (fs : List Frame). pushed_of (model_frames fs)) frames) refl is_filled.keeps is_filled.fit
+      (subst (λ (b : List ℕ). IsStack start (before ++ leave (Some b) ∷ []) (after_leave filled holds [])) there (ended start before filled holds [] slot tail' frames refl (is_tail refl refl) is_filled))
+
+  pub written_at_once : IsStack start (h ++ push moment (length payload) ∷ reserve ∷ leave (Some payload) ∷ []) (record s { tail = tail'; frames = record { purpose = ForRecord moment (length payload); progress = Left None } ∷ []; last_moment = max moment s.last_moment })
+  written_at_once = subst (λ (g : List Action). IsStack start g (record s { tail = tail'; frames = has_left ∷ []; last_moment = raised }))
+      (append_assoc (h ++ push moment (length payload) ∷ []) (reserve ∷ []) (leave (Some payload) ∷ []) ∙ append_assoc h (push moment (length payload) ∷ []) (reserve ∷ leave (Some payload) ∷ [])) is_left
+
+-- where no frame stands, none is below
+pub none_below : (top : Option Frame) (items : List Frame) → frames_from top items ≡ [] → items ≡ []
+none_below None items e = e
+none_below (Some top) items e = cc
+
+-- one that isn't too long fits a page
+pub fits_page : (size len : ℕ) → (IsTooLong size len → ⊥) → encoded_len len 0 true ≤ size
+fits_page size len fits = dite (dec_le (encoded_len len 0 true) size) (λ low. low) (λ past. absurd (fits (inr (omega arith))))

@@ -1,0 +1,65 @@
+use Rattle.std.proofs.Common.{◌≡◌, ℕ, ◌+◌, ◌-◌, ◌≤◌, max, Bool, true, List, [], ◌∷◌, ◌++◌, length, Some, None, sym, ap, ◌∙◌, subst, arith, length-append}
+use Rattle.trace_model.specs.History.{Action, push, reserve, leave, reserved_records}
+use Rattle.trace_model.specs.Packing.{opens_of, is_wished}
+use Rattle.trace_model.specs.Words.{padded, encoding, encoded_len}
+use Rattle.trace_model.proofs.Lengths.{length-padded, length-encoding}
+use Rattle.record_words.specs.declared.put.Place.{Place}
+use Rattle.page_image.specs.Contents.{Contents, is_blank}
+use Rattle.nested_writer.specs.declared.frame.Purpose.TheVariants.{Record}
+use Rattle.nested_writer.specs.declared.frame.Progress.TheVariants.{Left}
+use Rattle.nested_writer.specs.declared.frame.Frame.{Frame}
+use Rattle.nested_writer.specs.Stack.{Stack}
+use Rattle.nested_writer.specs.AtOnce.{FitsAtOnce}
+use Rattle.nested_writer.specs.Inside.{shown}
+use Rattle.nested_writer.specs.IsStack.{IsStack}
+use Rattle.nested_writer.proofs.Bounds.{tail_ends_at}
+use Rattle.nested_writer.proofs.AtOnce.{IsPutWith, written_at_once, none_below, fits_page}
+use Rattle.nested_writer.proofs.stack.WriterStack.put_record.Goals as goal
+
+pub put_payload-requires-clause-last : goal.put_payload-requires-clause-last
+put_payload-requires-clause-last c =
+    let (start, history, k) = c.requires.stack in
+    tail_ends_at start (opens_of history) (reserved_records history) (is_wished history) (shown c.self.inside) (subst (IsStack start history) (sym c.self.view_is) k).holds
+
+pub returns-clause-stack : goal.returns-clause-stack
+returns-clause-stack c = λ start history old.
+    let s : Stack = shown c.self.inside in
+    let k : IsStack start history s = subst (IsStack start history) (sym c.self.view_is) old in
+    let payload : List ℕ = c.args.payload.now in
+    let put = c.put_payload.ensures in
+    let tail' : Contents = c.put_payload.new.self in
+    let place : Place = c.put_payload.result in
+    let blank : Bool = is_blank s.tail.bytes in
+    let delta : ℕ = c.args.raised - s.last_moment in
+    let raised : c.args.raised ≡ max c.args.moment s.last_moment = c.requires.raised ∙ ap (λ (x : Stack). max c.args.moment x.last_moment) (sym c.self.view_is) in
+    let fits : FitsAtOnce s c.args.moment (length payload) = subst (λ (x : Stack). FitsAtOnce x c.args.moment (length payload)) (sym c.self.view_is) c.requires.fits in
+    let long : length tail'.bytes ≡ length s.tail.bytes + encoded_len (length payload) delta blank =
+    ap length put.bytes ∙ length-append s.tail.bytes (encoding delta blank (padded payload)) ∙ ap (λ (n : ℕ). length s.tail.bytes + n) (length-encoding (length payload) delta blank (padded payload) (length-padded payload)) in
+    let room : length s.tail.bytes + encoded_len (length payload) delta blank ≤ s.size = subst (λ (m : ℕ). length s.tail.bytes + encoded_len (length payload) (m - s.last_moment) blank ≤ s.size) (sym raised) fits.3 in
+    let is : IsPutWith s.tail tail' s.last_moment c.args.raised (length payload) (padded payload) place = record {
+      page = put.page;
+      records = put.records;
+      long = long;
+      time = put.time;
+      count = put.count;
+      first = put.first;
+      fill = put.fill;
+      size = put.size;
+      ends = put.open;
+      lies = put.place;
+      number = put.number;
+      places_stay = put.places_stay;
+      place_end = put.end;
+      len_is = put.len;
+      fills = length-padded payload;
+    } in
+    let none : s.frames ≡ [] = fits.0 in
+    let short : encoded_len (length payload) 0 true ≤ s.size = fits_page s.size (length payload) fits.1 in
+    let done = written_at_once start history s c.args.moment payload tail' place none short fits.2 (omega (arith, long, room)) (subst (λ (m : ℕ). IsPutWith s.tail tail' s.last_moment m (length payload) (padded payload) place) raised is) k in
+    let left : Frame = record { purpose = Record c.args.moment (length payload); progress = Left None } in
+    let actions : List Action = push c.args.moment (length payload) ∷ reserve ∷ leave (Some payload) ∷ [] in
+    subst (λ (fs : List Frame). IsStack start (history ++ actions) (record s { tail = tail'; frames = left ∷ fs; last_moment = c.args.raised })) (sym (none_below c.self.inside.top c.self.inside.below.items none))
+    (subst (λ (m : ℕ). IsStack start (history ++ actions) (record s { tail = tail'; frames = left ∷ []; last_moment = m })) (sym raised) done)
+
+pub returns-clause-stays : goal.returns-clause-stays
+returns-clause-stays c = let (start, history, k) = c.requires.stack in (start, _, returns-clause-stack c start history k)

@@ -1,0 +1,44 @@
+-- What a record that is written at once makes of a writer's stack.
+use Rattle.std.specs.Prelude.{◌≡◌, ℕ, ◌+◌, ◌-◌, ◌<◌, ◌≤◌, max, false, if◌then◌else◌, List, [], ◌∷◌, ◌++◌, length, None}
+use Rattle.trace_model.specs.declared.limits.TheConstants.{MOMENT_LIMIT}
+use Rattle.record_words.specs.declared.format.TheConstants.{EXTEND_FROM, SHORT_LIMIT}
+use Rattle.trace_model.specs.Words.{padded, encoding}
+use Rattle.trace_model.specs.Steps.{IsTooLong}
+use Rattle.page_image.specs.Contents.{Contents, is_blank}
+use Rattle.nested_writer.specs.declared.frame.Purpose.TheVariants.{Record}
+use Rattle.nested_writer.specs.declared.frame.Progress.TheVariants.{Left}
+use Rattle.nested_writer.specs.Stack.{Stack}
+use Rattle.nested_writer.specs.Calls.{HasRecordRoom}
+
+-- No frame stands, and a record of this moment, for a payload of len bytes, may be written and has room in the tail.
+abbrev pub FitsAtOnce : Stack → (moment len : ℕ) → Type 0
+FitsAtOnce s moment len =
+    (s.frames ≡ []) × (IsTooLong s.size len → ⊥) × (moment < MOMENT_LIMIT) × HasRecordRoom s moment len
+
+-- the page with a record of this moment behind the others, of which the last has the moment prev, and zeros up to the
+-- end of its slot
+abbrev pub page_with : Contents → (prev moment : ℕ) → List ℕ → Contents
+page_with page prev moment payload = record page {
+  time = if is_blank page.bytes then moment else page.time;
+  count = page.count + 1;
+  bytes = page.bytes ++ encoding (moment - prev) (is_blank page.bytes) (padded payload);
+}
+
+-- the stack with a record in its tail, whose frame has left and stays at the bottom; the moment is raised to the last
+-- record's
+abbrev pub with_record : Stack → (moment : ℕ) → List ℕ → Stack
+with_record s moment payload = record s {
+  tail = page_with s.tail s.last_moment (max moment s.last_moment) payload;
+  frames = record { purpose = Record moment (length payload); progress = Left None } ∷ [];
+  last_moment = max moment s.last_moment;
+}
+
+-- No frame stands, and the record comes in the short form behind another one, at no earlier moment.
+pub record IsPlain (s : Stack) (moment len : ℕ) : Type 0 where
+  pub none : s.frames ≡ []
+  pub some : 1 ≤ len
+  pub short : len ≤ SHORT_LIMIT
+  pub behind : is_blank s.tail.bytes ≡ false
+  pub in_order : s.last_moment ≤ moment
+  pub near : moment - s.last_moment < EXTEND_FROM
+  pub in_time : moment < MOMENT_LIMIT

@@ -1,0 +1,86 @@
+//! What a ring reads of its writers' stack.
+use crate::frame::{Frame, Progress};
+use crate::stack::WriterStack;
+
+impl WriterStack {
+    ghost use Rattle.std.specs.Prelude.{◌≡◌, ◌+◌, ◌≤◌, ◌↔◌, length, IsTrue};
+    ghost use Rattle.trace_model.specs.declared.limits.TheConstants.{MIN_PAGES, MAX_PAGES, MIN_SIZE, MAX_SIZE, MAX_FRAMES, LINK_FILLS};
+    ghost use Rattle.nested_writer.specs.Stack.{opened};
+    ghost use Rattle.nested_writer.specs.Calls.{top_of, IsAtBottom, MayAddPage};
+
+    /// How many pages the ring has.
+    pub fn pages(&self) -> usize
+        ensures pages { result ≡ self.now.pages }
+        ensures least { MIN_PAGES ≤ result }
+        ensures most { result ≤ MAX_PAGES }
+    {
+        self.pages
+    }
+
+    /// How many bytes of data a page has.
+    pub fn size(&self) -> usize
+        ensures size { result ≡ self.now.size }
+        ensures least { MIN_SIZE ≤ result }
+        ensures most { result ≤ MAX_SIZE }
+    {
+        self.size
+    }
+
+    /// How many fills are closed; that is the number of the oldest open one.
+    pub fn done(&self) -> u64
+        ensures { result ≡ self.now.done }
+    {
+        self.done
+    }
+
+    /// How many fills are begun, those closed counted; that is the number of the next one.
+    pub fn opened(&self) -> u64
+        ensures begun { result ≡ opened self.now }
+        ensures open_pages { result ≤ self.now.done + self.now.pages }
+        ensures numbered { result + self.now.pages ≤ LINK_FILLS }
+    {
+        self.done + self.older.len() as u64 + 1
+    }
+
+    /// How many frames stand.
+    pub fn depth(&self) -> usize
+        ensures frames { result ≡ length self.now.frames }
+        ensures most { result ≤ MAX_FRAMES }
+    {
+        match self.top {
+            Some(_) => 1 + self.below.len(),
+            None => 0,
+        }
+    }
+
+    /// The frame on top, and how far it has come.
+    pub fn top(&self) -> Option<Frame>
+        ensures { result ≡ top_of self.now.frames }
+    {
+        self.top
+    }
+
+    /// Whether only the bottom frame stands, ended or refused.
+    pub fn is_at_bottom(&self) -> bool
+        ensures { IsTrue result ↔ IsAtBottom self.now.frames }
+    {
+        match self.top {
+            Some(top) => self.below.is_empty() && matches!(top.progress, Progress::Left(_)),
+            None => false,
+        }
+    }
+
+    /// Whether a page may be added: the frame on top was told that it needs one, or the bottom frame was asked to close
+    /// the tail, and none was added since.
+    pub fn awaits_page(&self) -> bool
+        ensures { IsTrue result ↔ MayAddPage self.now self.now.frames }
+    {
+        let Some(top) = self.top else {
+            return false;
+        };
+        match top.progress {
+            Progress::Waiting(noted) | Progress::Left(noted) => noted == Some(self.opened()),
+            Progress::Through(_) | Progress::Reserved(_) => false,
+        }
+    }
+}

@@ -1,0 +1,127 @@
+//! A record that is written at once, where no frame stands and it fits in the tail.
+use crate::frame::{Frame, Progress, Purpose};
+use crate::stack::WriterStack;
+use record_words::{EXTEND_FROM, SHORT_LIMIT, size_of};
+use trace_model::MOMENT_LIMIT;
+
+/// What was written at once.
+#[derive(Clone, Copy, Debug, PartialEq, Eq)]
+pub enum Wrote {
+    /// The record, and its frame was ended: the bottom frame, which stays until all closed fills are released.
+    Record,
+    /// Nothing, and nothing has changed: the record is written, or refused, by `begin` and the calls that follow it.
+    Nothing,
+}
+
+impl WriterStack {
+    ghost use Rattle.std.specs.Prelude.{◌≡◌, ◌≢◌, ℕ, ◌-◌, ◌≤◌, ◌<◌, ◌↔◌, max, [], ◌∷◌, ◌++◌, List, Some, length, IsTrue};
+    ghost use Rattle.record_words.specs.declared.format.TheConstants.{EXTEND_FROM, SHORT_LIMIT};
+    ghost use Rattle.trace_model.specs.declared.limits.TheConstants.{MOMENT_LIMIT};
+    ghost use Rattle.trace_model.specs.History.{Action, push, reserve, leave};
+    ghost use Rattle.trace_model.specs.Words.{padded};
+    ghost use Rattle.page_image.specs.Contents.{records_of_page};
+    ghost use Rattle.nested_writer.specs.Allotted.{HasActed};
+    ghost use Rattle.nested_writer.specs.AtOnce.{FitsAtOnce, with_record, IsPlain};
+    ghost use Rattle.nested_writer.specs.IsStack.{Stands};
+
+    /// Whether no frame stands and the record is one as nearly all are: in the short form, behind another one.
+    #[inline(always)]
+    fn is_plain(&self, moment: u64, len: usize) -> bool
+        requires stack { Stands self.now }
+        ensures { IsTrue result → IsPlain self.now moment len }
+    {
+        let delta = moment.wrapping_sub(self.last_moment);
+        1 <= len
+            && len <= SHORT_LIMIT
+            && self.top.is_none()
+            && self.tail.end() > 0
+            && delta < EXTEND_FROM
+            && moment < MOMENT_LIMIT
+    }
+
+    /// Writes a record whose moment is raised to `raised`.
+    #[inline(always)]
+    fn put_record(&mut self, moment: u64, raised: u64, payload: &[u8])
+        requires stack { Stands self.old }
+        requires fits { FitsAtOnce self.old moment (length payload.now) }
+        requires raised { raised ≡ max moment self.old.last_moment }
+        ensures with_record { self.new ≡ with_record self.old moment payload.now }
+        ensures records { records_of_page self.new.tail
+            ≡ records_of_page self.old.tail ++ record { moment = raised; bytes = padded payload.now } ∷ [] }
+        ensures stack { HasActed self.old (push moment (length payload.now) ∷ reserve ∷ leave (Some payload.now) ∷ [])
+            self.new }
+        ensures stays { Stands self.new }
+    {
+        let prev = self.last_moment;
+        self.last_moment = raised;
+        self.tail.put_payload(prev, raised, payload);
+        self.top = Some(Frame {
+            purpose: Purpose::Record {
+                moment,
+                len: payload.len(),
+            },
+            progress: Progress::Left(None),
+        });
+    }
+
+    /// `write`, whatever the record.
+    #[inline(never)]
+    fn write_any(&mut self, moment: u64, payload: &[u8]) -> Wrote
+        requires stack { Stands self.old }
+        ensures wrote { result ≡ Wrote.Record ↔ FitsAtOnce self.old moment (length payload.now) }
+        ensures with_record { result ≡ Wrote.Record → self.new ≡ with_record self.old moment payload.now }
+        ensures records { result ≡ Wrote.Record → records_of_page self.new.tail
+            ≡ records_of_page self.old.tail
+            ++ record { moment = max moment self.old.last_moment; bytes = padded payload.now } ∷ [] }
+        ensures stack { result ≡ Wrote.Record
+            → HasActed self.old (push moment (length payload.now) ∷ reserve ∷ leave (Some payload.now) ∷ []) self.new }
+        ensures stays { Stands self.new }
+        ensures nothing { result ≡ Wrote.Nothing → self.new ≡ self.old }
+    {
+        let len = payload.len();
+        if self.top.is_some()
+            || len > self.size
+            || size_of(len, 0, true) > self.size
+            || moment >= MOMENT_LIMIT
+        {
+            return Wrote::Nothing;
+        }
+        let raised = moment.max(self.last_moment);
+        let end = self.tail.end();
+        if self.size < end + size_of(len, raised - self.last_moment, end == 0) {
+            return Wrote::Nothing;
+        }
+        self.put_record(moment, raised, payload);
+        Wrote::Record
+    }
+
+    /// Writes a record of this moment and payload in one call, where no frame stands and it fits in the tail: what
+    /// `begin`, `allot`, the payload's copy into what `top_mut` lends, and `end` do. Its frame stays at the bottom for
+    /// `pop_bottom`. Anywhere else, and where `begin` would refuse it, nothing changes.
+    #[inline(always)]
+    pub fn write(&mut self, moment: u64, payload: &[u8]) -> Wrote
+        requires stack { Stands self.old }
+        ensures wrote { result ≡ Wrote.Record ↔ FitsAtOnce self.old moment (length payload.now) }
+        ensures with_record { result ≡ Wrote.Record → self.new ≡ with_record self.old moment payload.now }
+        ensures records { result ≡ Wrote.Record → records_of_page self.new.tail
+            ≡ records_of_page self.old.tail
+            ++ record { moment = max moment self.old.last_moment; bytes = padded payload.now } ∷ [] }
+        ensures stack { result ≡ Wrote.Record
+            → HasActed self.old (push moment (length payload.now) ∷ reserve ∷ leave (Some payload.now) ∷ []) self.new }
+        ensures stays { Stands self.new }
+        ensures nothing { result ≡ Wrote.Nothing → self.new ≡ self.old }
+    {
+        if !self.is_plain(moment, payload.len()) {
+            return self.write_any(moment, payload);
+        }
+        let size = size_of(payload.len(), moment - self.last_moment, false);
+        if self.size < self.tail.end() + size {
+            return Wrote::Nothing;
+        }
+        self.put_record(moment, moment, payload);
+        Wrote::Record
+    }
+}
+
+#[cfg(test)]
+mod tests;
