@@ -5,7 +5,7 @@ mod write;
 
 use crate::body::Body;
 use crate::put::{put_behind, put_payload_behind};
-use record_words::Place;
+use record_words::{Place, size_of};
 use std::marker::Model;
 use trace_model::{FillNo, RecordNo};
 
@@ -115,6 +115,7 @@ impl Page {
 
     /// Adds a record of this moment and payload behind the others, where it must fit, and answers where its payload
     /// lies: what `put` does, and then the payload written at the front of its place. `prev` is that of `put`.
+    #[inline(always)]
     pub fn put_payload(&mut self, prev: u64, moment: u64, payload: &[u8]) -> Place
         requires room { length self.old.bytes
             + encoded_len (length payload.now) (moment - prev) (is_blank self.old.bytes)
@@ -144,12 +145,13 @@ impl Page {
         ensures end { result.start + result.len ≡ length self.new.bytes }
         ensures len { result.len ≡ slot_len (length payload.now) }
     {
-        let is_first = self.end == 0;
-        let place = put_payload_behind(&mut self.body, self.end, moment - prev, is_first, payload);
+        let end = self.end;
+        let is_first = end == 0;
+        let delta = moment - prev;
         self.time = if is_first { moment } else { self.time };
-        self.end = place.start + place.len;
+        self.end = end + size_of(payload.len(), delta, is_first);
         self.count += 1;
-        place
+        put_payload_behind(&mut self.body, end, delta, is_first, payload)
     }
 
     /// The payload at this place, to be written. All other bytes of the page stay as they are.

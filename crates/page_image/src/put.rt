@@ -56,6 +56,7 @@ pub(crate) fn put_behind(body: &mut [u8], end: usize, delta: u64, first: bool, l
 
 /// Writes a record with this payload behind the first `end` bytes, and answers where the payload lies. The record
 /// ends where its payload does.
+#[inline(always)]
 pub(crate) fn put_payload_behind(
     body: &mut [u8],
     end: usize,

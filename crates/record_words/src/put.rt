@@ -119,6 +119,7 @@ pub fn put_short(out: &mut [u8], delta: u32, slot: usize)
 }
 
 /// Puts a payload at the front, and the zeros that fill its slot of `slot` bytes.
+#[inline(always)]
 fn put_padded(out: &mut [u8], slot: usize, payload: &[u8])
     requires limit { length payload.now ≤ MAX_PAYLOAD }
     requires slot { slot ≡ slot_len (length payload.now) }
@@ -143,11 +144,24 @@ fn put_padded_data(out: &mut [u8], delta: u32, payload: &[u8]) -> usize
     start + slot
 }
 
-/// Writes the words of a record, its payload and the zeros that fill its slot at the front of `out`, where it must
-/// fit, and answers how many bytes that takes. All bytes behind the record stay as they were.
-///
-/// `delta` is that of `put_record`.
-pub fn put_payload(out: &mut [u8], delta: u64, first: bool, payload: &[u8]) -> usize
+/// Puts a word of the short form with this payload at the front, and answers how many bytes that takes.
+#[inline(always)]
+fn put_short_payload(out: &mut [u8], delta: u32, payload: &[u8]) -> usize
+    requires delta_fits { delta < EXTEND_FROM }
+    requires limit { length payload.now ≤ SHORT_LIMIT }
+    requires room { 4 + slot_len (length payload.now) ≤ length out.old }
+    ensures put { Puts out.old out.new (bytes_of_word (data_word delta (padded payload.now))) }
+    ensures len { result ≡ 4 + slot_len (length payload.now) }
+{
+    let slot = slot_len(payload.len());
+    put_word(out, (slot / 4) as u32, delta);
+    put_padded(&mut out[4..], slot, payload);
+    4 + slot
+}
+
+/// `put_payload`, whatever the record's form.
+#[inline(never)]
+fn put_any_payload(out: &mut [u8], delta: u64, first: bool, payload: &[u8]) -> usize
     requires length { length payload.now ≤ MAX_PAYLOAD }
     requires time { (first ≡ true) ⊎ (delta < MOMENT_LIMIT) }
     requires room { encoded_len (length payload.now) delta first ≤ length out.old }
@@ -160,4 +174,23 @@ pub fn put_payload(out: &mut [u8], delta: u64, first: bool, payload: &[u8]) -> u
     }
     put_extend(out, delta);
     8 + put_padded_data(&mut out[8..], 0, payload)
+}
+
+/// Writes the words of a record, its payload and the zeros that fill its slot at the front of `out`, where it must
+/// fit, and answers how many bytes that takes. All bytes behind the record stay as they were.
+///
+/// `delta` is that of `put_record`.
+#[inline(always)]
+pub fn put_payload(out: &mut [u8], delta: u64, first: bool, payload: &[u8]) -> usize
+    requires length { length payload.now ≤ MAX_PAYLOAD }
+    requires time { (first ≡ true) ⊎ (delta < MOMENT_LIMIT) }
+    requires room { encoded_len (length payload.now) delta first ≤ length out.old }
+    ensures put { Puts out.old out.new (encoding delta first (padded payload.now)) }
+    ensures len { result ≡ encoded_len (length payload.now) delta first }
+{
+    let word_delta = if first { 0 } else { delta };
+    if payload.len() <= SHORT_LIMIT && word_delta < EXTEND_FROM {
+        return put_short_payload(out, word_delta as u32, payload);
+    }
+    put_any_payload(out, delta, first, payload)
 }

@@ -10,7 +10,7 @@ pub fn slot_len(len: usize) -> usize
     requires { len ≤ MAX_PAYLOAD }
     ensures { result ≡ slot_len len }
 {
-    len.max(1).div_ceil(4) * 4
+    len.max(1).next_multiple_of(4)
 }
 
 /// The number of bytes that a record takes, a time extend included, whose payload has `len` bytes
@@ -22,6 +22,6 @@ pub fn size_of(len: usize, delta: u64, first: bool) -> usize
 {
     let slot = slot_len(len);
     let extend = if first || delta < EXTEND_FROM { 0 } else { 8 };
-    let word = if slot <= SHORT_LIMIT { 4 } else { 8 };
+    let word = if len <= SHORT_LIMIT { 4 } else { 8 };
     extend + word + slot
 }

@@ -4,8 +4,8 @@ use Rattle.trace_model.proofs.Lengths.{length-bytes_of_extend}
 use borrow.Rule.Slice.PartMut.{put_mid}
 use Rattle.record_words.specs.Puts.{Puts}
 use Rattle.record_words.proofs.Headers.{encoding-extended, puts_behind}
-use Rattle.record_words.proofs.put.put_payload.Goals as goal
-use Rattle.record_words.proofs.put.put_payload.Goals.{then-first, else-first}
+use Rattle.record_words.proofs.put.put_any_payload.Goals as goal
+use Rattle.record_words.proofs.put.put_any_payload.Goals.{then-first, else-first}
 
 pub returns-clause-put : goal.returns-clause-put
 returns-clause-put c =
