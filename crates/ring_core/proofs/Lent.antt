@@ -1,0 +1,104 @@
+-- The payload of the frame on top, which is lent and written.
+use Rattle.std.proofs.Common.{◌≡◌, ℕ, ◌+◌, ◌-◌, Bool, true, false, cond, eqb, List, [], ◌∷◌, length, length-set, take, drop, refl, sym, ap, ◌∙◌, subst, arith, length-drop, length-take-le}
+use Rattle.std.specs.Prelude.{slice_range, slice_set, slice_index_or}
+use Rattle.trace_model.specs.History.{Action}
+use Rattle.trace_model.specs.Ring.{Core}
+use Rattle.trace_model.proofs.Overwritten.{place-within}
+use Rattle.page_image.specs.Contents.{Contents}
+use Rattle.page_image.specs.Lending.{with_payload}
+use Rattle.nested_writer.specs.declared.frame.Slot.{Slot}
+use Rattle.nested_writer.specs.declared.frame.Progress.{Progress}
+use Rattle.nested_writer.specs.declared.frame.Progress.TheVariants.{Reserved}
+use Rattle.nested_writer.specs.declared.frame.Frame.{Frame}
+use Rattle.nested_writer.specs.Stack.{Stack, opened}
+use Rattle.nested_writer.specs.Calls.{IsTopSlot}
+use Rattle.nested_writer.specs.Lending.{with_slot}
+use Rattle.nested_writer.specs.IsStack.{IsOpenPage, IsStack}
+use Rattle.ring_core.specs.Value.{CoreValue}
+use Rattle.ring_core.specs.IsCore.{ring_frames, AreBelow, AreNotedAlike, Shows, IsCore}
+use Rattle.ring_core.specs.Answers.{top_bytes}
+use Rattle.ring_core.specs.Lending.{with_reserved, with_top, with_top_payload}
+use Rattle.ring_core.proofs.Reshown.{reshown}
+use Rattle.ring_core.proofs.Ended.{stands, bytes_are}
+
+-- ---- a stack of which pages alone have changed
+
+record Keeps (s t : Stack) : Type 0 where
+  pages_is : t.pages ≡ s.pages
+  size_is : t.size ≡ s.size
+  done_is : t.done ≡ s.done
+  opened_is : opened t ≡ opened s
+  frames_is : t.frames ≡ s.frames
+
+keeps_by : (b : Bool) (s t u : Stack) → Keeps s t → Keeps s u → Keeps s (cond b t u)
+keeps_by true s t u one other = one
+keeps_by false s t u one other = other
+
+slot_keeps : (s : Stack) (slot : Slot) (part : List ℕ) → Keeps s (with_slot s slot part)
+slot_keeps s slot part =
+    let page : Contents = with_payload (slice_index_or s.older (slot.fill - s.done) s.tail) slot.place.start part in
+    keeps_by (eqb slot.fill s.tail.fill) s (record s { tail = with_payload s.tail slot.place.start part }) (record s { older = slice_set s.older (slot.fill - s.done) page })
+    record { pages_is = refl; size_is = refl; done_is = refl; opened_is = refl; frames_is = refl }
+    record { pages_is = refl; size_is = refl; done_is = refl; opened_is = ap (λ (m : ℕ). s.done + m + 1) (length-set s.older (slot.fill - s.done) page); frames_is = refl }
+
+-- ---- the slot of the frame on top
+
+-- the frame on top, with its slot
+record IsOnTop (s : Stack) (slot : Slot) : Type 0 where
+  top : Frame
+  rest : List Frame
+  stack_is : s.frames ≡ top ∷ rest
+  has : top.progress ≡ Reserved slot
+
+on_top : (s : Stack) (slot : Slot) → IsTopSlot s.frames slot → IsOnTop s slot
+on_top s slot is = by_frames s.frames refl is
+  where
+    by_frames : (frames : List Frame) → s.frames ≡ frames → IsTopSlot frames slot → IsOnTop s slot
+    by_frames [] same none = absurd none
+    by_frames (top ∷ rest) same has = record { top = top; rest = rest; stack_is = same; has = has }
+
+module _ (n size start : ℕ) (v : CoreValue) (c : Core) (core : IsCore n size start v c) (slot : Slot) (is : IsTopSlot v.stack.frames slot) where
+  t : IsOnTop v.stack slot
+  t = on_top v.stack slot is
+
+  model_is : c.frames ≡ ring_frames (t.top ∷ t.rest) (v.phase ∷ v.below)
+  model_is = core.shows.frames_are ∙ ap (λ (fs : List Frame). ring_frames fs (v.phase ∷ v.below)) t.stack_is
+
+  -- what is lent are the bytes in the slot
+  pub lent_bytes : (now : List ℕ) → ((page : Contents) → IsOpenPage v.stack.done v.stack.older v.stack.tail slot.fill page → now ≡ slice_range page.bytes slot.place.start (slot.place.start + slot.place.len)) → now ≡ top_bytes v.stack v.stack.frames
+  lent_bytes now lent =
+      let (moment, len, kind, lies) = stands n size start v c core t.top t.rest slot t.stack_is t.has _ _ model_is in
+      lent lies.page lies.open_page
+      ∙ ap (λ (m : ℕ). take m (drop slot.place.start lies.page.bytes)) (let same : (slot.place.start + slot.place.len) - slot.place.start ≡ slot.place.len = omega arith in same)
+      ∙ sym (bytes_are n size start v c core t.top t.rest slot t.stack_is t.has _ _ model_is lies.page lies.open_page)
+
+  pub bytes_fill : length (top_bytes v.stack v.stack.frames) ≡ slot.place.len
+  bytes_fill =
+      let (moment, len, kind, lies) = stands n size start v c core t.top t.rest slot t.stack_is t.has _ _ model_is in
+      let within = place-within lies.page.bytes slot.place.start slot.place.len lies.place.place in
+      ap length (bytes_are n size start v c core t.top t.rest slot t.stack_is t.has _ _ model_is lies.page lies.open_page)
+      ∙ length-take-le slot.place.len (drop slot.place.start lies.page.bytes) (omega (arith, length-drop slot.place.start lies.page.bytes))
+
+  pub top_is_slot : (part : List ℕ) → with_top v.stack v.stack.frames part ≡ with_slot v.stack slot part
+  top_is_slot part = ap (λ (fs : List Frame). with_top v.stack fs part) t.stack_is ∙ ap (λ (p : Progress). with_reserved v.stack p part) t.has
+
+  -- whatever is written there, the ring is in the same state
+  pub written_stays : (part : List ℕ) → length part ≡ length (top_bytes v.stack v.stack.frames) → ((history : List Action) → IsStack start history v.stack → length part ≡ slot.place.len → IsStack start history (with_slot v.stack slot part)) → IsCore n size start (with_top_payload v part) c
+  written_stays part fills written =
+      let k : Shows n size start v c = core.shows in
+      let s : Stack = with_slot v.stack slot part in
+      let keeps : Keeps v.stack s = slot_keeps v.stack slot part in
+      subst (λ (x : Stack). IsCore n size start (record v { stack = x }) c) (sym (top_is_slot part)) record {
+        reached = core.reached;
+        shows = reshown n size start v c s v.phase v.below c.frames c.history c.held k record {
+          pages_is = keeps.pages_is;
+          size_is = keeps.size_is;
+          done_is = keeps.done_is;
+          opened_is = keeps.opened_is;
+          stack_is = written c.history k.stack_is (fills ∙ bytes_fill);
+          frames_are = k.frames_are ∙ ap (λ (fs : List Frame). ring_frames fs (v.phase ∷ v.below)) (sym keeps.frames_is);
+          below_are = subst (λ (fs : List Frame). AreBelow fs v.below) (sym keeps.frames_is) k.below_are;
+          noted = subst (λ (fs : List Frame). AreNotedAlike fs (v.phase ∷ v.below)) (sym keeps.frames_is) k.noted;
+          closed = λ f low high. refl;
+        };
+      }

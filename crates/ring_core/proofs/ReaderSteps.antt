@@ -1,0 +1,157 @@
+-- The steps of the reader but the swap: what the value after each of them shows.
+use Rattle.std.proofs.Common.{◌≡◌, ◌≢◌, ℕ, suc, ◌+◌, ◌-◌, ◌%◌, ◌<◌, ◌≤◌, List, length, get_or, refl, sym, ap, ◌∙◌, subst, mod-lt, mod-eq_of_lt, arith}
+use Rattle.trace_model.specs.declared.limits.TheConstants.{LINK_FILLS}
+use Rattle.trace_model.specs.Links.{Link, header_link, normal_link, update_link}
+use Rattle.trace_model.specs.Ring as ring
+use Rattle.trace_model.specs.Steps as model
+use Rattle.link_marks.specs.KeptLinks.{ReaderKept, LinkKept, is_normal, is_header, is_update, LinksKept}
+use Rattle.link_marks.proofs.LinkFills.{fill_at, normal_tells}
+use Rattle.link_marks.proofs.Positions.{at_position}
+use Rattle.ring_core.specs.declared.event.Answer.{Answer}
+use Rattle.ring_core.specs.declared.event.Answer.TheVariants.{Looking, Empty, Moving, Wished}
+use Rattle.ring_core.specs.declared.phase.Reader.{Reader}
+use Rattle.ring_core.specs.declared.phase.ReaderPhase.TheVariants.{LoadingLink, LoadingDone, StoringLink, Swapping}
+use Rattle.ring_core.specs.Value.{CoreValue, reader_phase_of}
+use Rattle.ring_core.specs.IsCore.{Shows, IsCore}
+use Rattle.ring_core.specs.Answers.{Tells}
+use Rattle.ring_core.specs.Steps.{IsStep, IsRing}
+use Rattle.ring_core.proofs.Stepped.{kept_of, stepped}
+
+-- the reader goes on, and sets its page's link or its wish
+reader_shown : (n size start : ℕ) (v : CoreValue) (c : ring.Core) (spare_link of_link : Link) (wish of_wish : ℕ) (reader : Reader) (of : ring.Reader) → Shows n size start v c
+    → of_link ≡ spare_link → of_wish ≡ wish → of.phase ≡ reader_phase_of reader.phase → of.hint ≡ reader.hint → of.seen ≡ reader.seen → of.expected ≡ reader.expected
+    → Shows n size start (record v { spare_link = spare_link; wish = wish; reader = reader }) (record c { spare_link = of_link; wish = of_wish; reader = of })
+reader_shown n size start v c spare_link of_link wish of_wish reader of s link_is wish_is phase hint seen expected = record {
+  pages_is = s.pages_is;
+  size_is = s.size_is;
+  positions = s.positions;
+  stack_is = s.stack_is;
+  done_is = s.done_is;
+  opened_is = s.opened_is;
+  frames_are = s.frames_are;
+  below_are = s.below_are;
+  noted = s.noted;
+  links_are = s.links_are;
+  spare_link_is = link_is;
+  order_is = s.order_is;
+  spare_is = s.spare_is;
+  wish_is = wish_is;
+  reader_phase_is = phase;
+  hint_is = hint;
+  seen_is = seen;
+  expected_is = expected;
+  closed = s.closed;
+  free = s.free;
+}
+
+-- ---- what the links tell
+
+-- a link tells a fill that has a number
+told_below : (n : ℕ) (c : ring.Core) → LinksKept n c → (f : ℕ) → (ring.link_into n c.links f).fill < LINK_FILLS
+told_below n c k f = let (g, low, high, same, kept) = fill_at n c k f in subst (λ (l : Link). l.fill < LINK_FILLS) same (from g high kept)
+  where
+    from : (g : ℕ) → g < c.head + n → LinkKept n c.links c.order c.head c.frames g → (ring.link_into n c.links g).fill < LINK_FILLS
+    from g high (is_normal e owed) = let is = ap (λ (l : Link). l.fill) e in let a = k.head_le in let b = k.done_lt in let fits = k.fits in omega arith
+    from g high (is_header e here) = let is = ap (λ (l : Link). l.fill) e in let a = k.head_le in let b = k.done_lt in let fits = k.fits in omega arith
+    from g high (is_update lost sum e st) = let is = ap (λ (l : Link). l.fill) e in let a = k.head_le in let b = k.done_lt in let fits = k.fits in omega arith
+
+-- a NORMAL tells the hint, or a fill that is a turn behind it or further
+turned : (n : ℕ) (c : ring.Core) (page fill : ℕ) → LinksKept n c → ring.link_into n c.links c.reader.hint ≡ normal_link page fill → fill ≢ c.reader.hint → (c.reader.hint < fill) × (n ≤ fill + 1)
+turned n c page fill k at ne =
+    let some_pages = k.some_pages in let hint = k.hint_le in
+    let (g, low, high, position) = at_position c.head n (c.reader.hint % n) (mod-lt c.reader.hint (omega arith)) in
+    let there = ap (λ (i : ℕ). get_or c.links i (normal_link 0 0)) position ∙ at in
+    let is : fill ≡ g = (normal_tells n c.links c.order c.head c.frames g page fill (k.each g low high) there).0 in
+    let first : (fill < n → fill ≡ c.reader.hint) = λ less. is ∙ sym (mod-eq_of_lt (let x : g < n = omega arith in x)) ∙ position ∙ mod-eq_of_lt (let x : c.reader.hint < n = omega arith in x) in
+    let far : (fill < n → ⊥) = λ less. ne (first less) in
+    (omega arith, omega arith)
+
+-- ---- the steps
+
+module _ (n size start : ℕ) (v : CoreValue) (c : ring.Core) (core : IsCore n size start v c) where
+  pub wished : IsStep n size start c model.wishes (Wished record { 0 = v.reader.seen }) (record v { wish = v.reader.seen + 1 })
+  wished = let s = core.shows in
+      stepped n size start v (record v { wish = v.reader.seen + 1 }) c model.wishes (Wished record { 0 = v.reader.seen }) (model.wished_for c.reader.seen) (model.with_wish c) core
+      (model.wish_step refl refl refl) (ap model.wished_for s.seen_is)
+      (reader_shown n size start v c v.spare_link c.spare_link (v.reader.seen + 1) (c.reader.seen + 1) v.reader c.reader s
+      s.spare_link_is (ap (λ (k : ℕ). k + 1) s.seen_is) s.reader_phase_is s.hint_is s.seen_is s.expected_is)
+
+  -- a step of the reader that changes no more than it and its page's link
+  pub reads : (phase : ring.ReaderPhase) (answer : model.Answer) (result : Answer) (spare_link of_link : Link) (reader : Reader) (of : ring.Reader) → reader_phase_of v.reader.phase ≡ phase
+      → model.ReadStep n c phase answer (record c { spare_link = of_link; reader = of }) → Tells size result answer
+      → of_link ≡ spare_link → of.phase ≡ reader_phase_of reader.phase → of.hint ≡ reader.hint → of.seen ≡ reader.seen → of.expected ≡ reader.expected
+      → IsStep n size start c model.reads result (record v { spare_link = spare_link; reader = reader })
+  reads phase answer result spare_link of_link reader of at step tells link_is phase_is hint seen expected = let s = core.shows in
+      stepped n size start v (record v { spare_link = spare_link; reader = reader }) c model.reads result answer (record c { spare_link = of_link; reader = of }) core
+      (model.read_step refl (subst (λ (p : ring.ReaderPhase). model.ReadStep n c p answer (record c { spare_link = of_link; reader = of })) (sym (s.reader_phase_is ∙ at)) step)) tells
+      (reader_shown n size start v c spare_link of_link v.wish c.wish reader of s link_is s.wish_is phase_is hint seen expected)
+
+  -- the link into the position of the hint, as it is loaded
+  link_at : (l : Link) → ring.link_into (length v.links) v.links v.reader.hint ≡ l → ring.link_into n c.links c.reader.hint ≡ l
+  link_at l e = let s = core.shows in (λ i. ring.link_into (sym s.positions i) (s.links_are i) (s.hint_is i)) ∙ e
+
+  pub sees_header : (page fill : ℕ) (body : List ℕ) → v.reader.phase ≡ LoadingLink → ring.link_into (length v.links) v.links v.reader.hint ≡ header_link page fill
+      → IsStep n size start c model.reads (Looking body) (record v { reader = record v.reader { phase = LoadingDone page fill; hint = fill } })
+  sees_header page fill body at link = let s = core.shows in
+      reads ring.loading_link model.reading (Looking body) v.spare_link c.spare_link (record v.reader { phase = LoadingDone page fill; hint = fill }) (record c.reader { phase = ring.loading_done page fill; hint = fill })
+      (ap reader_phase_of at) (model.loads_header page fill (link_at (header_link page fill) link) refl refl) refl s.spare_link_is refl refl s.seen_is s.expected_is
+
+  pub sees_update : (page lost : ℕ) (body : List ℕ) → v.reader.phase ≡ LoadingLink → ring.link_into (length v.links) v.links v.reader.hint ≡ update_link page lost
+      → IsStep n size start c model.reads (Moving record { 0 = lost + 1 } body) (record v { reader = record v.reader { phase = LoadingLink; hint = lost + 1 } })
+  sees_update page lost body at link = let s = core.shows in let next : suc lost ≡ lost + 1 = omega arith in
+      reads ring.loading_link (model.moving (suc lost)) (Moving record { 0 = lost + 1 } body) v.spare_link c.spare_link (record v.reader { phase = LoadingLink; hint = lost + 1 }) (record c.reader { phase = ring.loading_link; hint = suc lost })
+      (ap reader_phase_of at) (model.loads_update page lost (link_at (update_link page lost) link) refl refl) (ap model.moving next) s.spare_link_is refl next s.seen_is s.expected_is
+
+  pub sees_owed : (page : ℕ) (body : List ℕ) → v.reader.phase ≡ LoadingLink → ring.link_into (length v.links) v.links v.reader.hint ≡ normal_link page v.reader.hint
+      → IsStep n size start c model.reads (Moving record { 0 = v.reader.hint } body) v
+  sees_owed page body at link = let s = core.shows in
+      reads ring.loading_link (model.moving c.reader.hint) (Moving record { 0 = v.reader.hint } body) v.spare_link c.spare_link v.reader (record c.reader { phase = ring.loading_link; hint = c.reader.hint })
+      (ap reader_phase_of at) (model.loads_owed page (link_at (normal_link page v.reader.hint) link ∙ ap (normal_link page) (sym s.hint_is)) refl refl) (ap model.moving s.hint_is)
+      s.spare_link_is (sym (ap reader_phase_of at)) s.hint_is s.seen_is s.expected_is
+
+  pub sees_passed : (page fill least : ℕ) (body : List ℕ) → v.reader.phase ≡ LoadingLink → ring.link_into (length v.links) v.links v.reader.hint ≡ normal_link page fill → fill ≢ v.reader.hint → least ≡ fill + 1 - length v.links
+      → IsStep n size start c model.reads (Looking body) (record v { reader = record v.reader { phase = LoadingLink; hint = least } })
+  sees_passed page fill least body at link ne is = let s = core.shows in
+      let told = link_at (normal_link page fill) link in let positions = s.positions in
+      let (behind, turn) = turned n c page fill (kept_of n size start v c core).links told (λ e. ne (e ∙ s.hint_is)) in
+      reads ring.loading_link model.reading (Looking body) v.spare_link c.spare_link (record v.reader { phase = LoadingLink; hint = least }) (record c.reader { phase = ring.loading_link; hint = least })
+      (ap reader_phase_of at) (model.loads_passed page fill least told behind (omega arith) refl refl) refl s.spare_link_is refl refl s.seen_is s.expected_is
+
+  pub finds_none : (page fill done : ℕ) (body : List ℕ) → v.reader.phase ≡ LoadingDone page fill → done ≡ v.stack.done → done ≤ fill
+      → IsStep n size start c model.reads (Empty done body) (record v { reader = record v.reader { phase = LoadingLink; seen = done } })
+  finds_none page fill done body at is le = let s = core.shows in let done_is : c.done ≡ done = s.done_is ∙ sym is in
+      reads (ring.loading_done page fill) (model.empty c.done) (Empty done body) v.spare_link c.spare_link (record v.reader { phase = LoadingLink; seen = done }) (record c.reader { phase = ring.loading_link; seen = c.done })
+      (ap reader_phase_of at) (model.finds_none (omega arith) refl refl) (ap model.empty done_is) s.spare_link_is refl s.hint_is done_is s.expected_is
+
+  pub finds_closed : (page fill done : ℕ) (body : List ℕ) → v.reader.phase ≡ LoadingDone page fill → done ≡ v.stack.done → fill < done
+      → IsStep n size start c model.reads (Looking body) (record v { reader = record v.reader { phase = StoringLink page fill; seen = done } })
+  finds_closed page fill done body at is less = let s = core.shows in let done_is : c.done ≡ done = s.done_is ∙ sym is in
+      reads (ring.loading_done page fill) model.reading (Looking body) v.spare_link c.spare_link (record v.reader { phase = StoringLink page fill; seen = done }) (record c.reader { phase = ring.storing_link page fill; seen = c.done })
+      (ap reader_phase_of at) (model.finds_closed (omega arith) refl refl) refl s.spare_link_is refl s.hint_is done_is s.expected_is
+
+  pub stores : (page fill : ℕ) (link : Link) (body : List ℕ) → v.reader.phase ≡ StoringLink page fill → link ≡ header_link (ring.page_at (length v.links) v.order (fill + 1)) (fill + 1)
+      → IsStep n size start c model.reads (Looking body) (record v { spare_link = link; reader = record v.reader { phase = Swapping page fill } })
+  stores page fill link body at is = let s = core.shows in let next : suc fill ≡ fill + 1 = omega arith in
+      reads (ring.storing_link page fill) model.reading (Looking body) link (model.next_header n c fill) (record v.reader { phase = Swapping page fill }) (record c.reader { phase = ring.swapping page fill })
+      (ap reader_phase_of at) record { answer_is = refl; after_is = refl } refl
+      ((λ i. header_link (ring.page_at (sym s.positions i) (s.order_is i) (next i)) (next i)) ∙ sym is) refl s.hint_is s.seen_is s.expected_is
+
+-- ---- ranges
+
+module _ (v : CoreValue) (r : IsRing v) where
+  -- the fill of a link has a number
+  pub told_fits : (f : ℕ) → (ring.link_into (length v.links) v.links f).fill < LINK_FILLS
+  told_fits f = let (n, size, start, c, core) = r in let s = core.shows in
+      subst (λ (l : Link). l.fill < LINK_FILLS) (λ i. ring.link_into (sym s.positions i) (s.links_are i) f) (told_below n c (kept_of n size start v c core).links f)
+
+  -- a link to a fill behind the hint tells one behind the first turn
+  pub turn_fits : (page fill : ℕ) → ring.link_into (length v.links) v.links v.reader.hint ≡ normal_link page fill → fill ≢ v.reader.hint → length v.links ≤ fill + 1
+  turn_fits page fill link ne = let (n, size, start, c, core) = r in let s = core.shows in let positions = s.positions in
+      let (behind, turn) = turned n c page fill (kept_of n size start v c core).links (link_at n size start v c core (normal_link page fill) link) (λ e. ne (e ∙ s.hint_is)) in omega arith
+
+  -- a fill that the reader knows to be closed has a next one
+  pub closed_fits : (page fill : ℕ) → v.reader.phase ≡ StoringLink page fill → fill + 1 < LINK_FILLS
+  closed_fits page fill at = let (n, size, start, c, core) = r in let s = core.shows in
+      let links = (kept_of n size start v c core).links in
+      let known = subst (λ (p : ring.ReaderPhase). ReaderKept n c.links c.order c.spare_link c.head c.done c.reader.hint p) (s.reader_phase_is ∙ ap reader_phase_of at) links.reader in
+      let below = known.1 in let open_yet = links.done_lt in let fits = links.fits in omega arith

@@ -1,0 +1,67 @@
+-- A step that is made: the value after it is the ring in the state behind the step.
+use Rattle.std.proofs.Common.{◌≡◌, ℕ, [], ◌∷◌, ◌++◌, sym, ◌∙◌, subst}
+use Rattle.trace_model.specs.Ring.{Core}
+use Rattle.trace_model.specs.Steps as model
+use Rattle.link_marks.specs.Reached.{IsReached}
+use Rattle.link_marks.specs.RingKept.{IsRingKept}
+use Rattle.link_marks.proofs.RingsKept.{run_snoc, reached_kept}
+use Rattle.ring_core.specs.declared.event.Answer.{Answer}
+use Rattle.ring_core.specs.declared.event.Answer.TheVariants.{Pushed, Going, Reserved, Ended, Gone, Refused, Looking, Empty, Moving, Taken, Wished}
+use Rattle.ring_core.specs.Value.{CoreValue}
+use Rattle.ring_core.specs.IsCore.{Shows, IsCore}
+use Rattle.ring_core.specs.Answers.{Tells, IsWhole}
+use Rattle.ring_core.specs.Steps.{IsStep, Makes, IsRing}
+
+-- what every step keeps holds of a ring's state
+pub kept_of : (n size start : ℕ) (v : CoreValue) (c : Core) → IsCore n size start v c → IsRingKept n size start c
+kept_of n size start v c core = reached_kept n size start c core.reached
+
+-- one step further
+reached_further : (n size start : ℕ) (c : Core) (event : model.Event) (answer : model.Answer) (after : Core) → IsReached n size start c → model.Step n size c event answer after → IsReached n size start after
+reached_further n size start c event answer after r step =
+    let x : model.Exchange = record { event = event; answer = answer } in
+    record {
+      from = r.from;
+      exchanges = r.exchanges ++ x ∷ [];
+      may_start = r.may_start;
+      is_new = r.is_new;
+      run = run_snoc n size r.from c after r.exchanges x r.run step;
+    }
+
+pub stepped : (n size start : ℕ) (old new : CoreValue) (c : Core) (event : model.Event) (result : Answer) (answer : model.Answer) (after : Core) → IsCore n size start old c → model.Step n size c event answer after → Tells size result answer → Shows n size start new after → IsStep n size start c event result new
+stepped n size start old new c event result answer after core step tells shows = record {
+  answer = answer;
+  after = after;
+  step = step;
+  tells = tells;
+  is_core = record { reached = reached_further n size start c event answer after core.reached step; shows = shows };
+}
+
+-- ---- what a caller has of any step
+
+pub ring_behind : (old new : CoreValue) (event : model.Event) (result : Answer) → IsRing old → Makes old event result new → IsRing new
+ring_behind old new event result (n, size, start, c, core) makes =
+    let s = makes n size start c core in
+    (n, size, start, s.after, s.is_core)
+
+pub size_behind : (old new : CoreValue) (event : model.Event) (result : Answer) → IsRing old → Makes old event result new → new.stack.size ≡ old.stack.size
+size_behind old new event result (n, size, start, c, core) makes =
+    (makes n size start c core).is_core.shows.size_is ∙ sym core.shows.size_is
+
+told_whole : (size : ℕ) (result : Answer) (told : model.Answer) → Tells size result told → IsWhole size result
+told_whole size Pushed told t = tt
+told_whole size Going told t = tt
+told_whole size (Reserved number) told t = tt
+told_whole size (Ended ended) told t = tt
+told_whole size Gone told t = tt
+told_whole size (Refused fault) told t = tt
+told_whole size (Looking body) told t = tt
+told_whole size (Empty done body) told t = tt
+told_whole size (Moving fill body) told t = tt
+told_whole size (Taken page missed) told (taken, is, whole) = (whole.written.page_reads, whole.written.size_is)
+told_whole size (Wished fill) told t = tt
+
+pub whole_page : (old new : CoreValue) (event : model.Event) (result : Answer) → IsRing old → Makes old event result new → IsWhole old.stack.size result
+whole_page old new event result (n, size, start, c, core) makes =
+    let s = makes n size start c core in
+    subst (λ (bytes : ℕ). IsWhole bytes result) (sym core.shows.size_is) (told_whole size result s.answer s.tells)

@@ -1,0 +1,11 @@
+use Rattle.ring_core.proofs.Stepped.{ring_behind, size_behind, whole_page}
+use Rattle.ring_core.proofs.ring.Core.step.Goals as goal
+
+pub returns-clause-ring : goal.returns-clause-ring
+returns-clause-ring c = ring_behind _ _ _ _ c.requires.ring c.obey.ensures.step
+
+pub returns-clause-size : goal.returns-clause-size
+returns-clause-size c = size_behind _ _ _ _ c.requires.ring c.obey.ensures.step
+
+pub returns-clause-page : goal.returns-clause-page
+returns-clause-page c = whole_page _ _ _ _ c.requires.ring c.obey.ensures.step

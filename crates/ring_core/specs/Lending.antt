@@ -1,0 +1,45 @@
+-- The payload of the frame on top, which a ring lends out to be written.
+use Rattle.std.specs.Prelude.{◌≡◌, ℕ, List, [], ◌∷◌, length}
+use Rattle.std.specs.Borrow.{Lends, MutBor, Fml, Array, u8}
+use Rattle.trace_model.specs.Ring.{Core}
+use Rattle.nested_writer.specs.declared.frame.Slot.{Slot}
+use Rattle.nested_writer.specs.declared.frame.Progress.{Progress}
+use Rattle.nested_writer.specs.declared.frame.Progress.TheVariants.{Waiting, Through, Reserved, Left}
+use Rattle.nested_writer.specs.declared.frame.Frame.{Frame}
+use Rattle.nested_writer.specs.Stack.{Stack}
+use Rattle.nested_writer.specs.Lending.{with_slot}
+use Rattle.ring_core.specs.Value.{CoreValue}
+use Rattle.ring_core.specs.IsCore.{IsCore}
+use Rattle.ring_core.specs.Answers.{top_bytes}
+use Rattle.ring_core.specs.contracts.ring.Core.{the_row}
+
+-- the stack with these bytes in the slot that the frame has reserved
+abbrev pub with_reserved : Stack → Progress → List ℕ → Stack
+with_reserved s (Waiting noted) part = s
+with_reserved s (Through noted) part = s
+with_reserved s (Reserved slot) part = with_slot s slot part
+with_reserved s (Left noted) part = s
+
+-- the stack with these bytes in the slot of the frame on top
+abbrev pub with_top : Stack → List Frame → List ℕ → Stack
+with_top s [] part = s
+with_top s (top ∷ below) part = with_reserved s top.progress part
+
+-- the ring with these bytes in the slot of the frame on top
+abbrev pub with_top_payload : CoreValue → List ℕ → CoreValue
+with_top_payload v part = record v { stack = with_top v.stack v.stack.frames part }
+
+-- the ring with these bytes in a slot
+abbrev pub with_slot_payload : CoreValue → Slot → List ℕ → CoreValue
+with_slot_payload v slot part = record v { stack = with_slot v.stack slot part }
+
+-- the ring ends with that slot set to the last bytes behind the result
+abbrev pub LendsSlot : MutBor CoreValue → Slot → MutBor (List ℕ) → Fml
+LendsSlot core slot result = Lends the_row (Array u8 0) core result (with_slot_payload core.now slot)
+
+-- whatever is written there, the ring is in the same states
+abbrev pub StaysRing : CoreValue → Type 0
+StaysRing v = (n size start : ℕ) (c : Core) (part : List ℕ)
+    → IsCore n size start v c
+    → length part ≡ length (top_bytes v.stack v.stack.frames)
+    → IsCore n size start (with_top_payload v part) c

@@ -1,0 +1,11 @@
+pub mod Value
+pub mod Inside
+pub mod IsCore
+pub mod Answers
+pub mod Phases
+pub mod Steps
+pub mod Heads
+pub mod Taking
+pub mod Runs
+pub mod NewRing
+pub mod Lending

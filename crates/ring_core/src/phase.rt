@@ -1,0 +1,80 @@
+//! How far a frame has come with the ring's links, and the reader with its take.
+
+/// Who moves the head: the frame that set the UPDATE, or one above it that found it.
+#[derive(Clone, Copy, Debug, PartialEq, Eq)]
+pub enum Role {
+    /// It set the UPDATE, and clears it.
+    Owner,
+    /// It found the UPDATE, and leaves it.
+    Helper,
+}
+
+/// How far a frame has come. `noted` is the number of fills that were begun when it found that it needs a page, so the
+/// number of the fill to open; `page` stands at that fill's position, and `next` behind it.
+#[derive(Clone, Copy, Debug, PartialEq, Eq)]
+pub enum Phase {
+    /// It has noted nothing.
+    Idle,
+    /// It looks at the link into the position of the fill to open.
+    Looking {
+        noted: u64,
+    },
+    /// It sets the UPDATE there, in place of the HEADER.
+    Claiming {
+        noted: u64,
+        page: u16,
+    },
+    /// It looks at the next link.
+    LookingNext {
+        role: Role,
+        noted: u64,
+        page: u16,
+    },
+    /// It sets the HEADER there.
+    Marking {
+        role: Role,
+        noted: u64,
+        page: u16,
+        next: u16,
+    },
+    /// It clears its UPDATE.
+    Clearing {
+        noted: u64,
+        page: u16,
+    },
+    /// It begins the fill on this page.
+    Opening {
+        noted: u64,
+        page: u16,
+    },
+    /// It has left, and closes fills.
+    Releasing,
+    /// It has left, no fill is left to close, and it looks for the reader's wish.
+    Wishing,
+}
+
+/// How far a take has come: the head that the reader has seen, on this page as this fill.
+#[derive(Clone, Copy, Debug, PartialEq, Eq)]
+pub enum ReaderPhase {
+    /// It looks for the head.
+    LoadingLink,
+    /// It looks whether the head is closed.
+    LoadingDone { page: u16, fill: u64 },
+    /// It sets the link of its own page.
+    StoringLink { page: u16, fill: u64 },
+    /// It swaps its page for the head.
+    Swapping { page: u16, fill: u64 },
+}
+
+/// The reader of a ring.
+#[derive(Clone, Copy, Debug)]
+pub struct Reader {
+    /// How far its take has come.
+    pub phase: ReaderPhase,
+    /// The least fill that it doesn't know to be taken or lost.
+    pub hint: u64,
+    /// The greatest number of closed fills that it has seen.
+    pub seen: u64,
+    /// The number behind the last record that it took.
+    pub expected: u64,
+}

@@ -1,0 +1,71 @@
+//! The ring: its links and counts, the stack of its writers, the pages at home, and its reader.
+mod frames;
+mod head;
+mod links;
+mod new;
+mod pages;
+mod reader;
+mod step;
+mod tail;
+mod top;
+
+use crate::phase::{Phase, Reader};
+use link_marks::Link;
+use nested_writer::WriterStack;
+use page_image::Page;
+use std::collections::VecDeque;
+use std::marker::Model;
+
+/// A ring of N pages and a spare, the writer's frames and the reader. The page of a fill that is begun and not closed
+/// is the writer's; any other page is at home, or is the reader's.
+#[derive(Drop)]
+pub struct Core {
+    /// The writer's frames, the pages that they write, and how many fills are begun and closed.
+    stack: WriterStack,
+    /// How far the frame on top has come.
+    phase: Phase,
+    /// How far those below it have come, the upper ones first.
+    below: VecDeque<Phase>,
+    /// The link into each position.
+    links: Vec<Link>,
+    /// The link of the reader's page.
+    spare_link: Link,
+    /// The page at each position.
+    order: Vec<u16>,
+    /// The reader's page.
+    spare: u16,
+    /// The pages at home, by their numbers.
+    homes: Vec<Option<Page>>,
+    /// The number of closed fills that the reader knew when it wished last, and one.
+    wish: u64,
+    reader: Reader,
+}
+
+impl Model for Core {
+    ghost use Rattle.ring_core.specs.Value.{CoreValue};
+    ghost use Rattle.ring_core.specs.Inside.{shown, IsInside};
+
+    ghost Value = { CoreValue };
+
+    ghost view = { shown };
+
+    ghost invariant = { IsInside };
+}
+
+impl Core {
+    ghost use Rattle.std.specs.Prelude.{◌≡◌, length};
+
+    /// How many frames stand on the writer's stack.
+    pub fn depth(&self) -> usize
+        ensures { result ≡ length self.now.stack.frames }
+    {
+        self.stack.depth()
+    }
+
+    /// How many bytes of data a page has.
+    pub fn size(&self) -> usize
+        ensures { result ≡ self.now.stack.size }
+    {
+        self.stack.size()
+    }
+}

@@ -1,0 +1,156 @@
+//! The steps of a frame that needs a page, up to the fill's beginning: it looks for a free position, and where there
+//! is none moves the head.
+use crate::event::Answer;
+use crate::phase::{Phase, Role};
+use crate::ring::Core;
+use crate::ring::links::{header, normal, update};
+use link_marks::Mark;
+
+impl Core {
+    ghost use Rattle.std.specs.Prelude.{◌≡◌, ◌≢◌, ℕ, true, false, [], ◌∷◌};
+    ghost use Rattle.trace_model.specs.Steps as model;
+    ghost use Rattle.trace_model.specs.Steps.{GoesOn};
+    ghost use Rattle.nested_writer.specs.Stack.{opened};
+    ghost use Rattle.ring_core.specs.declared.phase.Phase.TheVariants.{Looking, Claiming, LookingNext, Marking, Clearing};
+    ghost use Rattle.ring_core.specs.declared.phase.Role.{Role};
+    ghost use Rattle.ring_core.specs.declared.phase.Role.TheVariants.{Helper};
+    ghost use Rattle.ring_core.specs.Value.{role_of};
+    ghost use Rattle.ring_core.specs.Heads.{HasHeader, ClaimsHead};
+    ghost use Rattle.ring_core.specs.Steps.{Makes, IsRing};
+
+    /// A load of the link into the position of the fill to open: it is free, or its page is the head, or a frame below
+    /// is moving the head.
+    pub(crate) fn look(&mut self, noted: u64) -> Answer
+        requires ring { IsRing self.old }
+        requires top { self.old.stack.frames ≢ [] }
+        requires phase { self.old.phase ≡ Looking noted }
+        ensures { Makes self.old model.steps result self.new }
+    {
+        if noted != self.stack.opened() {
+            return self.begin_anew();
+        }
+        let link = self.link_into(noted);
+        let page = link.page;
+        self.phase = match link.mark {
+            Mark::Normal => Phase::Opening { noted, page },
+            Mark::Header => Phase::Claiming { noted, page },
+            Mark::Update => Phase::LookingNext {
+                role: Role::Helper,
+                noted,
+                page,
+            },
+        };
+        Answer::Going
+    }
+
+    /// A compare and exchange of that link from HEADER to UPDATE, by which the head is lost.
+    pub(crate) fn claim(&mut self, noted: u64, page: u16) -> Answer
+        requires ring { IsRing self.old }
+        requires top { self.old.stack.frames ≢ [] }
+        requires phase { self.old.phase ≡ Claiming noted page }
+        ensures { Makes self.old model.steps result self.new }
+    {
+        if noted != self.stack.opened() {
+            return self.begin_anew();
+        }
+        self.phase = if self.claim_head(noted, page) {
+            Phase::LookingNext {
+                role: Role::Owner,
+                noted,
+                page,
+            }
+        } else {
+            Phase::Looking { noted }
+        };
+        Answer::Going
+    }
+
+    /// Sets the UPDATE in place of the HEADER, where that tells that this page is the head, as the fill a round before
+    /// the noted one.
+    fn claim_head(&mut self, noted: u64, page: u16) -> bool
+        ensures claimed { result ≡ true → (lost : ℕ) × ClaimsHead self.old noted page lost self.new }
+        ensures kept { result ≡ false → (self.new ≡ self.old) × ((lost : ℕ) → HasHeader self.old noted page lost → ⊥) }
+    {
+        match noted.checked_sub(self.positions()) {
+            Some(lost) => self.exchange(noted, header(page, lost), update(page, lost)),
+            None => false,
+        }
+    }
+
+    /// A load of the next link: does it still wait for the HEADER?
+    pub(crate) fn look_next(&mut self, role: Role, noted: u64, page: u16) -> Answer
+        requires ring { IsRing self.old }
+        requires top { self.old.stack.frames ≢ [] }
+        requires phase { self.old.phase ≡ LookingNext role noted page }
+        ensures { Makes self.old model.steps result self.new }
+    {
+        if self.stops(role, noted) {
+            return self.begin_anew();
+        }
+        let behind = noted - self.positions() + 1;
+        let link = self.link_into(behind);
+        self.phase = match link.mark {
+            Mark::Normal if link.fill == behind => Phase::Marking {
+                role,
+                noted,
+                page,
+                next: link.page,
+            },
+            _ => after_next(role, noted, page),
+        };
+        Answer::Going
+    }
+
+    /// A compare and exchange of the next link from NORMAL to HEADER.
+    pub(crate) fn mark(&mut self, role: Role, noted: u64, page: u16, next: u16) -> Answer
+        requires ring { IsRing self.old }
+        requires top { self.old.stack.frames ≢ [] }
+        requires phase { self.old.phase ≡ Marking role noted page next }
+        ensures { Makes self.old model.steps result self.new }
+    {
+        if self.stops(role, noted) {
+            return self.begin_anew();
+        }
+        let behind = noted - self.positions() + 1;
+        self.exchange(behind, normal(next, behind), header(next, behind));
+        self.phase = after_next(role, noted, page);
+        Answer::Going
+    }
+
+    /// A helper stops where another frame has begun a fill.
+    fn stops(&self, role: Role, noted: u64) -> bool
+        ensures stops { result ≡ true → (role ≡ Helper) × (noted ≢ opened self.now.stack) }
+        ensures goes_on { result ≡ false → GoesOn (role_of role) noted (opened self.now.stack) }
+    {
+        match role {
+            Role::Owner => false,
+            Role::Helper => noted != self.stack.opened(),
+        }
+    }
+
+    /// A store of that link, from the frame's own UPDATE to NORMAL.
+    pub(crate) fn clear(&mut self, noted: u64, page: u16) -> Answer
+        requires ring { IsRing self.old }
+        requires top { self.old.stack.frames ≢ [] }
+        requires phase { self.old.phase ≡ Clearing noted page }
+        ensures { Makes self.old model.steps result self.new }
+    {
+        self.set_link(noted, normal(page, noted));
+        self.phase = Phase::Opening { noted, page };
+        Answer::Going
+    }
+}
+
+/// After the look at the next link: only the owner clears its UPDATE.
+fn after_next(role: Role, noted: u64, page: u16) -> Phase
+    ensures { phase_of result ≡ model.after_next (role_of role) noted page }
+{
+    match role {
+        Role::Owner => Phase::Clearing { noted, page },
+        Role::Helper => Phase::Opening { noted, page },
+    }
+}
+
+ghost use Rattle.std.specs.Prelude.{◌≡◌};
+ghost use Rattle.trace_model.specs.Steps as model;
+ghost use Rattle.ring_core.specs.Value.{phase_of, role_of};

@@ -1,0 +1,148 @@
+//! A new ring.
+use crate::phase::{Phase, Reader, ReaderPhase};
+use crate::ring::Core;
+use crate::ring::links::{header, normal};
+use link_marks::Link;
+use nested_writer::WriterStack;
+use page_image::{Body, Page};
+use std::alloc::Global;
+use std::collections::VecDeque;
+use trace_model::{FillNo, MAX_FRAMES, NoMemory, RecordNo, START_FILL};
+
+impl Core {
+    ghost use Rattle.std.specs.Prelude.{◌≡◌, ◌+◌, ◌%◌, ◌≤◌, ◌<◌, IfOk};
+    ghost use Rattle.trace_model.specs.declared.limits.TheConstants.{MIN_PAGES, MAX_PAGES, MIN_SIZE, MAX_SIZE, LINK_FILLS, START_FILL};
+    ghost use Rattle.ring_core.specs.Steps.{IsNewRing};
+
+    /// A new ring of `pages` pages and a spare, of `size` bytes of data each, whose first fill has the number `start`.
+    /// All room is made here: no other call takes memory.
+    pub fn new_at(alloc: Global, pages: usize, size: usize, start: u64) -> Result<Core, NoMemory>
+        requires pages { MIN_PAGES ≤ pages }
+        requires most { pages ≤ MAX_PAGES }
+        requires small { MIN_SIZE ≤ size }
+        requires large { size ≤ MAX_SIZE }
+        requires words { size % 4 ≡ 0 }
+        requires start { start + pages < LINK_FILLS }
+        ensures { IfOk result (λ core. IsNewRing pages size start core) }
+    {
+        let stack = WriterStack::new_at(alloc, pages, size, start)?;
+        let below = VecDeque::with_capacity(alloc, MAX_FRAMES)?;
+        let links = first_links(alloc, pages, start)?;
+        let order = first_order(alloc, pages)?;
+        let homes = first_homes(alloc, pages, size, (start % pages as u64) as usize)?;
+        Ok(Core {
+            stack,
+            phase: Phase::Idle,
+            below,
+            links,
+            spare_link: normal(0, 0),
+            order,
+            spare: pages as u16,
+            homes,
+            wish: 0,
+            reader: Reader {
+                phase: ReaderPhase::LoadingLink,
+                hint: start,
+                seen: start,
+                expected: 0,
+            },
+        })
+    }
+
+    /// A new ring whose first fill has the number `START_FILL`.
+    pub fn new(alloc: Global, pages: usize, size: usize) -> Result<Core, NoMemory>
+        requires pages { MIN_PAGES ≤ pages }
+        requires most { pages ≤ MAX_PAGES }
+        requires small { MIN_SIZE ≤ size }
+        requires large { size ≤ MAX_SIZE }
+        requires words { size % 4 ≡ 0 }
+        ensures { IfOk result (λ core. IsNewRing pages size START_FILL core) }
+    {
+        Core::new_at(alloc, pages, size, START_FILL)
+    }
+}
+
+/// The links of a new ring: each position has the page of its number, and the first fill is the head.
+fn first_links(alloc: Global, pages: usize, start: u64) -> Result<Vec<Link>, NoMemory>
+    requires most { pages ≤ MAX_PAGES }
+    requires start { start + pages < LINK_FILLS }
+    ensures { IfOk result (λ links. (length links.items ≡ pages) × AreFirstLinks pages start links.items) }
+{
+    let mut links = Vec::with_capacity(alloc, pages)?;
+    for position in 0..pages as u16 {
+        links.push_reserved(first_link(position, pages as u64, start));
+    }
+    Ok(links)
+}
+
+/// The link into a position of a new ring.
+fn first_link(position: u16, positions: u64, start: u64) -> Link
+    requires position { position < positions }
+    requires most { positions ≤ MAX_PAGES }
+    requires start { start + positions < LINK_FILLS }
+    ensures { IsFirstLink positions start position (link_of result) }
+{
+    let fill = start + (position as u64 + positions - start % positions) % positions;
+    if fill == start {
+        header(position, fill)
+    } else {
+        normal(position, fill)
+    }
+}
+
+/// The pages of a new ring: each position has the page of its number.
+fn first_order(alloc: Global, pages: usize) -> Result<Vec<u16>, NoMemory>
+    requires { pages ≤ MAX_PAGES }
+    ensures { IfOk result (λ order. (length order.items ≡ pages) × AreFirstPages order.items) }
+{
+    let mut order = Vec::with_capacity(alloc, pages)?;
+    for page in 0..pages as u16 {
+        order.push_reserved(page);
+    }
+    Ok(order)
+}
+
+/// The pages at home in a new ring: all but that of the first fill, which the writer has, and the reader's.
+fn first_homes(
+    alloc: Global,
+    pages: usize,
+    size: usize,
+    tail: usize,
+) -> Result<Vec<Option<Page>>, NoMemory>
+    requires most { pages ≤ MAX_PAGES }
+    requires small { MIN_SIZE ≤ size }
+    requires large { size ≤ MAX_SIZE }
+    requires words { size % 4 ≡ 0 }
+    ensures { IfOk result (λ homes. (length homes.items ≡ pages + 1) × AreFirstHomes pages size tail homes.items) }
+{
+    let mut homes = Vec::with_capacity(alloc, pages + 1)?;
+    for page in 0..pages {
+        homes.push_reserved(first_home(alloc, page, size, tail)?);
+    }
+    homes.push_reserved(None);
+    Ok(homes)
+}
+
+/// What is at home under this number: an empty page, where it isn't the tail's.
+fn first_home(
+    alloc: Global,
+    page: usize,
+    size: usize,
+    tail: usize,
+) -> Result<Option<Page>, NoMemory>
+    requires small { MIN_SIZE ≤ size }
+    requires large { size ≤ MAX_SIZE }
+    requires words { size % 4 ≡ 0 }
+    ensures { IfOk result (λ home. page ≢ tail → IsFirstHome size home) }
+{
+    if page == tail {
+        return Ok(None);
+    }
+    let body = Body::new(alloc, size)?;
+    Ok(Some(Page::fresh(body, RecordNo(0), FillNo(0))))
+}
+
+ghost use Rattle.std.specs.Prelude.{◌≡◌, ◌≢◌, ◌+◌, ◌%◌, ◌≤◌, ◌<◌, length, IfOk};
+ghost use Rattle.trace_model.specs.declared.limits.TheConstants.{MAX_PAGES, MIN_SIZE, MAX_SIZE, LINK_FILLS};
+ghost use Rattle.link_marks.specs.ModelLinks.{link_of};
+ghost use Rattle.ring_core.specs.NewRing.{IsFirstLink, AreFirstLinks, AreFirstPages, IsFirstHome, AreFirstHomes};

@@ -1,0 +1,169 @@
+//! The steps of the reader.
+use crate::event::Answer;
+use crate::phase::{Reader, ReaderPhase};
+use crate::ring::Core;
+use crate::ring::links::{header, normal};
+use link_marks::Mark;
+use page_image::{Body, Page};
+use trace_model::{FillNo, RecordNo};
+
+impl Core {
+    ghost use Rattle.std.specs.Prelude.{◌≡◌, ℕ, ◌+◌, ◌-◌, ◌^◌, ◌<◌, ◌≤◌, length, Some, None, slice_get, slice_set};
+    ghost use Rattle.trace_model.specs.declared.limits.TheConstants.{LINK_FILLS};
+    ghost use Rattle.trace_model.specs.Steps as model;
+    ghost use Rattle.ring_core.specs.declared.phase.ReaderPhase.TheVariants.{LoadingLink, LoadingDone, StoringLink, Swapping};
+    ghost use Rattle.ring_core.specs.declared.event.Answer.TheVariants.{Taken};
+    ghost use Rattle.ring_core.specs.Answers.{GivesBack};
+    ghost use Rattle.ring_core.specs.Steps.{Makes, IsRing};
+    ghost use Rattle.ring_core.specs.Taking.{with_spare_home, with_head_taken};
+
+    /// The reader makes one step. It keeps the body only where it takes a page.
+    pub(crate) fn read(&mut self, body: Body) -> Answer
+        requires ring { IsRing self.old }
+        requires size { length body ≡ self.old.stack.size }
+        ensures step { Makes self.old model.reads result self.new }
+        ensures given_back { GivesBack body result }
+    {
+        match self.reader.phase {
+            ReaderPhase::LoadingLink => self.load_link(body),
+            ReaderPhase::LoadingDone { page, fill } => self.load_done(page, fill, body),
+            ReaderPhase::StoringLink { page, fill } => self.store_link(page, fill, body),
+            ReaderPhase::Swapping { page, fill } => self.swap(page, fill, body),
+        }
+    }
+
+    /// The reader goes on in this phase, with this hint.
+    fn reader_at(&mut self, phase: ReaderPhase, hint: u64)
+        ensures { self.new ≡ record self.old { reader = record self.old.reader { phase = phase; hint = hint } } }
+    {
+        self.reader = Reader {
+            phase,
+            hint,
+            ..self.reader
+        };
+    }
+
+    /// A load of the link into the position of the hint.
+    fn load_link(&mut self, body: Body) -> Answer
+        requires ring { IsRing self.old }
+        requires phase { self.old.reader.phase ≡ LoadingLink }
+        ensures step { Makes self.old model.reads result self.new }
+        ensures given_back { GivesBack body result }
+    {
+        let hint = self.reader.hint;
+        let link = self.link_into(hint);
+        let (page, fill) = (link.page, link.fill);
+        match link.mark {
+            Mark::Header => {
+                self.reader_at(ReaderPhase::LoadingDone { page, fill }, fill);
+                Answer::Looking(body)
+            }
+            Mark::Update => {
+                self.reader_at(ReaderPhase::LoadingLink, fill + 1);
+                Answer::Moving(FillNo(fill + 1), body)
+            }
+            Mark::Normal => {
+                if fill == hint {
+                    return Answer::Moving(FillNo(hint), body);
+                }
+                self.reader_at(ReaderPhase::LoadingLink, fill + 1 - self.positions());
+                Answer::Looking(body)
+            }
+        }
+    }
+
+    /// A load of the number of closed fills.
+    fn load_done(&mut self, page: u16, fill: u64, body: Body) -> Answer
+        requires ring { IsRing self.old }
+        requires phase { self.old.reader.phase ≡ LoadingDone page fill }
+        ensures step { Makes self.old model.reads result self.new }
+        ensures given_back { GivesBack body result }
+    {
+        let done = self.stack.done();
+        self.reader.seen = done;
+        if done <= fill {
+            self.reader.phase = ReaderPhase::LoadingLink;
+            return Answer::Empty(done, body);
+        }
+        self.reader.phase = ReaderPhase::StoringLink { page, fill };
+        Answer::Looking(body)
+    }
+
+    /// A store of the link of the reader's page: it will lead to the fill behind the one that is taken.
+    fn store_link(&mut self, page: u16, fill: u64, body: Body) -> Answer
+        requires ring { IsRing self.old }
+        requires phase { self.old.reader.phase ≡ StoringLink page fill }
+        ensures step { Makes self.old model.reads result self.new }
+        ensures given_back { GivesBack body result }
+    {
+        self.spare_link = header(self.page_at(fill + 1), fill + 1);
+        self.reader.phase = ReaderPhase::Swapping { page, fill };
+        Answer::Looking(body)
+    }
+
+    /// A compare and exchange of the link to the head from HEADER to NORMAL: the swap.
+    fn swap(&mut self, page: u16, fill: u64, body: Body) -> Answer
+        requires ring { IsRing self.old }
+        requires size { length body ≡ self.old.stack.size }
+        requires phase { self.old.reader.phase ≡ Swapping page fill }
+        ensures step { Makes self.old model.reads result self.new }
+        ensures given_back { GivesBack body result }
+    {
+        let behind = normal(self.spare, fill + self.positions());
+        if !self.exchange(fill, header(page, fill), behind) {
+            self.reader_at(ReaderPhase::LoadingLink, fill + 1);
+            return Answer::Looking(body);
+        }
+        match self.bring_home(page, body) {
+            Some(taken) => self.take(page, fill, taken),
+            None => unreachable!(),
+        }
+    }
+
+    /// The reader's page is at home with this body, and the head's page is let go.
+    fn bring_home(&mut self, page: u16, body: Body) -> Option<Page>
+        requires spare { self.old.spare < length self.old.homes }
+        requires page { page < length self.old.homes }
+        ensures homes { self.new ≡ record self.old {
+          homes = slice_set (with_spare_home self.old (length body)) page None;
+        } }
+        ensures page { slice_get (with_spare_home self.old (length body)) page ≡ Some result }
+    {
+        self.homes[self.spare as usize] = Some(Page::fresh(body, RecordNo(0), FillNo(0)));
+        self.homes[page as usize].take()
+    }
+
+    /// The head, which is on this page as this fill, is the reader's, whose own page stands in its place.
+    fn take(&mut self, page: u16, fill: u64, taken: Page) -> Answer
+        requires next { fill + 1 < LINK_FILLS }
+        requires expected { self.old.reader.expected ≤ taken.first }
+        requires numbers { taken.first + taken.count < 2 ^ 64 }
+        ensures taken { result ≡ Taken taken (taken.first - self.old.reader.expected) }
+        ensures swapped { self.new ≡ with_head_taken self.old page fill (taken.first + taken.count) }
+    {
+        let position = self.position(fill);
+        let next = self.link_into(fill + 1);
+        self.set_link(fill + 1, self.spare_link);
+        self.order[position] = self.spare;
+        self.spare_link = next;
+        self.spare = page;
+        let first = taken.first().0;
+        let missed = first - self.reader.expected;
+        self.reader = Reader {
+            phase: ReaderPhase::LoadingLink,
+            hint: fill + 1,
+            seen: self.reader.seen,
+            expected: first + taken.count(),
+        };
+        Answer::Taken(taken, missed)
+    }
+
+    /// The reader wishes for the fill behind those that it knows to be closed.
+    pub(crate) fn make_wish(&mut self) -> Answer
+        requires ring { IsRing self.old }
+        ensures step { Makes self.old model.wishes result self.new }
+    {
+        self.wish = self.reader.seen + 1;
+        Answer::Wished(FillNo(self.reader.seen))
+    }
+}

@@ -1,0 +1,69 @@
+//! One event of a ring.
+use crate::event::{Answer, Event};
+use crate::phase::Phase;
+use crate::ring::Core;
+use nested_writer::WriteFault;
+
+impl Core {
+    ghost use Rattle.trace_model.specs.Steps as model;
+    ghost use Rattle.std.specs.Prelude.{◌≡◌};
+    ghost use Rattle.ring_core.specs.Answers.{event_of, IsWhole};
+    ghost use Rattle.ring_core.specs.Steps.{Makes, IsRing, HasItsSize, GivesBodyBack};
+
+    /// One event, which is one step of the ring's model: its answer tells the model's, and the ring is in the state
+    /// behind it. The body of a `Read` comes back with every answer but `Taken`.
+    pub fn step(&mut self, event: Event) -> Answer
+        requires ring { IsRing self.old }
+        requires size { HasItsSize self.old event }
+        ensures step { Makes self.old (event_of self.old event) result self.new }
+        ensures given_back { GivesBodyBack event result }
+        ensures ring { IsRing self.new }
+        ensures size { self.new.stack.size ≡ self.old.stack.size }
+        ensures page { IsWhole self.old.stack.size result }
+    {
+        self.obey(event)
+    }
+
+    /// Hands the event to the function of its kind.
+    fn obey(&mut self, event: Event) -> Answer
+        requires ring { IsRing self.old }
+        requires size { HasItsSize self.old event }
+        ensures step { Makes self.old (event_of self.old event) result self.new }
+        ensures given_back { GivesBodyBack event result }
+    {
+        match event {
+            Event::Push { moment, len } => self.push(moment, len),
+            Event::PushClose => self.push_close(),
+            Event::Step => self.step_top(),
+            Event::End => self.end(),
+            Event::Read(body) => self.read(body),
+            Event::Wish => self.make_wish(),
+        }
+    }
+
+    /// One step of the frame on top, in its phase.
+    fn step_top(&mut self) -> Answer
+        requires ring { IsRing self.old }
+        ensures { Makes self.old model.steps result self.new }
+    {
+        if self.depth() == 0 {
+            return Answer::Refused(WriteFault::NoFrame);
+        }
+        match self.phase {
+            Phase::Idle => self.reserve(),
+            Phase::Looking { noted } => self.look(noted),
+            Phase::Claiming { noted, page } => self.claim(noted, page),
+            Phase::LookingNext { role, noted, page } => self.look_next(role, noted, page),
+            Phase::Marking {
+                role,
+                noted,
+                page,
+                next,
+            } => self.mark(role, noted, page, next),
+            Phase::Clearing { noted, page } => self.clear(noted, page),
+            Phase::Opening { noted, page } => self.open(noted, page),
+            Phase::Releasing => self.release(),
+            Phase::Wishing => self.load_wish(),
+        }
+    }
+}

@@ -1,0 +1,37 @@
+//! The payload of the frame on top, lent to be written.
+use crate::ring::Core;
+use nested_writer::WriteFault;
+use nested_writer::frame::Slot;
+
+impl Core {
+    ghost use Rattle.std.specs.Prelude.{◌≡◌, ◌↔◌, ℕ, List, [], length, IfOk};
+    ghost use Rattle.std.specs.Borrow.{sem};
+    ghost use Rattle.nested_writer.specs.Calls.{LacksSlot, IsTopSlot};
+    ghost use Rattle.ring_core.specs.Answers.{top_bytes};
+    ghost use Rattle.ring_core.specs.Lending.{LendsSlot, StaysRing, with_slot_payload};
+    ghost use Rattle.ring_core.specs.Steps.{IsRing};
+
+    /// Where the record of the frame on top stands. Refused with `NoFrame` where none stands, and with `NotReserved`
+    /// where the one on top has no record.
+    pub fn top_slot(&self) -> Result<Slot, WriteFault>
+        ensures no_frame { result ≡ Err WriteFault.NoFrame ↔ self.now.stack.frames ≡ [] }
+        ensures not_reserved { result ≡ Err WriteFault.NotReserved ↔ LacksSlot self.now.stack.frames }
+        ensures slot { IfOk result (λ slot. IsTopSlot self.now.stack.frames slot) }
+    {
+        self.stack.top_slot()
+    }
+
+    /// The payload in the slot of the frame on top, to be written. All else stays as it is, and the ring is in the same
+    /// state whatever is written.
+    pub fn payload_mut(&mut self, slot: Slot) -> &mut [u8]
+        requires ring { IsRing self.old }
+        requires slot { IsTopSlot self.old.stack.frames slot }
+        ensures* lends { sem 𝓛 (LendsSlot self.entry slot result) }
+        ensures payload { result.now ≡ top_bytes self.old.stack self.old.stack.frames }
+        ensures len { length result.now ≡ slot.place.len }
+        ensures stays { StaysRing self.old }
+        ensures ring { (part : List ℕ) → length part ≡ slot.place.len → IsRing (with_slot_payload self.old slot part) }
+    {
+        self.stack.payload_mut(slot)
+    }
+}
