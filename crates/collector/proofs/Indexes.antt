@@ -1,0 +1,126 @@
+-- What an index tells where its ranges grow, and where those of one CPU change.
+use Rattle.std.proofs.Common.{◌≡◌, ◌≢◌, ℕ, ◌<◌, ◌≤◌, ◌↔◌, ◌⊎◌, ⊎_elim, List, [], ◌∷◌, ◌++◌, length, Option, Some, None, sym, ap, ◌∙◌, subst}
+use Rattle.std.specs.Option.{IfNone}
+use Rattle.std.proofs.Math.ListN.{set}
+use Rattle.std.proofs.lemmas.Option.{none-some}
+use Rattle.std.specs.List.{slice_get}
+use Rattle.trace_model.proofs.Elements.{some_is, get_in_front}
+use Rattle.collector.specs.declared.ranges.Content.{Content}
+use Rattle.collector.specs.declared.ranges.Content.TheVariants.{Kept, Missing}
+use Rattle.collector.specs.declared.ranges.Ranges.{Ranges}
+use Rattle.collector.specs.declared.index.Index.{Index}
+use Rattle.collector.specs.Ranges.{Tells, TellSame, AreApart, IsLaid}
+use Rattle.collector.specs.Index.{TellsOf, AreAllApart, TellSameOf}
+use Rattle.collector.proofs.Places.{get_pushed, get_set_here, get_set_other}
+
+-- ---- one CPU's ranges
+
+pub tells_of : (index : Index) (cpu n : ℕ) (content : Content) (ranges : Ranges)
+    → slice_get index.cpus.items cpu ≡ Some ranges → TellsOf index cpu n content → Tells ranges n content
+tells_of index cpu n content ranges at t = let there = t.at in
+    subst (λ (x : Ranges). Tells x n content) (let e : t.ranges ≡ ranges = some_is t.ranges ranges (sym there ∙ at) in e) t.tells
+
+-- of a CPU behind the last one nothing is told
+pub tells_none : (index : Index) (cpu n : ℕ) (content : Content) → slice_get index.cpus.items cpu ≡ None → TellsOf index cpu n content → ⊥
+tells_none index cpu n content none t = none-some t.ranges (sym none ∙ t.at)
+
+pub untold_of : (index : Index) (cpu number end : ℕ) (ranges : Ranges) (o : Option Content) → slice_get index.cpus.items cpu ≡ Some ranges
+    → IfNone o ((n : ℕ) (content : Content) → number ≤ n → n < end → Tells ranges n content → ⊥)
+    → IfNone o ((n : ℕ) (content : Content) → number ≤ n → n < end → TellsOf index cpu n content → ⊥)
+untold_of index cpu number end ranges None at untold = λ n content from below t. untold n content from below (tells_of index cpu n content ranges at t)
+untold_of index cpu number end ranges (Some content) at untold = untold
+
+pub untold_here_of : (index : Index) (cpu number : ℕ) (ranges : Ranges) (o : Option Content) → slice_get index.cpus.items cpu ≡ Some ranges
+    → IfNone o ((content : Content) → Tells ranges number content → ⊥)
+    → IfNone o ((content : Content) → TellsOf index cpu number content → ⊥)
+untold_here_of index cpu number ranges None at untold = λ content t. untold content (tells_of index cpu number content ranges at t)
+untold_here_of index cpu number ranges (Some content) at untold = untold
+
+-- ---- ranges put behind
+
+module _ (old new : Index) (ranges : Ranges) (items_are : new.cpus.items ≡ old.cpus.items ++ ranges ∷ [])
+    (untold : (n : ℕ) (content : Content) → Tells ranges n content → ⊥) where
+  came : (cpu : ℕ) (x : Ranges) → slice_get new.cpus.items cpu ≡ Some x → (slice_get old.cpus.items cpu ≡ Some x) ⊎ ((cpu ≡ length old.cpus.items) × (x ≡ ranges))
+  came cpu x at = get_pushed old.cpus.items ranges cpu x (ap (λ (xs : List Ranges). slice_get xs cpu) (sym items_are) ∙ at)
+
+  pub pushed_same : (cpu : ℕ) → TellSameOf old new cpu
+  pushed_same cpu n content = (
+    (λ t. record { ranges = t.ranges; at = ap (λ (xs : List Ranges). slice_get xs cpu) items_are ∙ get_in_front old.cpus.items (ranges ∷ []) cpu t.ranges t.at; tells = t.tells }),
+    (λ t. ⊎_elim
+        (λ (there : slice_get old.cpus.items cpu ≡ Some t.ranges). record { ranges = t.ranges; at = there; tells = t.tells })
+        (λ (p : (cpu ≡ length old.cpus.items) × (t.ranges ≡ ranges)). absurd (untold n content (subst (λ (x : Ranges). Tells x n content) p.1 t.tells)))
+        (came cpu t.ranges t.at)),
+  )
+
+  pub pushed_apart : AreApart ranges → AreAllApart old → AreAllApart new
+  pushed_apart apart all cpu x at = ⊎_elim
+      (λ (there : slice_get old.cpus.items cpu ≡ Some x). all cpu x there)
+      (λ (p : (cpu ≡ length old.cpus.items) × (x ≡ ranges)). subst AreApart (sym p.1) apart)
+      (came cpu x at)
+
+pub same_same : (old mid new : Index) (cpu : ℕ) → TellSameOf old mid cpu → TellSameOf mid new cpu → TellSameOf old new cpu
+same_same old mid new cpu a b n content =
+    ((λ t. (b n content).0 ((a n content).0 t)), (λ t. (a n content).1 ((b n content).1 t)))
+
+-- ---- the ranges of one CPU changed
+
+module _ (old new : Index) (cpu : ℕ) (before after : Ranges) (at : slice_get old.cpus.items cpu ≡ Some before)
+    (within : cpu < length old.cpus.items) (items_are : new.cpus.items ≡ set old.cpus.items cpu after) where
+  here : slice_get new.cpus.items cpu ≡ Some after
+  here = ap (λ (xs : List Ranges). slice_get xs cpu) items_are ∙ get_set_here old.cpus.items cpu after within
+
+  other : (q : ℕ) → q ≢ cpu → slice_get new.cpus.items q ≡ slice_get old.cpus.items q
+  other q apart = ap (λ (xs : List Ranges). slice_get xs q) items_are ∙ get_set_other old.cpus.items cpu q after apart
+
+  was : (n : ℕ) (content : Content) → (TellsOf old cpu n content ↔ Tells before n content)
+  was n content = (tells_of old cpu n content before at, λ t. record { ranges = before; at = at; tells = t })
+
+  is : (n : ℕ) (content : Content) → (TellsOf new cpu n content ↔ Tells after n content)
+  is n content = (tells_of new cpu n content after here, λ t. record { ranges = after; at = here; tells = t })
+
+  pub others_same : (q : ℕ) → q ≢ cpu → TellSameOf old new q
+  others_same q apart n content = (
+    (λ t. record { ranges = t.ranges; at = other q apart ∙ t.at; tells = t.tells }),
+    (λ t. record { ranges = t.ranges; at = sym (other q apart) ∙ t.at; tells = t.tells }),
+  )
+
+  pub here_same : TellSame before after → TellSameOf old new cpu
+  here_same same n content = (
+    (λ t. (is n content).1 ((same n content).0 ((was n content).0 t))),
+    (λ t. (was n content).1 ((same n content).1 ((is n content).0 t))),
+  )
+
+  pub here_laid : (low first end parcel : ℕ) → IsLaid (Tells before) (Tells after) low first end parcel
+      → IsLaid (TellsOf old cpu) (TellsOf new cpu) low first end parcel
+  here_laid low first end parcel laid = record {
+    missing = λ n from below. (is n Missing).1 (laid.missing n from below);
+    missing_alone = λ n content from below t. laid.missing_alone n content from below ((is n content).0 t);
+    kept = λ n from below. (is n (Kept parcel)).1 (laid.kept n from below);
+    kept_alone = λ n content from below t. laid.kept_alone n content from below ((is n content).0 t);
+    in_front = λ n content lt. (
+      (λ t. (is n content).1 ((laid.in_front n content lt).0 ((was n content).0 t))),
+      (λ t. (was n content).1 ((laid.in_front n content lt).1 ((is n content).0 t))),
+    );
+    behind = λ n content ge. (
+      (λ t. (is n content).1 ((laid.behind n content ge).0 ((was n content).0 t))),
+      (λ t. (was n content).1 ((laid.behind n content ge).1 ((is n content).0 t))),
+    );
+  }
+
+-- behind what tells the same
+pub laid_behind : (old mid new : Index) (cpu low first end parcel : ℕ) → TellSameOf old mid cpu
+    → IsLaid (TellsOf mid cpu) (TellsOf new cpu) low first end parcel → IsLaid (TellsOf old cpu) (TellsOf new cpu) low first end parcel
+laid_behind old mid new cpu low first end parcel same laid = record {
+  missing = laid.missing;
+  missing_alone = laid.missing_alone;
+  kept = laid.kept;
+  kept_alone = laid.kept_alone;
+  in_front = λ n content lt. (
+    (λ t. (laid.in_front n content lt).0 ((same n content).0 t)),
+    (λ t. (same n content).1 ((laid.in_front n content lt).1 t)),
+  );
+  behind = λ n content ge. (
+    (λ t. (laid.behind n content ge).0 ((same n content).0 t)),
+    (λ t. (same n content).1 ((laid.behind n content ge).1 t)),
+  );
+}

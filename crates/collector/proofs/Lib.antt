@@ -1,0 +1,14 @@
+pub mod Places
+pub mod RunLists
+pub mod Stretches
+pub mod RunsLeft
+pub mod Lists
+pub mod RecordsLeft
+pub mod Spans
+pub mod Indexes
+pub mod Indexing
+pub mod Records
+pub mod Adding
+pub mod Looking
+pub mod SideBySide
+pub mod Merging

@@ -1,0 +1,98 @@
+-- A collector that is made parcel by parcel: what it has, and which parcels it keeps.
+use Rattle.std.proofs.Common.{◌≡◌, inl, inr, ℕ, ◌+◌, ◌<◌, ◌≤◌, ◌↔◌, Bool, true, false, MatchBool, List, [], ◌∷◌, ◌++◌, length, take, get_or, Some, append_assoc, refl, sym, ap, ◌∙◌, subst}
+use Rattle.std.specs.List.{slice_get}
+use Rattle.std.proofs.lemmas.List.{take_more, take_all}
+use Rattle.trace_model.specs.Parcel.{Parcel}
+use Rattle.trace_model.specs.Collection.{Agree, IsBelow, IsSame, IsLeastUpperBound}
+use Rattle.trace_model.proofs.Joined.{joined_left, joined_right, joined_below, below_agrees}
+use Rattle.trace_model.proofs.Collections.{below_below, same_itself, same_same, same_joined}
+use Rattle.collector.specs.declared.fault.AddFault.{AddFault}
+use Rattle.collector.specs.declared.fault.AddFault.TheVariants.{Clash, TakenAndMissing, NoMemory}
+use Rattle.collector.specs.declared.added.Added.{Added}
+use Rattle.collector.specs.declared.added.Added.TheVariants.{New, Known}
+use Rattle.collector.specs.Faults.{IsAddFault}
+use Rattle.collector.specs.Merged.{IsKeptBehind, IsMerged}
+use Rattle.collector.proofs.Places.{get_taken}
+use Rattle.collector.proofs.Adding.{own_has, own_misses}
+
+-- ---- some of the parcels
+
+pub taken_below : (ps : List Parcel) (k : ℕ) → IsBelow (take k ps) ps
+taken_below ps k = record {
+  has = λ cpu n r h. record { index = h.index; parcel = h.parcel; at = get_taken ps k h.index h.parcel h.at; pair = h.pair };
+  misses = λ cpu n m. record { index = m.index; parcel = m.parcel; at = get_taken ps k m.index m.parcel m.at; missing = m.missing };
+}
+
+pub one_below : (ps : List Parcel) (k : ℕ) (p : Parcel) → slice_get ps k ≡ Some p → IsBelow (p ∷ []) ps
+one_below ps k p at = record {
+  has = λ cpu n r h. record { index = k; parcel = p; at = at; pair = own_has p cpu n r h };
+  misses = λ cpu n m. record { index = k; parcel = p; at = at; missing = own_misses p cpu n m };
+}
+
+pub copy_agrees : (ps copy : List Parcel) (k : ℕ) (p : Parcel) → Agree ps → copy ≡ take k ps → slice_get ps k ≡ Some p → Agree (copy ++ p ∷ [])
+copy_agrees ps copy k p agree is at = below_agrees (copy ++ p ∷ []) ps
+    (joined_below copy (p ∷ []) ps (subst (λ (qs : List Parcel). IsBelow qs ps) (sym is) (taken_below ps k)) (one_below ps k p at)) agree
+
+-- ---- one more of the other's
+
+pub next_agrees : (ps qs joined : List Parcel) (k : ℕ) (q : Parcel) → Agree (ps ++ qs) → IsSame joined (ps ++ take k qs)
+    → slice_get qs k ≡ Some q → Agree (joined ++ q ∷ [])
+next_agrees ps qs joined k q agree same at = below_agrees (joined ++ q ∷ []) (ps ++ qs)
+    (joined_below joined (q ∷ []) (ps ++ qs)
+    (below_below joined (ps ++ take k qs) (ps ++ qs) same.below
+    (joined_below ps (take k qs) (ps ++ qs) (joined_left ps qs) (below_below (take k qs) qs (ps ++ qs) (taken_below qs k) (joined_right ps qs))))
+    (below_below (q ∷ []) qs (ps ++ qs) (one_below qs k q at) (joined_right ps qs)))
+    agree
+
+-- parcels that agree have no fault but refused memory
+pub agree_fault : (ps qs : List Parcel) (f : AddFault) → Agree ps → Agree qs → IsAddFault ps f → IsAddFault qs f
+agree_fault ps qs (Clash cpu number) agree others_agree (clash, front) =
+    absurd (clash.differ (agree.one_record cpu.0 number.0 clash.one clash.other clash.has clash.has_other))
+agree_fault ps qs (TakenAndMissing cpu number) agree others_agree (both, front) =
+    absurd (agree.not_missing cpu.0 number.0 both.one both.has both.misses)
+agree_fault ps qs NoMemory agree others_agree is = others_agree
+
+pub next_same : (ps qs joined new : List Parcel) (k : ℕ) (q : Parcel) → k < length qs → q ≡ get_or qs k q → IsSame joined (ps ++ take k qs)
+    → IsSame new (joined ++ q ∷ []) → IsSame new (ps ++ take (k + 1) qs)
+next_same ps qs joined new k q within is same union =
+    let more : (ps ++ take k qs) ++ q ∷ [] ≡ ps ++ take (k + 1) qs =
+    append_assoc ps (take k qs) (q ∷ []) ∙ ap (λ (xs : List Parcel). ps ++ xs) (ap (λ (x : Parcel). take k qs ++ x ∷ []) is ∙ sym (take_more qs k q within)) in
+    same_same new (joined ++ q ∷ []) (ps ++ take (k + 1) qs) union
+    (subst (IsSame (joined ++ q ∷ [])) more (same_joined joined (q ∷ []) (ps ++ take k qs) (q ∷ []) same (same_itself (q ∷ []))))
+
+pub kept_behind : (joined new : List Parcel) (q : Parcel) (a : Added) → (a ≡ New → new ≡ joined ++ q ∷ []) → (a ≡ Known → new ≡ joined)
+    → ((a ≡ Known) ↔ IsBelow (q ∷ []) joined) → IsKeptBehind joined q new
+kept_behind joined new q New is_new is_known known = inr ((λ below. let e = known.1 below in cc), is_new refl)
+kept_behind joined new q Known is_new is_known known = inl (known.0 refl, is_known refl)
+
+merged_more : (old xs mid new : List Parcel) (q : Parcel) → IsMerged old xs mid → IsKeptBehind mid q new → IsMerged old (xs ++ q ∷ []) new
+merged_more old [] mid new q merged kept = (new, subst (λ (ps : List Parcel). IsKeptBehind ps q new) merged kept, refl)
+merged_more old (x ∷ xs) mid new q merged kept = (merged.0, merged.1, merged_more merged.0 xs mid new q merged.2 kept)
+
+pub next_merged : (old qs mid new : List Parcel) (k : ℕ) (q : Parcel) → k < length qs → q ≡ get_or qs k q → IsMerged old (take k qs) mid
+    → IsKeptBehind mid q new → IsMerged old (take (k + 1) qs) new
+next_merged old qs mid new k q within is merged kept =
+    subst (λ (xs : List Parcel). IsMerged old xs new) (ap (λ (x : Parcel). take k qs ++ x ∷ []) is ∙ sym (take_more qs k q within))
+    (merged_more old (take k qs) mid new q merged kept)
+
+-- ---- all of them
+
+pub same_least : (ps qs joined : List Parcel) (k : ℕ) → length qs ≤ k → Agree (ps ++ qs) → IsSame joined (ps ++ take k qs) → IsLeastUpperBound ps qs joined
+same_least ps qs joined k all agree partly =
+    let same : IsSame joined (ps ++ qs) = subst (λ (xs : List Parcel). IsSame joined (ps ++ xs)) (take_all k qs all) partly in
+    record {
+      agree = below_agrees joined (ps ++ qs) same.below agree;
+      left = below_below ps (ps ++ qs) joined (joined_left ps qs) same.above;
+      right = below_below qs (ps ++ qs) joined (joined_right ps qs) same.above;
+      least = λ above a b. below_below joined (ps ++ qs) above same.below (joined_below ps qs above a b);
+    }
+
+-- ---- what a test says
+
+pub when_true : (b : Bool) (X Y : Type 0) → b ≡ true → MatchBool b X Y → X
+when_true true X Y e h = h
+when_true false X Y e h = cc
+
+pub when_false : (b : Bool) (X Y : Type 0) → b ≡ false → MatchBool b X Y → Y
+when_false true X Y e h = cc
+when_false false X Y e h = h

@@ -1,0 +1,149 @@
+-- What a change of one range does to what is told.
+use Rattle.std.proofs.Common.{◌≡◌, ⊎_elim, ℕ, ◌<◌, ◌≤◌, ◌↔◌, false, List, [], ◌∷◌, ◌++◌, Option, Some, None, IsSome, is_some, refl, sym, ap, ◌∙◌, subst, rules, arith}
+use Rattle.std.specs.Ordering.{nat_cmp, is_eq}
+use Rattle.std.specs.Cmp.{nat_cmp_is}
+use Rattle.std.specs.declared.cmp.Ordering.TheVariants.{Less, Greater}
+use Rattle.std.specs.BTreeMap.{BTreeMap, get, is_at, Updates}
+use Rattle.std.specs.Map.{lookup}
+use Rattle.std.specs.BTreeMap.Range.{IsRangeOf}
+use Rattle.std.specs.declared.ops.Bound.TheVariants.{Included, Unbounded}
+use Rattle.std.proofs.lemmas.Bool.{cases_lt, cases_eq}
+use Rattle.std.proofs.lemmas.Map.Keys.{ge_from_not_lt}
+use Rattle.collector.specs.declared.ranges.Content.{Content}
+use Rattle.collector.specs.declared.ranges.Span.{Span}
+use Rattle.collector.specs.declared.ranges.Ranges.{Ranges}
+use Rattle.collector.specs.declared.ranges.Content.TheVariants.{Kept, Missing}
+use Rattle.collector.specs.Ranges.{Tells, TellSame, KeepsEdges, IsLaid}
+
+-- ---- one key
+
+none_unless : {X : Type 0} (o : Option X) → (IsSome o → ⊥) → o ≡ None
+none_unless None h = refl
+none_unless (Some x) h = absurd (h refl)
+
+-- behind the last key up to a number there is none up to it
+pub none_behind_last : {X : Type 0} (m : BTreeMap ℕ X) (number : ℕ) (r t : List (ℕ × X)) (first : ℕ) (x : X)
+    → IsRangeOf nat_cmp Unbounded (Included number) m r → r ≡ t ++ (first, x) ∷ []
+    → (q : ℕ) → first < q → q ≤ number → get nat_cmp m q ≡ None
+none_behind_last m number r t first x range e q behind up_to =
+    none_unless (get nat_cmp m q) (λ some.
+    let le = ge_from_not_lt first q (range.4 (first, x) t e q (tt, search rules) some) in omega arith)
+
+not_at : (k q : ℕ) → (q ≡ k → ⊥) → is_eq (nat_cmp k q) ≡ false
+not_at k q apart = ⊎_elim
+    (λ (lt : k < q). ap is_eq (sym (nat_cmp_is k q Less lt)))
+    (λ (ge : q ≤ k). ⊎_elim (λ (lt : q < k). ap is_eq (sym (nat_cmp_is k q Greater lt))) (λ (le : k ≤ q). absurd (apart (omega arith))) (cases_lt q k))
+    (cases_lt k q)
+
+-- a write at one key leaves the others
+pub others_stay : {X : Type 0} (old new : BTreeMap ℕ X) (k : ℕ) (w : Option X) → Updates nat_cmp old new k w
+    → (q : ℕ) → (q ≡ k → ⊥) → get nat_cmp new q ≡ get nat_cmp old q
+others_stay old new k w updates q apart = updates.2 q (not_at k q apart)
+
+-- ---- a range cut in two
+
+module _ (old mid new : BTreeMap ℕ Span) (first place : ℕ) (span front : Span)
+    (at : get nat_cmp old first ≡ Some span) (before : first < place) (over : place < span.end)
+    (none : (q : ℕ) → first < q → q ≤ place → get nat_cmp old q ≡ None)
+    (end_is : front.end ≡ place) (content_is : front.content ≡ span.content)
+    (behind_set : Updates nat_cmp old mid place (Some span)) (front_set : Updates nat_cmp mid new first (Some front)) where
+  behind_is : get nat_cmp new place ≡ Some span
+  behind_is = others_stay mid new first (Some front) front_set place (λ e. omega arith) ∙ behind_set.1
+
+  others_are : (q : ℕ) → (q ≡ first → ⊥) → (q ≡ place → ⊥) → get nat_cmp new q ≡ get nat_cmp old q
+  others_are q not_first not_place = others_stay mid new first (Some front) front_set q not_first
+      ∙ others_stay old mid place (Some span) behind_set q not_place
+
+  old_told : (number : ℕ) (content : Content) → Tells record { spans = old } number content → Tells record { spans = new } number content
+  old_told number content t = ⊎_elim
+      (λ (e : t.first ≡ first).
+      let same : t.span ≡ span = let a = t.at in let b = subst (λ (q : ℕ). get nat_cmp old q ≡ Some t.span) e t.at in cc in
+      let below : number < span.end = subst (λ (s : Span). number < s.end) same t.below in
+      let is : span.content ≡ content = ap (λ (s : Span). s.content) (sym same) ∙ t.content_is in
+      let from : first ≤ number = subst (λ (q : ℕ). q ≤ number) e t.from in
+      ⊎_elim
+      (λ (lt : number < place). record { first = first; span = front; at = front_set.1; from = from; below = omega arith; content_is = content_is ∙ is })
+      (λ (ge : place ≤ number). record { first = place; span = span; at = behind_is; from = ge; below = below; content_is = is })
+      (cases_lt number place))
+      (λ (apart : t.first ≡ first → ⊥).
+      let not_place : t.first ≡ place → ⊥ = λ e. let n = none place before (omega arith) in let b = subst (λ (q : ℕ). get nat_cmp old q ≡ Some t.span) e t.at in cc in
+      record { first = t.first; span = t.span; at = others_are t.first apart not_place ∙ t.at; from = t.from; below = t.below; content_is = t.content_is })
+      (cases_eq t.first first)
+
+  new_told : (number : ℕ) (content : Content) → Tells record { spans = new } number content → Tells record { spans = old } number content
+  new_told number content t = ⊎_elim
+      (λ (e : t.first ≡ first).
+      let same : t.span ≡ front = let b = subst (λ (q : ℕ). get nat_cmp new q ≡ Some t.span) e t.at in let h = front_set.1 in cc in
+      let below : number < front.end = subst (λ (s : Span). number < s.end) same t.below in
+      let is : front.content ≡ content = ap (λ (s : Span). s.content) (sym same) ∙ t.content_is in
+      record { first = first; span = span; at = at; from = subst (λ (q : ℕ). q ≤ number) e t.from; below = omega arith; content_is = sym content_is ∙ is })
+      (λ (apart : t.first ≡ first → ⊥). ⊎_elim
+      (λ (e : t.first ≡ place).
+      let same : t.span ≡ span = let b = subst (λ (q : ℕ). get nat_cmp new q ≡ Some t.span) e t.at in let h = behind_is in cc in
+      let from : place ≤ number = subst (λ (q : ℕ). q ≤ number) e t.from in
+      record { first = first; span = span; at = at; from = omega arith; below = subst (λ (s : Span). number < s.end) same t.below; content_is = ap (λ (s : Span). s.content) (sym same) ∙ t.content_is })
+      (λ (not_place : t.first ≡ place → ⊥).
+      record { first = t.first; span = t.span; at = sym (others_are t.first apart not_place) ∙ t.at; from = t.from; below = t.below; content_is = t.content_is })
+      (cases_eq t.first place))
+      (cases_eq t.first first)
+
+  pub cut_tells_same : TellSame record { spans = old } record { spans = new }
+  cut_tells_same number content = (old_told number content, new_told number content)
+
+-- ---- a mark
+
+-- a refused write leaves the edges
+pub edges_unchanged : (ranges : Ranges) (mid new : BTreeMap ℕ Span) → new.entries ≡ mid.entries
+    → KeepsEdges ranges record { spans = mid } → KeepsEdges ranges record { spans = new }
+edges_unchanged ranges mid new e keeps = record {
+  marks = λ place marked. ap (λ es. is_some (lookup (is_at (nat_cmp place)) es)) e ∙ keeps.marks place marked;
+  cuts = λ place cut first span at. keeps.cuts place cut first span (ap (λ es. lookup (is_at (nat_cmp first)) es) (sym e) ∙ at);
+}
+
+-- a range without a number, where there was none, leaves them
+pub edges_marked : (ranges : Ranges) (mid new : BTreeMap ℕ Span) (place : ℕ) (empty : Span) → empty.end ≡ place
+    → Updates nat_cmp mid new place (Some empty)
+    → KeepsEdges ranges record { spans = mid } → KeepsEdges ranges record { spans = new }
+edges_marked ranges mid new place empty end_is set keeps = record {
+  marks = λ q marked. ⊎_elim
+      (λ (e : q ≡ place). ap is_some (ap (λ (k : ℕ). get nat_cmp new k) e ∙ set.1))
+      (λ (apart : q ≡ place → ⊥). ap is_some (others_stay mid new place (Some empty) set q apart) ∙ keeps.marks q marked)
+      (cases_eq q place);
+  cuts = λ q cut first span at lt. ⊎_elim
+      (λ (e : first ≡ place).
+      let same : span ≡ empty = let b = subst (λ (k : ℕ). get nat_cmp new k ≡ Some span) e at in let h = set.1 in cc in
+      let is = ap (λ (s : Span). s.end) same in
+      omega arith)
+      (λ (apart : first ≡ place → ⊥). keeps.cuts q cut first span (sym (others_stay mid new place (Some empty) set first apart) ∙ at) lt)
+      (cases_eq first place);
+}
+
+-- ---- a parcel laid
+
+pub tell_same : (old mid new : Ranges) → TellSame old mid → TellSame mid new → TellSame old new
+tell_same old mid new a b number content =
+    ((λ t. (b number content).0 ((a number content).0 t)), (λ t. (a number content).1 ((b number content).1 t)))
+
+-- what a set has set
+pub record IsSet (old new : Ranges) (first end : ℕ) (content : Content) : Type 0 where
+  pub inside : (n : ℕ) → first ≤ n → n < end → Tells new n content
+  pub alone : (n : ℕ) (other : Content) → first ≤ n → n < end → Tells new n other → other ≡ content
+  pub in_front : (n : ℕ) (other : Content) → n < first → (Tells old n other ↔ Tells new n other)
+  pub behind : (n : ℕ) (other : Content) → end ≤ n → (Tells old n other ↔ Tells new n other)
+
+pub both_laid : (old ready mid new : Ranges) (low first end parcel : ℕ) → low ≤ first → first ≤ end → TellSame old ready
+    → IsSet ready mid low first Missing → IsSet mid new first end (Kept parcel) → IsLaid (Tells old) (Tells new) low first end parcel
+both_laid old ready mid new low first end parcel up on same a b = record {
+  missing = λ n from below. (b.in_front n Missing below).0 (a.inside n from below);
+  missing_alone = λ n content from below t. a.alone n content from below ((b.in_front n content below).1 t);
+  kept = b.inside;
+  kept_alone = b.alone;
+  in_front = λ n content lt. tell_same_at n content
+      (tell_same_at n content (same n content) (a.in_front n content lt)) (b.in_front n content (omega arith));
+  behind = λ n content ge. tell_same_at n content
+      (tell_same_at n content (same n content) (a.behind n content (omega arith))) (b.behind n content ge);
+}
+  where
+    tell_same_at : (n : ℕ) (content : Content) {x y z : Ranges} → (Tells x n content ↔ Tells y n content)
+        → (Tells y n content ↔ Tells z n content) → (Tells x n content ↔ Tells z n content)
+    tell_same_at n content f g = ((λ t. g.0 (f.0 t)), (λ t. f.1 (g.1 t)))

@@ -1,0 +1,90 @@
+use Rattle.std.proofs.Common.{◌≡◌, ⊎_elim, ℕ, ◌<◌, ◌≤◌, List, length, get_or, Some, refl, ap, ◌∙◌, subst, arith}
+use Rattle.std.specs.List.{slice_get}
+use Rattle.std.proofs.lemmas.Bool.{cases_lt}
+use Rattle.std.proofs.lemmas.Option.{slice_get_read}
+use Rattle.trace_model.specs.Parcel.{Parcel}
+use Rattle.collector.specs.declared.beside.Beside.TheVariants.{Records}
+use Rattle.collector.specs.Beside.{IsBeside}
+use Rattle.collector.proofs.Looking.{in_within}
+use Rattle.collector.proofs.SideBySide.{records_clash, records_fit, odds_taken, alike_fit, one_fit, front_fits}
+use Rattle.collector.proofs.collector.Collector.look_at_cpu.Goals as goal
+
+pub returns-in-Some-clause-fault : goal.returns-in-Some-clause-fault
+returns-in-Some-clause-fault c =
+    let ps = c.args.self.now in
+    let qs = c.args.other.now in
+    let cpu = c.args.cpu.0 in
+    let at = c.loop-at.at in
+    let both = c.beside-both in
+    let i = c.in-Records.here in
+    let j = c.in-Records.there in
+    let p = c.index-kept-here.result in
+    let q = c.index-others-there.result in
+    let shown : (m : ℕ) → at ≤ m → m < both.result.end → IsBeside ps qs cpu m (Records i j) = λ m a b. subst (IsBeside ps qs cpu m) c.in-Records.is (both.ensures.shown m a b) in
+    let here = shown at (omega arith) (omega arith) in
+    let p_is : slice_get ps i ≡ Some p = slice_get_read ps (length ps) i p refl (in_within ps i cpu at here.0) (c.index-kept-here.is ∙ ap (λ (xs : List Parcel). get_or xs i p) c.parcels-kept.ensures.parcels) in
+    let q_is : slice_get qs j ≡ Some q = slice_get_read qs (length qs) j q refl (in_within qs j cpu at here.1) (c.index-others-there.is ∙ ap (λ (xs : List Parcel). get_or xs j q) c.parcels-others.ensures.parcels) in
+    let n = c.in-Some.number in
+    let within = c.in-Some.ensures.within in (
+      records_clash ps qs i j cpu n p q both.ensures.agree both.ensures.others_agree p_is q_is (shown n within.0 within.1) c.in-Some.ensures.differ,
+      front_fits ps qs cpu n c.parcels-kept.ensures.sound both.ensures.agree both.ensures.others_agree c.requires
+          (λ m lt. ⊎_elim
+          (λ (seen : m < at). c.loop-at.invariant m seen)
+          (λ (ge : at ≤ m). records_fit ps qs i j cpu m p q both.ensures.agree both.ensures.others_agree p_is q_is (shown m ge (omega arith)) (c.in-Some.ensures.first m ge lt))
+          (cases_lt m at)),
+    )
+
+pub returns-in-AtOdds-clause-fault : goal.returns-in-AtOdds-clause-fault
+returns-in-AtOdds-clause-fault c =
+    let ps = c.args.self.now in
+    let qs = c.args.other.now in
+    let cpu = c.args.cpu.0 in
+    let at = c.loop-at.at in
+    let both = c.beside-both in (
+      odds_taken ps qs cpu at (subst (IsBeside ps qs cpu at) c.in-AtOdds.is (both.ensures.shown at (omega arith) (omega arith))),
+      front_fits ps qs cpu at c.parcels-kept.ensures.sound both.ensures.agree both.ensures.others_agree c.requires c.loop-at.invariant,
+    )
+
+pub loop-at-preserved-in_default : goal.loop-at-preserved-in_default
+loop-at-preserved-in_default c =
+    let ps = c.args.self.now in
+    let qs = c.args.other.now in
+    let cpu = c.args.cpu.0 in
+    let at = c.loop-at.at in
+    let both = c.beside-both in
+    let i = c.in-Records.here in
+    let j = c.in-Records.there in
+    let p = c.index-kept-here.result in
+    let q = c.index-others-there.result in
+    let shown : (m : ℕ) → at ≤ m → m < both.result.end → IsBeside ps qs cpu m (Records i j) = λ m a b. subst (IsBeside ps qs cpu m) c.in-Records.is (both.ensures.shown m a b) in
+    let here = shown at (omega arith) (omega arith) in
+    let p_is : slice_get ps i ≡ Some p = slice_get_read ps (length ps) i p refl (in_within ps i cpu at here.0) (c.index-kept-here.is ∙ ap (λ (xs : List Parcel). get_or xs i p) c.parcels-kept.ensures.parcels) in
+    let q_is : slice_get qs j ≡ Some q = slice_get_read qs (length qs) j q refl (in_within qs j cpu at here.1) (c.index-others-there.is ∙ ap (λ (xs : List Parcel). get_or xs j q) c.parcels-others.ensures.parcels) in
+    λ n lt. ⊎_elim
+    (λ (seen : n < at). c.loop-at.invariant n seen)
+    (λ (ge : at ≤ n). records_fit ps qs i j cpu n p q both.ensures.agree both.ensures.others_agree p_is q_is (shown n ge lt) (c.in_default.ensures.none n ge lt))
+    (cases_lt n at)
+
+pub loop-at-preserved-in-Alike : goal.loop-at-preserved-in-Alike
+loop-at-preserved-in-Alike c =
+    let ps = c.args.self.now in
+    let qs = c.args.other.now in
+    let cpu = c.args.cpu.0 in
+    let at = c.loop-at.at in
+    let both = c.beside-both in
+    λ n lt. ⊎_elim
+    (λ (seen : n < at). c.loop-at.invariant n seen)
+    (λ (ge : at ≤ n). alike_fit ps qs cpu n both.ensures.agree both.ensures.others_agree (subst (IsBeside ps qs cpu n) c.in-Alike.is (both.ensures.shown n ge lt)))
+    (cases_lt n at)
+
+pub loop-at-preserved : goal.loop-at-preserved
+loop-at-preserved c =
+    let ps = c.args.self.now in
+    let qs = c.args.other.now in
+    let cpu = c.args.cpu.0 in
+    let at = c.loop-at.at in
+    let both = c.beside-both in
+    λ n lt. ⊎_elim
+    (λ (seen : n < at). c.loop-at.invariant n seen)
+    (λ (ge : at ≤ n). one_fit ps qs cpu n (subst (IsBeside ps qs cpu n) c.in-OneKnows.is (both.ensures.shown n ge lt)))
+    (cases_lt n at)

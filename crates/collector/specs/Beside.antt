@@ -1,0 +1,45 @@
+-- What two collectors know of one number, side by side.
+use Rattle.std.specs.Prelude.{◌≡◌, ℕ, ◌↔◌, ◌⊎◌, List, Option, Some, None}
+use Rattle.trace_model.specs.Record.{Record}
+use Rattle.trace_model.specs.Parcel.{Parcel}
+use Rattle.trace_model.specs.Collection.{Has, Misses}
+use Rattle.collector.specs.declared.ranges.Content.{Content}
+use Rattle.collector.specs.declared.ranges.Content.TheVariants.{Kept, Missing}
+use Rattle.collector.specs.declared.beside.Beside.{Beside}
+use Rattle.collector.specs.declared.beside.Beside.TheVariants.{Alike, Records, AtOdds, OneKnows}
+use Rattle.collector.specs.Index.{IsIn}
+use Rattle.collector.specs.Shown.{IsUnknown}
+
+abbrev pub pair_of : Option Content → Option Content → Beside
+pair_of None None = Alike
+pair_of None (Some content) = OneKnows
+pair_of (Some content) None = OneKnows
+pair_of (Some Missing) (Some Missing) = Alike
+pair_of (Some Missing) (Some (Kept there)) = AtOdds
+pair_of (Some (Kept here)) (Some Missing) = AtOdds
+pair_of (Some (Kept here)) (Some (Kept there)) = Records here there
+
+-- some kept parcel has a record under the number
+abbrev pub IsTaken : List Parcel → ℕ → ℕ → Type 0
+IsTaken parcels cpu number = (r : Record) × Has parcels cpu number r
+
+abbrev pub IsBeside : List Parcel → List Parcel → ℕ → ℕ → Beside → Type 0
+IsBeside parcels others cpu number Alike = (IsUnknown parcels cpu number × IsUnknown others cpu number)
+    ⊎ (Misses parcels cpu number × Misses others cpu number)
+IsBeside parcels others cpu number (Records here there) = IsIn parcels here cpu number × IsIn others there cpu number
+IsBeside parcels others cpu number AtOdds = (IsTaken parcels cpu number × Misses others cpu number)
+    ⊎ (Misses parcels cpu number × IsTaken others cpu number)
+IsBeside parcels others cpu number OneKnows =
+    (IsUnknown parcels cpu number × (IsTaken others cpu number ⊎ Misses others cpu number))
+    ⊎ ((IsTaken parcels cpu number ⊎ Misses parcels cpu number) × IsUnknown others cpu number)
+
+-- both have and miss the same under the number
+pub record IsSameAt (parcels others : List Parcel) (cpu number : ℕ) : Type 0 where
+  pub has : (r : Record) → (Has parcels cpu number r ↔ Has others cpu number r)
+  pub misses : Misses parcels cpu number ↔ Misses others cpu number
+
+-- they aren't at odds under the number
+pub record FitTogether (parcels others : List Parcel) (cpu number : ℕ) : Type 0 where
+  pub one_record : (r other : Record) → Has parcels cpu number r → Has others cpu number other → r ≡ other
+  pub not_missing : (r : Record) → Has parcels cpu number r → Misses others cpu number → ⊥
+  pub not_taken : (r : Record) → Misses parcels cpu number → Has others cpu number r → ⊥

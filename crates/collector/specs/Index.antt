@@ -1,0 +1,54 @@
+-- What an index tells of the numbers of each CPU, and how it stands for kept parcels.
+use Rattle.std.specs.Prelude.{◌≡◌, ℕ, ◌<◌, ◌≤◌, ◌+◌, ◌↔◌, List, length, Some}
+use Rattle.std.specs.List.{slice_get}
+use Rattle.trace_model.specs.Record.{Record}
+use Rattle.trace_model.specs.Parcel.{Parcel, IsPairOf}
+use Rattle.trace_model.specs.Collection.{Has, Misses}
+use Rattle.collector.specs.declared.ranges.Content.{Content}
+use Rattle.collector.specs.declared.ranges.Content.TheVariants.{Kept, Missing}
+use Rattle.collector.specs.declared.ranges.Ranges.{Ranges}
+use Rattle.collector.specs.declared.index.Index.{Index}
+use Rattle.collector.specs.Ranges.{Tells, AreApart}
+use Rattle.collector.specs.Sound.{AreSound}
+
+-- the ranges of the CPU tell this of the number
+pub record TellsOf (index : Index) (cpu number : ℕ) (content : Content) : Type 0 where
+  pub ranges : Ranges
+  pub at : slice_get index.cpus.items cpu ≡ Some ranges
+  pub tells : Tells ranges number content
+
+-- no range of a CPU reaches into a later one
+abbrev pub AreAllApart : Index → Type 0
+AreAllApart index = (cpu : ℕ) (ranges : Ranges) → slice_get index.cpus.items cpu ≡ Some ranges → AreApart ranges
+
+-- both tell the same of each number of this CPU
+abbrev pub TellSameOf : Index → Index → ℕ → Type 0
+TellSameOf old new cpu = (number : ℕ) (content : Content)
+    → (TellsOf old cpu number content ↔ TellsOf new cpu number content)
+
+-- the kept parcel at this index has a record under the number
+pub record IsIn (parcels : List Parcel) (index cpu number : ℕ) : Type 0 where
+  pub parcel : Parcel
+  pub at : slice_get parcels index ≡ Some parcel
+  pub cpu_is : cpu ≡ parcel.cpu
+  pub from : parcel.first ≤ number
+  pub below : number < parcel.first + length parcel.records
+
+-- some kept parcel has this record under the number, and the index tells which
+pub record IsTold (parcels : List Parcel) (index : Index) (cpu number : ℕ) (r : Record) : Type 0 where
+  pub kept : ℕ
+  pub parcel : Parcel
+  pub tells : TellsOf index cpu number (Kept kept)
+  pub at : slice_get parcels kept ≡ Some parcel
+  pub pair : IsPairOf parcel cpu number r
+
+-- The index tells just what the kept parcels have and miss, and one thing of a number at most.
+pub record IsIndexed (parcels : List Parcel) (index : Index) : Type 0 where
+  pub sound : AreSound parcels
+  pub apart : AreAllApart index
+  pub one : (cpu number : ℕ) (content other : Content)
+      → TellsOf index cpu number content → TellsOf index cpu number other → content ≡ other
+  pub kept : (cpu number i : ℕ) → TellsOf index cpu number (Kept i) → IsIn parcels i cpu number
+  pub missing : (cpu number : ℕ) → TellsOf index cpu number Missing → Misses parcels cpu number
+  pub has : (cpu number : ℕ) (r : Record) → Has parcels cpu number r → IsTold parcels index cpu number r
+  pub misses : (cpu number : ℕ) → Misses parcels cpu number → TellsOf index cpu number Missing

@@ -1,0 +1,11 @@
+pub mod Ranges
+pub mod Sound
+pub mod Index
+pub mod Shown
+pub mod Runs
+pub mod Listed
+pub mod Entries
+pub mod Faults
+pub mod Adding
+pub mod Beside
+pub mod Merged

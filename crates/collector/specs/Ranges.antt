@@ -1,0 +1,54 @@
+-- What ranges tell of the numbers of one CPU.
+use Rattle.std.specs.Prelude.{◌≡◌, ℕ, ◌<◌, ◌≤◌, ◌↔◌, Some, IsSome}
+use Rattle.std.specs.Ordering.{nat_cmp}
+use Rattle.std.specs.BTreeMap.{get}
+use Rattle.collector.specs.declared.ranges.Content.{Content}
+use Rattle.collector.specs.declared.ranges.Content.TheVariants.{Kept, Missing}
+use Rattle.collector.specs.declared.ranges.Span.{Span}
+use Rattle.collector.specs.declared.ranges.Ranges.{Ranges}
+
+-- this range begins at this number
+abbrev pub HasSpan : Ranges → ℕ → Span → Type 0
+HasSpan ranges first span = get nat_cmp ranges.spans first ≡ Some span
+
+-- some range has the number, and tells this of it
+pub record Tells (ranges : Ranges) (number : ℕ) (content : Content) : Type 0 where
+  pub first : ℕ
+  pub span : Span
+  pub at : HasSpan ranges first span
+  pub from : first ≤ number
+  pub below : number < span.end
+  pub content_is : span.content ≡ content
+
+-- no range reaches into a later one
+abbrev pub AreApart : Ranges → Type 0
+AreApart ranges = (first later : ℕ) (span other : Span)
+    → HasSpan ranges first span → HasSpan ranges later other → first < later
+    → span.end ≤ later
+
+-- a range begins at this number, with or without numbers of its own
+abbrev pub IsMarked : Ranges → ℕ → Type 0
+IsMarked ranges number = IsSome (get nat_cmp ranges.spans number)
+
+-- no range reaches over this place from in front of it
+abbrev pub IsCut : Ranges → ℕ → Type 0
+IsCut ranges place = (first : ℕ) (span : Span) → HasSpan ranges first span → first < place → span.end ≤ place
+
+-- both tell the same of each number
+abbrev pub TellSame : Ranges → Ranges → Type 0
+TellSame old new = (number : ℕ) (content : Content) → (Tells old number content ↔ Tells new number content)
+
+-- where a range began, or none reached over, it is so still
+pub record KeepsEdges (old new : Ranges) : Type 0 where
+  pub marks : (place : ℕ) → IsMarked old place → IsMarked new place
+  pub cuts : (place : ℕ) → IsCut old place → IsCut new place
+
+-- Behind a parcel whose missing numbers begin at `low` and whose records are numbered from `first` up to `end`: these
+-- numbers are told as its own, and all others as before.
+pub record IsLaid (old new : ℕ → Content → Type 0) (low first end parcel : ℕ) : Type 0 where
+  pub missing : (n : ℕ) → low ≤ n → n < first → new n Missing
+  pub missing_alone : (n : ℕ) (content : Content) → low ≤ n → n < first → new n content → content ≡ Missing
+  pub kept : (n : ℕ) → first ≤ n → n < end → new n (Kept parcel)
+  pub kept_alone : (n : ℕ) (content : Content) → first ≤ n → n < end → new n content → content ≡ Kept parcel
+  pub in_front : (n : ℕ) (content : Content) → n < low → (old n content ↔ new n content)
+  pub behind : (n : ℕ) (content : Content) → end ≤ n → (old n content ↔ new n content)

@@ -1,0 +1,10 @@
+//! What adding a parcel makes of it.
+
+/// What became of a parcel that was added.
+#[derive(Clone, Copy, Debug, PartialEq, Eq)]
+pub enum Added {
+    /// It adds a record or a missing number, and is kept.
+    New,
+    /// All that it has and misses was there already; it isn't kept.
+    Known,
+}

@@ -1,0 +1,64 @@
+//! What two collectors know of the same numbers.
+ghost use Rattle.std.specs.Prelude.{◌≡◌};
+ghost use Rattle.collector.specs.Beside.{pair_of};
+
+use crate::collector::Collector;
+use crate::ranges::Content;
+use trace_model::CpuId;
+
+/// What one collector knows of numbers, beside what another one knows of them.
+#[derive(Clone, Copy, Debug)]
+pub(crate) enum Beside {
+    /// Both miss them, or know nothing of them.
+    Alike,
+    /// Both have their records, in the kept parcels at these indices.
+    Records(usize, usize),
+    /// One has their records, and the other misses them.
+    AtOdds,
+    /// One alone knows something of them.
+    OneKnows,
+}
+
+/// What is known here and there, and up to which number, itself not among them, it is so.
+#[derive(Clone, Copy, Debug)]
+pub(crate) struct Both {
+    pub(crate) end: u64,
+    pub(crate) beside: Beside,
+}
+
+fn pair(own: Option<Content>, other: Option<Content>) -> Beside
+    ensures { result ≡ pair_of own other }
+{
+    match (own, other) {
+        (None, None) => Beside::Alike,
+        (None, Some(_)) => Beside::OneKnows,
+        (Some(_), None) => Beside::OneKnows,
+        (Some(Content::Missing), Some(Content::Missing)) => Beside::Alike,
+        (Some(Content::Missing), Some(Content::Kept(_))) => Beside::AtOdds,
+        (Some(Content::Kept(_)), Some(Content::Missing)) => Beside::AtOdds,
+        (Some(Content::Kept(here)), Some(Content::Kept(there))) => Beside::Records(here, there),
+    }
+}
+
+impl Collector {
+    ghost use Rattle.std.specs.Prelude.{ℕ, ◌<◌, ◌≤◌};
+    ghost use Rattle.trace_model.specs.Collection.{Agree};
+    ghost use Rattle.collector.specs.Beside.{IsBeside};
+
+    /// What is known here and there of a number of a CPU and of those behind it.
+    pub(crate) fn beside(&self, other: &Collector, cpu: CpuId, number: u64) -> Both
+        ensures shown { (n : ℕ) → number ≤ n → n < result.end
+            → IsBeside self.now other.now cpu.0 n result.beside }
+        ensures goes_on { number < u64.MAX → number < result.end }
+        ensures up_to { result.end ≤ u64.MAX }
+        ensures agree { Agree self.now }
+        ensures others_agree { Agree other.now }
+    {
+        let own = self.stretch(cpu, number);
+        let that = other.stretch(cpu, number);
+        Both {
+            end: own.end.min(that.end),
+            beside: pair(own.content, that.content),
+        }
+    }
+}

@@ -1,0 +1,96 @@
+//! A collector: the parcels that it keeps, and where each number stands in them.
+use crate::index::Index;
+use crate::ranges::Stretch;
+use page_numbers::Parcel;
+use std::alloc::Global;
+use std::marker::Model;
+use trace_model::{CpuId, NoMemory};
+
+/// What the parcels that were added have and miss together. It keeps those that add something, and shares their
+/// pages.
+#[derive(Drop)]
+pub struct Collector {
+    parcels: Vec<Parcel>,
+    index: Index,
+}
+
+impl Model for Collector {
+    ghost use Rattle.std.specs.Prelude.{List};
+    ghost use Rattle.trace_model.specs.Parcel.{Parcel as ParcelSeen};
+    ghost use Rattle.collector.specs.Index.{IsIndexed};
+
+    ghost Value = { List ParcelSeen };
+
+    ghost view = { λ c. c.parcels.items };
+
+    ghost invariant = { λ c. IsIndexed c.parcels.items c.index };
+}
+
+impl Collector {
+    ghost use Rattle.std.specs.Prelude.{◌≡◌, ℕ, ◌+◌, ◌<◌, ◌≤◌, List, [], ◌∷◌, ◌++◌, length, slice_get, Some, OnOk, OnErr};
+    ghost use Rattle.trace_model.specs.Collection.{Agree};
+    ghost use Rattle.collector.specs.Sound.{AreSound};
+    ghost use Rattle.collector.specs.Shown.{IsShown};
+
+    /// A collector that keeps no parcel.
+    pub fn new(alloc: Global) -> Collector
+        ensures { result ≡ [] }
+    {
+        Collector {
+            parcels: Vec::new(alloc),
+            index: Index::new(alloc),
+        }
+    }
+
+    /// A collector that keeps no parcel, with the same allocator.
+    pub(crate) fn empty(&self) -> Collector
+        ensures { result ≡ [] }
+    {
+        Collector::new(self.index.allocator())
+    }
+
+    /// The kept parcels, in the order in which they were added. They agree, and the collector has and misses what
+    /// they have and miss together.
+    pub fn parcels(&self) -> &[Parcel]
+        ensures parcels { result.now ≡ self.now }
+        ensures agree { Agree self.now }
+        ensures sound { AreSound self.now }
+    {
+        let _index = &self.index;
+        self.parcels.as_slice()
+    }
+
+    /// The kept parcel at an index.
+    pub(crate) fn parcel(&self, index: usize) -> &Parcel
+        requires { index < length self.now }
+        ensures { slice_get self.now index ≡ Some result.now }
+    {
+        &self.parcels[index]
+    }
+
+    /// What is known of a number of a CPU and of those behind it.
+    pub(crate) fn stretch(&self, cpu: CpuId, number: u64) -> Stretch
+        ensures here { IsShown self.now cpu.0 number result.content }
+        ensures shown { (n : ℕ) → number ≤ n → n < result.end → IsShown self.now cpu.0 n result.content }
+        ensures goes_on { number < u64.MAX → number < result.end }
+        ensures agree { Agree self.now }
+    {
+        self.index.stretch(cpu, number)
+    }
+
+    /// Keeps a parcel that agrees with those that are kept.
+    pub(crate) fn keep(&mut self, parcel: Parcel) -> Result<(), NoMemory>
+        requires { Agree (self.old ++ parcel ∷ []) }
+        ensures kept { OnOk result (self.new ≡ self.old ++ parcel ∷ []) }
+        ensures refused { OnErr result (self.new ≡ self.old) }
+    {
+        let first = parcel.first().0;
+        let low = first - parcel.missed();
+        let end = first + parcel.count();
+        self.parcels.reserve(1)?;
+        self.index
+            .lay(parcel.cpu(), low, first, end, self.parcels.len())?;
+        self.parcels.push(parcel)?;
+        Ok(())
+    }
+}

@@ -1,0 +1,40 @@
+//! The records of one parcel from a number on, and where two parcels differ.
+ghost use Rattle.std.specs.Prelude.{◌≡◌, ◌≢◌, ℕ, ◌-◌, ◌<◌, ◌≤◌, List, drop, IfSome, IfNone};
+ghost use Rattle.std.specs.List.{enumerate_from};
+ghost use Rattle.collector.specs.Entries.{record_of};
+
+use page_borrow::Records;
+use page_numbers::Parcel;
+
+/// The records of a parcel from the one of this number on, which isn't in front of its first.
+pub(crate) fn records_from(parcel: &Parcel, number: u64) -> Records<'_>
+    requires { parcel.now.first ≤ number }
+    ensures { result ≡ enumerate_from number (drop (number - parcel.now.first) parcel.now.records) }
+{
+    let mut records = parcel.records();
+    for _passed in parcel.first().0..number {
+        let _record = records.next();
+    }
+    records
+}
+
+/// The first number from `from` on, and in front of `end`, under which two parcels don't have the same record.
+pub(crate) fn first_difference(parcel: &Parcel, other: &Parcel, from: u64, end: u64) -> Option<u64>
+    requires in_parcel { parcel.now.first ≤ from }
+    requires in_other { other.now.first ≤ from }
+    ensures within { IfSome result (λ n. (from ≤ n) × (n < end)) }
+    ensures differ { IfSome result (λ n. record_of parcel.now n ≢ record_of other.now n) }
+    ensures first { IfSome result (λ n. (m : ℕ) → from ≤ m → m < n
+        → record_of parcel.now m ≡ record_of other.now m) }
+    ensures none { IfNone result ((m : ℕ) → from ≤ m → m < end
+        → record_of parcel.now m ≡ record_of other.now m) }
+{
+    let mut own = records_from(parcel, from);
+    let mut others = records_from(other, from);
+    for number in from..end {
+        if own.next() != others.next() {
+            return Some(number);
+        }
+    }
+    None
+}

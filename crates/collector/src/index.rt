@@ -1,0 +1,89 @@
+//! The numbers of each CPU of which something is known.
+ghost use Rattle.std.specs.Prelude.{◌≡◌, ◌≢◌, ℕ, ◌<◌, ◌≤◌, ◌↔◌, length, IfSome, IfNone, OnOk, OnErr};
+ghost use Rattle.collector.specs.Ranges.{IsLaid};
+ghost use Rattle.collector.specs.Index.{TellsOf, AreAllApart, TellSameOf};
+ghost use Rattle.collector.specs.declared.ranges.Content.{Content};
+
+use crate::ranges::{Content, Ranges, Stretch};
+use std::alloc::Global;
+use trace_model::{CpuId, NoMemory};
+
+/// The ranges of each CPU, in the order of the CPUs. Of a CPU behind the last one nothing is known.
+#[derive(Drop)]
+pub(crate) struct Index {
+    cpus: Vec<Ranges>,
+    alloc: Global,
+}
+
+impl Index {
+    /// Nothing is known of any number.
+    pub(crate) fn new(alloc: Global) -> Index
+        ensures apart { AreAllApart result }
+        ensures untold { (cpu number : ℕ) (content : Content) → TellsOf result cpu number content → ⊥ }
+    {
+        Index {
+            cpus: Vec::new(alloc),
+            alloc,
+        }
+    }
+
+    /// Where its memory comes from.
+    pub(crate) fn allocator(&self) -> Global {
+        self.alloc
+    }
+
+    /// What is known of a number of a CPU, and of those behind it.
+    pub(crate) fn stretch(&self, cpu: CpuId, number: u64) -> Stretch
+        requires { AreAllApart self.now }
+        ensures told { IfSome result.content (λ content. (n : ℕ) → number ≤ n → n < result.end
+            → TellsOf self.now cpu.0 n content) }
+        ensures untold { IfNone result.content ((n : ℕ) (content : Content) → number ≤ n → n < result.end
+            → TellsOf self.now cpu.0 n content → ⊥) }
+        ensures here { IfSome result.content (λ content. TellsOf self.now cpu.0 number content) }
+        ensures untold_here { IfNone result.content ((content : Content) → TellsOf self.now cpu.0 number content → ⊥) }
+        ensures goes_on { number < u64.MAX → number < result.end }
+    {
+        match self.cpus.get(cpu.0 as usize) {
+            Some(ranges) => ranges.stretch(number),
+            None => Stretch {
+                end: u64::MAX,
+                content: None,
+            },
+        }
+    }
+
+    /// Has ranges for a CPU. What is told stays the same.
+    fn grow(&mut self, cpu: usize) -> Result<(), NoMemory>
+        requires { AreAllApart self.old }
+        ensures apart { AreAllApart self.new }
+        ensures same { (cpu : ℕ) → TellSameOf self.old self.new cpu }
+        ensures grown { OnOk result (cpu < length self.new.cpus.items) }
+    {
+        while self.cpus.len() <= cpu {
+            self.cpus.push(Ranges::new(self.alloc))?;
+        }
+        Ok(())
+    }
+
+    /// Tells of a CPU's numbers that those from `low` up to `first` are missing, and that those from there up to
+    /// `end` are in the kept parcel at this index, whatever was told of them before.
+    pub(crate) fn lay(
+        &mut self,
+        cpu: CpuId,
+        low: u64,
+        first: u64,
+        end: u64,
+        parcel: usize,
+    ) -> Result<(), NoMemory>
+        requires apart { AreAllApart self.old }
+        requires low { low ≤ first }
+        requires forward { first ≤ end }
+        ensures apart { AreAllApart self.new }
+        ensures laid { OnOk result (IsLaid (TellsOf self.old cpu.0) (TellsOf self.new cpu.0) low first end parcel) }
+        ensures others { (other : ℕ) → other ≢ cpu.0 → TellSameOf self.old self.new other }
+        ensures refused { OnErr result ((cpu : ℕ) → TellSameOf self.old self.new cpu) }
+    {
+        self.grow(cpu.0 as usize)?;
+        self.cpus[cpu.0 as usize].lay(low, first, end, parcel)
+    }
+}

@@ -1,0 +1,28 @@
+//! Collectors: what several parcels have and miss together.
+//!
+//! A collector keeps the parcels that add something, and shares their pages. Which numbers of a CPU they have and miss
+//! stands beside them as disjoint ranges, so that a parcel is added in logarithmic time.
+#![tactic(auto)]
+
+mod add;
+mod added;
+mod beside;
+mod collector;
+mod entries;
+mod fault;
+mod index;
+mod listed;
+mod merge;
+mod ranges;
+mod read;
+mod runs;
+mod same;
+
+pub use added::Added;
+pub use collector::Collector;
+pub use fault::AddFault;
+pub use listed::CpuRecords;
+pub use runs::MissingRuns;
+
+#[cfg(test)]
+mod tests;

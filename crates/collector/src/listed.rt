@@ -1,0 +1,134 @@
+//! The records of a CPU, one by one.
+ghost use Rattle.std.specs.Prelude.{◌≡◌, ℕ, ◌<◌, ◌≤◌, Some, IfSome, IfNone};
+ghost use Rattle.trace_model.specs.Record.{Record};
+ghost use Rattle.trace_model.specs.Collection.{Has};
+ghost use Rattle.collector.specs.Listed.{GoOn};
+
+use crate::collector::Collector;
+use crate::entries::records_from;
+use crate::ranges::Content;
+use page_borrow::{Entry, Records};
+use std::iter::FusedIterator;
+use std::marker::Model;
+use trace_model::CpuId;
+
+/// Entries of one kept parcel, which go on with this number and with all behind it up to the end.
+#[derive(Drop)]
+struct Kept<'a> {
+    entries: Records<'a>,
+    number: u64,
+    end: u64,
+}
+
+/// The records of a CPU by rising number, as entries whose bytes are the kept pages' own.
+#[derive(Drop)]
+pub struct CpuRecords<'a> {
+    collector: &'a Collector,
+    cpu: CpuId,
+    /// Entries of the kept parcel that is being read.
+    entries: Option<Records<'a>>,
+    /// The records that are left are those from this number on.
+    number: u64,
+    /// Up to this number they are those of the entries.
+    end: u64,
+}
+
+impl<'a> Model for CpuRecords<'a> {
+    ghost use Rattle.std.specs.Prelude.{ℕ, List};
+    ghost use Rattle.trace_model.specs.Record.{Record};
+    ghost use Rattle.collector.specs.Listed.{GoOnIfAny, records_left};
+
+    ghost Value = { List (ℕ × Record) };
+
+    ghost view = { λ r. records_left r.collector.now r.cpu.0 r.number };
+
+    ghost invariant = { λ r. GoOnIfAny r.collector.now r.cpu.0 r.entries r.number r.end };
+}
+
+/// The kept parcel that this names.
+fn kept_index(content: Option<Content>) -> Option<usize>
+    ensures kept { IfSome result (λ i. content ≡ Some (Content.Kept i)) }
+    ensures other { IfNone result ((i : ℕ) → content ≡ Some (Content.Kept i) → ⊥) }
+{
+    match content {
+        Some(Content::Kept(index)) => Some(index),
+        Some(Content::Missing) | None => None,
+    }
+}
+
+/// The entries of the first record of a CPU from this number on, and of those behind it in its parcel.
+fn next_kept(collector: &Collector, cpu: CpuId, number: u64) -> Option<Kept<'_>>
+    ensures from { IfSome result (λ kept. number ≤ kept.number) }
+    ensures forward { IfSome result (λ kept. kept.number < kept.end) }
+    ensures fits { IfSome result (λ kept. kept.end ≤ u64.MAX) }
+    ensures skipped { IfSome result (λ kept. (m : ℕ) (r : Record) → number ≤ m → m < kept.number
+        → Has collector.now cpu.0 m r → ⊥) }
+    ensures entries { IfSome result (λ kept. GoOn collector.now cpu.0 kept.entries kept.number kept.end) }
+    ensures none { IfNone result ((m : ℕ) (r : Record) → number ≤ m → m < u64.MAX
+        → Has collector.now cpu.0 m r → ⊥) }
+{
+    let mut at = number;
+    while at < u64::MAX {
+        let stretch = collector.stretch(cpu, at);
+        if let Some(index) = kept_index(stretch.content) {
+            return Some(Kept {
+                entries: records_from(collector.parcel(index), at),
+                number: at,
+                end: stretch.end,
+            });
+        }
+        at = stretch.end;
+    }
+    None
+}
+
+impl<'a> Iterator for CpuRecords<'a> {
+    ghost use Rattle.std.specs.Iterator.{YieldsFirstBy, item_count};
+    ghost use Rattle.page_borrow.specs.Entries.{told};
+
+    type Item = Entry<'a>;
+
+    // Each call gives the first of the records that are left.
+    ghost next_gives = { YieldsFirstBy told (λ left. left) };
+
+    ghost remaining = { item_count (λ left. left) };
+
+    fn next(&mut self) -> Option<Entry<'a>> {
+        if self.number >= self.end {
+            let Some(kept) = next_kept(self.collector, self.cpu, self.number) else {
+                return None;
+            };
+            self.entries = Some(kept.entries);
+            self.number = kept.number;
+            self.end = kept.end;
+        }
+        let Some(entries) = &mut self.entries else {
+            return None;
+        };
+        let Some(entry) = entries.next() else {
+            return None;
+        };
+        self.number += 1;
+        Some(entry)
+    }
+}
+
+impl<'a> FusedIterator for CpuRecords<'a> {}
+
+impl Collector {
+    ghost use Rattle.collector.specs.Listed.{AreRecordsOf};
+
+    /// The records of a CPU by rising number, each with its bytes where they stand in a kept page.
+    pub fn records(&self, cpu: CpuId) -> CpuRecords<'_>
+        ensures { AreRecordsOf self.now cpu.0 result }
+    {
+        let _parcels = self.parcels();
+        CpuRecords {
+            collector: self,
+            cpu,
+            entries: None,
+            number: 0,
+            end: 0,
+        }
+    }
+}

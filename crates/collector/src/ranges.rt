@@ -1,0 +1,198 @@
+//! The numbers of one CPU, as disjoint ranges in their order.
+ghost use Rattle.std.specs.Prelude.{◌≡◌, ℕ, ◌+◌, ◌^◌, ◌<◌, ◌≤◌, ◌↔◌, Some, None, IsSome, IfSome, IfNone, OnOk, OnErr};
+ghost use Rattle.std.specs.Ordering.{nat_cmp};
+ghost use Rattle.std.specs.BTreeMap.{get};
+ghost use Rattle.collector.specs.Ranges.{AreApart, Tells, TellSame, IsMarked, IsCut, KeepsEdges, IsLaid};
+ghost use Rattle.collector.specs.declared.ranges.Content.{Content};
+
+use std::alloc::Global;
+use std::collections::BTreeMap;
+use std::ops::Bound;
+use trace_model::NoMemory;
+
+/// What is known of the numbers of a range.
+#[derive(Clone, Copy, Debug, PartialEq, Eq)]
+pub(crate) enum Content {
+    /// Their records are those of the kept parcel at this index.
+    Kept(usize),
+    /// They are missing.
+    Missing,
+}
+
+/// A range of numbers, told by where it ends: its first number is its key.
+#[derive(Clone, Copy, Debug)]
+struct Span {
+    /// The number behind the last one. A range that ends where it begins has no number, and marks a place.
+    end: u64,
+    content: Content,
+}
+
+/// What is known of a number, and up to which one, itself not among them, the same is known.
+#[derive(Clone, Copy, Debug)]
+pub(crate) struct Stretch {
+    pub(crate) end: u64,
+    pub(crate) content: Option<Content>,
+}
+
+/// The numbers of one CPU of which something is known.
+#[derive(Debug, Drop)]
+pub(crate) struct Ranges {
+    spans: BTreeMap<u64, Span>,
+}
+
+/// The last range that begins at a number or in front of it.
+fn last_up_to(spans: &BTreeMap<u64, Span>, number: u64) -> Option<(u64, Span)>
+    ensures there { IfSome result (λ p. get nat_cmp spans.now p.0 ≡ Some p.1) }
+    ensures up_to { IfSome result (λ p. p.0 ≤ number) }
+    ensures last { IfSome result (λ p. (q : ℕ) → p.0 < q → q ≤ number → get nat_cmp spans.now q ≡ None) }
+    ensures none { IfNone result ((q : ℕ) → q ≤ number → get nat_cmp spans.now q ≡ None) }
+{
+    let (first, span) = spans.range(..=number).next_back()?;
+    Some((*first, *span))
+}
+
+/// Where the first range behind a number begins.
+fn first_behind(spans: &BTreeMap<u64, Span>, number: u64) -> Option<u64>
+    ensures there { IfSome result (λ first. IsSome (get nat_cmp spans.now first)) }
+    ensures behind { IfSome result (λ first. number < first) }
+    ensures first { IfSome result (λ first. (q : ℕ) → number < q → q < first → get nat_cmp spans.now q ≡ None) }
+    ensures none { IfNone result ((q : ℕ) → number < q → get nat_cmp spans.now q ≡ None) }
+{
+    let (first, _) = spans
+        .range((Bound::Excluded(number), Bound::Unbounded))
+        .next()?;
+    Some(*first)
+}
+
+/// Takes out the ranges that begin behind a number and in front of another one.
+fn clear_between(spans: &mut BTreeMap<u64, Span>, front: u64, end: u64)
+    ensures inside { (q : ℕ) → front < q → q < end → get nat_cmp spans.new q ≡ None }
+    ensures up_to { (q : ℕ) → q ≤ front → get nat_cmp spans.new q ≡ get nat_cmp spans.old q }
+    ensures from { (q : ℕ) → end ≤ q → get nat_cmp spans.new q ≡ get nat_cmp spans.old q }
+{
+    while let Some(first) = first_behind(spans, front) {
+        if first >= end {
+            return;
+        }
+        spans.remove(&first);
+    }
+}
+
+impl Ranges {
+    /// Nothing is known of any number.
+    pub(crate) fn new(alloc: Global) -> Ranges
+        ensures untold { (number : ℕ) (content : Content) → Tells result number content → ⊥ }
+        ensures apart { AreApart result }
+    {
+        Ranges {
+            spans: BTreeMap::new(alloc),
+        }
+    }
+
+    /// What is known of a number and of those behind it.
+    pub(crate) fn stretch(&self, number: u64) -> Stretch
+        requires { AreApart self.now }
+        ensures told { IfSome result.content (λ content. (n : ℕ) → number ≤ n → n < result.end
+            → Tells self.now n content) }
+        ensures untold { IfNone result.content ((n : ℕ) (content : Content) → number ≤ n → n < result.end
+            → Tells self.now n content → ⊥) }
+        ensures here { IfSome result.content (λ content. Tells self.now number content) }
+        ensures untold_here { IfNone result.content ((content : Content) → Tells self.now number content → ⊥) }
+        ensures goes_on { number < u64.MAX → number < result.end }
+    {
+        match last_up_to(&self.spans, number) {
+            Some((_, span)) if number < span.end => Stretch {
+                end: span.end,
+                content: Some(span.content),
+            },
+            _ => Stretch {
+                end: first_behind(&self.spans, number).unwrap_or(u64::MAX),
+                content: None,
+            },
+        }
+    }
+
+    /// Cuts in two the range that reaches over a place, if one does. What is told stays the same.
+    fn cut(&mut self, place: u64) -> Result<(), NoMemory>
+        requires { AreApart self.old }
+        ensures apart { AreApart self.new }
+        ensures same { TellSame self.old self.new }
+        ensures cut { OnOk result (IsCut self.new place) }
+        ensures edges { KeepsEdges self.old self.new }
+    {
+        let Some((first, span)) = last_up_to(&self.spans, place) else {
+            return Ok(());
+        };
+        if first < place && place < span.end {
+            self.spans.insert(place, span)?;
+            let front = Span { end: place, ..span };
+            self.spans.insert(first, front)?;
+        }
+        Ok(())
+    }
+
+    /// Has a range begin at a place. What is told stays the same.
+    fn mark(&mut self, place: u64) -> Result<(), NoMemory>
+        requires { AreApart self.old }
+        ensures apart { AreApart self.new }
+        ensures same { TellSame self.old self.new }
+        ensures cut { OnOk result (IsCut self.new place) }
+        ensures marked { OnOk result (IsMarked self.new place) }
+        ensures edges { KeepsEdges self.old self.new }
+    {
+        self.cut(place)?;
+        if !self.spans.contains_key(&place) {
+            let empty = Span {
+                end: place,
+                content: Content::Missing,
+            };
+            self.spans.insert(place, empty)?;
+        }
+        Ok(())
+    }
+
+    /// Tells this of the numbers from a marked place up to a cut, and of no other number anything new.
+    fn set(&mut self, first: u64, end: u64, content: Content)
+        requires apart { AreApart self.old }
+        requires forward { first ≤ end }
+        requires marked { IsMarked self.old first }
+        requires cut { IsCut self.old end }
+        ensures apart { AreApart self.new }
+        ensures inside { (n : ℕ) → first ≤ n → n < end → Tells self.new n content }
+        ensures alone { (n : ℕ) (other : Content) → first ≤ n → n < end → Tells self.new n other → other ≡ content }
+        ensures in_front { (n : ℕ) (other : Content) → n < first
+            → (Tells self.old n other ↔ Tells self.new n other) }
+        ensures behind { (n : ℕ) (other : Content) → end ≤ n → (Tells self.old n other ↔ Tells self.new n other) }
+        ensures marks { (place : ℕ) → end ≤ place → IsMarked self.old place → IsMarked self.new place }
+        ensures cuts { (place : ℕ) → end ≤ place → IsCut self.old place → IsCut self.new place }
+    {
+        if first < end {
+            clear_between(&mut self.spans, first, end);
+            let _replaced = self.spans.insert(first, Span { end, content });
+        }
+    }
+
+    /// Tells that the numbers from `low` up to `first` are missing, and that those from there up to `end` are in the
+    /// kept parcel at this index, whatever was told of them before.
+    pub(crate) fn lay(
+        &mut self,
+        low: u64,
+        first: u64,
+        end: u64,
+        parcel: usize,
+    ) -> Result<(), NoMemory>
+        requires apart { AreApart self.old }
+        requires low { low ≤ first }
+        requires forward { first ≤ end }
+        ensures apart { AreApart self.new }
+        ensures laid { OnOk result (IsLaid (Tells self.old) (Tells self.new) low first end parcel) }
+        ensures refused { OnErr result (TellSame self.old self.new) }
+    {
+        self.mark(low)?;
+        self.mark(first)?;
+        self.cut(end)?;
+        self.set(low, first, Content::Missing);
+        self.set(first, end, Content::Kept(parcel));
+        Ok(())
+    }
+}

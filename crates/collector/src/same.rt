@@ -1,0 +1,56 @@
+//! Whether two collectors have and miss the same.
+use crate::beside::Beside;
+use crate::collector::Collector;
+use crate::entries::first_difference;
+use trace_model::{CpuId, MAX_CPUS};
+
+impl Collector {
+    ghost use Rattle.std.specs.Prelude.{◌≡◌, ℕ, ◌<◌, ◌≤◌, ◌↔◌, IsTrue, MatchBool};
+    ghost use Rattle.trace_model.specs.Collection.{IsSame};
+    ghost use Rattle.collector.specs.Sound.{AreSound};
+    ghost use Rattle.collector.specs.Beside.{IsSameAt};
+
+    /// Whether both have the same records under the same numbers of the same CPUs, and miss the same numbers.
+    pub fn same(&self, other: &Collector) -> bool
+        ensures { IsTrue result ↔ IsSame self.now other.now }
+    {
+        for cpu in 0..MAX_CPUS {
+            if !self.same_on(other, CpuId(cpu)) {
+                return false;
+            }
+        }
+        true
+    }
+
+    /// The same for one CPU.
+    fn same_on(&self, other: &Collector, cpu: CpuId) -> bool
+        ensures seen { MatchBool result ((n : ℕ) → n < u64.MAX → IsSameAt self.now other.now cpu.0 n)
+            ((n : ℕ) × (IsSameAt self.now other.now cpu.0 n → ⊥)) }
+        ensures sound { AreSound self.now }
+        ensures others_sound { AreSound other.now }
+    {
+        let kept = self.parcels();
+        let others = other.parcels();
+        let mut at = 0;
+        while at < u64::MAX {
+            let both = self.beside(other, cpu, at);
+            match both.beside {
+                Beside::Alike => {}
+                Beside::Records(here, there) => {
+                    if let Some(_number) = first_difference(
+                        &kept[here],
+                        &others[there],
+                        at,
+                        both.end,
+                    ) {
+                        return false;
+                    }
+                }
+                Beside::AtOdds => return false,
+                Beside::OneKnows => return false,
+            }
+            at = both.end;
+        }
+        true
+    }
+}
