@@ -54,6 +54,8 @@ pub mod SeatSteps
 pub mod PrivateSteps
 pub mod SeatPages
 pub mod PrivateCommutes
+pub mod FrameEnds
+pub mod TakeEnds
 -- the worked examples and the wrong steps
 pub mod ExamplesRun
 pub mod WrongStepsRefused

@@ -23,6 +23,7 @@ pub mod PayloadLaws
 pub mod AnswerLaws
 pub mod SeatLaws
 pub mod WishLaws
+pub mod Ranks
 -- worked examples, and wrong steps
 pub mod Examples
 pub mod WrongSteps

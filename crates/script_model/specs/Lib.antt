@@ -1,0 +1,4 @@
+pub mod Script
+pub mod ScriptLimits
+pub mod ScriptReading
+pub mod ScriptWriting

@@ -1,0 +1,235 @@
+-- The script text: what script a text spells as a whole, or which of its lines is the first at fault.
+-- After docs/FORMATS.md, "Script".
+use Rattle.std.specs.Prelude.{◌≡◌, ℕ, ◌+◌, ◌-◌, ◌⊎◌, ⊤, Bool, IsTrue, false, ◌&&◌, if◌then◌else◌, nat_le, List, [], ◌∷◌, ◌++◌, length, codes, bytes_eq, Result, Ok, Err}
+use Rattle.trace_model.specs.declared.limits.TheConstants.{MIN_PAGES, MAX_PAGES, MIN_SIZE, MAX_SIZE, START_FILL, LINK_FILLS}
+use Rattle.text_model.specs.Text.{lines_of, fields_of, is_well_spaced}
+use Rattle.text_model.specs.Script.{LineFault, bad_line, bad_number, bad_hex, out_of_range, ◌>>=◌, decimal_in, payload_in, number_below, cpu_in, Setting, pages_setting, size_setting, value_in, NumberedLine, significant_lines, GiveSettings, IsFaultySetting, IsMissingSetting}
+use Rattle.script_model.specs.declared.script_limits.TheConstants.{MIN_SCRIPT_CPUS, MAX_SCRIPT_CPUS, MIN_SCRIPT_COLLECTORS, MAX_SCRIPT_COLLECTORS, MIN_LINE_STEPS, MAX_LINE_STEPS}
+
+-- What a line of a script asks for, of a CPU's ring or of a collector. begin_frame: a record frame of this moment and
+-- payload is pushed. step_frame: the frame on top makes so many steps, if it stands so long. finish_frame: it makes
+-- steps until it is gone. write: both, a frame pushed and finished. close: a close frame, pushed and finished.
+-- step_reader: the reader makes so many steps, if its take lasts so long. take_page: it makes steps until it answers.
+-- wish: the reader asks for the tail. deliver: the collector gets this fill of the CPU.
+pub data Command : Type 0 where
+  begin_frame : (cpu moment : ℕ) (payload : List ℕ) → Command
+  step_frame : (cpu count : ℕ) → Command
+  finish_frame : (cpu : ℕ) → Command
+  write : (cpu moment : ℕ) (payload : List ℕ) → Command
+  close : (cpu : ℕ) → Command
+  step_reader : (cpu count : ℕ) → Command
+  take_page : (cpu : ℕ) → Command
+  wish : (cpu : ℕ) → Command
+  deliver : (collector cpu fill : ℕ) → Command
+
+-- a script: the values of its header, the number of each ring's first fill, and its commands, each with the number
+-- of its line
+pub record Script : Type 0 where
+  pub pages : ℕ
+  pub size : ℕ
+  pub cpus : ℕ
+  pub collectors : ℕ
+  pub start : ℕ
+  pub commands : List (ℕ × Command)
+
+-- ---- commands
+
+-- the number of steps that a field spells
+unfoldable pub count_in : List ℕ → Result ℕ LineFault
+count_in field = decimal_in field >>= λ n.
+    if nat_le MIN_LINE_STEPS n && nat_le n MAX_LINE_STEPS then Ok n else Err out_of_range
+
+-- what a record frame is made of: its CPU, its moment and its payload
+unfoldable pub record_in : ℕ → (ℕ → ℕ → List ℕ → Command) → (cpu moment payload : List ℕ) → Result Command LineFault
+record_in cpus command cpu_field moment_field payload_field = do
+  cpu ← cpu_in cpus cpu_field
+  moment ← decimal_in moment_field
+  payload ← payload_in payload_field
+  Ok (command cpu moment payload)
+
+-- a command of a CPU alone
+unfoldable pub of_cpu : ℕ → (ℕ → Command) → List ℕ → Result Command LineFault
+of_cpu cpus command cpu_field = do
+  cpu ← cpu_in cpus cpu_field
+  Ok (command cpu)
+
+-- a command of a CPU and a number of steps
+unfoldable pub steps_in : ℕ → (ℕ → ℕ → Command) → (cpu count : List ℕ) → Result Command LineFault
+steps_in cpus command cpu_field count_field = do
+  cpu ← cpu_in cpus cpu_field
+  count ← count_in count_field
+  Ok (command cpu count)
+
+-- the fields of `d K cX F`, without the word
+unfoldable pub deliver_in : ℕ → ℕ → (collector cpu fill : List ℕ) → Result Command LineFault
+deliver_in cpus collectors collector_field cpu_field fill_field = do
+  collector ← number_below collectors collector_field
+  cpu ← cpu_in cpus cpu_field
+  fill ← decimal_in fill_field
+  Ok (deliver collector cpu fill)
+
+-- The command that fields spell, for so many CPUs and collectors: `cX f`, `cX c`, `cX t`, `cX a`, `cX s K`, `cX r K`,
+-- `cX b T HEX`, `cX w T HEX` or `d K cX F`. Once the word and the number of fields fit, values are looked at from left
+-- to right.
+unfoldable pub command_of : ℕ → ℕ → List (List ℕ) → Result Command LineFault
+command_of cpus collectors (first ∷ second ∷ []) =
+    if bytes_eq second (codes "f") then of_cpu cpus finish_frame first
+    else (if bytes_eq second (codes "c") then of_cpu cpus close first
+    else (if bytes_eq second (codes "t") then of_cpu cpus take_page first
+    else (if bytes_eq second (codes "a") then of_cpu cpus wish first
+    else Err bad_line)))
+command_of cpus collectors (first ∷ second ∷ third ∷ []) =
+    if bytes_eq second (codes "s") then steps_in cpus step_frame first third
+    else (if bytes_eq second (codes "r") then steps_in cpus step_reader first third
+    else Err bad_line)
+command_of cpus collectors (first ∷ second ∷ third ∷ fourth ∷ []) =
+    if bytes_eq first (codes "d") then deliver_in cpus collectors second third fourth
+    else (if bytes_eq second (codes "b") then record_in cpus begin_frame first third fourth
+    else (if bytes_eq second (codes "w") then record_in cpus write first third fourth
+    else Err bad_line))
+command_of cpus collectors _ = Err bad_line
+
+-- fields that spell a record frame by this word
+abbrev pub SpellsRecord : ℕ → List ℕ → (cpu moment : ℕ) (payload : List ℕ) → List (List ℕ) → Type 0
+SpellsRecord cpus word cpu moment payload fields =
+    (x : List ℕ) × (t : List ℕ) × (hex : List ℕ)
+    × (fields ≡ x ∷ word ∷ t ∷ hex ∷ [])
+    × (cpu_in cpus x ≡ Ok cpu)
+    × (decimal_in t ≡ Ok moment)
+    × (payload_in hex ≡ Ok payload)
+
+-- fields that spell a command of a CPU alone by this word
+abbrev pub SpellsOfCpu : ℕ → List ℕ → (cpu : ℕ) → List (List ℕ) → Type 0
+SpellsOfCpu cpus word cpu fields = (x : List ℕ) × (fields ≡ x ∷ word ∷ []) × (cpu_in cpus x ≡ Ok cpu)
+
+-- fields that spell a number of steps by this word
+abbrev pub SpellsSteps : ℕ → List ℕ → (cpu count : ℕ) → List (List ℕ) → Type 0
+SpellsSteps cpus word cpu count fields =
+    (x : List ℕ) × (k : List ℕ)
+    × (fields ≡ x ∷ word ∷ k ∷ [])
+    × (cpu_in cpus x ≡ Ok cpu)
+    × (count_in k ≡ Ok count)
+
+-- The same by the commands: what fields spell each.
+abbrev pub SpellsCommand : ℕ → ℕ → Command → List (List ℕ) → Type 0
+SpellsCommand cpus collectors (begin_frame cpu moment payload) fields =
+    SpellsRecord cpus (codes "b") cpu moment payload fields
+SpellsCommand cpus collectors (step_frame cpu count) fields = SpellsSteps cpus (codes "s") cpu count fields
+SpellsCommand cpus collectors (finish_frame cpu) fields = SpellsOfCpu cpus (codes "f") cpu fields
+SpellsCommand cpus collectors (write cpu moment payload) fields =
+    SpellsRecord cpus (codes "w") cpu moment payload fields
+SpellsCommand cpus collectors (close cpu) fields = SpellsOfCpu cpus (codes "c") cpu fields
+SpellsCommand cpus collectors (step_reader cpu count) fields = SpellsSteps cpus (codes "r") cpu count fields
+SpellsCommand cpus collectors (take_page cpu) fields = SpellsOfCpu cpus (codes "t") cpu fields
+SpellsCommand cpus collectors (wish cpu) fields = SpellsOfCpu cpus (codes "a") cpu fields
+SpellsCommand cpus collectors (deliver collector cpu fill) fields =
+    (k : List ℕ) × (x : List ℕ) × (f : List ℕ)
+    × (fields ≡ codes "d" ∷ k ∷ x ∷ f ∷ [])
+    × (number_below collectors k ≡ Ok collector)
+    × (cpu_in cpus x ≡ Ok cpu)
+    × (decimal_in f ≡ Ok fill)
+
+-- the command that a line spells: its spaces are looked at first
+unfoldable pub command_in : ℕ → ℕ → List ℕ → Result Command LineFault
+command_in cpus collectors line =
+    if is_well_spaced (fields_of line) then command_of cpus collectors (fields_of line) else Err bad_line
+
+-- ---- the header
+
+-- how many CPUs there are
+abbrev pub cpus_setting : Setting
+cpus_setting = record { word = codes "cpus"; min = MIN_SCRIPT_CPUS; max = MAX_SCRIPT_CPUS; step = 1 }
+
+-- how many collectors there are
+abbrev pub collectors_setting : Setting
+collectors_setting = record {
+  word = codes "collectors";
+  min = MIN_SCRIPT_COLLECTORS;
+  max = MAX_SCRIPT_COLLECTORS;
+  step = 1;
+}
+
+-- the lines of a header, in their order
+abbrev pub header_settings : List Setting
+header_settings = pages_setting ∷ size_setting ∷ cpus_setting ∷ collectors_setting ∷ []
+
+-- the number of each ring's first fill, for rings of so many pages: it leaves a number for each page
+abbrev pub start_setting : ℕ → Setting
+start_setting pages = record { word = codes "start"; min = START_FILL; max = LINK_FILLS - 1 - pages; step = 1 }
+
+-- two fields, of which the first is the word of a start line
+abbrev pub are_of_start : List (List ℕ) → Bool
+are_of_start (word ∷ number ∷ []) = bytes_eq word (codes "start")
+are_of_start _ = false
+
+-- The line is a start line: its spaces, its word and its number of fields are those of one.
+unfoldable pub is_start_line : List ℕ → Bool
+is_start_line line = is_well_spaced (fields_of line) && are_of_start (fields_of line)
+
+-- What stands between the four settings and the commands, for rings of so many pages: a start line with this value,
+-- or nothing, where the first fill is the one that is meant without it.
+abbrev pub GivesStart : ℕ → List NumberedLine → ℕ → Type 0
+GivesStart pages [] start = start ≡ START_FILL
+GivesStart pages (line ∷ []) start = value_in (start_setting pages) line.1 ≡ Ok start
+GivesStart pages (line ∷ next ∷ lines) start = ⊥
+
+-- ---- the whole
+
+-- these lines spell these commands, one by one, and the numbers of the lines are the commands'
+abbrev pub SpellCommands : ℕ → ℕ → List NumberedLine → List (ℕ × Command) → Type 0
+SpellCommands cpus collectors [] [] = ⊤
+SpellCommands cpus collectors (line ∷ lines) (command ∷ commands) =
+    (command_in cpus collectors line.1 ≡ Ok command.1)
+    × (line.0 ≡ command.0)
+    × SpellCommands cpus collectors lines commands
+SpellCommands cpus collectors _ _ = ⊥
+
+-- Significant lines spell a script: a header, perhaps a start line, and then a command a line.
+pub record SpellScript (lines : List NumberedLine) (script : Script) : Type 0 where
+  pub header : List NumberedLine
+  pub start_line : List NumberedLine
+  pub behind : List NumberedLine
+  pub cut : lines ≡ header ++ (start_line ++ behind)
+  pub settings : GiveSettings header header_settings
+      (script.pages ∷ script.size ∷ script.cpus ∷ script.collectors ∷ [])
+  pub start : GivesStart script.pages start_line script.start
+  pub commands : SpellCommands script.cpus script.collectors behind script.commands
+
+-- The text spells this script.
+abbrev pub ParsesScript : List ℕ → Script → Type 0
+ParsesScript text script = SpellScript (significant_lines text) script
+
+-- The lines in front of this one are the header, and it is a start line whose value is at fault.
+pub record IsFaultyStart (lines : List NumberedLine) (number : ℕ) (fault : LineFault) : Type 0 where
+  pub front : List NumberedLine
+  pub line : List ℕ
+  pub behind : List NumberedLine
+  pub cut : lines ≡ front ++ (number, line) ∷ behind
+  pub script : Script
+  pub fits : SpellScript front script
+  pub at_its_place : length front ≡ length header_settings
+  pub is_start : IsTrue (is_start_line line)
+  pub fails : value_in (start_setting script.pages) line ≡ Err fault
+
+-- The lines in front of this one spell a script, and this one no command of it; and it isn't a start line at its
+-- place, right behind the header.
+pub record IsFaultyCommand (lines : List NumberedLine) (number : ℕ) (fault : LineFault) : Type 0 where
+  pub front : List NumberedLine
+  pub line : List ℕ
+  pub behind : List NumberedLine
+  pub cut : lines ≡ front ++ (number, line) ∷ behind
+  pub script : Script
+  pub fits : SpellScript front script
+  pub no_start : length front ≡ length header_settings → is_start_line line ≡ false
+  pub fails : command_in script.cpus script.collectors line ≡ Err fault
+
+-- The line of this number is the first of the text that is at fault, and this is what is wrong with
+-- it. Where lines of the header are missing, it is the line behind the last one.
+abbrev pub FirstScriptFault : List ℕ → ℕ → LineFault → Type 0
+FirstScriptFault text number fault =
+    IsFaultySetting header_settings (significant_lines text) number fault
+    ⊎ (IsMissingSetting header_settings (significant_lines text)
+    × (number ≡ length (lines_of text) + 1)
+    × (fault ≡ bad_line))
+    ⊎ IsFaultyStart (significant_lines text) number fault
+    ⊎ IsFaultyCommand (significant_lines text) number fault

@@ -1,0 +1,13 @@
+//! The definitions of the whole script text: what script of rings and collectors a text spells.
+//!
+//! Each subject has its definitions in a module of `specs/`, and the laws over them are the contracts of the
+//! functions of `laws`.
+#![tactic(auto)]
+
+pub mod laws;
+pub mod script_limits;
+
+pub use script_limits::{
+    MAX_LINE_STEPS, MAX_SCRIPT_COLLECTORS, MAX_SCRIPT_CPUS, MIN_LINE_STEPS, MIN_SCRIPT_COLLECTORS,
+    MIN_SCRIPT_CPUS,
+};

@@ -1,0 +1,5 @@
+pub mod Lanes
+pub mod Log
+pub mod World
+pub mod Headline
+pub mod Printing

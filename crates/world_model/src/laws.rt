@@ -1,0 +1,3 @@
+//! Laws over the definitions, as contracts of functions with empty bodies, by subject.
+
+pub mod worlds;
