@@ -1,0 +1,7 @@
+-- what a line has with a ring: a run of it, and one only; and the pages that it brings
+pub mod LineRuns
+pub mod LineIsOne
+pub mod TakenPages
+-- worlds: what every line keeps
+pub mod Lookups
+pub mod WorldsKept
