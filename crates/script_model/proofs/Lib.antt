@@ -1,0 +1,7 @@
+pub mod Readings
+pub mod CommandTable
+pub mod FieldLimits
+pub mod ParsedLimits
+pub mod StartLines
+pub mod ScriptLemmas
+pub mod ScriptReads
