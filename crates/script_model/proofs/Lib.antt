@@ -5,3 +5,5 @@ pub mod ParsedLimits
 pub mod StartLines
 pub mod ScriptLemmas
 pub mod ScriptReads
+pub mod FieldTexts
+pub mod ScriptWrites
