@@ -122,7 +122,7 @@ value_in-setting_text s value some free fits allowed =
     ∙ ap (λ (r : Result ℕ LineFault). r >>= allowed_for s) (decimal_in-decimal value fits)
     ∙ allowed
 
-setting_allowed : (s : Setting) (n : ℕ) → s.min ≤ n → n ≤ s.max → n % s.step ≡ 0 → allowed_for s n ≡ Ok n
+pub setting_allowed : (s : Setting) (n : ℕ) → s.min ≤ n → n ≤ s.max → n % s.step ≡ 0 → allowed_for s n ≡ Ok n
 setting_allowed s n low high step =
     cond-true _ _ _ (and_from _ _ (and_from _ _ (le-leb s.min n low) (le-leb n s.max high)) (eq-eqb (n % s.step) 0 step))
 

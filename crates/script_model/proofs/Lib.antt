@@ -7,3 +7,4 @@ pub mod ScriptLemmas
 pub mod ScriptReads
 pub mod FieldTexts
 pub mod ScriptWrites
+pub mod StartZero

@@ -6,22 +6,22 @@ use Rattle.trace_model.specs.declared.limits.TheConstants.{START_FILL}
 use Rattle.text_model.specs.Script.{LineFault, bad_line, ◌>>=◌, NumberedLine, Setting, value_in, GiveSettings, IsFaultySetting, IsMissingSetting}
 use Rattle.text_model.specs.ScriptReading.{numbered_reading, settings_from}
 use Rattle.text_model.proofs.ScriptLemmas.{settings_ok, settings_given, settings_err, faulty_setting_read, missing_setting_read}
-use Rattle.script_model.specs.Script.{Command, Script, command_in, header_settings, start_setting, is_start_line, GivesStart, SpellCommands, SpellScript, IsFaultyStart, IsFaultyCommand}
+use Rattle.script_model.specs.Script.{Command, Script, command_in, header_settings, start_setting, is_start_line, BeginsNoStart, GivesStart, SpellCommands, SpellScript, IsFaultyStart, IsFaultyCommand}
 use Rattle.script_model.specs.ScriptReading.{commands_from, start_given, start_from, script_from}
 use Rattle.script_model.proofs.Readings.{ok_is_no_err, same_ok, same_err, bind_ok, bind_err}
-use Rattle.script_model.proofs.StartLines.{given_is_start, BeginsNoStart, commands_begin_no_start, begins_no_start_before, first_is_no_start}
+use Rattle.script_model.proofs.StartLines.{given_is_start, commands_begin_no_start, begins_no_start_before, first_is_no_start}
 
 -- what is read, or the first line at fault
-abbrev Read : Type 0 → Type 0
+abbrev pub Read : Type 0 → Type 0
 Read X = Result X (ℕ × LineFault)
 
-abbrev Settings : Type 0
+abbrev pub Settings : Type 0
 Settings = List ℕ × List NumberedLine
 
-abbrev Start : Type 0
+abbrev pub Start : Type 0
 Start = ℕ × List NumberedLine
 
-abbrev Commands : Type 0
+abbrev pub Commands : Type 0
 Commands = List (ℕ × Command)
 
 -- ---- the commands
@@ -148,7 +148,7 @@ record StartFault (pages : ℕ) (lines : List NumberedLine) (e : ℕ × LineFaul
   fails : value_in (start_setting pages) line ≡ Err e.1
 
 -- the first fill that the line gives whose reading is r
-abbrev start_then : NumberedLine → List NumberedLine → Result ℕ LineFault → Read Start
+abbrev pub start_then : NumberedLine → List NumberedLine → Result ℕ LineFault → Read Start
 start_then line lines r = numbered_reading line.0 r >>= λ value. let found : Read Start = Ok (value, lines) in found
 
 abbrev no_start_then : List NumberedLine → Read Start
@@ -214,14 +214,14 @@ start_err pages [] e h = absurd (let none : Start = (START_FILL, []) in ok_is_no
 start_err pages (line ∷ lines) e h =
     start_err_at pages line lines e (is_start_line line.1) (value_in (start_setting pages) line.1) refl refl (sym (start_from_line pages line lines) ∙ h)
 
-start_line_read : (pages : ℕ) (line : NumberedLine) (lines : List NumberedLine) (r : Result ℕ LineFault)
+pub start_line_read : (pages : ℕ) (line : NumberedLine) (lines : List NumberedLine) (r : Result ℕ LineFault)
     → is_start_line line.1 ≡ true → value_in (start_setting pages) line.1 ≡ r → start_from pages (line ∷ lines) ≡ start_then line lines r
 start_line_read pages line lines r is given =
     start_from_line pages line lines
     ∙ cond-true (is_start_line line.1) _ _ is
     ∙ ap (start_then line lines) given
 
-no_start_read : (pages : ℕ) (lines : List NumberedLine) → BeginsNoStart lines → start_from pages lines ≡ Ok (START_FILL, lines)
+pub no_start_read : (pages : ℕ) (lines : List NumberedLine) → BeginsNoStart lines → start_from pages lines ≡ Ok (START_FILL, lines)
 unfolding start_from
 no_start_read pages [] h = refl
 no_start_read pages (line ∷ lines) h = start_from_line pages line lines ∙ cond-false (is_start_line line.1) _ _ h
@@ -238,7 +238,7 @@ start_read pages (line ∷ next ∷ lines) start rest gives no_start = absurd gi
 
 -- ---- the script
 -- the script of these values, this first fill and these commands
-abbrev made_of : List ℕ → ℕ → Commands → Script
+abbrev pub made_of : List ℕ → ℕ → Commands → Script
 made_of values start commands = record {
   pages = get_or values 0 0;
   size = get_or values 1 0;
@@ -249,14 +249,14 @@ made_of values start commands = record {
 }
 
 -- the commands, and then the script
-abbrev then_commands : Settings → Start → Read Script
+abbrev pub then_commands : Settings → Start → Read Script
 then_commands x y = commands_from (get_or x.0 2 0) (get_or x.0 3 0) y.1 >>= λ commands. Ok (made_of x.0 y.0 commands)
 
 -- the first fill, the commands, and then the script
-abbrev then_start : Settings → Read Script
+abbrev pub then_start : Settings → Read Script
 then_start x = start_from (get_or x.0 0 0) x.1 >>= then_commands x
 
-script_from_settings : (end : ℕ) (lines : List NumberedLine) → script_from end lines ≡ (settings_from end header_settings lines >>= then_start)
+pub script_from_settings : (end : ℕ) (lines : List NumberedLine) → script_from end lines ≡ (settings_from end header_settings lines >>= then_start)
 unfolding script_from
 script_from_settings end lines = refl
 

@@ -1,11 +1,10 @@
 -- A start line is told from a command by its word.
 use Rattle.std.proofs.Common.{◌≡◌, ℕ, suc, Bool, true, false, ◌&&◌, cond, List, [], ◌∷◌, ◌++◌, length, codes, Result, Ok, Err, refl, sym, ◌∙◌, ap, arith}
-use Rattle.std.specs.Prelude.{IsTrue, ⊤}
 use Rattle.std.specs.Str.{bytes_eq}
 use Rattle.std.proofs.lemmas.Bool.{false_from_ne_true, both_ways}
 use Rattle.text_model.specs.Text.{fields_of, is_well_spaced}
 use Rattle.text_model.specs.Script.{LineFault, bad_line, decimal_in, ◌>>=◌, cpu_in, allowed_for, value_given, value_of, value_in, NumberedLine}
-use Rattle.script_model.specs.Script.{Command, record_in, of_cpu, steps_in, command_of, command_in, start_setting, are_of_start, is_start_line, SpellCommands}
+use Rattle.script_model.specs.Script.{Command, record_in, of_cpu, steps_in, command_of, command_in, start_setting, are_of_start, is_start_line, BeginsNoStart, SpellCommands}
 use Rattle.script_model.proofs.Readings.{ok_is_no_err, same_ok}
 use Rattle.script_model.proofs.CommandTable.{same_word}
 
@@ -61,10 +60,6 @@ command_is_no_start cpus collectors line command h =
     false_from_ne_true (is_start_line line) (λ yes. ok_is_no_err command bad_line (sym h ∙ start_line_is_no_command cpus collectors line yes))
 
 -- ---- lines that don't begin with one
-abbrev pub BeginsNoStart : List NumberedLine → Type 0
-BeginsNoStart [] = ⊤
-BeginsNoStart (line ∷ lines) = is_start_line line.1 ≡ false
-
 pub commands_begin_no_start : (cpus collectors : ℕ) (lines : List NumberedLine) (commands : List (ℕ × Command))
     → SpellCommands cpus collectors lines commands → BeginsNoStart lines
 commands_begin_no_start cpus collectors [] commands h = tt
