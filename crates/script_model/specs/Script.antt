@@ -166,6 +166,11 @@ are_of_start _ = false
 unfoldable pub is_start_line : List ℕ → Bool
 is_start_line line = is_well_spaced (fields_of line) && are_of_start (fields_of line)
 
+-- the first of these lines, if there is one, is no start line
+abbrev pub BeginsNoStart : List NumberedLine → Type 0
+BeginsNoStart [] = ⊤
+BeginsNoStart (line ∷ lines) = is_start_line line.1 ≡ false
+
 -- What stands between the four settings and the commands, for rings of so many pages: a start line with this value,
 -- or nothing, where the first fill is the one that is meant without it.
 abbrev pub GivesStart : ℕ → List NumberedLine → ℕ → Type 0
@@ -233,3 +238,14 @@ FirstScriptFault text number fault =
     × (fault ≡ bad_line))
     ⊎ IsFaultyStart (significant_lines text) number fault
     ⊎ IsFaultyCommand (significant_lines text) number fault
+
+-- The one text has no start line behind the four lines of its header, and the other has `start 0` there. All other
+-- significant lines are the same in both, and their numbers too.
+pub record AddsStartZero (text other : List ℕ) : Type 0 where
+  pub header : List NumberedLine
+  pub number : ℕ
+  pub behind : List NumberedLine
+  pub whole_header : length header ≡ length header_settings
+  pub no_start : BeginsNoStart behind
+  pub without : significant_lines text ≡ header ++ behind
+  pub with_zero : significant_lines other ≡ header ++ (number, codes "start 0") ∷ behind
