@@ -5,3 +5,5 @@ pub mod TakenPages
 -- worlds: what every line keeps
 pub mod Lookups
 pub mod WorldsKept
+-- a ring's frames have their payloads, and come to their ends
+pub mod LanesKept

@@ -69,7 +69,7 @@ run_behind : (n size : ℕ) (c between after : Core) (xs ys : List Exchange) →
 run_behind n size c between after [] ys run rest = subst (λ (s : Core). Run n size s ys after) (sym run) rest
 run_behind n size c between after (x ∷ xs) ys (next, step, run) rest = (next, step, run_behind n size next between after xs ys run rest)
 
-reached_on : (n size start : ℕ) (c after : Core) (xs : List Exchange) → IsReached n size start c → Run n size c xs after → IsReached n size start after
+pub reached_on : (n size start : ℕ) (c after : Core) (xs : List Exchange) → IsReached n size start c → Run n size c xs after → IsReached n size start after
 reached_on n size start c after xs r run = record {
   from = r.from;
   exchanges = r.exchanges ++ xs;
