@@ -5,3 +5,4 @@ pub mod TakenPages
 -- worlds: what every line keeps
 pub mod Lookups
 pub mod WorldsKept
+pub mod OneWorld
