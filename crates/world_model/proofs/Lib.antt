@@ -5,5 +5,7 @@ pub mod TakenPages
 -- worlds: what every line keeps
 pub mod Lookups
 pub mod WorldsKept
+pub mod OneWorld
 -- a ring's frames have their payloads, and come to their ends
 pub mod LanesKept
+pub mod LineEnds

@@ -1,7 +1,6 @@
 -- What holds of a ring with the payloads of its frames, and how long a line's exchanges with it are.
-use Rattle.std.specs.Prelude.{◌≡◌, ℕ, ◌+◌, ◌≤◌, ⊤, List, [], ◌∷◌, length, map}
+use Rattle.std.specs.Prelude.{◌≡◌, ℕ, ◌≤◌, ⊤, List, [], ◌∷◌, length, map}
 use Rattle.trace_model.specs.Frames.{Kind, for_record, for_close, Frame}
-use Rattle.trace_model.specs.Ring.{Core}
 use Rattle.trace_model.specs.Steps.{Exchange}
 use Rattle.link_marks.specs.Reached.{MayStart, IsReached}
 use Rattle.link_marks.specs.Ranks.{frame_limit, reader_limit}
@@ -43,7 +42,8 @@ LinesKeepLanes = (n size start : ℕ) (command : Command) (before after : Lane) 
 -- a frame that still stands has made no more steps than these
 abbrev pub FrameRunsAreShort : Type 0
 FrameRunsAreShort = (n size start depth : ℕ) (before after : Lane) (exchanges : List Exchange)
-    → IsLaneKept n size start before
+    → 1 ≤ depth
+    → IsReached n size start before.core
     → FrameRun n size depth before exchanges after
     → length after.core.frames ≡ depth
     → length exchanges ≤ frame_limit n
@@ -51,7 +51,7 @@ FrameRunsAreShort = (n size start depth : ℕ) (before after : Lane) (exchanges 
 -- a take that still goes on has made no more steps than these
 abbrev pub ReaderRunsAreShort : Type 0
 ReaderRunsAreShort = (n size start : ℕ) (before after : Lane) (exchanges : List Exchange)
-    → IsLaneKept n size start before
+    → IsReached n size start before.core
     → ReaderRun n size before exchanges after
     → (IsAnswered exchanges → ⊥)
     → length exchanges ≤ reader_limit n
