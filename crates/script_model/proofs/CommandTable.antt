@@ -53,15 +53,15 @@ record_spelled cpus make first second third fourth word command is h =
 
 deliver_spelled : (cpus collectors : ℕ) (first second third fourth : Field) (command : Command)
     → bytes_eq first (codes "d") ≡ true → deliver_in cpus collectors second third fourth ≡ Ok command
-    → SpellsCommand cpus collectors command (first ∷ second ∷ third ∷ fourth ∷ [])
+    → (collector : ℕ) × (cpu : ℕ) × (fill : ℕ) × (deliver collector cpu fill ≡ command)
+    × SpellsCommand cpus collectors (deliver collector cpu fill) (first ∷ second ∷ third ∷ fourth ∷ [])
 unfolding deliver_in
 deliver_spelled cpus collectors first second third fourth command is h =
     let collector = bind_ok (number_below collectors second) (λ collector. cpu_in cpus third >>= λ cpu. decimal_in fourth >>= λ fill. let r : Read Command = Ok (deliver collector cpu fill) in r) command h in
     let cpu = bind_ok (cpu_in cpus third) (λ cpu. decimal_in fourth >>= λ fill. let r : Read Command = Ok (deliver collector.0 cpu fill) in r) command collector.2 in
     let fill = bind_ok (decimal_in fourth) (λ fill. let r : Read Command = Ok (deliver collector.0 cpu.0 fill) in r) command cpu.2 in
     let line = ap (λ (w : Field). w ∷ second ∷ third ∷ fourth ∷ []) (same_word first (codes "d") is) in
-    subst (λ (command : Command). SpellsCommand cpus collectors command (first ∷ second ∷ third ∷ fourth ∷ [])) (same_ok (deliver collector.0 cpu.0 fill.0) command fill.2)
-    (second, third, fourth, line, collector.1, cpu.1, fill.1)
+    (collector.0, cpu.0, fill.0, same_ok (deliver collector.0 cpu.0 fill.0) command fill.2, (second, third, fourth, line, collector.1, cpu.1, fill.1))
 
 pub command_spelled : (cpus collectors : ℕ) (fields : List Field) (command : Command)
     → command_of cpus collectors fields ≡ Ok command → SpellsCommand cpus collectors command fields
@@ -82,7 +82,7 @@ command_spelled cpus collectors (first ∷ second ∷ third ∷ []) command h =
     absurd (bad_is_no_command command h)) h) h
 command_spelled cpus collectors (first ∷ second ∷ third ∷ fourth ∷ []) command h =
     let spells : Command → Type 0 = λ command. SpellsCommand cpus collectors command (first ∷ second ∷ third ∷ fourth ∷ []) in
-    chosen (bytes_eq first (codes "d")) (deliver_in cpus collectors second third fourth) _ command (λ is read. deliver_spelled cpus collectors first second third fourth command is read) (λ h.
+    chosen (bytes_eq first (codes "d")) (deliver_in cpus collectors second third fourth) _ command (λ is read. let s = deliver_spelled cpus collectors first second third fourth command is read in subst spells s.3 s.4) (λ h.
     chosen (bytes_eq second (codes "b")) (record_in cpus begin_frame first third fourth) _ command (λ is read. let s = record_spelled cpus begin_frame first second third fourth (codes "b") command is read in subst spells s.3 s.4) (λ h.
     chosen (bytes_eq second (codes "w")) (record_in cpus write first third fourth) _ command (λ is read. let s = record_spelled cpus write first second third fourth (codes "w") command is read in subst spells s.3 s.4) (λ h.
     absurd (bad_is_no_command command h)) h) h) h

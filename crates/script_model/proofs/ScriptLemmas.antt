@@ -260,22 +260,17 @@ pub script_from_settings : (end : ℕ) (lines : List NumberedLine) → script_fr
 unfolding script_from
 script_from_settings end lines = refl
 
-length_given : (header : List NumberedLine) (settings : List Setting) (values : List ℕ) → GiveSettings header settings values → length values ≡ length settings
-length_given [] [] [] h = refl
-length_given (line ∷ header) (s ∷ settings) (value ∷ values) h = ap (λ (n : ℕ). suc n) (length_given header settings values h.1)
-length_given [] [] (value ∷ values) h = absurd h
-length_given [] (s ∷ settings) values h = absurd h
-length_given (line ∷ header) [] values h = absurd h
-length_given (line ∷ header) (s ∷ settings) [] h = absurd h
-
--- as many lines as settings
-pub header_length : (header : List NumberedLine) (settings : List Setting) (values : List ℕ) → GiveSettings header settings values → length header ≡ length settings
-header_length [] [] [] h = refl
-header_length (line ∷ header) (s ∷ settings) (value ∷ values) h = ap (λ (n : ℕ). suc n) (header_length header settings values h.1)
-header_length [] [] (value ∷ values) h = absurd h
-header_length [] (s ∷ settings) values h = absurd h
-header_length (line ∷ header) [] values h = absurd h
-header_length (line ∷ header) (s ∷ settings) [] h = absurd h
+-- as many lines as settings, and as many values
+lengths_given : (header : List NumberedLine) (settings : List Setting) (values : List ℕ) → GiveSettings header settings values
+    → (length header ≡ length settings) × (length values ≡ length settings)
+lengths_given [] [] [] h = (refl, refl)
+lengths_given (line ∷ header) (s ∷ settings) (value ∷ values) h =
+    let others = lengths_given header settings values h.1 in
+    (ap (λ (n : ℕ). suc n) others.0, ap (λ (n : ℕ). suc n) others.1)
+lengths_given [] [] (value ∷ values) h = absurd h
+lengths_given [] (s ∷ settings) values h = absurd h
+lengths_given (line ∷ header) [] values h = absurd h
+lengths_given (line ∷ header) (s ∷ settings) [] h = absurd h
 
 four_values : (values : List ℕ) → length values ≡ 4 → values ≡ get_or values 0 0 ∷ get_or values 1 0 ∷ get_or values 2 0 ∷ get_or values 3 0 ∷ []
 four_values [] h = absurd (omega (arith, h))
@@ -301,7 +296,7 @@ header_ok end lines x is =
     record {
       header = given.0;
       cut = given.1;
-      settings = subst (λ (values : List ℕ). GiveSettings given.0 header_settings values) (four_values x.0 (length_given given.0 header_settings x.0 given.2)) given.2;
+      settings = subst (λ (values : List ℕ). GiveSettings given.0 header_settings values) (four_values x.0 (lengths_given given.0 header_settings x.0 given.2).1) given.2;
     }
 
 header_read : (end : ℕ) (header rest : List NumberedLine) (s : Script) → GiveSettings header header_settings (values_of s)
@@ -387,7 +382,7 @@ start_fault lines x e header f = record {
     start = refl;
     commands = tt;
   };
-  at_its_place = header_length header.header header_settings _ header.settings;
+  at_its_place = (lengths_given header.header header_settings _ header.settings).0;
   is_start = f.is_start;
   fails = f.fails;
 }
@@ -397,7 +392,7 @@ command_fault : (lines : List NumberedLine) (x : Settings) (y : Start) (e : ℕ 
     → CommandFault (get_or x.0 2 0) (get_or x.0 3 0) y.1 e → IsFaultyCommand lines e.0 e.1
 command_fault lines x y e header start f =
     let line : NumberedLine = (e.0, f.line) in
-    let four = header_length header.header header_settings _ header.settings in
+    let four = (lengths_given header.header header_settings _ header.settings).0 in
     let begins : length start.start_line ≡ 0 → BeginsNoStart (f.front ++ line ∷ f.behind) =
     λ none. subst BeginsNoStart f.cut (start.no_start none) in
     let long = length-append header.header (start.start_line ++ f.front) in
@@ -444,7 +439,7 @@ script_err end lines e h =
 -- lines as many as the header's that spell a script are its header alone
 header_alone : (front : List NumberedLine) (s : Script) (h : SpellScript front s) → length front ≡ length header_settings → front ≡ h.header
 header_alone front s h all =
-    let four = header_length h.header header_settings (values_of s) h.settings in
+    let four = (lengths_given h.header header_settings (values_of s) h.settings).0 in
     let long = length-append h.header (h.start_line ++ h.behind) in
     let cut = ap (λ (ls : List NumberedLine). length ls) h.cut in
     h.cut ∙ ap (λ (ls : List NumberedLine). h.header ++ ls) (none_left (h.start_line ++ h.behind) (omega (arith, all, four, long, cut))) ∙ append-nil h.header
@@ -483,7 +478,7 @@ command_fault_read end lines e f =
       fits = h.commands;
       fails = f.fails;
     } in
-    let four = header_length h.header header_settings (values_of s) h.settings in
+    let four = (lengths_given h.header header_settings (values_of s) h.settings).0 in
     let front = ap (λ (ls : List NumberedLine). length ls) h.cut in
     let long = length-append h.header (h.start_line ++ h.behind) in
     let short = length-append h.start_line h.behind in
