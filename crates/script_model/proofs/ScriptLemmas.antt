@@ -1,6 +1,6 @@
 -- What the plain reader of a script answers, tied to the definition of whole texts.
-use Rattle.std.proofs.Common.{◌≡◌, ℕ, ◌+◌, ◌⊎◌, Bool, true, false, cond, List, [], ◌∷◌, ◌++◌, length, get_or, suc, arith, Result, Ok, Err, refl, sym, ◌∙◌, ap, subst, inl, inr, append_assoc}
-use Rattle.std.proofs.lemmas.Bool.{cond-true, cond-false, both_ways}
+use Rattle.std.proofs.Common.{◌≡◌, ℕ, ◌⊎◌, Bool, true, false, cond, List, [], ◌∷◌, ◌++◌, length, get_or, suc, arith, Result, Ok, Err, refl, sym, ◌∙◌, ap, subst, inl, inr, append_assoc}
+use Rattle.std.proofs.lemmas.Bool.{cond-true, cond-false}
 use Rattle.std.proofs.lemmas.List.{append-nil, length-append}
 use Rattle.trace_model.specs.declared.limits.TheConstants.{START_FILL}
 use Rattle.text_model.specs.Script.{LineFault, bad_line, ◌>>=◌, NumberedLine, Setting, value_in, GiveSettings, IsFaultySetting, IsMissingSetting}

@@ -1,11 +1,11 @@
 -- A start line is told from a command by its word.
-use Rattle.std.proofs.Common.{◌≡◌, ℕ, suc, Bool, true, false, ◌&&◌, cond, List, [], ◌∷◌, ◌++◌, length, codes, Result, Ok, Err, refl, sym, ◌∙◌, ap, arith}
+use Rattle.std.proofs.Common.{◌≡◌, ℕ, Bool, true, false, ◌&&◌, cond, List, [], ◌∷◌, ◌++◌, length, codes, Ok, Err, refl, sym, ◌∙◌, ap, arith}
 use Rattle.std.specs.Str.{bytes_eq}
 use Rattle.std.proofs.lemmas.Bool.{false_from_ne_true, both_ways}
 use Rattle.text_model.specs.Text.{fields_of, is_well_spaced}
-use Rattle.text_model.specs.Script.{LineFault, bad_line, decimal_in, ◌>>=◌, cpu_in, allowed_for, value_given, value_of, value_in, NumberedLine}
-use Rattle.script_model.specs.Script.{Command, record_in, of_cpu, steps_in, command_of, command_in, start_setting, are_of_start, is_start_line, BeginsNoStart, SpellCommands}
-use Rattle.script_model.proofs.Readings.{ok_is_no_err, same_ok}
+use Rattle.text_model.specs.Script.{bad_line, decimal_in, ◌>>=◌, cpu_in, allowed_for, value_given, value_of, value_in, NumberedLine}
+use Rattle.script_model.specs.Script.{Command, of_cpu, command_of, command_in, start_setting, are_of_start, is_start_line, BeginsNoStart, SpellCommands}
+use Rattle.script_model.proofs.Readings.{ok_is_no_err}
 use Rattle.script_model.proofs.CommandTable.{same_word}
 
 -- ---- a line that gives the first fill is a start line

@@ -1,8 +1,7 @@
 -- Without a start line a text is read as with `start 0` in its place.
-use Rattle.std.proofs.Common.{◌≡◌, ◌↔◌, ℕ, ◌-◌, ◌≤◌, List, [], ◌∷◌, ◌++◌, length, arith, codes, get_or, Result, Ok, Err, refl, sym, ◌∙◌, ap}
-use Rattle.trace_model.specs.declared.limits.TheConstants.{START_FILL}
+use Rattle.std.proofs.Common.{◌≡◌, ◌↔◌, ℕ, List, [], ◌∷◌, ◌++◌, length, arith, codes, get_or, Result, Ok, Err, refl, sym, ◌∙◌, ap}
 use Rattle.text_model.specs.Text.{is_decimal}
-use Rattle.text_model.specs.Script.{LineFault, ◌>>=◌, decimal_in, NumberedLine, Setting, value_given, value_of, value_in, significant_lines}
+use Rattle.text_model.specs.Script.{LineFault, ◌>>=◌, decimal_in, NumberedLine, Setting, value_given, value_of, value_in}
 use Rattle.text_model.specs.ScriptReading.{numbered_reading, setting_from, settings_from, significant_lines_after, end_line_after}
 use Rattle.script_model.specs.Script.{Script, header_settings, start_setting, BeginsNoStart, ParsesScript, FirstScriptFault, AddsStartZero}
 use Rattle.script_model.specs.ScriptReading.{start_from, script_from, script_in}
