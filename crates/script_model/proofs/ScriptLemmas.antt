@@ -360,7 +360,8 @@ script_ok end lines s h =
     let commands =
         bind_ok (commands_from (get_or x.0 2 0) (get_or x.0 3 0) y.1)
         (λ commands. Ok (made_of x.0 y.0 commands)) s start.2 in
-    subst (λ (s : Script). SpellScript lines s) (same_ok (made_of x.0 y.0 commands.0) s commands.2)
+    let made : Script = made_of x.0 y.0 commands.0 in
+    subst (λ (s : Script). SpellScript lines s) {x = made} (same_ok made s commands.2)
     (spelled_by lines x y commands.0 (header_ok end lines x header.1) (start_ok (get_or x.0 0 0) x.1 y start.1)
     (commands_ok (get_or x.0 2 0) (get_or x.0 3 0) y.1 commands.0 commands.1))
 
