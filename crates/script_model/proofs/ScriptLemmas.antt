@@ -1,6 +1,6 @@
 -- What the plain reader of a script answers, tied to the definition of whole texts.
-use Rattle.std.proofs.Common.{◌≡◌, ℕ, ◌+◌, ◌⊎◌, Bool, true, false, cond, List, [], ◌∷◌, ◌++◌, length, get_or, suc, arith, Result, Ok, Err, refl, sym, ◌∙◌, ap, subst, inl, inr, append_assoc}
-use Rattle.std.proofs.lemmas.Bool.{cond-true, cond-false, both_ways}
+use Rattle.std.proofs.Common.{◌≡◌, ℕ, ◌⊎◌, Bool, true, false, cond, List, [], ◌∷◌, ◌++◌, length, get_or, suc, arith, Result, Ok, Err, refl, sym, ◌∙◌, ap, subst, inl, inr, append_assoc}
+use Rattle.std.proofs.lemmas.Bool.{cond-true, cond-false}
 use Rattle.std.proofs.lemmas.List.{append-nil, length-append}
 use Rattle.trace_model.specs.declared.limits.TheConstants.{START_FILL}
 use Rattle.text_model.specs.Script.{LineFault, bad_line, ◌>>=◌, NumberedLine, Setting, value_in, GiveSettings, IsFaultySetting, IsMissingSetting}
@@ -30,30 +30,38 @@ commands_onto front commands = Ok (front ++ commands)
 
 -- the command of the line whose reading is r, and then the others
 abbrev command_then : ℕ → ℕ → NumberedLine → List NumberedLine → Result Command LineFault → Read Commands
-command_then cpus collectors line lines r = numbered_reading line.0 r >>= λ command. commands_from cpus collectors lines >>= λ commands. Ok ((line.0, command) ∷ commands)
+command_then cpus collectors line lines r =
+    numbered_reading line.0 r >>= λ command. commands_from cpus collectors lines >>= λ commands.
+    Ok ((line.0, command) ∷ commands)
 
 commands_from_line : (cpus collectors : ℕ) (line : NumberedLine) (lines : List NumberedLine)
-    → commands_from cpus collectors (line ∷ lines) ≡ command_then cpus collectors line lines (command_in cpus collectors line.1)
+    → commands_from cpus collectors (line ∷ lines) ≡ command_then cpus collectors line lines
+        (command_in cpus collectors line.1)
 unfolding commands_from
 commands_from_line cpus collectors line lines = refl
 
-commands_ok_at : (cpus collectors : ℕ) (line : NumberedLine) (lines : List NumberedLine) (x : Commands) (r : Result Command LineFault)
+commands_ok_at : (cpus collectors : ℕ) (line : NumberedLine) (lines : List NumberedLine) (x : Commands)
+    (r : Result Command LineFault)
     → ((x : Commands) → commands_from cpus collectors lines ≡ Ok x → SpellCommands cpus collectors lines x)
-    → command_in cpus collectors line.1 ≡ r → command_then cpus collectors line lines r ≡ Ok x → SpellCommands cpus collectors (line ∷ lines) x
+    → command_in cpus collectors line.1 ≡ r → command_then cpus collectors line lines r ≡ Ok x
+        → SpellCommands cpus collectors (line ∷ lines) x
 commands_ok_at cpus collectors line lines x (Ok command) again is h =
     let rest = bind_ok (commands_from cpus collectors lines) (λ commands. Ok ((line.0, command) ∷ commands)) x h in
-    subst (λ (x : Commands). SpellCommands cpus collectors (line ∷ lines) x) (same_ok ((line.0, command) ∷ rest.0) x rest.2)
+    subst (λ (x : Commands). SpellCommands cpus collectors (line ∷ lines) x)
+        (same_ok ((line.0, command) ∷ rest.0) x rest.2)
     (is, refl, again rest.0 rest.1)
 commands_ok_at cpus collectors line lines x (Err f) again is h = absurd (ok_is_no_err x (line.0, f) (sym h))
 
 -- what the reader takes for commands are lines that spell them
-commands_ok : (cpus collectors : ℕ) (lines : List NumberedLine) (x : Commands) → commands_from cpus collectors lines ≡ Ok x → SpellCommands cpus collectors lines x
+commands_ok : (cpus collectors : ℕ) (lines : List NumberedLine) (x : Commands)
+    → commands_from cpus collectors lines ≡ Ok x → SpellCommands cpus collectors lines x
 unfolding commands_from
 commands_ok cpus collectors [] x h =
     let none : Commands = [] in
     subst (λ (x : Commands). SpellCommands cpus collectors [] x) (same_ok none x h) tt
 commands_ok cpus collectors (line ∷ lines) x h =
-    commands_ok_at cpus collectors line lines x (command_in cpus collectors line.1) (commands_ok cpus collectors lines) refl h
+    commands_ok_at cpus collectors line lines x (command_in cpus collectors line.1)
+        (commands_ok cpus collectors lines) refl h
 
 commands_same : (r : Read Commands) → r ≡ (r >>= commands_onto [])
 commands_same (Ok x) = refl
@@ -73,7 +81,8 @@ commands_given cpus collectors (line ∷ front) (command ∷ commands) rest h =
     let same : (line.0, command.1) ≡ command = ap (λ (n : ℕ). (n, command.1)) h.1 in
     commands_from_line cpus collectors line (front ++ rest)
     ∙ ap (command_then cpus collectors line (front ++ rest)) h.0
-    ∙ ap (λ (r : Read Commands). r >>= λ commands. Ok ((line.0, command.1) ∷ commands)) (commands_given cpus collectors front commands rest h.2)
+    ∙ ap (λ (r : Read Commands). r >>= λ commands. Ok ((line.0, command.1) ∷ commands))
+        (commands_given cpus collectors front commands rest h.2)
     ∙ command_onto (line.0, command.1) commands (commands_from cpus collectors rest)
     ∙ ap (λ (first : ℕ × Command). commands_from cpus collectors rest >>= commands_onto (first ∷ commands)) same
 commands_given cpus collectors [] (command ∷ commands) rest h = absurd h
@@ -89,9 +98,11 @@ record CommandFault (cpus collectors : ℕ) (lines : List NumberedLine) (e : ℕ
   fits : SpellCommands cpus collectors front commands
   fails : command_in cpus collectors line ≡ Err e.1
 
-commands_err_at : (cpus collectors : ℕ) (line : NumberedLine) (lines : List NumberedLine) (e : ℕ × LineFault) (r : Result Command LineFault)
+commands_err_at : (cpus collectors : ℕ) (line : NumberedLine) (lines : List NumberedLine) (e : ℕ × LineFault)
+    (r : Result Command LineFault)
     → ((e : ℕ × LineFault) → commands_from cpus collectors lines ≡ Err e → CommandFault cpus collectors lines e)
-    → command_in cpus collectors line.1 ≡ r → command_then cpus collectors line lines r ≡ Err e → CommandFault cpus collectors (line ∷ lines) e
+    → command_in cpus collectors line.1 ≡ r → command_then cpus collectors line lines r ≡ Err e
+        → CommandFault cpus collectors (line ∷ lines) e
 commands_err_at cpus collectors line lines e (Ok command) again is h =
     elim (bind_err (commands_from cpus collectors lines) (λ commands. Ok ((line.0, command) ∷ commands)) e h) [
       | inl f ↦ let found = again e f in record {
@@ -117,19 +128,23 @@ commands_err_at cpus collectors line lines e (Err f) again is h =
     }
 
 -- what the reader takes for a fault of a command is one
-commands_err : (cpus collectors : ℕ) (lines : List NumberedLine) (e : ℕ × LineFault) → commands_from cpus collectors lines ≡ Err e → CommandFault cpus collectors lines e
+commands_err : (cpus collectors : ℕ) (lines : List NumberedLine) (e : ℕ × LineFault)
+    → commands_from cpus collectors lines ≡ Err e → CommandFault cpus collectors lines e
 unfolding commands_from
 commands_err cpus collectors [] e h = absurd (let none : Commands = [] in ok_is_no_err none e h)
 commands_err cpus collectors (line ∷ lines) e h =
-    commands_err_at cpus collectors line lines e (command_in cpus collectors line.1) (commands_err cpus collectors lines) refl h
+    commands_err_at cpus collectors line lines e (command_in cpus collectors line.1)
+        (commands_err cpus collectors lines) refl h
 
 -- and it is read as one
-faulty_command_read : (cpus collectors : ℕ) (lines : List NumberedLine) (e : ℕ × LineFault) → CommandFault cpus collectors lines e → commands_from cpus collectors lines ≡ Err e
+faulty_command_read : (cpus collectors : ℕ) (lines : List NumberedLine) (e : ℕ × LineFault)
+    → CommandFault cpus collectors lines e → commands_from cpus collectors lines ≡ Err e
 faulty_command_read cpus collectors lines e f =
     ap (commands_from cpus collectors) f.cut
     ∙ commands_given cpus collectors f.front f.commands ((e.0, f.line) ∷ f.behind) f.fits
     ∙ ap (λ (r : Read Commands). r >>= commands_onto f.commands)
-    (commands_from_line cpus collectors (e.0, f.line) f.behind ∙ ap (command_then cpus collectors (e.0, f.line) f.behind) f.fails)
+    (commands_from_line cpus collectors (e.0, f.line) f.behind
+        ∙ ap (command_then cpus collectors (e.0, f.line) f.behind) f.fails)
 
 -- ---- the start line
 -- what stands in front of the commands, and the lines behind it: where nothing does, none of them is a start line
@@ -156,11 +171,13 @@ no_start_then lines = Ok (START_FILL, lines)
 
 start_from_line : (pages : ℕ) (line : NumberedLine) (lines : List NumberedLine)
     → start_from pages (line ∷ lines)
-    ≡ cond (is_start_line line.1) (start_then line lines (value_in (start_setting pages) line.1)) (no_start_then (line ∷ lines))
+    ≡ cond (is_start_line line.1) (start_then line lines (value_in (start_setting pages) line.1))
+        (no_start_then (line ∷ lines))
 unfolding start_from start_given
 start_from_line pages line lines = refl
 
-start_ok_at : (pages : ℕ) (line : NumberedLine) (lines : List NumberedLine) (x : Start) (is_start : Bool) (r : Result ℕ LineFault)
+start_ok_at : (pages : ℕ) (line : NumberedLine) (lines : List NumberedLine) (x : Start) (is_start : Bool)
+    (r : Result ℕ LineFault)
     → is_start_line line.1 ≡ is_start → value_in (start_setting pages) line.1 ≡ r
     → cond is_start (start_then line lines r) (no_start_then (line ∷ lines)) ≡ Ok x → StartRead pages (line ∷ lines) x
 start_ok_at pages line lines x true (Ok value) is given h =
@@ -191,9 +208,11 @@ start_ok pages [] x h =
       no_start = λ none. tt;
     }
 start_ok pages (line ∷ lines) x h =
-    start_ok_at pages line lines x (is_start_line line.1) (value_in (start_setting pages) line.1) refl refl (sym (start_from_line pages line lines) ∙ h)
+    start_ok_at pages line lines x (is_start_line line.1) (value_in (start_setting pages) line.1) refl refl
+        (sym (start_from_line pages line lines) ∙ h)
 
-start_err_at : (pages : ℕ) (line : NumberedLine) (lines : List NumberedLine) (e : ℕ × LineFault) (is_start : Bool) (r : Result ℕ LineFault)
+start_err_at : (pages : ℕ) (line : NumberedLine) (lines : List NumberedLine) (e : ℕ × LineFault) (is_start : Bool)
+    (r : Result ℕ LineFault)
     → is_start_line line.1 ≡ is_start → value_in (start_setting pages) line.1 ≡ r
     → cond is_start (start_then line lines r) (no_start_then (line ∷ lines)) ≡ Err e → StartFault pages (line ∷ lines) e
 start_err_at pages line lines e true (Ok value) is given h = absurd (ok_is_no_err (value, lines) e h)
@@ -208,20 +227,24 @@ start_err_at pages line lines e true (Err f) is given h =
 start_err_at pages line lines e false r is given h = absurd (ok_is_no_err (START_FILL, line ∷ lines) e h)
 
 -- what the reader takes for a fault of the start line is one
-start_err : (pages : ℕ) (lines : List NumberedLine) (e : ℕ × LineFault) → start_from pages lines ≡ Err e → StartFault pages lines e
+start_err : (pages : ℕ) (lines : List NumberedLine) (e : ℕ × LineFault) → start_from pages lines ≡ Err e
+    → StartFault pages lines e
 unfolding start_from
 start_err pages [] e h = absurd (let none : Start = (START_FILL, []) in ok_is_no_err none e h)
 start_err pages (line ∷ lines) e h =
-    start_err_at pages line lines e (is_start_line line.1) (value_in (start_setting pages) line.1) refl refl (sym (start_from_line pages line lines) ∙ h)
+    start_err_at pages line lines e (is_start_line line.1) (value_in (start_setting pages) line.1) refl refl
+        (sym (start_from_line pages line lines) ∙ h)
 
 pub start_line_read : (pages : ℕ) (line : NumberedLine) (lines : List NumberedLine) (r : Result ℕ LineFault)
-    → is_start_line line.1 ≡ true → value_in (start_setting pages) line.1 ≡ r → start_from pages (line ∷ lines) ≡ start_then line lines r
+    → is_start_line line.1 ≡ true → value_in (start_setting pages) line.1 ≡ r
+        → start_from pages (line ∷ lines) ≡ start_then line lines r
 start_line_read pages line lines r is given =
     start_from_line pages line lines
     ∙ cond-true (is_start_line line.1) _ _ is
     ∙ ap (start_then line lines) given
 
-pub no_start_read : (pages : ℕ) (lines : List NumberedLine) → BeginsNoStart lines → start_from pages lines ≡ Ok (START_FILL, lines)
+pub no_start_read : (pages : ℕ) (lines : List NumberedLine) → BeginsNoStart lines
+    → start_from pages lines ≡ Ok (START_FILL, lines)
 unfolding start_from
 no_start_read pages [] h = refl
 no_start_read pages (line ∷ lines) h = start_from_line pages line lines ∙ cond-false (is_start_line line.1) _ _ h
@@ -256,28 +279,26 @@ then_commands x y = commands_from (get_or x.0 2 0) (get_or x.0 3 0) y.1 >>= λ c
 abbrev pub then_start : Settings → Read Script
 then_start x = start_from (get_or x.0 0 0) x.1 >>= then_commands x
 
-pub script_from_settings : (end : ℕ) (lines : List NumberedLine) → script_from end lines ≡ (settings_from end header_settings lines >>= then_start)
+pub script_from_settings : (end : ℕ) (lines : List NumberedLine)
+    → script_from end lines ≡ (settings_from end header_settings lines >>= then_start)
 unfolding script_from
 script_from_settings end lines = refl
 
-length_given : (header : List NumberedLine) (settings : List Setting) (values : List ℕ) → GiveSettings header settings values → length values ≡ length settings
-length_given [] [] [] h = refl
-length_given (line ∷ header) (s ∷ settings) (value ∷ values) h = ap (λ (n : ℕ). suc n) (length_given header settings values h.1)
-length_given [] [] (value ∷ values) h = absurd h
-length_given [] (s ∷ settings) values h = absurd h
-length_given (line ∷ header) [] values h = absurd h
-length_given (line ∷ header) (s ∷ settings) [] h = absurd h
+-- as many lines as settings, and as many values
+lengths_given : (header : List NumberedLine) (settings : List Setting) (values : List ℕ)
+    → GiveSettings header settings values
+    → (length header ≡ length settings) × (length values ≡ length settings)
+lengths_given [] [] [] h = (refl, refl)
+lengths_given (line ∷ header) (s ∷ settings) (value ∷ values) h =
+    let others = lengths_given header settings values h.1 in
+    (ap (λ (n : ℕ). suc n) others.0, ap (λ (n : ℕ). suc n) others.1)
+lengths_given [] [] (value ∷ values) h = absurd h
+lengths_given [] (s ∷ settings) values h = absurd h
+lengths_given (line ∷ header) [] values h = absurd h
+lengths_given (line ∷ header) (s ∷ settings) [] h = absurd h
 
--- as many lines as settings
-pub header_length : (header : List NumberedLine) (settings : List Setting) (values : List ℕ) → GiveSettings header settings values → length header ≡ length settings
-header_length [] [] [] h = refl
-header_length (line ∷ header) (s ∷ settings) (value ∷ values) h = ap (λ (n : ℕ). suc n) (header_length header settings values h.1)
-header_length [] [] (value ∷ values) h = absurd h
-header_length [] (s ∷ settings) values h = absurd h
-header_length (line ∷ header) [] values h = absurd h
-header_length (line ∷ header) (s ∷ settings) [] h = absurd h
-
-four_values : (values : List ℕ) → length values ≡ 4 → values ≡ get_or values 0 0 ∷ get_or values 1 0 ∷ get_or values 2 0 ∷ get_or values 3 0 ∷ []
+four_values : (values : List ℕ) → length values ≡ 4
+    → values ≡ get_or values 0 0 ∷ get_or values 1 0 ∷ get_or values 2 0 ∷ get_or values 3 0 ∷ []
 four_values [] h = absurd (omega (arith, h))
 four_values (a ∷ []) h = absurd (omega (arith, h))
 four_values (a ∷ b ∷ []) h = absurd (omega (arith, h))
@@ -293,18 +314,23 @@ values_of s = s.pages ∷ s.size ∷ s.cpus ∷ s.collectors ∷ []
 record HeaderRead (lines : List NumberedLine) (x : Settings) : Type 0 where
   header : List NumberedLine
   cut : lines ≡ header ++ x.1
-  settings : GiveSettings header header_settings (get_or x.0 0 0 ∷ get_or x.0 1 0 ∷ get_or x.0 2 0 ∷ get_or x.0 3 0 ∷ [])
+  settings : GiveSettings header header_settings
+      (get_or x.0 0 0 ∷ get_or x.0 1 0 ∷ get_or x.0 2 0 ∷ get_or x.0 3 0 ∷ [])
 
-header_ok : (end : ℕ) (lines : List NumberedLine) (x : Settings) → settings_from end header_settings lines ≡ Ok x → HeaderRead lines x
+header_ok : (end : ℕ) (lines : List NumberedLine) (x : Settings) → settings_from end header_settings lines ≡ Ok x
+    → HeaderRead lines x
 header_ok end lines x is =
     let given = settings_ok end header_settings lines x is in
     record {
       header = given.0;
       cut = given.1;
-      settings = subst (λ (values : List ℕ). GiveSettings given.0 header_settings values) (four_values x.0 (length_given given.0 header_settings x.0 given.2)) given.2;
+      settings =
+          subst (λ (values : List ℕ). GiveSettings given.0 header_settings values)
+          (four_values x.0 (lengths_given given.0 header_settings x.0 given.2).1) given.2;
     }
 
-header_read : (end : ℕ) (header rest : List NumberedLine) (s : Script) → GiveSettings header header_settings (values_of s)
+header_read : (end : ℕ) (header rest : List NumberedLine) (s : Script)
+    → GiveSettings header header_settings (values_of s)
     → settings_from end header_settings (header ++ rest) ≡ Ok (values_of s, rest)
 unfolding settings_from
 header_read end header rest s h = settings_given end header header_settings (values_of s) [] rest h
@@ -326,12 +352,16 @@ spelled_by lines x y commands header start fits = record {
 -- what the reader takes for a script is one that the lines spell
 pub script_ok : (end : ℕ) (lines : List NumberedLine) (s : Script) → script_from end lines ≡ Ok s → SpellScript lines s
 script_ok end lines s h =
-    let header = bind_ok (settings_from end header_settings lines) then_start s (sym (script_from_settings end lines) ∙ h) in
+    let header =
+        bind_ok (settings_from end header_settings lines) then_start s (sym (script_from_settings end lines) ∙ h) in
     let x : Settings = header.0 in
     let start = bind_ok (start_from (get_or x.0 0 0) x.1) (then_commands x) s header.2 in
     let y : Start = start.0 in
-    let commands = bind_ok (commands_from (get_or x.0 2 0) (get_or x.0 3 0) y.1) (λ commands. Ok (made_of x.0 y.0 commands)) s start.2 in
-    subst (λ (s : Script). SpellScript lines s) (same_ok (made_of x.0 y.0 commands.0) s commands.2)
+    let commands =
+        bind_ok (commands_from (get_or x.0 2 0) (get_or x.0 3 0) y.1)
+        (λ commands. Ok (made_of x.0 y.0 commands)) s start.2 in
+    let made : Script = made_of x.0 y.0 commands.0 in
+    subst (λ (s : Script). SpellScript lines s) {x = made} (same_ok made s commands.2)
     (spelled_by lines x y commands.0 (header_ok end lines x header.1) (start_ok (get_or x.0 0 0) x.1 y start.1)
     (commands_ok (get_or x.0 2 0) (get_or x.0 3 0) y.1 commands.0 commands.1))
 
@@ -339,14 +369,17 @@ script_ok end lines s h =
 behind_start_read : (end : ℕ) (header start_line rest : List NumberedLine) (s : Script)
     → GiveSettings header header_settings (values_of s) → GivesStart s.pages start_line s.start
     → (length start_line ≡ 0 → BeginsNoStart rest)
-    → script_from end (header ++ (start_line ++ rest)) ≡ (commands_from s.cpus s.collectors rest >>= λ commands. Ok (made_of (values_of s) s.start commands))
+    → script_from end (header ++ (start_line ++ rest)) ≡
+        (commands_from s.cpus s.collectors rest >>= λ commands. Ok (made_of (values_of s) s.start commands))
 behind_start_read end header start_line rest s settings gives no_start =
     script_from_settings end (header ++ (start_line ++ rest))
     ∙ ap (λ (r : Read Settings). r >>= then_start) (header_read end header (start_line ++ rest) s settings)
-    ∙ ap (λ (r : Read Start). r >>= then_commands (values_of s, start_line ++ rest)) (start_read s.pages start_line s.start rest gives no_start)
+    ∙ ap (λ (r : Read Start). r >>= then_commands (values_of s, start_line ++ rest))
+        (start_read s.pages start_line s.start rest gives no_start)
 
 -- and a script that the lines spell is read
-pub script_given : (end : ℕ) (lines : List NumberedLine) (s : Script) → SpellScript lines s → script_from end lines ≡ Ok s
+pub script_given : (end : ℕ) (lines : List NumberedLine) (s : Script) → SpellScript lines s
+    → script_from end lines ≡ Ok s
 unfolding commands_from
 script_given end lines s h =
     let commands : commands_from s.cpus s.collectors h.behind ≡ Ok s.commands =
@@ -354,7 +387,8 @@ script_given end lines s h =
     ∙ commands_given s.cpus s.collectors h.behind s.commands [] h.commands
     ∙ ap (λ (cs : Commands). let r : Read Commands = Ok cs in r) (append-nil s.commands) in
     ap (script_from end) h.cut
-    ∙ behind_start_read end h.header h.start_line h.behind s h.settings h.start (λ none. commands_begin_no_start s.cpus s.collectors h.behind s.commands h.commands)
+    ∙ behind_start_read end h.header h.start_line h.behind s h.settings h.start
+        (λ none. commands_begin_no_start s.cpus s.collectors h.behind s.commands h.commands)
     ∙ ap (λ (r : Read Commands). r >>= λ commands. Ok (made_of (values_of s) s.start commands)) commands
 
 -- the first fault of these lines, where the line behind the last one has the number end
@@ -366,9 +400,11 @@ LinesFault end lines e =
     ⊎ IsFaultyCommand lines e.0 e.1
 
 setting_fault : (end : ℕ) (lines : List NumberedLine) (e : ℕ × LineFault)
-    → IsFaultySetting header_settings lines e.0 e.1 ⊎ (IsMissingSetting header_settings lines × (e ≡ (end, bad_line))) → LinesFault end lines e
+    → IsFaultySetting header_settings lines e.0 e.1 ⊎ (IsMissingSetting header_settings lines × (e ≡ (end, bad_line)))
+        → LinesFault end lines e
 setting_fault end lines e (inl f) = inl f
-setting_fault end lines e (inr f) = inr (inl (f.0, ap (λ (e : ℕ × LineFault). e.0) f.1, ap (λ (e : ℕ × LineFault). e.1) f.1))
+setting_fault end lines e (inr f) =
+    inr (inl (f.0, ap (λ (e : ℕ × LineFault). e.0) f.1, ap (λ (e : ℕ × LineFault). e.1) f.1))
 
 start_fault : (lines : List NumberedLine) (x : Settings) (e : ℕ × LineFault)
     → HeaderRead lines x → StartFault (get_or x.0 0 0) x.1 e → IsFaultyStart lines e.0 e.1
@@ -387,7 +423,7 @@ start_fault lines x e header f = record {
     start = refl;
     commands = tt;
   };
-  at_its_place = header_length header.header header_settings _ header.settings;
+  at_its_place = (lengths_given header.header header_settings _ header.settings).0;
   is_start = f.is_start;
   fails = f.fails;
 }
@@ -397,7 +433,7 @@ command_fault : (lines : List NumberedLine) (x : Settings) (y : Start) (e : ℕ 
     → CommandFault (get_or x.0 2 0) (get_or x.0 3 0) y.1 e → IsFaultyCommand lines e.0 e.1
 command_fault lines x y e header start f =
     let line : NumberedLine = (e.0, f.line) in
-    let four = header_length header.header header_settings _ header.settings in
+    let four = (lengths_given header.header header_settings _ header.settings).0 in
     let begins : length start.start_line ≡ 0 → BeginsNoStart (f.front ++ line ∷ f.behind) =
     λ none. subst BeginsNoStart f.cut (start.no_start none) in
     let long = length-append header.header (start.start_line ++ f.front) in
@@ -407,7 +443,9 @@ command_fault lines x y e header start f =
       line = f.line;
       behind = f.behind;
       cut = header.cut
-          ∙ ap (λ (ls : List NumberedLine). header.header ++ ls) (start.cut ∙ ap (λ (ls : List NumberedLine). start.start_line ++ ls) f.cut ∙ sym (append_assoc start.start_line f.front (line ∷ f.behind)))
+          ∙ ap (λ (ls : List NumberedLine). header.header ++ ls)
+              (start.cut ∙ ap (λ (ls : List NumberedLine). start.start_line ++ ls) f.cut
+              ∙ sym (append_assoc start.start_line f.front (line ∷ f.behind)))
           ∙ sym (append_assoc header.header (start.start_line ++ f.front) (line ∷ f.behind));
       script = made_of x.0 y.0 f.commands;
       fits = record {
@@ -419,12 +457,15 @@ command_fault lines x y e header start f =
         start = start.gives;
         commands = f.fits;
       };
-      no_start = λ all. first_is_no_start f.front line f.behind (begins (omega (arith, four, long, short, all))) (omega (arith, four, long, short, all));
+      no_start =
+          λ all. first_is_no_start f.front line f.behind (begins (omega (arith, four, long, short, all)))
+          (omega (arith, four, long, short, all));
       fails = f.fails;
     }
 
 -- what the reader takes for the first fault is it
-pub script_err : (end : ℕ) (lines : List NumberedLine) (e : ℕ × LineFault) → script_from end lines ≡ Err e → LinesFault end lines e
+pub script_err : (end : ℕ) (lines : List NumberedLine) (e : ℕ × LineFault) → script_from end lines ≡ Err e
+    → LinesFault end lines e
 script_err end lines e h =
     elim (bind_err (settings_from end header_settings lines) then_start e (sym (script_from_settings end lines) ∙ h)) [
       | inl f ↦ setting_fault end lines e (settings_err end header_settings lines e f)
@@ -434,36 +475,44 @@ script_err end lines e h =
             | inl f ↦ inr (inr (inl (start_fault lines x e header (start_err (get_or x.0 0 0) x.1 e f))))
             | inr v ↦ let y : Start = v.0 in
                 let start = start_ok (get_or x.0 0 0) x.1 y v.1 in
-                elim (bind_err (commands_from (get_or x.0 2 0) (get_or x.0 3 0) y.1) (λ commands. Ok (made_of x.0 y.0 commands)) e v.2) [
-                  | inl f ↦ inr (inr (inr (command_fault lines x y e header start (commands_err (get_or x.0 2 0) (get_or x.0 3 0) y.1 e f))))
+                elim (bind_err (commands_from (get_or x.0 2 0) (get_or x.0 3 0) y.1)
+                    (λ commands. Ok (made_of x.0 y.0 commands)) e v.2) [
+                  | inl f ↦ inr (inr (inr (command_fault lines x y e header start
+                      (commands_err (get_or x.0 2 0) (get_or x.0 3 0) y.1 e f))))
                   | inr u ↦ absurd (ok_is_no_err (made_of x.0 y.0 u.0) e u.2)
                 ]
           ]
     ]
 
 -- lines as many as the header's that spell a script are its header alone
-header_alone : (front : List NumberedLine) (s : Script) (h : SpellScript front s) → length front ≡ length header_settings → front ≡ h.header
+header_alone : (front : List NumberedLine) (s : Script) (h : SpellScript front s)
+    → length front ≡ length header_settings → front ≡ h.header
 header_alone front s h all =
-    let four = header_length h.header header_settings (values_of s) h.settings in
+    let four = (lengths_given h.header header_settings (values_of s) h.settings).0 in
     let long = length-append h.header (h.start_line ++ h.behind) in
     let cut = ap (λ (ls : List NumberedLine). length ls) h.cut in
-    h.cut ∙ ap (λ (ls : List NumberedLine). h.header ++ ls) (none_left (h.start_line ++ h.behind) (omega (arith, all, four, long, cut))) ∙ append-nil h.header
+    h.cut ∙ ap (λ (ls : List NumberedLine). h.header ++ ls)
+        (none_left (h.start_line ++ h.behind) (omega (arith, all, four, long, cut))) ∙ append-nil h.header
   where
     none_left : (lines : List NumberedLine) → length lines ≡ 0 → lines ≡ []
     none_left [] none = refl
     none_left (line ∷ lines) none = absurd (omega (arith, none))
 
-start_fault_read : (end : ℕ) (lines : List NumberedLine) (e : ℕ × LineFault) → IsFaultyStart lines e.0 e.1 → script_from end lines ≡ Err e
+start_fault_read : (end : ℕ) (lines : List NumberedLine) (e : ℕ × LineFault) → IsFaultyStart lines e.0 e.1
+    → script_from end lines ≡ Err e
 start_fault_read end lines e f =
     let s : Script = f.script in
     let rest = (e.0, f.line) ∷ f.behind in
-    let cut : lines ≡ f.fits.header ++ rest = f.cut ∙ ap (λ (ls : List NumberedLine). ls ++ rest) (header_alone f.front s f.fits f.at_its_place) in
+    let cut : lines ≡ f.fits.header ++ rest =
+        f.cut ∙ ap (λ (ls : List NumberedLine). ls ++ rest) (header_alone f.front s f.fits f.at_its_place) in
     ap (script_from end) cut
     ∙ script_from_settings end (f.fits.header ++ rest)
     ∙ ap (λ (r : Read Settings). r >>= then_start) (header_read end f.fits.header rest s f.fits.settings)
-    ∙ ap (λ (r : Read Start). r >>= then_commands (values_of s, rest)) (start_line_read s.pages (e.0, f.line) f.behind (Err e.1) f.is_start f.fails)
+    ∙ ap (λ (r : Read Start). r >>= then_commands (values_of s, rest))
+        (start_line_read s.pages (e.0, f.line) f.behind (Err e.1) f.is_start f.fails)
 
-command_fault_read : (end : ℕ) (lines : List NumberedLine) (e : ℕ × LineFault) → IsFaultyCommand lines e.0 e.1 → script_from end lines ≡ Err e
+command_fault_read : (end : ℕ) (lines : List NumberedLine) (e : ℕ × LineFault) → IsFaultyCommand lines e.0 e.1
+    → script_from end lines ≡ Err e
 command_fault_read end lines e f =
     let s : Script = f.script in
     let h : SpellScript f.front s = f.fits in
@@ -483,23 +532,28 @@ command_fault_read end lines e f =
       fits = h.commands;
       fails = f.fails;
     } in
-    let four = header_length h.header header_settings (values_of s) h.settings in
+    let four = (lengths_given h.header header_settings (values_of s) h.settings).0 in
     let front = ap (λ (ls : List NumberedLine). length ls) h.cut in
     let long = length-append h.header (h.start_line ++ h.behind) in
     let short = length-append h.start_line h.behind in
     let begins : length h.start_line ≡ 0 → BeginsNoStart rest =
-    λ none. begins_no_start_before h.behind line f.behind (commands_begin_no_start s.cpus s.collectors h.behind s.commands h.commands)
+    λ none. begins_no_start_before h.behind line f.behind
+        (commands_begin_no_start s.cpus s.collectors h.behind s.commands h.commands)
     (λ alone. f.no_start (omega (arith, four, front, long, short, none, alone))) in
     ap (script_from end) cut
     ∙ behind_start_read end h.header h.start_line rest s h.settings h.start begins
-    ∙ ap (λ (r : Read Commands). r >>= λ commands. Ok (made_of (values_of s) s.start commands)) (faulty_command_read s.cpus s.collectors rest e found)
+    ∙ ap (λ (r : Read Commands). r >>= λ commands. Ok (made_of (values_of s) s.start commands))
+        (faulty_command_read s.cpus s.collectors rest e found)
 
 -- and the first fault is read as it
-pub script_fault_given : (end : ℕ) (lines : List NumberedLine) (e : ℕ × LineFault) → LinesFault end lines e → script_from end lines ≡ Err e
+pub script_fault_given : (end : ℕ) (lines : List NumberedLine) (e : ℕ × LineFault) → LinesFault end lines e
+    → script_from end lines ≡ Err e
 script_fault_given end lines e (inl f) =
-    script_from_settings end lines ∙ ap (λ (r : Read Settings). r >>= then_start) (faulty_setting_read end header_settings lines e.0 e.1 f)
+    script_from_settings end lines
+        ∙ ap (λ (r : Read Settings). r >>= then_start) (faulty_setting_read end header_settings lines e.0 e.1 f)
 script_fault_given end lines e (inr (inl f)) =
-    let same : (end, bad_line) ≡ e = ap (λ (n : ℕ). (n, bad_line)) (sym f.1) ∙ ap (λ (fault : LineFault). (e.0, fault)) (sym f.2) in
+    let same : (end, bad_line) ≡ e =
+        ap (λ (n : ℕ). (n, bad_line)) (sym f.1) ∙ ap (λ (fault : LineFault). (e.0, fault)) (sym f.2) in
     script_from_settings end lines
     ∙ ap (λ (r : Read Settings). r >>= then_start) (missing_setting_read end header_settings lines f.0)
     ∙ ap (λ (e : ℕ × LineFault). let r : Read Script = Err e in r) same

@@ -15,9 +15,11 @@ script_reads text script = (
 )
 
 -- the line behind the last one has one number more than the last
-pub fault_reads : (text : List ℕ) (number : ℕ) (fault : LineFault) → (FirstScriptFault text number fault ↔ (script_in text ≡ Err (number, fault)))
+pub fault_reads : (text : List ℕ) (number : ℕ) (fault : LineFault)
+    → (FirstScriptFault text number fault ↔ (script_in text ≡ Err (number, fault)))
 unfolding significant_lines_after end_line_after
 fault_reads text number fault = (
-  λ h. script_fault_given (end_line_after 0 text) (significant_lines text) (number, fault) (rw (← zero-add (length (lines_of text))) at h),
+  λ h. script_fault_given (end_line_after 0 text) (significant_lines text) (number, fault)
+      (rw (← zero-add (length (lines_of text))) at h),
   λ h. rw zero-add at (script_err (end_line_after 0 text) (significant_lines text) (number, fault) h),
 )

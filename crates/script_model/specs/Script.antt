@@ -1,9 +1,9 @@
 -- The script text: what script a text spells as a whole, or which of its lines is the first at fault.
 -- After docs/FORMATS.md, "Script".
 use Rattle.std.specs.Prelude.{◌≡◌, ℕ, ◌+◌, ◌-◌, ◌⊎◌, ⊤, Bool, IsTrue, false, ◌&&◌, if◌then◌else◌, nat_le, List, [], ◌∷◌, ◌++◌, length, codes, bytes_eq, Result, Ok, Err}
-use Rattle.trace_model.specs.declared.limits.TheConstants.{MIN_PAGES, MAX_PAGES, MIN_SIZE, MAX_SIZE, START_FILL, LINK_FILLS}
+use Rattle.trace_model.specs.declared.limits.TheConstants.{START_FILL, LINK_FILLS}
 use Rattle.text_model.specs.Text.{lines_of, fields_of, is_well_spaced}
-use Rattle.text_model.specs.Script.{LineFault, bad_line, bad_number, bad_hex, out_of_range, ◌>>=◌, decimal_in, payload_in, number_below, cpu_in, Setting, pages_setting, size_setting, value_in, NumberedLine, significant_lines, GiveSettings, IsFaultySetting, IsMissingSetting}
+use Rattle.text_model.specs.Script.{LineFault, bad_line, out_of_range, ◌>>=◌, decimal_in, payload_in, number_below, cpu_in, Setting, pages_setting, size_setting, value_in, NumberedLine, significant_lines, GiveSettings, IsFaultySetting, IsMissingSetting}
 use Rattle.script_model.specs.declared.script_limits.TheConstants.{MIN_SCRIPT_CPUS, MAX_SCRIPT_CPUS, MIN_SCRIPT_COLLECTORS, MAX_SCRIPT_COLLECTORS, MIN_LINE_STEPS, MAX_LINE_STEPS}
 
 -- What a line of a script asks for, of a CPU's ring or of a collector. begin_frame: a record frame of this moment and
