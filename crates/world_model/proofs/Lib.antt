@@ -6,3 +6,5 @@ pub mod TakenPages
 pub mod Lookups
 pub mod WorldsKept
 pub mod OneWorld
+pub mod Cuts
+pub mod GenuineWorlds
