@@ -6,6 +6,8 @@ pub mod TakenPages
 pub mod Lookups
 pub mod WorldsKept
 pub mod OneWorld
+pub mod Cuts
+pub mod GenuineWorlds
 -- a ring's frames have their payloads, and come to their ends
 pub mod LanesKept
 pub mod LineEnds
