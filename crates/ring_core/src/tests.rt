@@ -285,12 +285,20 @@ fn make_act(
     Ok(())
 }
 
-/// Follows a run from a new ring on.
-fn follow(rt: &impl Abort, alloc: Global, run: &Run<'_>) -> Result<(), NoMemory> {
+/// The ring behind a run, which is followed from a new ring on.
+fn core_behind(rt: &impl Abort, alloc: Global, run: &Run<'_>) -> Result<Core, NoMemory>
+    ensures { IfOk result (λ core. IsRing core) }
+{
     let mut core = core_of(rt, alloc, run)?;
     assert_eq!(rt; core.size(), run.size);
     for (what, answer) in run.acts {
         make_act(rt, alloc, &mut core, *what, *answer)?;
     }
+    Ok(core)
+}
+
+/// Follows a run from a new ring on.
+fn follow(rt: &impl Abort, alloc: Global, run: &Run<'_>) -> Result<(), NoMemory> {
+    core_behind(rt, alloc, run)?;
     Ok(())
 }

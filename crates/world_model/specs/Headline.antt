@@ -1,14 +1,14 @@
 -- What the pages of a script's world are: of each CPU, the committed records of whole fills, under their own numbers,
 -- with just the numbers missing in front of them that were overwritten unread.
-use Rattle.std.specs.Prelude.{◌≡◌, ℕ, suc, ◌<◌, ◌≤◌, ◌==◌, List, map, filter, Contains, Some}
+use Rattle.std.specs.Prelude.{◌≡◌, ℕ, suc, ◌<◌, ◌≤◌, ◌==◌, ◌↔◌, List, length, map, filter, Contains, Some}
 use Rattle.std.specs.List.{slice_get}
 use Rattle.trace_model.specs.Record.{Record}
-use Rattle.trace_model.specs.History.{Action, IsHistory, committed_records}
+use Rattle.trace_model.specs.History.{Action, IsHistory, as_record, committed_records}
 use Rattle.trace_model.specs.Packing.{IsPacked}
 use Rattle.trace_model.specs.Partition.{Piece, IsPartition}
 use Rattle.trace_model.specs.Parcel.{Parcel, IsMissingOf, AreGenuine}
 use Rattle.trace_model.specs.Collection.{Agree}
-use Rattle.trace_model.specs.Ring.{first_of_fill}
+use Rattle.trace_model.specs.Ring.{first_of_fill, fill_of}
 use Rattle.trace_model.specs.Window.{Deed, actions_of, Window, WindowRun}
 use Rattle.link_marks.specs.ToldRuns.{fills_taken, fills_lost}
 use Rattle.script_model.specs.Script.{Script}
@@ -26,15 +26,30 @@ piece_in parcel = record { skipped = parcel.missed; records = parcel.records }
 abbrev pub pieces_in : List Parcel → List Piece
 pieces_in parcels = map piece_in parcels
 
+-- The parcel is the whole of its fill: it has all of that fill's records and no others, under their own numbers.
+pub record IsWhole (history : List Action) (start : ℕ) (parcel : Parcel) : Type 0 where
+  pub first_is : parcel.first ≡ (fill_of history start parcel.fill).first
+  pub records_are : parcel.records ≡ map as_record (fill_of history start parcel.fill).records
+
 -- the record of this number stands in a fill of the history
 abbrev pub StandsIn : (history : List Action) (start fill number : ℕ) → Type 0
 StandsIn history start fill number =
     (first_of_fill history start fill ≤ number) × (number < first_of_fill history start (suc fill))
 
+-- The record of this number was overwritten unread in front of a fill: it stands in one that was lost, behind all
+-- that were taken before that fill.
+pub record IsOverwrittenBefore (history : List Action) (start : ℕ) (deeds : List Deed) (fill number : ℕ) : Type 0 where
+  pub lost : ℕ
+  pub was_lost : Contains (fills_lost start deeds) lost
+  pub stands : StandsIn history start lost number
+  pub before : lost < fill
+  pub behind : (taken : ℕ) → Contains (fills_taken start deeds) taken → taken < fill → taken < lost
+
 -- What a CPU's ring of n positions did, and the parcels that were taken from it. Its frames made a packed history. In
 -- one order with that its fills were closed, taken and lost as a window of n positions allows, so a fill was lost only
--- where it was closed and the ring was full. The parcels are the fills that were taken, in order; they part the
--- committed records; and each number that is missing in front of one stands in a fill that was lost.
+-- where it was closed and the ring was full. The parcels are the fills that were taken, in order, each whole; they
+-- part the committed records; and the numbers that are missing in front of one are just those of the records that
+-- were overwritten unread between it and the one that was taken before it, or the start.
 pub record IsCut (n size start : ℕ) (history : List Action) (parcels : List Parcel) : Type 0 where
   pub is_history : IsHistory history
   pub packed : IsPacked history size
@@ -43,19 +58,23 @@ pub record IsCut (n size start : ℕ) (history : List Action) (parcels : List Pa
   pub actions : actions_of deeds ≡ history
   pub run : WindowRun n start deeds window
   pub took : fills_taken start deeds ≡ map (λ parcel. parcel.fill) parcels
+  pub whole : (parcel : Parcel) → Contains parcels parcel → IsWhole history start parcel
   pub rest : List Record
   pub partition : IsPartition (committed_records history) (pieces_in parcels) rest
-  pub overwritten : (parcel : Parcel) (number : ℕ)
+  pub missing : (parcel : Parcel) (number : ℕ)
       → Contains parcels parcel
-      → IsMissingOf parcel parcel.cpu number
-      → (fill : ℕ) × Contains (fills_lost start deeds) fill × StandsIn history start fill number
+      → IsMissingOf parcel parcel.cpu number ↔ IsOverwrittenBefore history start deeds parcel.fill number
 
--- Of a world: each CPU's history is cut into the parcels that were taken from its ring, and each parcel that was taken
--- is genuine for its CPU's. So they agree, and what was delivered is among them.
+-- Of a world: it has the CPUs and the collectors of its script. Each CPU's history is cut into the parcels that were
+-- taken from its ring, and each parcel that was taken is one of a CPU that there is, and genuine for that CPU's. So
+-- they agree, and what was delivered is among them.
 pub record IsGenuineWorld (script : Script) (w : World) : Type 0 where
+  pub cpus : length w.lanes ≡ script.cpus
+  pub collectors : length w.delivered ≡ script.collectors
   pub cut : (cpu : ℕ) (lane : Lane)
       → slice_get w.lanes cpu ≡ Some lane
       → IsCut script.pages script.size script.start lane.core.history (parcels_from cpu w.taken)
+  pub of_a_cpu : (parcel : Parcel) → Contains w.taken parcel → parcel.cpu < script.cpus
   pub genuine : AreGenuine w.taken (λ cpu. pieces_in (parcels_from cpu w.taken))
   pub agree : Agree w.taken
   pub delivered : (collector : ℕ) (parcels : List Parcel) (parcel : Parcel)

@@ -137,10 +137,6 @@ pub record WritesFrame (n size : ℕ) (event : Event) (payload : List ℕ) (befo
 
 -- ---- the reader
 
--- the take goes on behind this answer
-abbrev pub GoesOnReading : Answer → Type 0
-GoesOnReading answer = answer ≡ reading
-
 -- The reader makes steps, one behind the other, while its take goes on.
 abbrev pub ReaderRun : (n size : ℕ) → Lane → List Exchange → Lane → Type 0
 ReaderRun n size before [] after = before ≡ after

@@ -1,0 +1,253 @@
+-- The pages that a reader took from a ring part what the ring's frames committed, and what is missing in front of one
+-- was lost between it and the one before.
+use Rattle.std.proofs.Common.{◌≡◌, ◌≢◌, ℕ, zero, suc, ◌+◌, ◌-◌, ◌<◌, ◌≤◌, List, [], ◌∷◌, length, get_or, map, Some, refl, sym, ap, ◌∙◌, subst, ⊎_elim, arith}
+use Rattle.std.specs.Prelude.{Contains, ◌↔◌}
+use Rattle.std.specs.List.{slice_get}
+use Rattle.std.proofs.lemmas.Option.{none-some}
+use Rattle.std.proofs.lemmas.List.{length-map}
+use mathlib.Core.Logic.{dite}
+use native.Mathlib.Decide.{dec_le, ℕ_discrete}
+use Rattle.trace_model.specs.Record.{Record}
+use Rattle.trace_model.specs.History.{Reservation, reserved_records, as_record, committed_records}
+use Rattle.trace_model.specs.Packing.{opens_of, cut_from}
+use Rattle.trace_model.specs.Fitting.{IsRising}
+use Rattle.trace_model.specs.Partition.{Piece, IsPartition, covered_count, first_from, first_of}
+use Rattle.trace_model.specs.Parcel.{Parcel, IsMissingOf}
+use Rattle.trace_model.specs.Ring.{Held, Taken, Core, IsFillOf, first_of_fill, window_of}
+use Rattle.trace_model.specs.Window.{Deed, first_window}
+use Rattle.trace_model.proofs.Elements.{some_is}
+use Rattle.trace_model.proofs.FillFirsts.{first_below, first_rises_to}
+use Rattle.trace_model.proofs.FillOfNumber.{LiesIn, lies_in, ends_before}
+use Rattle.trace_model.proofs.FirstNumbers.{own_or_skipped}
+use Rattle.link_marks.specs.KeptPartition.{piece_of, pieces_of}
+use Rattle.link_marks.specs.Reached.{IsReached}
+use Rattle.link_marks.specs.RingKept.{IsRingKept}
+use Rattle.link_marks.specs.ToldRuns.{fills_taken, fills_lost, numbers_of, IsToldBy}
+use Rattle.link_marks.proofs.RingsKept.{reached_kept, taken_partition}
+use Rattle.link_marks.proofs.PackedRuns.{runs_packed}
+use Rattle.link_marks.proofs.TakenHoldRecords.{taken_hold}
+use Rattle.link_marks.proofs.ToldSteps.{run_told}
+use Rattle.link_marks.proofs.WindowRuns.{passed_by, lost_closed}
+use Rattle.world_model.specs.World.{parcel_of}
+use Rattle.world_model.specs.Headline.{piece_in, pieces_in, IsWhole, StandsIn, IsOverwrittenBefore, IsCut}
+use Rattle.world_model.proofs.Lookups.{element_at, contains_at, get_map, get_from_map}
+
+-- ---- first numbers
+
+-- the first piece has in front of it what it skips
+first_at_zero : (number : ℕ) (pieces : List Piece) (p : Piece) (first : ℕ) → slice_get pieces 0 ≡ Some p → first_from number pieces 0 ≡ Some first → first ≡ number + p.skipped
+first_at_zero number [] p first at is = absurd (none-some p at)
+first_at_zero number (s ∷ pieces) p first at is = sym (some_is (number + s.skipped) first is) ∙ ap (λ (q : Piece). number + q.skipped) (some_is s p at)
+
+-- any other has what the one before it covers, too
+first_next : (number : ℕ) (pieces : List Piece) (k : ℕ) (p q : Piece) (a b : ℕ) → slice_get pieces k ≡ Some p → slice_get pieces (suc k) ≡ Some q
+    → first_from number pieces k ≡ Some a → first_from number pieces (suc k) ≡ Some b → b ≡ a + length p.records + q.skipped
+first_next number [] k p q a b at_p at_q is_a is_b = absurd (none-some p at_p)
+first_next number (s ∷ []) zero p q a b at_p at_q is_a is_b = absurd (none-some q at_q)
+first_next number (s ∷ w ∷ pieces) zero p q a b at_p at_q is_a is_b =
+    let first = some_is (number + s.skipped) a is_a in
+    let next = some_is (number + covered_count s + w.skipped) b is_b in
+    let size = ap (λ (x : Piece). length x.records) (some_is s p at_p) in
+    let skips = ap (λ (x : Piece). x.skipped) (some_is w q at_q) in omega arith
+first_next number (s ∷ pieces) (suc k) p q a b at_p at_q is_a is_b = first_next (number + covered_count s) pieces k p q a b at_p at_q is_a is_b
+
+one_before : {A : Type 0} (xs : List A) (k : ℕ) (y : A) → slice_get xs (suc k) ≡ Some y → (x : A) × (slice_get xs k ≡ Some x)
+one_before [] k y at = absurd (none-some y at)
+one_before (x ∷ xs) zero y at = (x, refl)
+one_before (x ∷ xs) (suc k) y at = one_before xs k y at
+
+-- ---- a ring
+
+module _ (n size start : ℕ) (c : Core) (r : IsReached n size start c) where
+  kept : IsRingKept n size start c
+  kept = reached_kept n size start c r
+
+  abbrev taken : List Taken
+  taken = c.reader.taken
+
+  abbrev cuts : List ℕ
+  cuts = opens_of c.history
+
+  abbrev xs : List Reservation
+  xs = reserved_records c.history
+
+  rising : IsRising 0 cuts (length xs)
+  rising = kept.contents.rising
+
+  -- what is known of a page that was taken, which isn't of the last fill
+  record IsPage (k : ℕ) (t : Taken) : Type 0 where
+    from_start : start ≤ t.fill
+    below : t.fill < c.head
+    within : t.fill - start < length cuts
+    first_is : t.held.first ≡ get_or (0 ∷ cuts) (t.fill - start) 0
+    size_is : length (map as_record t.held.records) ≡ length (get_or (cut_from 0 cuts xs) (t.fill - start) [])
+    some : 0 < length (map as_record t.held.records)
+    piece_at : slice_get (pieces_of taken) k ≡ Some (piece_of t)
+    first_at : first_of (pieces_of taken) k ≡ Some t.held.first
+
+  some_length : (l : List Reservation) → l ≢ [] → 0 < length (map as_record l)
+  some_length [] some = absurd (some refl)
+  some_length (x ∷ l) some = omega arith
+
+  page : (k : ℕ) (t : Taken) → slice_get taken k ≡ Some t → IsPage k t
+  page k t at =
+      let fill = kept.partition.fills.each k t at in let from = fill.from_start in let below = kept.partition.below k t at in
+      let unread = kept.links.head_le in let behind = kept.links.done_lt in let count = kept.contents.begun in record {
+    from_start = from;
+    below = below;
+    within = omega arith;
+    first_is = ap (λ (h : Held). h.first) fill.held;
+    size_is = length-map t.held.records as_record ∙ ap (λ (h : Held). length h.records) fill.held;
+    some = some_length t.held.records (taken_hold n size start c kept k t at);
+    piece_at = get_map piece_of taken k t at;
+    first_at = kept.partition.firsts k t at;
+  }
+
+  -- no number is one of a page's own and one that another skips
+  apart : (j k : ℕ) (u t : Taken) (number : ℕ) → slice_get taken j ≡ Some u → slice_get taken k ≡ Some t
+      → u.held.first ≤ number → number < u.held.first + length (map as_record u.held.records) → t.held.first ≤ number + t.skipped → number < t.held.first → ⊥
+  apart j k u t number at_u at_t low high least below = let a = page j u at_u in let b = page k t at_t in
+      own_or_skipped 0 (pieces_of taken) j k (piece_of u) (piece_of t) u.held.first t.held.first number a.piece_at b.piece_at a.first_at b.first_at low high least below
+
+  deeds : List Deed
+  deeds = (run_told n size start c r).0
+
+  told : IsToldBy n start c deeds
+  unfolding deeds
+  told = (run_told n size start c r).1
+
+  -- a fill that was taken has its page
+  page_of : (f : ℕ) → Contains (fills_taken start deeds) f → (k : ℕ) × (t : Taken) × (slice_get taken k ≡ Some t) × (t.fill ≡ f)
+  page_of f has = let (k, at) = element_at (numbers_of taken) f (subst (λ (l : List ℕ). Contains l f) told.took has) in
+      let (t, there, is) = get_from_map (λ (t : Taken). t.fill) taken k f at in (k, t, there, is)
+
+  fill_of_page : (k : ℕ) (t : Taken) → slice_get taken k ≡ Some t → Contains (fills_taken start deeds) t.fill
+  fill_of_page k t at = subst (λ (l : List ℕ). Contains l t.fill) (sym told.took) (contains_at (numbers_of taken) k t.fill (get_map (λ (t : Taken). t.fill) taken k t at))
+
+  first_at_fill : (i : ℕ) → first_of_fill c.history start (start + i) ≡ get_or (0 ∷ cuts) i 0
+  first_at_fill i = ap (λ (m : ℕ). get_or (0 ∷ cuts) m 0) (let e : start + i - start ≡ i = omega arith in e)
+
+  first_behind_fill : (i : ℕ) → first_of_fill c.history start (suc (start + i)) ≡ get_or (0 ∷ cuts) (suc i) 0
+  first_behind_fill i = ap (λ (m : ℕ). get_or (0 ∷ cuts) m 0) (let e : suc (start + i) - start ≡ suc i = omega arith in e)
+
+  rises : (i j : ℕ) → i ≤ j → j ≤ length cuts → get_or (0 ∷ cuts) i 0 ≤ get_or (0 ∷ cuts) j 0
+  rises i j le high = let rise = first_rises_to cuts (length xs) i (j - i) (omega arith) rising in
+      let e = ap (λ (m : ℕ). get_or (0 ∷ cuts) m 0) (let s : i + (j - i) ≡ j = omega arith in s) in omega arith
+
+  -- ---- what is missing was lost
+
+  module _ (k : ℕ) (t : Taken) (at : slice_get taken k ≡ Some t) (number : ℕ) (low : t.held.first ≤ number + t.skipped) (high : number < t.held.first) where
+    p : IsPage k t
+    p = page k t at
+
+    lies : LiesIn cuts xs 0 number
+    lies = let first = p.first_is in let within = p.within in let all = first_below 0 cuts (length xs) (t.fill - start) (omega arith) rising in
+        lies_in cuts xs number (length cuts) 0 (omega arith) rising (omega arith) (omega arith)
+
+    -- its place in the fills
+    abbrev j : ℕ
+    j = lies.fill
+
+    earlier : j < t.fill - start
+    earlier = dite (dec_le (suc j) (t.fill - start)) (λ less. less)
+        (λ more. let first = p.first_is in let begins = lies.first_le in let le = lies.fill_le in let rise = rises (t.fill - start) j (omega arith) le in absurd (let no : ⊥ = omega arith in no))
+
+    stands : StandsIn c.history start (start + j) number
+    stands = let within = p.within in let less = earlier in let begins = lies.first_le in let ends = lies.number_lt in
+        let next = ends_before cuts xs j (suc j) (omega arith) (omega arith) rising in
+        let a = first_at_fill j in let b = first_behind_fill j in (omega arith, omega arith)
+
+    not_taken : Contains (fills_taken start deeds) (start + j) → ⊥
+    not_taken has = let (i, u, at_u, is) = page_of (start + j) has in let q = page i u at_u in
+        let here : u.fill - start ≡ j = omega arith in
+        let begins = lies.first_le in let ends = lies.number_lt in let first = q.first_is in let size = q.size_is in
+        let e = ap (λ (m : ℕ). get_or (0 ∷ cuts) m 0) here in let e' = ap (λ (m : ℕ). length (get_or (cut_from 0 cuts xs) m [])) here in
+        apart i k u t number at_u at (omega arith) (omega arith) low high
+
+    lost : Contains (fills_lost start deeds) (start + j)
+    lost = let less = earlier in let below = p.below in
+        ⊎_elim (λ has. absurd (not_taken has)) (λ has. has) (passed_by n [] (first_window start) (window_of c) deeds (start + j) told.window (omega arith) (omega arith))
+
+    behind : (f : ℕ) → Contains (fills_taken start deeds) f → f < t.fill → f < start + j
+    behind f has before = dite (dec_le (suc f) (start + j)) (λ less. less) (λ more. absurd (by_page (page_of f has) (omega arith)))
+      where
+        by_page : (i : ℕ) × (u : Taken) × (slice_get taken i ≡ Some u) × (u.fill ≡ f) → start + j ≤ f → ⊥
+        by_page (i, u, at_u, is) le = let q = page i u at_u in let within = p.within in
+            let first = q.first_is in let size = q.size_is in let some = q.some in let own = p.first_is in
+            let begins = lies.first_le in let ends = lies.number_lt in
+            let low_u = q.from_start in
+            dite (dec_le u.held.first number)
+            (λ yes. dite (ℕ_discrete j (u.fill - start))
+              (λ here. let e = ap (λ (m : ℕ). get_or (0 ∷ cuts) m 0) here in let e' = ap (λ (m : ℕ). length (get_or (cut_from 0 cuts xs) m [])) here in
+              apart i k u t number at_u at yes (omega arith) low high)
+              (λ other. let next = ends_before cuts xs j (u.fill - start) (omega arith) (omega arith) rising in omega arith))
+            (λ no. let next = ends_before cuts xs (u.fill - start) (t.fill - start) (omega arith) (omega arith) rising in
+              apart i k u t u.held.first at_u at (omega arith) (omega arith) (omega arith) (omega arith))
+
+    overwritten : IsOverwrittenBefore c.history start deeds t.fill number
+    overwritten = record { lost = start + j; was_lost = lost; stands = stands; before = let less = earlier in omega arith; behind = behind }
+
+  -- ---- what was lost is missing
+
+  module _ (t : Taken) (number : ℕ) (o : IsOverwrittenBefore c.history start deeds t.fill number) where
+    from_start : start ≤ o.lost
+    from_start = (lost_closed n [] (first_window start) (window_of c) deeds o.lost told.window o.was_lost).0
+
+    is_high : (k : ℕ) → slice_get taken k ≡ Some t → number < t.held.first
+    is_high k at = let p = page k t at in let first = p.first_is in let within = p.within in let from = from_start in let before = o.before in let ends = o.stands.1 in
+        let rise = rises (suc o.lost - start) (t.fill - start) (omega arith) (omega arith) in omega arith
+
+    is_low : (k : ℕ) → slice_get taken k ≡ Some t → t.held.first ≤ number + t.skipped
+    is_low zero at = let p = page zero t at in let first = first_at_zero 0 (pieces_of taken) (piece_of t) t.held.first p.piece_at p.first_at in omega arith
+    is_low (suc k) at = let (u, at_u) = one_before taken k t at in let p = page (suc k) t at in let q = page k u at_u in
+        let next = first_next 0 (pieces_of taken) k (piece_of u) (piece_of t) u.held.first t.held.first q.piece_at p.piece_at q.first_at p.first_at in
+        let less = kept.partition.fills.rising k (suc k) u t (omega arith) at_u at in
+        let behind = o.behind u.fill (fill_of_page k u at_u) less in
+        let from = from_start in let before = o.before in let within = p.within in let begins = o.stands.0 in
+        let low_u = q.from_start in let first = q.first_is in let size = q.size_is in
+        let ends = ends_before cuts xs (u.fill - start) (o.lost - start) (omega arith) (omega arith) rising in omega arith
+
+  -- ---- the whole
+
+  module _ (cpu : ℕ) where
+    abbrev parcels : List Parcel
+    parcels = map (parcel_of cpu) taken
+
+    parcel_at : (parcel : Parcel) → Contains parcels parcel → (k : ℕ) × (t : Taken) × (slice_get taken k ≡ Some t) × (parcel_of cpu t ≡ parcel)
+    parcel_at parcel has = let (k, at) = element_at parcels parcel has in let (t, there, is) = get_from_map (parcel_of cpu) taken k parcel at in (k, t, there, is)
+
+    is_whole : (k : ℕ) (t : Taken) → slice_get taken k ≡ Some t → IsWhole c.history start (parcel_of cpu t)
+    is_whole k t at = let fill = kept.partition.fills.each k t at in record {
+      first_is = ap (λ (h : Held). h.first) fill.held;
+      records_are = ap (λ (h : Held). map as_record h.records) fill.held;
+    }
+
+    is_missing : (k : ℕ) (t : Taken) (number : ℕ) → slice_get taken k ≡ Some t → IsMissingOf (parcel_of cpu t) cpu number ↔ IsOverwrittenBefore c.history start deeds t.fill number
+    is_missing k t number at = (
+      λ m. overwritten k t at number m.low m.high,
+      λ o. record { cpu_is = refl; low = is_low t number o k at; high = is_high t number o k at },
+    )
+
+    fills_same : (ts : List Taken) → numbers_of ts ≡ map (λ parcel. parcel.fill) (map (parcel_of cpu) ts)
+    fills_same [] = refl
+    fills_same (t ∷ ts) = ap (λ (l : List ℕ). t.fill ∷ l) (fills_same ts)
+
+    pub pieces_same : (ts : List Taken) → pieces_of ts ≡ pieces_in (map (parcel_of cpu) ts)
+    pieces_same [] = refl
+    pieces_same (t ∷ ts) = ap (λ (l : List Piece). piece_of t ∷ l) (pieces_same ts)
+
+    pub is_cut : IsCut n size start c.history parcels
+    is_cut = record {
+      is_history = kept.history.allowed;
+      packed = runs_packed n size start c kept;
+      deeds = deeds;
+      window = window_of c;
+      actions = told.actions;
+      run = told.window;
+      took = told.took ∙ fills_same taken;
+      whole = λ parcel has. let (k, t, at, is) = parcel_at parcel has in subst (IsWhole c.history start) is (is_whole k t at);
+      rest = (taken_partition n size start c kept).0;
+      partition = subst (λ (l : List Piece). IsPartition (committed_records c.history) l (taken_partition n size start c kept).0) (pieces_same taken) (taken_partition n size start c kept).1;
+      missing = λ parcel number has. let (k, t, at, is) = parcel_at parcel has in
+          subst (λ (x : Parcel). IsMissingOf x x.cpu number ↔ IsOverwrittenBefore c.history start deeds x.fill number) is (is_missing k t number at);
+    }

@@ -1,0 +1,59 @@
+-- A world that its lines made is genuine.
+use Rattle.std.proofs.Common.{◌≡◌, ℕ, ◌+◌, List, [], ◌∷◌, ◌++◌, length, map, replicate, Some, refl, sym, ap, ◌∙◌, subst}
+use Rattle.std.specs.List.{slice_get}
+use Rattle.std.proofs.lemmas.List.{length-replicate}
+use Rattle.trace_model.specs.Record.{Record}
+use Rattle.trace_model.specs.Ring.{Taken}
+use Rattle.trace_model.specs.Partition.{Piece, IsPartition, first_of}
+use Rattle.trace_model.specs.Parcel.{Parcel, IsGenuine, AreGenuine}
+use Rattle.trace_model.specs.Collection.{Agree}
+use Rattle.trace_model.proofs.Genuine.{genuine_agree}
+use Rattle.script_model.specs.Script.{Script}
+use Rattle.script_model.specs.ScriptLimits.{IsWithinLimits}
+use Rattle.link_marks.specs.KeptPartition.{pieces_of}
+use Rattle.link_marks.proofs.RingsKept.{reached_kept}
+use Rattle.world_model.specs.World.{World, WorldOf, parcel_of}
+use Rattle.world_model.specs.Headline.{parcels_from, piece_in, pieces_in, IsCut, IsGenuineWorld}
+use Rattle.world_model.proofs.Lookups.{contains_at, get_map}
+use Rattle.world_model.proofs.WorldsKept.{IsWorldKept, world_kept}
+use Rattle.world_model.proofs.OneWorld.{IsTakenBy, taken_by_reader, lane_of}
+use Rattle.world_model.proofs.Cuts.{pieces_same, is_cut}
+
+-- some records that pieces part
+some_records : (pieces : List Piece) → (records : List Record) × IsPartition records pieces []
+some_records [] = ([], refl)
+some_records (p ∷ pieces) = let (behind, partition) = some_records pieces in let lost : List Record = replicate p.skipped record { moment = 0; bytes = [] } in
+    (lost ++ (p.records ++ behind), (lost, behind, length-replicate p.skipped _, refl, partition))
+
+-- genuine parcels agree, whatever their records are part of
+pub genuine_parcels_agree : (parcels : List Parcel) (pieces : ℕ → List Piece) → AreGenuine parcels pieces → Agree parcels
+genuine_parcels_agree parcels pieces genuine = genuine_agree (λ cpu. (some_records (pieces cpu)).0) pieces (λ cpu. []) parcels (λ cpu. (some_records (pieces cpu)).1) genuine
+
+module _ (script : Script) (w : World) (kept : IsWorldKept script w) where
+  is_genuine : (k : ℕ) (parcel : Parcel) → slice_get w.taken k ≡ Some parcel → IsGenuine parcel (pieces_in (parcels_from parcel.cpu w.taken))
+  is_genuine k parcel at =
+      let has = contains_at w.taken k parcel at in
+      let (lane, lane_at) = lane_of script w kept parcel.cpu (kept.of_a_cpu parcel has) in
+      let t = taken_by_reader script w kept parcel.cpu lane parcel lane_at refl has in
+      let ring = reached_kept script.pages script.size script.start lane.core (kept.reached parcel.cpu lane lane_at) in
+      let same : pieces_of lane.core.reader.taken ≡ pieces_in (parcels_from parcel.cpu w.taken) =
+          pieces_same script.pages script.size script.start lane.core (kept.reached parcel.cpu lane lane_at) parcel.cpu lane.core.reader.taken ∙ ap pieces_in (sym (kept.taken parcel.cpu lane lane_at)) in
+      record {
+        index = t.index;
+        piece_is = get_map piece_in (parcels_from parcel.cpu w.taken) t.index parcel t.in_place;
+        first_is = ap (λ (l : List Piece). first_of l t.index) (sym same) ∙ ring.partition.firsts t.index t.page t.page_at ∙ ap (λ (p : Parcel). Some p.first) t.parcel_is;
+      }
+
+  pub kept_genuine : IsGenuineWorld script w
+  kept_genuine = record {
+    cpus = kept.cpus;
+    collectors = kept.collectors;
+    cut = λ cpu lane at. subst (IsCut script.pages script.size script.start lane.core.history) (sym (kept.taken cpu lane at)) (is_cut script.pages script.size script.start lane.core (kept.reached cpu lane at) cpu);
+    of_a_cpu = kept.of_a_cpu;
+    genuine = is_genuine;
+    agree = genuine_parcels_agree w.taken (λ cpu. pieces_in (parcels_from cpu w.taken)) is_genuine;
+    delivered = kept.delivered;
+  }
+
+pub world_genuine : (script : Script) (w : World) → IsWithinLimits script → WorldOf script w → IsGenuineWorld script w
+world_genuine script w limits of = kept_genuine script w (world_kept script w limits of)
