@@ -26,19 +26,21 @@ of_cpu_spelled : (cpus : ℕ) (make : ℕ → Command) (first second word : Fiel
     → (cpu : ℕ) × (make cpu ≡ command) × SpellsOfCpu cpus word cpu (first ∷ second ∷ [])
 unfolding of_cpu
 of_cpu_spelled cpus make first second word command is h =
-    let cpu = bind_ok (cpu_in cpus first) (λ cpu. let r : Read Command = Ok (make cpu) in r) command h in
-    (cpu.0, same_ok (make cpu.0) command cpu.2,
-        (first, ap (λ (w : Field). first ∷ w ∷ []) (same_word second word is), cpu.1))
+    let cpu = bind_ok (cpu_in cpus first) (λ cpu. let r : Read Command = Ok (make cpu) in r) command h in (
+      cpu.0,
+      same_ok (make cpu.0) command cpu.2,
+      (first, ap (λ (w : Field). first ∷ w ∷ []) (same_word second word is), cpu.1),
+    )
 
 steps_spelled : (cpus : ℕ) (make : ℕ → ℕ → Command) (first second third word : Field) (command : Command)
     → bytes_eq second word ≡ true → steps_in cpus make first third ≡ Ok command
     → (cpu : ℕ) × (count : ℕ) × (make cpu count ≡ command) × SpellsSteps cpus word cpu count
-        (first ∷ second ∷ third ∷ [])
+    (first ∷ second ∷ third ∷ [])
 unfolding steps_in
 steps_spelled cpus make first second third word command is h =
     let cpu =
-        bind_ok (cpu_in cpus first) (λ cpu. count_in third >>= λ count. let r : Read Command = Ok (make cpu count) in r)
-        command h in
+    bind_ok (cpu_in cpus first) (λ cpu. count_in third >>= λ count. let r : Read Command = Ok (make cpu count) in r)
+    command h in
     let count = bind_ok (count_in third) (λ count. let r : Read Command = Ok (make cpu.0 count) in r) command cpu.2 in
     let line = ap (λ (w : Field). first ∷ w ∷ third ∷ []) (same_word second word is) in
     (cpu.0, count.0, same_ok (make cpu.0 count.0) command count.2, (first, third, line, cpu.1, count.1))
@@ -51,17 +53,21 @@ record_spelled : (cpus : ℕ) (make : ℕ → ℕ → List ℕ → Command) (fir
 unfolding record_in
 record_spelled cpus make first second third fourth word command is h =
     let cpu =
-        bind_ok (cpu_in cpus first) (λ cpu. decimal_in third >>= λ moment. payload_in fourth >>= λ payload.
-        let r : Read Command = Ok (make cpu moment payload) in r) command h in
+    bind_ok (cpu_in cpus first) (λ cpu. decimal_in third >>= λ moment. payload_in fourth >>= λ payload.
+    let r : Read Command = Ok (make cpu moment payload) in r) command h in
     let moment =
-        bind_ok (decimal_in third) (λ moment. payload_in fourth >>= λ payload.
-        let r : Read Command = Ok (make cpu.0 moment payload) in r) command cpu.2 in
+    bind_ok (decimal_in third) (λ moment. payload_in fourth >>= λ payload.
+    let r : Read Command = Ok (make cpu.0 moment payload) in r) command cpu.2 in
     let payload =
-        bind_ok (payload_in fourth) (λ payload. let r : Read Command = Ok (make cpu.0 moment.0 payload) in r) command
-        moment.2 in
-    let line = ap (λ (w : Field). first ∷ w ∷ third ∷ fourth ∷ []) (same_word second word is) in
-    (cpu.0, moment.0, payload.0, same_ok (make cpu.0 moment.0 payload.0) command payload.2,
-        (first, third, fourth, line, cpu.1, moment.1, payload.1))
+    bind_ok (payload_in fourth) (λ payload. let r : Read Command = Ok (make cpu.0 moment.0 payload) in r) command
+    moment.2 in
+    let line = ap (λ (w : Field). first ∷ w ∷ third ∷ fourth ∷ []) (same_word second word is) in (
+      cpu.0,
+      moment.0,
+      payload.0,
+      same_ok (make cpu.0 moment.0 payload.0) command payload.2,
+      (first, third, fourth, line, cpu.1, moment.1, payload.1),
+    )
 
 deliver_spelled : (cpus collectors : ℕ) (first second third fourth : Field) (command : Command)
     → bytes_eq first (codes "d") ≡ true → deliver_in cpus collectors second third fourth ≡ Ok command
@@ -70,18 +76,22 @@ deliver_spelled : (cpus collectors : ℕ) (first second third fourth : Field) (c
 unfolding deliver_in
 deliver_spelled cpus collectors first second third fourth command is h =
     let collector =
-        bind_ok (number_below collectors second)
-        (λ collector. cpu_in cpus third >>= λ cpu. decimal_in fourth >>= λ fill.
-        let r : Read Command = Ok (deliver collector cpu fill) in r) command h in
+    bind_ok (number_below collectors second)
+    (λ collector. cpu_in cpus third >>= λ cpu. decimal_in fourth >>= λ fill.
+    let r : Read Command = Ok (deliver collector cpu fill) in r) command h in
     let cpu =
-        bind_ok (cpu_in cpus third) (λ cpu. decimal_in fourth >>= λ fill.
-        let r : Read Command = Ok (deliver collector.0 cpu fill) in r) command collector.2 in
+    bind_ok (cpu_in cpus third) (λ cpu. decimal_in fourth >>= λ fill.
+    let r : Read Command = Ok (deliver collector.0 cpu fill) in r) command collector.2 in
     let fill =
-        bind_ok (decimal_in fourth) (λ fill. let r : Read Command = Ok (deliver collector.0 cpu.0 fill) in r) command
-        cpu.2 in
-    let line = ap (λ (w : Field). w ∷ second ∷ third ∷ fourth ∷ []) (same_word first (codes "d") is) in
-    (collector.0, cpu.0, fill.0, same_ok (deliver collector.0 cpu.0 fill.0) command fill.2,
-        (second, third, fourth, line, collector.1, cpu.1, fill.1))
+    bind_ok (decimal_in fourth) (λ fill. let r : Read Command = Ok (deliver collector.0 cpu.0 fill) in r) command
+    cpu.2 in
+    let line = ap (λ (w : Field). w ∷ second ∷ third ∷ fourth ∷ []) (same_word first (codes "d") is) in (
+      collector.0,
+      cpu.0,
+      fill.0,
+      same_ok (deliver collector.0 cpu.0 fill.0) command fill.2,
+      (second, third, fourth, line, collector.1, cpu.1, fill.1),
+    )
 
 pub command_spelled : (cpus collectors : ℕ) (fields : List Field) (command : Command)
     → command_of cpus collectors fields ≡ Ok command → SpellsCommand cpus collectors command fields
@@ -91,39 +101,39 @@ command_spelled cpus collectors (first ∷ []) command h = absurd (bad_is_no_com
 command_spelled cpus collectors (first ∷ second ∷ []) command h =
     let spells : Command → Type 0 = λ command. SpellsCommand cpus collectors command (first ∷ second ∷ []) in
     chosen (bytes_eq second (codes "f")) (of_cpu cpus finish_frame first) _ command
-        (λ is read. let s = of_cpu_spelled cpus finish_frame first second (codes "f") command is read in
-        subst spells s.1 s.2) (λ h.
+    (λ is read. let s = of_cpu_spelled cpus finish_frame first second (codes "f") command is read in
+    subst spells s.1 s.2) (λ h.
     chosen (bytes_eq second (codes "c")) (of_cpu cpus close first) _ command
-        (λ is read. let s = of_cpu_spelled cpus close first second (codes "c") command is read in subst spells s.1 s.2)
-        (λ h.
+    (λ is read. let s = of_cpu_spelled cpus close first second (codes "c") command is read in subst spells s.1 s.2)
+    (λ h.
     chosen (bytes_eq second (codes "t")) (of_cpu cpus take_page first) _ command
-        (λ is read. let s = of_cpu_spelled cpus take_page first second (codes "t") command is read in
-        subst spells s.1 s.2) (λ h.
+    (λ is read. let s = of_cpu_spelled cpus take_page first second (codes "t") command is read in
+    subst spells s.1 s.2) (λ h.
     chosen (bytes_eq second (codes "a")) (of_cpu cpus wish first) _ command
-        (λ is read. let s = of_cpu_spelled cpus wish first second (codes "a") command is read in subst spells s.1 s.2)
-        (λ h.
+    (λ is read. let s = of_cpu_spelled cpus wish first second (codes "a") command is read in subst spells s.1 s.2)
+    (λ h.
     absurd (bad_is_no_command command h)) h) h) h) h
 command_spelled cpus collectors (first ∷ second ∷ third ∷ []) command h =
     let spells : Command → Type 0 = λ command. SpellsCommand cpus collectors command (first ∷ second ∷ third ∷ []) in
     chosen (bytes_eq second (codes "s")) (steps_in cpus step_frame first third) _ command
-        (λ is read. let s = steps_spelled cpus step_frame first second third (codes "s") command is read in
-        subst spells s.2 s.3) (λ h.
+    (λ is read. let s = steps_spelled cpus step_frame first second third (codes "s") command is read in
+    subst spells s.2 s.3) (λ h.
     chosen (bytes_eq second (codes "r")) (steps_in cpus step_reader first third) _ command
-        (λ is read. let s = steps_spelled cpus step_reader first second third (codes "r") command is read in
-        subst spells s.2 s.3) (λ h.
+    (λ is read. let s = steps_spelled cpus step_reader first second third (codes "r") command is read in
+    subst spells s.2 s.3) (λ h.
     absurd (bad_is_no_command command h)) h) h
 command_spelled cpus collectors (first ∷ second ∷ third ∷ fourth ∷ []) command h =
     let spells : Command → Type 0 =
-        λ command. SpellsCommand cpus collectors command (first ∷ second ∷ third ∷ fourth ∷ []) in
+    λ command. SpellsCommand cpus collectors command (first ∷ second ∷ third ∷ fourth ∷ []) in
     chosen (bytes_eq first (codes "d")) (deliver_in cpus collectors second third fourth) _ command
-        (λ is read. let s = deliver_spelled cpus collectors first second third fourth command is read in
-        subst spells s.3 s.4) (λ h.
+    (λ is read. let s = deliver_spelled cpus collectors first second third fourth command is read in
+    subst spells s.3 s.4) (λ h.
     chosen (bytes_eq second (codes "b")) (record_in cpus begin_frame first third fourth) _ command
-        (λ is read. let s = record_spelled cpus begin_frame first second third fourth (codes "b") command is read in
-        subst spells s.3 s.4) (λ h.
+    (λ is read. let s = record_spelled cpus begin_frame first second third fourth (codes "b") command is read in
+    subst spells s.3 s.4) (λ h.
     chosen (bytes_eq second (codes "w")) (record_in cpus write first third fourth) _ command
-        (λ is read. let s = record_spelled cpus write first second third fourth (codes "w") command is read in
-        subst spells s.3 s.4) (λ h.
+    (λ is read. let s = record_spelled cpus write first second third fourth (codes "w") command is read in
+    subst spells s.3 s.4) (λ h.
     absurd (bad_is_no_command command h)) h) h) h
 command_spelled cpus collectors (first ∷ second ∷ third ∷ fourth ∷ fifth ∷ fields) command h =
     absurd (bad_is_no_command command h)
@@ -147,9 +157,9 @@ record_read : (cpus : ℕ) (make : ℕ → ℕ → List ℕ → Command) (x t he
 unfolding record_in
 record_read cpus make x t hex cpu moment payload h i j =
     ap (λ (r : Read ℕ). r >>= λ cpu. decimal_in t >>= λ moment. payload_in hex >>= λ payload.
-        let c : Read Command = Ok (make cpu moment payload) in c) h
+    let c : Read Command = Ok (make cpu moment payload) in c) h
     ∙ ap (λ (r : Read ℕ). r >>= λ moment. payload_in hex >>= λ payload.
-        let c : Read Command = Ok (make cpu moment payload) in c) i
+    let c : Read Command = Ok (make cpu moment payload) in c) i
     ∙ ap (λ (r : Read Field). r >>= λ payload. let c : Read Command = Ok (make cpu moment payload) in c) j
 
 deliver_read : (cpus collectors : ℕ) (k x f : Field) (collector cpu fill : ℕ)
@@ -158,9 +168,9 @@ deliver_read : (cpus collectors : ℕ) (k x f : Field) (collector cpu fill : ℕ
 unfolding deliver_in
 deliver_read cpus collectors k x f collector cpu fill h i j =
     ap (λ (r : Read ℕ). r >>= λ collector. cpu_in cpus x >>= λ cpu. decimal_in f >>= λ fill.
-        let c : Read Command = Ok (deliver collector cpu fill) in c) h
+    let c : Read Command = Ok (deliver collector cpu fill) in c) h
     ∙ ap (λ (r : Read ℕ). r >>= λ cpu. decimal_in f >>= λ fill.
-        let c : Read Command = Ok (deliver collector cpu fill) in c) i
+    let c : Read Command = Ok (deliver collector cpu fill) in c) i
     ∙ ap (λ (r : Read ℕ). r >>= λ fill. let c : Read Command = Ok (deliver collector cpu fill) in c) j
 
 cpu_is_no_delivery_at : (cpus cpu : ℕ) (field : Field) (names : Bool) → (field ≡ codes "d") → names_cpu field ≡ names
@@ -173,7 +183,7 @@ cpu_is_no_delivery : (cpus cpu : ℕ) (field : Field) → cpu_in cpus field ≡ 
 unfolding cpu_in
 cpu_is_no_delivery cpus cpu field h =
     false_from_ne_true (bytes_eq field (codes "d"))
-        (λ yes. cpu_is_no_delivery_at cpus cpu field (names_cpu field) (same_word field (codes "d") yes) refl h)
+    (λ yes. cpu_is_no_delivery_at cpus cpu field (names_cpu field) (same_word field (codes "d") yes) refl h)
 
 pub spelled_command : (cpus collectors : ℕ) (fields : List Field) (command : Command)
     → SpellsCommand cpus collectors command fields → command_of cpus collectors fields ≡ Ok command

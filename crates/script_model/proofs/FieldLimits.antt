@@ -76,9 +76,9 @@ unfolding payload_in is_hex
 payload_in-within field =
     tested-within AreBytes (is_hex field) (Ok (hex_bytes field)) bad_hex
     (λ h. All-from_recursion (λ b. b < 256) (hex_bytes field) (elim (or_cases (bytes_eq field no_bytes_text) _ h) [
-  | inl none ↦ no_bytes-within field (is_same field no_bytes_text none)
-  | inr pairs ↦ pairs-within field (and_parts _ _ pairs).1
-]))
+      | inl none ↦ no_bytes-within field (is_same field no_bytes_text none)
+      | inr pairs ↦ pairs-within field (and_parts _ _ pairs).1
+    ]))
 
 -- ---- the header
 
@@ -98,7 +98,7 @@ value_given-within : (s : Setting) (word number : List ℕ) → IfOk (value_give
 unfolding value_given
 value_given-within s word number = tested-within (IsAllowed s) (bytes_eq word s.word) _ bad_line (λ h.
     then-within Is64Bit (IsAllowed s) (decimal_in number) (allowed_for s) (decimal_in-within number)
-        (λ n small. allowed_for-within s n))
+    (λ n small. allowed_for-within s n))
 
 value_of-within : (s : Setting) (fields : List (List ℕ)) → IfOk (value_of s fields) (IsAllowed s)
 unfolding value_of

@@ -31,16 +31,16 @@ count_in-within field =
 record_in-within : (cpus collectors : ℕ) (make : ℕ → ℕ → List ℕ → Command)
     (cpu_field moment_field payload_field : List ℕ)
     → ((cpu moment : ℕ) (payload : List ℕ) → IsRecordWithin cpus cpu moment payload
-        → IsCommandWithin cpus collectors (make cpu moment payload))
+    → IsCommandWithin cpus collectors (make cpu moment payload))
     → IfOk (record_in cpus make cpu_field moment_field payload_field) (IsCommandWithin cpus collectors)
 unfolding record_in
 record_in-within cpus collectors make cpu_field moment_field payload_field made =
     then-within (λ cpu. cpu < cpus) (IsCommandWithin cpus collectors) (cpu_in cpus cpu_field) _
-        (cpu_in-within cpus cpu_field) (λ cpu here.
+    (cpu_in-within cpus cpu_field) (λ cpu here.
     then-within Is64Bit (IsCommandWithin cpus collectors) (decimal_in moment_field) _ (decimal_in-within moment_field)
-        (λ moment small.
+    (λ moment small.
     then-within AreBytes (IsCommandWithin cpus collectors) (payload_in payload_field) _
-        (payload_in-within payload_field) (λ payload bytes. made cpu moment payload (here, small, bytes))))
+    (payload_in-within payload_field) (λ payload bytes. made cpu moment payload (here, small, bytes))))
 
 of_cpu-within : (cpus collectors : ℕ) (make : ℕ → Command) (cpu_field : List ℕ)
     → ((cpu : ℕ) → cpu < cpus → IsCommandWithin cpus collectors (make cpu))
@@ -48,7 +48,7 @@ of_cpu-within : (cpus collectors : ℕ) (make : ℕ → Command) (cpu_field : Li
 unfolding of_cpu
 of_cpu-within cpus collectors make cpu_field made =
     then-within (λ cpu. cpu < cpus) (IsCommandWithin cpus collectors) (cpu_in cpus cpu_field) _
-        (cpu_in-within cpus cpu_field) (λ cpu here. made cpu here)
+    (cpu_in-within cpus cpu_field) (λ cpu here. made cpu here)
 
 steps_in-within : (cpus collectors : ℕ) (make : ℕ → ℕ → Command) (cpu_field count_field : List ℕ)
     → ((cpu count : ℕ) → AreStepsWithin cpus cpu count → IsCommandWithin cpus collectors (make cpu count))
@@ -56,20 +56,20 @@ steps_in-within : (cpus collectors : ℕ) (make : ℕ → ℕ → Command) (cpu_
 unfolding steps_in
 steps_in-within cpus collectors make cpu_field count_field made =
     then-within (λ cpu. cpu < cpus) (IsCommandWithin cpus collectors) (cpu_in cpus cpu_field) _
-        (cpu_in-within cpus cpu_field) (λ cpu here.
+    (cpu_in-within cpus cpu_field) (λ cpu here.
     then-within IsCount (IsCommandWithin cpus collectors) (count_in count_field) _ (count_in-within count_field)
-        (λ count asked. made cpu count (here, asked.0, asked.1)))
+    (λ count asked. made cpu count (here, asked.0, asked.1)))
 
 deliver_in-within : (cpus collectors : ℕ) (collector_field cpu_field fill_field : List ℕ)
     → IfOk (deliver_in cpus collectors collector_field cpu_field fill_field) (IsCommandWithin cpus collectors)
 unfolding deliver_in
 deliver_in-within cpus collectors collector_field cpu_field fill_field =
     then-within (λ collector. collector < collectors) (IsCommandWithin cpus collectors)
-        (number_below collectors collector_field) _ (number_below-within collectors collector_field) (λ collector known.
+    (number_below collectors collector_field) _ (number_below-within collectors collector_field) (λ collector known.
     then-within (λ cpu. cpu < cpus) (IsCommandWithin cpus collectors) (cpu_in cpus cpu_field) _
-        (cpu_in-within cpus cpu_field) (λ cpu here.
+    (cpu_in-within cpus cpu_field) (λ cpu here.
     then-within Is64Bit (IsCommandWithin cpus collectors) (decimal_in fill_field) _ (decimal_in-within fill_field)
-        (λ fill small. (known, here, small))))
+    (λ fill small. (known, here, small))))
 
 -- where both answers are within, so is the one that a test chooses
 either-within : {A : Type 0} (P : A → Type 0) (test : Bool) (r s : Result A LineFault) → IfOk r P → IfOk s P
@@ -85,26 +85,26 @@ command_of-within cpus collectors (first ∷ []) = tt
 command_of-within cpus collectors (first ∷ second ∷ []) =
     let Within : Command → Type 0 = IsCommandWithin cpus collectors in
     either-within Within (bytes_eq second (codes "f")) _ _
-        (of_cpu-within cpus collectors finish_frame first (λ cpu here. here))
+    (of_cpu-within cpus collectors finish_frame first (λ cpu here. here))
     (either-within Within (bytes_eq second (codes "c")) _ _
-        (of_cpu-within cpus collectors close first (λ cpu here. here))
+    (of_cpu-within cpus collectors close first (λ cpu here. here))
     (either-within Within (bytes_eq second (codes "t")) _ _
-        (of_cpu-within cpus collectors take_page first (λ cpu here. here))
+    (of_cpu-within cpus collectors take_page first (λ cpu here. here))
     (either-within Within (bytes_eq second (codes "a")) _ _
-        (of_cpu-within cpus collectors wish first (λ cpu here. here)) tt)))
+    (of_cpu-within cpus collectors wish first (λ cpu here. here)) tt)))
 command_of-within cpus collectors (first ∷ second ∷ third ∷ []) =
     let Within : Command → Type 0 = IsCommandWithin cpus collectors in
     either-within Within (bytes_eq second (codes "s")) _ _
-        (steps_in-within cpus collectors step_frame first third (λ cpu count asked. asked))
+    (steps_in-within cpus collectors step_frame first third (λ cpu count asked. asked))
     (either-within Within (bytes_eq second (codes "r")) _ _
-        (steps_in-within cpus collectors step_reader first third (λ cpu count asked. asked)) tt)
+    (steps_in-within cpus collectors step_reader first third (λ cpu count asked. asked)) tt)
 command_of-within cpus collectors (first ∷ second ∷ third ∷ fourth ∷ []) =
     let Within : Command → Type 0 = IsCommandWithin cpus collectors in
     either-within Within (bytes_eq first (codes "d")) _ _ (deliver_in-within cpus collectors second third fourth)
     (either-within Within (bytes_eq second (codes "b")) _ _
-        (record_in-within cpus collectors begin_frame first third fourth (λ cpu moment payload made. made))
+    (record_in-within cpus collectors begin_frame first third fourth (λ cpu moment payload made. made))
     (either-within Within (bytes_eq second (codes "w")) _ _
-        (record_in-within cpus collectors write first third fourth (λ cpu moment payload made. made)) tt))
+    (record_in-within cpus collectors write first third fourth (λ cpu moment payload made. made)) tt))
 command_of-within cpus collectors (first ∷ second ∷ third ∷ fourth ∷ fifth ∷ fields) = tt
 
 command_in-within : (cpus collectors : ℕ) (line : List ℕ)
@@ -112,15 +112,16 @@ command_in-within : (cpus collectors : ℕ) (line : List ℕ)
 unfolding command_in
 command_in-within cpus collectors line =
     tested-within (IsCommandWithin cpus collectors) (is_well_spaced (fields_of line)) _ bad_line
-        (λ h. command_of-within cpus collectors (fields_of line))
+    (λ h. command_of-within cpus collectors (fields_of line))
 
 commands-within : (cpus collectors : ℕ) (lines : List NumberedLine) (commands : List (ℕ × Command))
     → SpellCommands cpus collectors lines commands
     → AllByRecursion (λ line. IsCommandWithin cpus collectors line.1) commands
 commands-within cpus collectors [] [] h = tt
-commands-within cpus collectors (line ∷ lines) (command ∷ commands) h =
-    (IfOk-at_ok (IsCommandWithin cpus collectors) h.0 (command_in-within cpus collectors line.1),
-        commands-within cpus collectors lines commands h.2)
+commands-within cpus collectors (line ∷ lines) (command ∷ commands) h = (
+  IfOk-at_ok (IsCommandWithin cpus collectors) h.0 (command_in-within cpus collectors line.1),
+  commands-within cpus collectors lines commands h.2,
+)
 commands-within cpus collectors [] (command ∷ commands) h = absurd h
 commands-within cpus collectors (line ∷ lines) [] h = absurd h
 
@@ -141,8 +142,8 @@ pub SpellScript-within : (lines : List NumberedLine) (script : Script) → Spell
     → IsWithinLimits script
 SpellScript-within lines script h =
     let values =
-        settings-within h.header header_settings
-        (script.pages ∷ script.size ∷ script.cpus ∷ script.collectors ∷ []) h.settings in
+    settings-within h.header header_settings
+    (script.pages ∷ script.size ∷ script.cpus ∷ script.collectors ∷ []) h.settings in
     let pages = values.0 in
     let size = values.1.0 in
     let cpus = values.1.1.0 in

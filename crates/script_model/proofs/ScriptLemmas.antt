@@ -36,7 +36,7 @@ command_then cpus collectors line lines r =
 
 commands_from_line : (cpus collectors : ℕ) (line : NumberedLine) (lines : List NumberedLine)
     → commands_from cpus collectors (line ∷ lines) ≡ command_then cpus collectors line lines
-        (command_in cpus collectors line.1)
+    (command_in cpus collectors line.1)
 unfolding commands_from
 commands_from_line cpus collectors line lines = refl
 
@@ -44,11 +44,11 @@ commands_ok_at : (cpus collectors : ℕ) (line : NumberedLine) (lines : List Num
     (r : Result Command LineFault)
     → ((x : Commands) → commands_from cpus collectors lines ≡ Ok x → SpellCommands cpus collectors lines x)
     → command_in cpus collectors line.1 ≡ r → command_then cpus collectors line lines r ≡ Ok x
-        → SpellCommands cpus collectors (line ∷ lines) x
+    → SpellCommands cpus collectors (line ∷ lines) x
 commands_ok_at cpus collectors line lines x (Ok command) again is h =
     let rest = bind_ok (commands_from cpus collectors lines) (λ commands. Ok ((line.0, command) ∷ commands)) x h in
     subst (λ (x : Commands). SpellCommands cpus collectors (line ∷ lines) x)
-        (same_ok ((line.0, command) ∷ rest.0) x rest.2)
+    (same_ok ((line.0, command) ∷ rest.0) x rest.2)
     (is, refl, again rest.0 rest.1)
 commands_ok_at cpus collectors line lines x (Err f) again is h = absurd (ok_is_no_err x (line.0, f) (sym h))
 
@@ -61,7 +61,7 @@ commands_ok cpus collectors [] x h =
     subst (λ (x : Commands). SpellCommands cpus collectors [] x) (same_ok none x h) tt
 commands_ok cpus collectors (line ∷ lines) x h =
     commands_ok_at cpus collectors line lines x (command_in cpus collectors line.1)
-        (commands_ok cpus collectors lines) refl h
+    (commands_ok cpus collectors lines) refl h
 
 commands_same : (r : Read Commands) → r ≡ (r >>= commands_onto [])
 commands_same (Ok x) = refl
@@ -82,7 +82,7 @@ commands_given cpus collectors (line ∷ front) (command ∷ commands) rest h =
     commands_from_line cpus collectors line (front ++ rest)
     ∙ ap (command_then cpus collectors line (front ++ rest)) h.0
     ∙ ap (λ (r : Read Commands). r >>= λ commands. Ok ((line.0, command.1) ∷ commands))
-        (commands_given cpus collectors front commands rest h.2)
+    (commands_given cpus collectors front commands rest h.2)
     ∙ command_onto (line.0, command.1) commands (commands_from cpus collectors rest)
     ∙ ap (λ (first : ℕ × Command). commands_from cpus collectors rest >>= commands_onto (first ∷ commands)) same
 commands_given cpus collectors [] (command ∷ commands) rest h = absurd h
@@ -102,7 +102,7 @@ commands_err_at : (cpus collectors : ℕ) (line : NumberedLine) (lines : List Nu
     (r : Result Command LineFault)
     → ((e : ℕ × LineFault) → commands_from cpus collectors lines ≡ Err e → CommandFault cpus collectors lines e)
     → command_in cpus collectors line.1 ≡ r → command_then cpus collectors line lines r ≡ Err e
-        → CommandFault cpus collectors (line ∷ lines) e
+    → CommandFault cpus collectors (line ∷ lines) e
 commands_err_at cpus collectors line lines e (Ok command) again is h =
     elim (bind_err (commands_from cpus collectors lines) (λ commands. Ok ((line.0, command) ∷ commands)) e h) [
       | inl f ↦ let found = again e f in record {
@@ -134,7 +134,7 @@ unfolding commands_from
 commands_err cpus collectors [] e h = absurd (let none : Commands = [] in ok_is_no_err none e h)
 commands_err cpus collectors (line ∷ lines) e h =
     commands_err_at cpus collectors line lines e (command_in cpus collectors line.1)
-        (commands_err cpus collectors lines) refl h
+    (commands_err cpus collectors lines) refl h
 
 -- and it is read as one
 faulty_command_read : (cpus collectors : ℕ) (lines : List NumberedLine) (e : ℕ × LineFault)
@@ -144,7 +144,7 @@ faulty_command_read cpus collectors lines e f =
     ∙ commands_given cpus collectors f.front f.commands ((e.0, f.line) ∷ f.behind) f.fits
     ∙ ap (λ (r : Read Commands). r >>= commands_onto f.commands)
     (commands_from_line cpus collectors (e.0, f.line) f.behind
-        ∙ ap (command_then cpus collectors (e.0, f.line) f.behind) f.fails)
+    ∙ ap (command_then cpus collectors (e.0, f.line) f.behind) f.fails)
 
 -- ---- the start line
 -- what stands in front of the commands, and the lines behind it: where nothing does, none of them is a start line
@@ -172,7 +172,7 @@ no_start_then lines = Ok (START_FILL, lines)
 start_from_line : (pages : ℕ) (line : NumberedLine) (lines : List NumberedLine)
     → start_from pages (line ∷ lines)
     ≡ cond (is_start_line line.1) (start_then line lines (value_in (start_setting pages) line.1))
-        (no_start_then (line ∷ lines))
+    (no_start_then (line ∷ lines))
 unfolding start_from start_given
 start_from_line pages line lines = refl
 
@@ -209,7 +209,7 @@ start_ok pages [] x h =
     }
 start_ok pages (line ∷ lines) x h =
     start_ok_at pages line lines x (is_start_line line.1) (value_in (start_setting pages) line.1) refl refl
-        (sym (start_from_line pages line lines) ∙ h)
+    (sym (start_from_line pages line lines) ∙ h)
 
 start_err_at : (pages : ℕ) (line : NumberedLine) (lines : List NumberedLine) (e : ℕ × LineFault) (is_start : Bool)
     (r : Result ℕ LineFault)
@@ -233,11 +233,11 @@ unfolding start_from
 start_err pages [] e h = absurd (let none : Start = (START_FILL, []) in ok_is_no_err none e h)
 start_err pages (line ∷ lines) e h =
     start_err_at pages line lines e (is_start_line line.1) (value_in (start_setting pages) line.1) refl refl
-        (sym (start_from_line pages line lines) ∙ h)
+    (sym (start_from_line pages line lines) ∙ h)
 
 pub start_line_read : (pages : ℕ) (line : NumberedLine) (lines : List NumberedLine) (r : Result ℕ LineFault)
     → is_start_line line.1 ≡ true → value_in (start_setting pages) line.1 ≡ r
-        → start_from pages (line ∷ lines) ≡ start_then line lines r
+    → start_from pages (line ∷ lines) ≡ start_then line lines r
 start_line_read pages line lines r is given =
     start_from_line pages line lines
     ∙ cond-true (is_start_line line.1) _ _ is
@@ -353,13 +353,13 @@ spelled_by lines x y commands header start fits = record {
 pub script_ok : (end : ℕ) (lines : List NumberedLine) (s : Script) → script_from end lines ≡ Ok s → SpellScript lines s
 script_ok end lines s h =
     let header =
-        bind_ok (settings_from end header_settings lines) then_start s (sym (script_from_settings end lines) ∙ h) in
+    bind_ok (settings_from end header_settings lines) then_start s (sym (script_from_settings end lines) ∙ h) in
     let x : Settings = header.0 in
     let start = bind_ok (start_from (get_or x.0 0 0) x.1) (then_commands x) s header.2 in
     let y : Start = start.0 in
     let commands =
-        bind_ok (commands_from (get_or x.0 2 0) (get_or x.0 3 0) y.1)
-        (λ commands. Ok (made_of x.0 y.0 commands)) s start.2 in
+    bind_ok (commands_from (get_or x.0 2 0) (get_or x.0 3 0) y.1)
+    (λ commands. Ok (made_of x.0 y.0 commands)) s start.2 in
     let made : Script = made_of x.0 y.0 commands.0 in
     subst (λ (s : Script). SpellScript lines s) {x = made} (same_ok made s commands.2)
     (spelled_by lines x y commands.0 (header_ok end lines x header.1) (start_ok (get_or x.0 0 0) x.1 y start.1)
@@ -370,12 +370,12 @@ behind_start_read : (end : ℕ) (header start_line rest : List NumberedLine) (s 
     → GiveSettings header header_settings (values_of s) → GivesStart s.pages start_line s.start
     → (length start_line ≡ 0 → BeginsNoStart rest)
     → script_from end (header ++ (start_line ++ rest)) ≡
-        (commands_from s.cpus s.collectors rest >>= λ commands. Ok (made_of (values_of s) s.start commands))
+    (commands_from s.cpus s.collectors rest >>= λ commands. Ok (made_of (values_of s) s.start commands))
 behind_start_read end header start_line rest s settings gives no_start =
     script_from_settings end (header ++ (start_line ++ rest))
     ∙ ap (λ (r : Read Settings). r >>= then_start) (header_read end header (start_line ++ rest) s settings)
     ∙ ap (λ (r : Read Start). r >>= then_commands (values_of s, start_line ++ rest))
-        (start_read s.pages start_line s.start rest gives no_start)
+    (start_read s.pages start_line s.start rest gives no_start)
 
 -- and a script that the lines spell is read
 pub script_given : (end : ℕ) (lines : List NumberedLine) (s : Script) → SpellScript lines s
@@ -388,7 +388,7 @@ script_given end lines s h =
     ∙ ap (λ (cs : Commands). let r : Read Commands = Ok cs in r) (append-nil s.commands) in
     ap (script_from end) h.cut
     ∙ behind_start_read end h.header h.start_line h.behind s h.settings h.start
-        (λ none. commands_begin_no_start s.cpus s.collectors h.behind s.commands h.commands)
+    (λ none. commands_begin_no_start s.cpus s.collectors h.behind s.commands h.commands)
     ∙ ap (λ (r : Read Commands). r >>= λ commands. Ok (made_of (values_of s) s.start commands)) commands
 
 -- the first fault of these lines, where the line behind the last one has the number end
@@ -401,7 +401,7 @@ LinesFault end lines e =
 
 setting_fault : (end : ℕ) (lines : List NumberedLine) (e : ℕ × LineFault)
     → IsFaultySetting header_settings lines e.0 e.1 ⊎ (IsMissingSetting header_settings lines × (e ≡ (end, bad_line)))
-        → LinesFault end lines e
+    → LinesFault end lines e
 setting_fault end lines e (inl f) = inl f
 setting_fault end lines e (inr f) =
     inr (inl (f.0, ap (λ (e : ℕ × LineFault). e.0) f.1, ap (λ (e : ℕ × LineFault). e.1) f.1))
@@ -444,8 +444,8 @@ command_fault lines x y e header start f =
       behind = f.behind;
       cut = header.cut
           ∙ ap (λ (ls : List NumberedLine). header.header ++ ls)
-              (start.cut ∙ ap (λ (ls : List NumberedLine). start.start_line ++ ls) f.cut
-              ∙ sym (append_assoc start.start_line f.front (line ∷ f.behind)))
+          (start.cut ∙ ap (λ (ls : List NumberedLine). start.start_line ++ ls) f.cut
+          ∙ sym (append_assoc start.start_line f.front (line ∷ f.behind)))
           ∙ sym (append_assoc header.header (start.start_line ++ f.front) (line ∷ f.behind));
       script = made_of x.0 y.0 f.commands;
       fits = record {
@@ -476,7 +476,7 @@ script_err end lines e h =
             | inr v ↦ let y : Start = v.0 in
                 let start = start_ok (get_or x.0 0 0) x.1 y v.1 in
                 elim (bind_err (commands_from (get_or x.0 2 0) (get_or x.0 3 0) y.1)
-                    (λ commands. Ok (made_of x.0 y.0 commands)) e v.2) [
+                (λ commands. Ok (made_of x.0 y.0 commands)) e v.2) [
                   | inl f ↦ inr (inr (inr (command_fault lines x y e header start
                       (commands_err (get_or x.0 2 0) (get_or x.0 3 0) y.1 e f))))
                   | inr u ↦ absurd (ok_is_no_err (made_of x.0 y.0 u.0) e u.2)
@@ -492,7 +492,7 @@ header_alone front s h all =
     let long = length-append h.header (h.start_line ++ h.behind) in
     let cut = ap (λ (ls : List NumberedLine). length ls) h.cut in
     h.cut ∙ ap (λ (ls : List NumberedLine). h.header ++ ls)
-        (none_left (h.start_line ++ h.behind) (omega (arith, all, four, long, cut))) ∙ append-nil h.header
+    (none_left (h.start_line ++ h.behind) (omega (arith, all, four, long, cut))) ∙ append-nil h.header
   where
     none_left : (lines : List NumberedLine) → length lines ≡ 0 → lines ≡ []
     none_left [] none = refl
@@ -504,12 +504,12 @@ start_fault_read end lines e f =
     let s : Script = f.script in
     let rest = (e.0, f.line) ∷ f.behind in
     let cut : lines ≡ f.fits.header ++ rest =
-        f.cut ∙ ap (λ (ls : List NumberedLine). ls ++ rest) (header_alone f.front s f.fits f.at_its_place) in
+    f.cut ∙ ap (λ (ls : List NumberedLine). ls ++ rest) (header_alone f.front s f.fits f.at_its_place) in
     ap (script_from end) cut
     ∙ script_from_settings end (f.fits.header ++ rest)
     ∙ ap (λ (r : Read Settings). r >>= then_start) (header_read end f.fits.header rest s f.fits.settings)
     ∙ ap (λ (r : Read Start). r >>= then_commands (values_of s, rest))
-        (start_line_read s.pages (e.0, f.line) f.behind (Err e.1) f.is_start f.fails)
+    (start_line_read s.pages (e.0, f.line) f.behind (Err e.1) f.is_start f.fails)
 
 command_fault_read : (end : ℕ) (lines : List NumberedLine) (e : ℕ × LineFault) → IsFaultyCommand lines e.0 e.1
     → script_from end lines ≡ Err e
@@ -538,22 +538,22 @@ command_fault_read end lines e f =
     let short = length-append h.start_line h.behind in
     let begins : length h.start_line ≡ 0 → BeginsNoStart rest =
     λ none. begins_no_start_before h.behind line f.behind
-        (commands_begin_no_start s.cpus s.collectors h.behind s.commands h.commands)
+    (commands_begin_no_start s.cpus s.collectors h.behind s.commands h.commands)
     (λ alone. f.no_start (omega (arith, four, front, long, short, none, alone))) in
     ap (script_from end) cut
     ∙ behind_start_read end h.header h.start_line rest s h.settings h.start begins
     ∙ ap (λ (r : Read Commands). r >>= λ commands. Ok (made_of (values_of s) s.start commands))
-        (faulty_command_read s.cpus s.collectors rest e found)
+    (faulty_command_read s.cpus s.collectors rest e found)
 
 -- and the first fault is read as it
 pub script_fault_given : (end : ℕ) (lines : List NumberedLine) (e : ℕ × LineFault) → LinesFault end lines e
     → script_from end lines ≡ Err e
 script_fault_given end lines e (inl f) =
     script_from_settings end lines
-        ∙ ap (λ (r : Read Settings). r >>= then_start) (faulty_setting_read end header_settings lines e.0 e.1 f)
+    ∙ ap (λ (r : Read Settings). r >>= then_start) (faulty_setting_read end header_settings lines e.0 e.1 f)
 script_fault_given end lines e (inr (inl f)) =
     let same : (end, bad_line) ≡ e =
-        ap (λ (n : ℕ). (n, bad_line)) (sym f.1) ∙ ap (λ (fault : LineFault). (e.0, fault)) (sym f.2) in
+    ap (λ (n : ℕ). (n, bad_line)) (sym f.1) ∙ ap (λ (fault : LineFault). (e.0, fault)) (sym f.2) in
     script_from_settings end lines
     ∙ ap (λ (r : Read Settings). r >>= then_start) (missing_setting_read end header_settings lines f.0)
     ∙ ap (λ (e : ℕ × LineFault). let r : Read Script = Err e in r) same

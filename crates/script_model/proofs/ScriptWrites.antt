@@ -60,8 +60,8 @@ count_in-decimal : (n : ℕ) → MIN_LINE_STEPS ≤ n → n ≤ MAX_LINE_STEPS �
 unfolding count_in
 count_in-decimal n low high =
     ap (λ (r : Result ℕ LineFault). r >>= λ n.
-        cond (leb MIN_LINE_STEPS n && leb n MAX_LINE_STEPS) (let good : Result ℕ LineFault = Ok n in good)
-        (Err out_of_range)) (decimal_in-decimal n (omega arith))
+    cond (leb MIN_LINE_STEPS n && leb n MAX_LINE_STEPS) (let good : Result ℕ LineFault = Ok n in good)
+    (Err out_of_range)) (decimal_in-decimal n (omega arith))
     ∙ cond-true _ _ _ (and_from _ _ (le-leb MIN_LINE_STEPS n low) (le-leb n MAX_LINE_STEPS high))
 
 -- the command of these fields, and what the fields are made of
@@ -79,9 +79,15 @@ fields_spelled cpus collectors (begin_frame cpu moment payload) few_cpus few_col
     record {
       read =
           spelled_command cpus collectors (command_fields (begin_frame cpu moment payload))
-          (begin_frame cpu moment payload)
-          (cpu_text cpu, decimal moment, hex_text payload, refl, cpu_in-cpu_text cpus cpu h.0 fits,
-              decimal_in-decimal moment h.1, payload_in-hex_text payload bytes);
+          (begin_frame cpu moment payload) (
+            cpu_text cpu,
+            decimal moment,
+            hex_text payload,
+            refl,
+            cpu_in-cpu_text cpus cpu h.0 fits,
+            decimal_in-decimal moment h.1,
+            payload_in-hex_text payload bytes,
+          );
       fields =
           cpu_then cpu _ fits (letter_then 98 _ refl refl
           (decimal_then moment _ h.1 (payload_then payload _ bytes no_fields)));
@@ -112,9 +118,15 @@ fields_spelled cpus collectors (write cpu moment payload) few_cpus few_collector
     let fits : cpu < 2 ^ 64 = omega (arith, h.0) in
     let bytes = recursion_from_All (λ byte. byte < 256) payload h.2 in
     record {
-      read = spelled_command cpus collectors (command_fields (write cpu moment payload)) (write cpu moment payload)
-          (cpu_text cpu, decimal moment, hex_text payload, refl, cpu_in-cpu_text cpus cpu h.0 fits,
-              decimal_in-decimal moment h.1, payload_in-hex_text payload bytes);
+      read = spelled_command cpus collectors (command_fields (write cpu moment payload)) (write cpu moment payload) (
+        cpu_text cpu,
+        decimal moment,
+        hex_text payload,
+        refl,
+        cpu_in-cpu_text cpus cpu h.0 fits,
+        decimal_in-decimal moment h.1,
+        payload_in-hex_text payload bytes,
+      );
       fields =
           cpu_then cpu _ fits (letter_then 119 _ refl refl
           (decimal_then moment _ h.1 (payload_then payload _ bytes no_fields)));
@@ -164,10 +176,17 @@ fields_spelled cpus collectors (wish cpu) few_cpus few_collectors h =
 fields_spelled cpus collectors (deliver collector cpu fill) few_cpus few_collectors h =
     let fits : cpu < 2 ^ 64 = omega (arith, h.1) in
     let small : collector < 2 ^ 64 = omega (arith, h.0) in
+    let made : Command = deliver collector cpu fill in
     record {
-      read = spelled_command cpus collectors (command_fields (deliver collector cpu fill)) (deliver collector cpu fill)
-          (decimal collector, cpu_text cpu, decimal fill, refl, number_below-decimal collectors collector h.0 small,
-              cpu_in-cpu_text cpus cpu h.1 fits, decimal_in-decimal fill h.2);
+      read = spelled_command cpus collectors (command_fields made) made (
+        decimal collector,
+        cpu_text cpu,
+        decimal fill,
+        refl,
+        number_below-decimal collectors collector h.0 small,
+        cpu_in-cpu_text cpus cpu h.1 fits,
+        decimal_in-decimal fill h.2,
+      );
       fields =
           letter_then 100 _ refl refl (decimal_then collector _ small
           (cpu_then cpu _ fits (decimal_then fill _ h.2 no_fields)));
@@ -200,7 +219,7 @@ commands_no_feed cpus collectors [] few_cpus few_collectors h = refl
 commands_no_feed cpus collectors (command ∷ commands) few_cpus few_collectors h =
     let s = fields_spelled cpus collectors command few_cpus few_collectors h.0 in
     and_from _ _ (is_free-line_of (command_fields command) s.fields.no_feed)
-        (commands_no_feed cpus collectors commands few_cpus few_collectors h.1)
+    (commands_no_feed cpus collectors commands few_cpus few_collectors h.1)
 
 commands_are_significant : (cpus collectors : ℕ) (commands : List Command) → cpus ≤ 2 ^ 64 → collectors ≤ 2 ^ 64
     → AllByRecursion (IsCommandWithin cpus collectors) commands
@@ -214,9 +233,12 @@ commands_spelled : (cpus collectors n : ℕ) (commands : List Command) → cpus 
     → AllByRecursion (IsCommandWithin cpus collectors) commands
     → SpellCommands cpus collectors (enumerate_from n (map command_text commands)) (enumerate_from n commands)
 commands_spelled cpus collectors n [] few_cpus few_collectors h = tt
-commands_spelled cpus collectors n (command ∷ commands) few_cpus few_collectors h =
-    (command_in-command_text cpus collectors command few_cpus few_collectors h.0, refl, commands_spelled cpus collectors
-        (n + 1) commands few_cpus few_collectors h.1)
+commands_spelled cpus collectors n (command ∷ commands) few_cpus few_collectors h = (
+  command_in-command_text cpus collectors command few_cpus few_collectors h.0,
+  refl,
+  commands_spelled cpus collectors
+      (n + 1) commands few_cpus few_collectors h.1,
+)
 
 -- the lines of a script, with these behind its start line
 abbrev lines_for : Script → List (List ℕ) → List (List ℕ)
@@ -239,42 +261,42 @@ script_text_reads script commands h numbers =
     let each : AllByRecursion (IsCommandWithin script.cpus script.collectors) commands =
     commands_within (IsCommandWithin script.cpus script.collectors) 6 commands
     (subst (λ (lines : List (ℕ × Command)). AllByRecursion within lines) numbers
-        (recursion_from_All within script.commands h.each_command)) in
+    (recursion_from_All within script.commands h.each_command)) in
     let few_cpus : script.cpus ≤ 2 ^ 64 = (let below = h.max_cpus in omega arith) in
     let few_collectors : script.collectors ≤ 2 ^ 64 = (let below = h.max_collectors in omega arith) in
     let pages =
-        setting_spelled pages_setting script.pages (omega arith) refl refl (omega arith) h.min_pages h.max_pages
-        (omega arith) in
+    setting_spelled pages_setting script.pages (omega arith) refl refl (omega arith) h.min_pages h.max_pages
+    (omega arith) in
     let size =
-        setting_spelled size_setting script.size (omega arith) refl refl
-        (omega arith) h.min_size h.max_size h.size_step in
+    setting_spelled size_setting script.size (omega arith) refl refl
+    (omega arith) h.min_size h.max_size h.size_step in
     let cpus =
-        setting_spelled cpus_setting script.cpus (omega arith) refl refl (omega arith) h.min_cpus h.max_cpus
-        (omega arith) in
+    setting_spelled cpus_setting script.cpus (omega arith) refl refl (omega arith) h.min_cpus h.max_cpus
+    (omega arith) in
     let collectors =
-        setting_spelled collectors_setting script.collectors (omega arith) refl refl
-        (omega arith) h.min_collectors h.max_collectors (omega arith) in
+    setting_spelled collectors_setting script.collectors (omega arith) refl refl
+    (omega arith) h.min_collectors h.max_collectors (omega arith) in
     let last =
-        (let below = h.max_start in let most : script.start ≤ LINK_FILLS - 1 - script.pages = omega (arith, below) in
-        most) in
+    (let below = h.max_start in let most : script.start ≤ LINK_FILLS - 1 - script.pages = omega (arith, below) in
+    most) in
     let start =
-        setting_spelled (start_setting script.pages) script.start (omega arith) refl refl (omega arith) h.min_start last
-        (omega arith) in
+    setting_spelled (start_setting script.pages) script.start (omega arith) refl refl (omega arith) h.min_start last
+    (omega arith) in
     let lines = lines_for script (map command_text commands) in
     let text : script_text script ≡ text_of lines =
     ap (λ (cs : List (ℕ × Command)). text_of (lines_for script (map (λ (x : ℕ × Command). command_text x.1) cs)))
-        numbers
+    numbers
     ∙ ap (λ (ls : List (List ℕ)). text_of (lines_for script ls)) (command_texts-enumerate 6 commands) in
     let no_feed : list_all (is_free 10) lines ≡ true =
     and_from _ _ pages.no_feed (and_from _ _ size.no_feed
-        (and_from _ _ cpus.no_feed (and_from _ _ collectors.no_feed (and_from _ _ start.no_feed
+    (and_from _ _ cpus.no_feed (and_from _ _ collectors.no_feed (and_from _ _ start.no_feed
     (commands_no_feed script.cpus script.collectors commands few_cpus few_collectors each))))) in
     let significant : list_all is_significant lines ≡ true =
-        commands_are_significant script.cpus script.collectors commands few_cpus few_collectors each in
+    commands_are_significant script.cpus script.collectors commands few_cpus few_collectors each in
     let all : significant_lines (script_text script) ≡ enumerate_from 1 lines =
     ap significant_lines text
     ∙ ap (λ (ls : List (List ℕ)). filter (λ (x : NumberedLine). is_significant x.1) (enumerate_from 1 ls))
-        (lines_of-text_of lines no_feed)
+    (lines_of-text_of lines no_feed)
     ∙ all_significant 1 lines significant in
     record {
       header =

@@ -11,13 +11,13 @@ use Rattle.script_model.proofs.CommandTable.{same_word}
 -- ---- a line that gives the first fill is a start line
 given_by_word : (pages start : ℕ) (word number : List ℕ) (same : Bool) → bytes_eq word (codes "start") ≡ same
     → cond same (decimal_in number >>= allowed_for (start_setting pages)) (Err bad_line) ≡ Ok start
-        → bytes_eq word (codes "start") ≡ true
+    → bytes_eq word (codes "start") ≡ true
 given_by_word pages start word number true is h = is
 given_by_word pages start word number false is h = absurd (ok_is_no_err start bad_line (sym h))
 
 given_by_fields : (pages start : ℕ) (fields : List (List ℕ)) (spaced : Bool)
     → cond spaced (value_of (start_setting pages) fields) (Err bad_line) ≡ Ok start
-        → (spaced && are_of_start fields) ≡ true
+    → (spaced && are_of_start fields) ≡ true
 unfolding value_of value_given
 given_by_fields pages start (word ∷ number ∷ []) true h =
     given_by_word pages start word number (bytes_eq word (codes "start")) refl h
@@ -45,14 +45,14 @@ start_is_no_command : (cpus collectors : ℕ) (number : List ℕ)
 unfolding command_of of_cpu cpu_in
 start_is_no_command cpus collectors number =
     four_same (bytes_eq number (codes "f")) (bytes_eq number (codes "c")) (bytes_eq number (codes "t"))
-        (bytes_eq number (codes "a")) (Err bad_line)
+    (bytes_eq number (codes "a")) (Err bad_line)
 
 no_command_by_fields : (cpus collectors : ℕ) (fields : List (List ℕ)) (spaced : Bool)
     → (spaced && are_of_start fields) ≡ true
     → cond spaced (command_of cpus collectors fields) (Err bad_line) ≡ Err bad_line
 no_command_by_fields cpus collectors (word ∷ number ∷ []) true h =
     ap (λ (w : List ℕ). command_of cpus collectors (w ∷ number ∷ [])) (same_word word (codes "start") h)
-        ∙ start_is_no_command cpus collectors number
+    ∙ start_is_no_command cpus collectors number
 no_command_by_fields cpus collectors [] true h = absurd (both_ways false refl h)
 no_command_by_fields cpus collectors (word ∷ []) true h = absurd (both_ways false refl h)
 no_command_by_fields cpus collectors (word ∷ number ∷ more ∷ fields) true h = absurd (both_ways false refl h)
@@ -68,7 +68,7 @@ pub command_is_no_start : (cpus collectors : ℕ) (line : List ℕ) (command : C
     → command_in cpus collectors line ≡ Ok command → is_start_line line ≡ false
 command_is_no_start cpus collectors line command h =
     false_from_ne_true (is_start_line line)
-        (λ yes. ok_is_no_err command bad_line (sym h ∙ start_line_is_no_command cpus collectors line yes))
+    (λ yes. ok_is_no_err command bad_line (sym h ∙ start_line_is_no_command cpus collectors line yes))
 
 -- ---- lines that don't begin with one
 pub commands_begin_no_start : (cpus collectors : ℕ) (lines : List NumberedLine) (commands : List (ℕ × Command))

@@ -23,16 +23,16 @@ value_then line r others =
 value_then_from : (end : ℕ) (s : Setting) (settings : List Setting) (line : NumberedLine) (lines : List NumberedLine)
     (r : Result ℕ LineFault)
     → value_in s line.1 ≡ r → settings_from end (s ∷ settings) (line ∷ lines) ≡ value_then line r
-        (settings_from end settings lines)
+    (settings_from end settings lines)
 unfolding settings_from setting_from
 value_then_from end s settings line lines (Ok value) is =
     ap (λ (r : Result ℕ LineFault).
-        (numbered_reading line.0 r >>= λ value. let found : Read Start = Ok (value, lines) in found) >>= λ first.
-        settings_from end settings first.1 >>= λ x. let found : Read Settings = Ok (first.0 ∷ x.0, x.1) in found) is
+    (numbered_reading line.0 r >>= λ value. let found : Read Start = Ok (value, lines) in found) >>= λ first.
+    settings_from end settings first.1 >>= λ x. let found : Read Settings = Ok (first.0 ∷ x.0, x.1) in found) is
 value_then_from end s settings line lines (Err fault) is =
     ap (λ (r : Result ℕ LineFault).
-        (numbered_reading line.0 r >>= λ value. let found : Read Start = Ok (value, lines) in found) >>= λ first.
-        settings_from end settings first.1 >>= λ x. let found : Read Settings = Ok (first.0 ∷ x.0, x.1) in found) is
+    (numbered_reading line.0 r >>= λ value. let found : Read Start = Ok (value, lines) in found) >>= λ first.
+    settings_from end settings first.1 >>= λ x. let found : Read Settings = Ok (first.0 ∷ x.0, x.1) in found) is
 
 value_then_in_front_of : (line : NumberedLine) (r : Result ℕ LineFault) (others : Read Settings)
     (rest : List NumberedLine)
@@ -52,7 +52,7 @@ settings_of_front end (s ∷ settings) (line ∷ header) rest whole =
     ∙ ap (value_then line (value_in s line.1)) (settings_of_front end settings header rest (omega (arith, whole)))
     ∙ value_then_in_front_of line (value_in s line.1) (settings_from 0 settings header) rest
     ∙ ap (λ (r : Read Settings). r >>= in_front_of rest)
-        (sym (value_then_from 0 s settings line header (value_in s line.1) refl))
+    (sym (value_then_from 0 s settings line header (value_in s line.1) refl))
 settings_of_front end [] (line ∷ header) rest whole = absurd (omega (arith, whole))
 settings_of_front end (s ∷ settings) [] rest whole = absurd (omega (arith, whole))
 
@@ -66,12 +66,12 @@ zero_is_meant : (pages number : ℕ) (behind : List NumberedLine) → BeginsNoSt
 zero_is_meant pages number behind none =
     no_start_read pages behind none
     ∙ sym (start_line_read pages (number, codes "start 0") behind (Ok 0)
-        (given_is_start pages 0 (codes "start 0") (zero_given pages)) (zero_given pages))
+    (given_is_start pages 0 (codes "start 0") (zero_given pages)) (zero_given pages))
 
 -- ---- the script
 then_same : (header : Read Settings) (number : ℕ) (behind : List NumberedLine) → BeginsNoStart behind
     → ((header >>= in_front_of behind) >>= then_start) ≡
-        ((header >>= in_front_of ((number, codes "start 0") ∷ behind)) >>= then_start)
+    ((header >>= in_front_of ((number, codes "start 0") ∷ behind)) >>= then_start)
 then_same (Ok x) number behind none =
     ap (λ (r : Read Start). r >>= then_commands x) (zero_is_meant (get_or x.0 0 0) number behind none)
 then_same (Err e) number behind none = refl

@@ -11,6 +11,6 @@ returns-clause-script c text one other h k =
 pub returns-clause-fault : goal.returns-clause-fault
 returns-clause-fault c text one other fault another h k =
     let same =
-        same_err (one, fault) (other, another)
-        (sym ((fault_reads text one fault).0 h) ∙ (fault_reads text other another).0 k) in
+    same_err (one, fault) (other, another)
+    (sym ((fault_reads text one fault).0 h) ∙ (fault_reads text other another).0 k) in
     (ap (λ (e : ℕ × LineFault). e.0) same, ap (λ (e : ℕ × LineFault). e.1) same)
