@@ -13,11 +13,11 @@ use Rattle.script_model.specs.ScriptLimits.{IsWithinLimits}
 use Rattle.link_marks.specs.KeptPartition.{pieces_of}
 use Rattle.link_marks.proofs.RingsKept.{reached_kept}
 use Rattle.world_model.specs.World.{World, WorldOf, parcel_of}
-use Rattle.world_model.specs.Headline.{parcels_from, piece_in, pieces_in, IsCut, IsGenuineWorld}
+use Rattle.world_model.specs.Headline.{parcels_from, piece_in, pieces_in, IsGenuineWorld}
 use Rattle.world_model.proofs.Lookups.{contains_at, get_map}
 use Rattle.world_model.proofs.WorldsKept.{IsWorldKept, world_kept}
 use Rattle.world_model.proofs.OneWorld.{IsTakenBy, taken_by_reader, lane_of}
-use Rattle.world_model.proofs.Cuts.{pieces_same, is_cut}
+use Rattle.world_model.proofs.Cuts.{pieces_same, is_cut, is_exact}
 
 -- some records that pieces part
 some_records : (pieces : List Piece) → (records : List Record) × IsPartition records pieces []
@@ -48,11 +48,14 @@ module _ (script : Script) (w : World) (kept : IsWorldKept script w) where
   kept_genuine = record {
     cpus = kept.cpus;
     collectors = kept.collectors;
-    cut = λ cpu lane at. subst (IsCut script.pages script.size script.start lane.core.history) (sym (kept.taken cpu lane at)) (is_cut script.pages script.size script.start lane.core (kept.reached cpu lane at) cpu);
+    cut = λ cpu lane at. is_cut script.pages script.size script.start lane.core (kept.reached cpu lane at) cpu (parcels_from cpu w.taken) (kept.taken cpu lane at);
     of_a_cpu = kept.of_a_cpu;
     genuine = is_genuine;
     agree = genuine_parcels_agree w.taken (λ cpu. pieces_in (parcels_from cpu w.taken)) is_genuine;
     delivered = kept.delivered;
+    exact = λ collector cpu parcels lane at_parcels at. is_exact script.pages script.size script.start lane.core (kept.reached cpu lane at) cpu parcels
+        (λ parcel one. let t = taken_by_reader script w kept cpu lane parcel at one.1 (kept.delivered collector parcels parcel at_parcels one.0) in
+        record { index = t.index; taken_page = t.page; page_at = t.page_at; parcel_is = t.parcel_is });
   }
 
 pub world_genuine : (script : Script) (w : World) → IsWithinLimits script → WorldOf script w → IsGenuineWorld script w
