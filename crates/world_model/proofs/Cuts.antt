@@ -3,7 +3,7 @@
 use Rattle.std.proofs.Common.{◌≡◌, ◌≢◌, ℕ, zero, suc, ◌+◌, ◌-◌, ◌<◌, ◌≤◌, List, [], ◌∷◌, length, get_or, map, Some, refl, sym, ap, ◌∙◌, subst, ⊎_elim, arith}
 use Rattle.std.specs.Prelude.{Contains, ◌↔◌}
 use Rattle.std.specs.List.{slice_get}
-use Rattle.std.proofs.lemmas.Option.{none-some}
+use Rattle.std.proofs.lemmas.Option.{none-some, slice_get_within, slice_get_cases}
 use Rattle.std.proofs.lemmas.List.{length-map}
 use mathlib.Core.Logic.{dite}
 use native.Mathlib.Decide.{dec_le, ℕ_discrete}
@@ -13,12 +13,13 @@ use Rattle.trace_model.specs.Packing.{opens_of, cut_from}
 use Rattle.trace_model.specs.Fitting.{IsRising}
 use Rattle.trace_model.specs.Partition.{Piece, IsPartition, covered_count, first_from, first_of}
 use Rattle.trace_model.specs.Parcel.{Parcel, IsMissingOf}
+use Rattle.trace_model.specs.Collection.{Has, Misses}
 use Rattle.trace_model.specs.Ring.{Held, Taken, Core, IsFillOf, first_of_fill, window_of}
 use Rattle.trace_model.specs.Window.{Deed, first_window}
 use Rattle.trace_model.proofs.Elements.{some_is}
 use Rattle.trace_model.proofs.FillFirsts.{first_below, first_rises_to}
 use Rattle.trace_model.proofs.FillOfNumber.{LiesIn, lies_in, ends_before}
-use Rattle.trace_model.proofs.FirstNumbers.{own_or_skipped}
+use Rattle.trace_model.proofs.FirstNumbers.{own_records, own_or_skipped}
 use Rattle.link_marks.specs.KeptPartition.{piece_of, pieces_of}
 use Rattle.link_marks.specs.Reached.{IsReached}
 use Rattle.link_marks.specs.RingKept.{IsRingKept}
@@ -29,7 +30,7 @@ use Rattle.link_marks.proofs.TakenHoldRecords.{taken_hold}
 use Rattle.link_marks.proofs.ToldSteps.{run_told}
 use Rattle.link_marks.proofs.WindowRuns.{passed_by, lost_closed}
 use Rattle.world_model.specs.World.{parcel_of}
-use Rattle.world_model.specs.Headline.{piece_in, pieces_in, IsWhole, StandsIn, IsOverwrittenBefore, IsCut}
+use Rattle.world_model.specs.Headline.{pieces_in, IsWhole, StandsIn, IsOverwrittenBefore, IsCut, IsOneOf, IsExact}
 use Rattle.world_model.proofs.Lookups.{element_at, contains_at, get_map, get_from_map}
 
 -- ---- first numbers
@@ -59,7 +60,7 @@ one_before (x ∷ xs) (suc k) y at = one_before xs k y at
 -- ---- a ring
 
 module _ (n size start : ℕ) (c : Core) (r : IsReached n size start c) where
-  kept : IsRingKept n size start c
+  pub kept : IsRingKept n size start c
   kept = reached_kept n size start c r
 
   abbrev taken : List Taken
@@ -109,10 +110,10 @@ module _ (n size start : ℕ) (c : Core) (r : IsReached n size start c) where
   apart j k u t number at_u at_t low high least below = let a = page j u at_u in let b = page k t at_t in
       own_or_skipped 0 (pieces_of taken) j k (piece_of u) (piece_of t) u.held.first t.held.first number a.piece_at b.piece_at a.first_at b.first_at low high least below
 
-  deeds : List Deed
+  pub deeds : List Deed
   deeds = (run_told n size start c r).0
 
-  told : IsToldBy n start c deeds
+  pub told : IsToldBy n start c deeds
   unfolding deeds
   told = (run_told n size start c r).1
 
@@ -207,28 +208,46 @@ module _ (n size start : ℕ) (c : Core) (r : IsReached n size start c) where
         let low_u = q.from_start in let first = q.first_is in let size = q.size_is in
         let ends = ends_before cuts xs (u.fill - start) (o.lost - start) (omega arith) (omega arith) rising in omega arith
 
+  -- ---- the records of a fill
+
+  own_stands : (k : ℕ) (t : Taken) (number : ℕ) → slice_get taken k ≡ Some t → t.held.first ≤ number → number < t.held.first + length (map as_record t.held.records) → StandsIn c.history start t.fill number
+  own_stands k t number at low high = let p = page k t at in let first = p.first_is in let size = p.size_is in let within = p.within in let from = p.from_start in
+      let next = ends_before cuts xs (t.fill - start) (suc (t.fill - start)) (omega arith) (omega arith) rising in
+      let e = ap (λ (m : ℕ). get_or (0 ∷ cuts) m 0) (let s : suc t.fill - start ≡ suc (t.fill - start) = omega arith in s) in (omega arith, omega arith)
+
+  stands_own : (k : ℕ) (t : Taken) (number : ℕ) → slice_get taken k ≡ Some t → StandsIn c.history start t.fill number → (t.held.first ≤ number) × (number < t.held.first + length (map as_record t.held.records))
+  stands_own k t number at (low, high) = let p = page k t at in let first = p.first_is in let size = p.size_is in let within = p.within in let from = p.from_start in
+      let i : ℕ = t.fill - start in
+      let e = ap (λ (m : ℕ). get_or (0 ∷ cuts) m 0) (let s : suc t.fill - start ≡ suc (t.fill - start) = omega arith in s) in
+      let all = first_below 0 cuts (length xs) (suc i) (omega arith) rising in
+      let lies = lies_in cuts xs number (length cuts - i) i (omega arith) rising low (omega arith) in
+      let least = lies.least_le in let begins = lies.first_le in let ends = lies.number_lt in let le = lies.fill_le in
+      let here : lies.fill ≡ i = dite (dec_le lies.fill i) (λ le. omega arith) (λ more. let rise = rises (suc i) lies.fill (omega arith) le in absurd (let no : ⊥ = omega arith in no)) in
+      let e' = ap (λ (m : ℕ). get_or (0 ∷ cuts) m 0 + length (get_or (cut_from 0 cuts xs) m [])) here in (omega arith, omega arith)
+
   -- ---- the whole
 
   module _ (cpu : ℕ) where
-    abbrev parcels : List Parcel
-    parcels = map (parcel_of cpu) taken
+    -- the parcel of a page that was taken
+    pub record IsPageOf (parcel : Parcel) : Type 0 where
+      pub index : ℕ
+      pub taken_page : Taken
+      pub page_at : slice_get taken index ≡ Some taken_page
+      pub parcel_is : parcel_of cpu taken_page ≡ parcel
 
-    parcel_at : (parcel : Parcel) → Contains parcels parcel → (k : ℕ) × (t : Taken) × (slice_get taken k ≡ Some t) × (parcel_of cpu t ≡ parcel)
-    parcel_at parcel has = let (k, at) = element_at parcels parcel has in let (t, there, is) = get_from_map (parcel_of cpu) taken k parcel at in (k, t, there, is)
-
-    is_whole : (k : ℕ) (t : Taken) → slice_get taken k ≡ Some t → IsWhole c.history start (parcel_of cpu t)
+    pub is_whole : (k : ℕ) (t : Taken) → slice_get taken k ≡ Some t → IsWhole c.history start (parcel_of cpu t)
     is_whole k t at = let fill = kept.partition.fills.each k t at in record {
       first_is = ap (λ (h : Held). h.first) fill.held;
       records_are = ap (λ (h : Held). map as_record h.records) fill.held;
     }
 
-    is_missing : (k : ℕ) (t : Taken) (number : ℕ) → slice_get taken k ≡ Some t → IsMissingOf (parcel_of cpu t) cpu number ↔ IsOverwrittenBefore c.history start deeds t.fill number
+    pub is_missing : (k : ℕ) (t : Taken) (number : ℕ) → slice_get taken k ≡ Some t → IsMissingOf (parcel_of cpu t) cpu number ↔ IsOverwrittenBefore c.history start deeds t.fill number
     is_missing k t number at = (
       λ m. overwritten k t at number m.low m.high,
       λ o. record { cpu_is = refl; low = is_low t number o k at; high = is_high t number o k at },
     )
 
-    fills_same : (ts : List Taken) → numbers_of ts ≡ map (λ parcel. parcel.fill) (map (parcel_of cpu) ts)
+    pub fills_same : (ts : List Taken) → numbers_of ts ≡ map (λ parcel. parcel.fill) (map (parcel_of cpu) ts)
     fills_same [] = refl
     fills_same (t ∷ ts) = ap (λ (l : List ℕ). t.fill ∷ l) (fills_same ts)
 
@@ -236,18 +255,89 @@ module _ (n size start : ℕ) (c : Core) (r : IsReached n size start c) where
     pieces_same [] = refl
     pieces_same (t ∷ ts) = ap (λ (l : List Piece). piece_of t ∷ l) (pieces_same ts)
 
-    pub is_cut : IsCut n size start c.history parcels
-    is_cut = record {
-      is_history = kept.history.allowed;
-      packed = runs_packed n size start c kept;
-      deeds = deeds;
-      window = window_of c;
-      actions = told.actions;
-      run = told.window;
-      took = told.took ∙ fills_same taken;
-      whole = λ parcel has. let (k, t, at, is) = parcel_at parcel has in subst (IsWhole c.history start) is (is_whole k t at);
-      rest = (taken_partition n size start c kept).0;
-      partition = subst (λ (l : List Piece). IsPartition (committed_records c.history) l (taken_partition n size start c kept).0) (pieces_same taken) (taken_partition n size start c kept).1;
-      missing = λ parcel number has. let (k, t, at, is) = parcel_at parcel has in
-          subst (λ (x : Parcel). IsMissingOf x x.cpu number ↔ IsOverwrittenBefore c.history start deeds x.fill number) is (is_missing k t number at);
-    }
+    module _ (parcels : List Parcel) (same : parcels ≡ map (parcel_of cpu) taken) where
+      pub page_of_parcel : (k : ℕ) (parcel : Parcel) → slice_get parcels k ≡ Some parcel → IsPageOf parcel
+      page_of_parcel k parcel at = let (t, there, is) = get_from_map (parcel_of cpu) taken k parcel (subst (λ (l : List Parcel). slice_get l k ≡ Some parcel) same at) in
+          record { index = k; taken_page = t; page_at = there; parcel_is = is }
+
+      pub page_of_one : (parcel : Parcel) → Contains parcels parcel → IsPageOf parcel
+      page_of_one parcel has = let (k, at) = element_at parcels parcel has in page_of_parcel k parcel at
+
+      abbrev pub is_cut : IsCut n size start c.history parcels
+      is_cut = record {
+        is_history = kept.history.allowed;
+        packed = runs_packed n size start c kept;
+        deeds = deeds;
+        window = window_of c;
+        actions = told.actions;
+        run = told.window;
+        took = told.took ∙ fills_same taken ∙ ap (map (λ (parcel : Parcel). parcel.fill)) (sym same);
+        whole = λ parcel has. let p = page_of_one parcel has in subst (IsWhole c.history start) p.parcel_is (is_whole p.index p.taken_page p.page_at);
+        rest = (taken_partition n size start c kept).0;
+        partition = subst (λ (l : List Piece). IsPartition (committed_records c.history) l (taken_partition n size start c kept).0) (pieces_same taken ∙ ap pieces_in (sym same)) (taken_partition n size start c kept).1;
+        missing = λ parcel number has. let p = page_of_one parcel has in
+            subst (λ (x : Parcel). IsMissingOf x x.cpu number ↔ IsOverwrittenBefore c.history start deeds x.fill number) p.parcel_is (is_missing p.index p.taken_page number p.page_at);
+      }
+
+    -- ---- a collector
+
+    module _ (parcels : List Parcel) (pages : (parcel : Parcel) → IsOneOf parcels cpu parcel → IsPageOf parcel) where
+      one_of : (k : ℕ) (parcel : Parcel) → slice_get parcels k ≡ Some parcel → cpu ≡ parcel.cpu → IsOneOf parcels cpu parcel
+      one_of k parcel at is = (contains_at parcels k parcel at, sym is)
+
+      -- the record under a number of a page's own is the committed one
+      record_of : (k : ℕ) (t : Taken) (i : ℕ) (x : Record) → slice_get taken k ≡ Some t → slice_get (map as_record t.held.records) i ≡ Some x → slice_get (committed_records c.history) (t.held.first + i) ≡ Some x
+      record_of k t i x at there = let p = page k t at in
+          own_records (committed_records c.history) (pieces_of taken) (taken_partition n size start c kept).0 k (piece_of t) t.held.first i x (taken_partition n size start c kept).1 p.piece_at p.first_at there
+
+      has_stands : (number : ℕ) (x : Record) → Has parcels cpu number x
+          → (slice_get (committed_records c.history) number ≡ Some x) × (parcel : Parcel) × IsOneOf parcels cpu parcel × StandsIn c.history start parcel.fill number
+      has_stands number x h =
+          let one = one_of h.index h.parcel h.at h.pair.cpu_is in let p = pages h.parcel one in let t = p.taken_page in
+          let first : t.held.first ≡ h.parcel.first = ap (λ (q : Parcel). q.first) p.parcel_is in
+          let records : map as_record t.held.records ≡ h.parcel.records = ap (λ (q : Parcel). q.records) p.parcel_is in
+          let is = h.pair.number_is in
+          let there : slice_get (map as_record t.held.records) h.pair.index ≡ Some x = subst (λ (l : List Record). slice_get l h.pair.index ≡ Some x) (sym records) h.pair.record_is in
+          let low = slice_get_within (map as_record t.held.records) h.pair.index x there in
+          (
+            ap (slice_get (committed_records c.history)) (let e : number ≡ t.held.first + h.pair.index = omega arith in e) ∙ record_of p.index t h.pair.index x p.page_at there,
+            h.parcel,
+            one,
+            subst (λ (f : ℕ). StandsIn c.history start f number) (ap (λ (q : Parcel). q.fill) p.parcel_is) (own_stands p.index t number p.page_at (omega arith) (omega arith)),
+          )
+
+      stands_has : (number : ℕ) (x : Record) (parcel : Parcel) → slice_get (committed_records c.history) number ≡ Some x → IsOneOf parcels cpu parcel → StandsIn c.history start parcel.fill number → Has parcels cpu number x
+      stands_has number x parcel committed one stands =
+          let p = pages parcel one in let t = p.taken_page in
+          let (low, high) = stands_own p.index t number p.page_at (subst (λ (f : ℕ). StandsIn c.history start f number) (sym (ap (λ (q : Parcel). q.fill) p.parcel_is)) stands) in
+          let (k, at) = element_at parcels parcel one.0 in
+          let i : ℕ = number - t.held.first in
+          let back : t.held.first + i ≡ number = omega arith in
+          let first : t.held.first ≡ parcel.first = ap (λ (q : Parcel). q.first) p.parcel_is in
+          let there : slice_get (map as_record t.held.records) i ≡ Some x = ⊎_elim
+              (λ (y, within, is, same). is ∙ sym (record_of p.index t i y p.page_at is) ∙ ap (slice_get (committed_records c.history)) back ∙ committed)
+              (λ (past, none). absurd (let no : ⊥ = omega arith in no)) (slice_get_cases (map as_record t.held.records) i).1 in
+          record {
+            index = k;
+            parcel = parcel;
+            at = at;
+            pair = record {
+              index = i;
+              cpu_is = sym one.1;
+              number_is = omega arith;
+              record_is = subst (λ (l : List Record). slice_get l i ≡ Some x) (ap (λ (q : Parcel). q.records) p.parcel_is) there;
+            };
+          }
+
+      missing_of : (parcel : Parcel) (number : ℕ) → IsOneOf parcels cpu parcel → IsMissingOf parcel cpu number ↔ IsOverwrittenBefore c.history start deeds parcel.fill number
+      missing_of parcel number one = let p = pages parcel one in
+          subst (λ (x : Parcel). IsMissingOf x cpu number ↔ IsOverwrittenBefore c.history start deeds x.fill number) p.parcel_is (is_missing p.index p.taken_page number p.page_at)
+
+      pub is_exact : IsExact c.history start deeds cpu parcels
+      is_exact = record {
+        has = λ number x. (has_stands number x, λ (committed, parcel, one, stands). stands_has number x parcel committed one stands);
+        misses = λ number. (
+          λ m. let one = one_of m.index m.parcel m.at m.missing.cpu_is in (m.parcel, one, (missing_of m.parcel number one).0 m.missing),
+          λ (parcel, one, over). let (k, at) = element_at parcels parcel one.0 in record { index = k; parcel = parcel; at = at; missing = (missing_of parcel number one).1 over },
+        );
+      }

@@ -22,7 +22,7 @@ use Rattle.link_marks.proofs.OneNewRing.{new_ring_is_one}
 use Rattle.link_marks.proofs.RingsKept.{reached_kept}
 use Rattle.world_model.specs.Lanes.{Lane, IsNewLane, LineRun}
 use Rattle.world_model.specs.Log.{log_of}
-use Rattle.world_model.specs.World.{World, IsNewWorld, parcel_of, parcels_of, RunsLine, IsFill, Brings, DeliversTaken, DeliversNothing, DeliversFill, delivers, lacks, Obeys, ObeysAll, WorldOf}
+use Rattle.world_model.specs.World.{World, IsNewWorld, parcel_of, parcels_of, RunsLine, IsFill, Brings, DeliversTaken, DeliversNothing, DeliversFill, delivers, lacks, Obeys, ObeysAll, WorldBehind}
 use Rattle.world_model.specs.Headline.{parcels_from}
 use Rattle.world_model.proofs.Lookups.{element_at, kept_by, get_from_map}
 use Rattle.world_model.proofs.LineIsOne.{line_one}
@@ -150,7 +150,15 @@ obeys_all_one script (line ∷ lines) before one other kept (between, obeys, all
     let same = obeys_one script line.0 line.1 before between between' kept obeys obeys' in
     obeys_all_one script lines between one other (obeys_kept script line.0 line.1 before between kept obeys) all (subst (λ (b : World). ObeysAll script lines b other) (sym same) all')
 
-pub one_world : (script : Script) (one other : World) → IsWithinLimits script → WorldOf script one → WorldOf script other → one ≡ other
-one_world script one other limits a b =
+pub one_world : (script : Script) (lines : List (ℕ × Command)) (one other : World) → IsWithinLimits script → WorldBehind script lines one → WorldBehind script lines other → one ≡ other
+one_world script lines one other limits a b =
     let same = same_new script a.new b.new limits a.is_new b.is_new in
-    obeys_all_one script script.commands a.new one other (new_kept script a.new limits a.is_new) a.obeyed (subst (λ (w : World). ObeysAll script script.commands w other) (sym same) b.obeyed)
+    obeys_all_one script lines a.new one other (new_kept script a.new limits a.is_new) a.obeyed (subst (λ (w : World). ObeysAll script lines w other) (sym same) b.obeyed)
+
+-- one line more is obeyed
+obeys_more : (script : Script) (lines : List (ℕ × Command)) (line : ℕ) (command : Command) (new w after : World) → ObeysAll script lines new w → Obeys script line command w after → ObeysAll script (lines ++ (line, command) ∷ []) new after
+obeys_more script [] line command new w after all obeys = (after, subst (λ (v : World). Obeys script line command v after) (sym all) obeys, refl)
+obeys_more script (first ∷ lines) line command new w after (between, one, all) obeys = (between, one, obeys_more script lines line command between w after all obeys)
+
+pub behind_next : (script : Script) (lines : List (ℕ × Command)) (line : ℕ) (command : Command) (w after : World) → WorldBehind script lines w → Obeys script line command w after → WorldBehind script (lines ++ (line, command) ∷ []) after
+behind_next script lines line command w after b obeys = record { new = b.new; is_new = b.is_new; obeyed = obeys_more script lines line command b.new w after b.obeyed obeys }

@@ -17,7 +17,7 @@ use Rattle.script_model.specs.ScriptLimits.{IsWithinLimits}
 use Rattle.link_marks.specs.Reached.{MayStart, IsReached}
 use Rattle.link_marks.proofs.RingsKept.{reached_kept}
 use Rattle.world_model.specs.Lanes.{Lane, IsNewLane}
-use Rattle.world_model.specs.World.{World, IsNewWorld, parcel_of, parcels_of, RunsLine, DeliversTaken, DeliversNothing, DeliversFill, delivers, lacks, Obeys, ObeysAll, WorldOf}
+use Rattle.world_model.specs.World.{World, IsNewWorld, parcel_of, parcels_of, RunsLine, DeliversTaken, DeliversNothing, DeliversFill, delivers, lacks, Obeys, ObeysAll, WorldBehind}
 use Rattle.world_model.specs.Headline.{parcels_from}
 use Rattle.world_model.proofs.Lookups.{get_set_here, get_set_other}
 use Rattle.world_model.proofs.LineRuns.{line_run}
@@ -188,5 +188,5 @@ pub obeys_all_kept : (script : Script) (lines : List (ℕ × Command)) (before a
 obeys_all_kept script [] before after kept all = subst (IsWorldKept script) all kept
 obeys_all_kept script (line ∷ lines) before after kept (between, obeys, all) = obeys_all_kept script lines between after (obeys_kept script line.0 line.1 before between kept obeys) all
 
-pub world_kept : (script : Script) (w : World) → IsWithinLimits script → WorldOf script w → IsWorldKept script w
-world_kept script w limits of = obeys_all_kept script script.commands of.new w (new_kept script of.new limits of.is_new) of.obeyed
+pub world_kept : (script : Script) (lines : List (ℕ × Command)) (w : World) → IsWithinLimits script → WorldBehind script lines w → IsWorldKept script w
+world_kept script lines w limits of = obeys_all_kept script lines of.new w (new_kept script of.new limits of.is_new) of.obeyed

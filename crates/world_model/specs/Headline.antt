@@ -7,7 +7,7 @@ use Rattle.trace_model.specs.History.{Action, IsHistory, as_record, committed_re
 use Rattle.trace_model.specs.Packing.{IsPacked}
 use Rattle.trace_model.specs.Partition.{Piece, IsPartition}
 use Rattle.trace_model.specs.Parcel.{Parcel, IsMissingOf, AreGenuine}
-use Rattle.trace_model.specs.Collection.{Agree}
+use Rattle.trace_model.specs.Collection.{Has, Misses, Agree}
 use Rattle.trace_model.specs.Ring.{first_of_fill, fill_of}
 use Rattle.trace_model.specs.Window.{Deed, actions_of, Window, WindowRun}
 use Rattle.link_marks.specs.ToldRuns.{fills_taken, fills_lost}
@@ -65,9 +65,29 @@ pub record IsCut (n size start : ℕ) (history : List Action) (parcels : List Pa
       → Contains parcels parcel
       → IsMissingOf parcel parcel.cpu number ↔ IsOverwrittenBefore history start deeds parcel.fill number
 
+-- of these parcels, this one is of the CPU
+abbrev pub IsOneOf : List Parcel → (cpu : ℕ) → Parcel → Type 0
+IsOneOf parcels cpu parcel = Contains parcels parcel × (parcel.cpu ≡ cpu)
+
+-- What the parcels that were delivered to a collector make of a CPU's history: the collector has just the committed
+-- records that stand in the fill of one of them, under their own numbers, and misses just the numbers that were
+-- overwritten unread before one of them.
+pub record IsExact (history : List Action) (start : ℕ) (deeds : List Deed) (cpu : ℕ) (delivered : List Parcel) : Type 0 where
+  pub has : (number : ℕ) (r : Record)
+      → Has delivered cpu number r
+      ↔ ((slice_get (committed_records history) number ≡ Some r)
+      × (parcel : Parcel)
+      × IsOneOf delivered cpu parcel
+      × StandsIn history start parcel.fill number)
+  pub misses : (number : ℕ)
+      → Misses delivered cpu number
+      ↔ ((parcel : Parcel)
+      × IsOneOf delivered cpu parcel
+      × IsOverwrittenBefore history start deeds parcel.fill number)
+
 -- Of a world: it has the CPUs and the collectors of its script. Each CPU's history is cut into the parcels that were
 -- taken from its ring, and each parcel that was taken is one of a CPU that there is, and genuine for that CPU's. So
--- they agree, and what was delivered is among them.
+-- they agree. What was delivered is among them, and each collector is exact for each CPU.
 pub record IsGenuineWorld (script : Script) (w : World) : Type 0 where
   pub cpus : length w.lanes ≡ script.cpus
   pub collectors : length w.delivered ≡ script.collectors
@@ -81,3 +101,7 @@ pub record IsGenuineWorld (script : Script) (w : World) : Type 0 where
       → slice_get w.delivered collector ≡ Some parcels
       → Contains parcels parcel
       → Contains w.taken parcel
+  pub exact : (collector cpu : ℕ) (parcels : List Parcel) (lane : Lane)
+      → slice_get w.delivered collector ≡ Some parcels
+      → (at : slice_get w.lanes cpu ≡ Some lane)
+      → IsExact lane.core.history script.start (cut cpu lane at).deeds cpu parcels

@@ -131,8 +131,12 @@ ObeysAll script [] before after = before ≡ after
 ObeysAll script (line ∷ lines) before after =
     (between : World) × Obeys script line.0 line.1 before between × ObeysAll script lines between after
 
--- The world of a script: that behind its last line.
-pub record WorldOf (script : Script) (w : World) : Type 0 where
+-- A world behind so many lines of a script, from one in front of the first on.
+pub record WorldBehind (script : Script) (lines : List (ℕ × Command)) (w : World) : Type 0 where
   pub new : World
   pub is_new : IsNewWorld script new
-  pub obeyed : ObeysAll script script.commands new w
+  pub obeyed : ObeysAll script lines new w
+
+-- The world of a script: that behind all of its lines.
+abbrev pub WorldOf : Script → World → Type 0
+WorldOf script w = WorldBehind script script.commands w

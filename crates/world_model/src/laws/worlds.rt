@@ -1,22 +1,48 @@
 //! Laws over the worlds of scripts.
-ghost use Rattle.std.specs.Prelude.{◌≡◌, ℕ, ◌+◌, ◌≤◌, List, All, Some};
+ghost use Rattle.std.specs.Prelude.{◌≡◌, ℕ, ◌↔◌, List, [], ◌∷◌, ◌++◌, Contains, Some};
 ghost use Rattle.std.specs.List.{slice_get};
-ghost use Rattle.script_model.specs.Script.{Script};
+ghost use Rattle.trace_model.specs.Parcel.{Parcel};
+ghost use Rattle.trace_model.specs.Collection.{Agree, IsSame, IsLeastUpperBound};
+ghost use Rattle.script_model.specs.Script.{Script, Command};
 ghost use Rattle.script_model.specs.ScriptLimits.{IsWithinLimits};
-ghost use Rattle.world_model.specs.World.{World, WorldOf};
+ghost use Rattle.world_model.specs.World.{World, Obeys, WorldBehind, WorldOf};
 ghost use Rattle.world_model.specs.Headline.{IsGenuineWorld};
 ghost use Rattle.world_model.specs.LaneLaws.{FrameRunsAreShort, LinesKeepLanes, NewLanesAreKept, ReaderRunsAreShort};
 
-/// A script has one world at most.
+/// A script has one world at most, behind any of its lines and behind all of them; and a line that is obeyed leads
+/// from the world in front of it to one behind it.
 pub fn one_world()
-    ensures { (script : Script) (one other : World) → IsWithinLimits script →
+    ensures behind { (script : Script) (lines : List (ℕ × Command)) (one other : World) → IsWithinLimits script →
+        WorldBehind script lines one → WorldBehind script lines other → one ≡ other }
+    ensures whole { (script : Script) (one other : World) → IsWithinLimits script →
         WorldOf script one → WorldOf script other → one ≡ other }
+    ensures next { (script : Script) (lines : List (ℕ × Command)) (line : ℕ) (command : Command) (w after : World) →
+        WorldBehind script lines w → Obeys script line command w after →
+        WorldBehind script (lines ++ (line, command) ∷ []) after }
 {}
 
-/// In the world of a script the parcels of each CPU part its committed records, each under its own number, with just
-/// the numbers of overwritten fills missing between them; they agree; and only what was taken is delivered.
+/// In the world of a script, behind any of its lines, the parcels of each CPU part its committed records, each under
+/// its own number, with just the numbers of overwritten fills missing between them; they agree; only what was taken
+/// is delivered; and each collector has just the records of the pages that were delivered to it, and misses just the
+/// numbers that were overwritten unread before those.
 pub fn worlds_are_genuine()
-    ensures { (script : Script) (w : World) → IsWithinLimits script → WorldOf script w → IsGenuineWorld script w }
+    ensures behind { (script : Script) (lines : List (ℕ × Command)) (w : World) → IsWithinLimits script →
+        WorldBehind script lines w → IsGenuineWorld script w }
+    ensures whole { (script : Script) (w : World) → IsWithinLimits script → WorldOf script w → IsGenuineWorld script w }
+{}
+
+/// Pages of one world never clash, whichever of them are collected; so any two of its collectors have a least
+/// collection above both, which is what was delivered to the one or to the other; and two to which the same pages
+/// were delivered have and miss the same.
+pub fn collectors_join()
+    ensures agree { (script : Script) (w : World) (parcels : List Parcel) → IsGenuineWorld script w →
+        ((parcel : Parcel) → Contains parcels parcel → Contains w.taken parcel) → Agree parcels }
+    ensures join { (script : Script) (w : World) (one other : ℕ) (parcels others : List Parcel) →
+        IsGenuineWorld script w → slice_get w.delivered one ≡ Some parcels → slice_get w.delivered other ≡ Some others →
+        IsLeastUpperBound parcels others (parcels ++ others) }
+    ensures same { (script : Script) (w : World) (one other : ℕ) (parcels others : List Parcel) →
+        IsGenuineWorld script w → slice_get w.delivered one ≡ Some parcels → slice_get w.delivered other ≡ Some others →
+        ((parcel : Parcel) → (Contains parcels parcel ↔ Contains others parcel)) → IsSame parcels others }
 {}
 
 /// Behind each line a ring's frames have their payloads, as they do in a new ring.
