@@ -29,6 +29,7 @@ impl WriterStack {
     ghost use Rattle.nested_writer.specs.declared.frame.Progress.TheVariants.{Waiting, Through, Reserved, Left};
 
     /// The frame on top has come so far.
+    #[inline(always)]
     fn go_on(&mut self, top: Frame, progress: Progress)
         requires { (below : List Frame) × IsTop self.old top below }
         ensures { (below : List Frame) → IsTop self.old top below
@@ -38,6 +39,7 @@ impl WriterStack {
     }
 
     /// The frame on top leaves: the bottom one stays.
+    #[inline(always)]
     pub(crate) fn leave(&mut self, top: Frame)
         requires { (below : List Frame) × IsTop self.old top below }
         ensures { (below : List Frame) → IsTop self.old top below → self.new ≡ after_leave self.old top below }
@@ -52,6 +54,7 @@ impl WriterStack {
     }
 
     /// Whether a page is needed for the frame on top, which has no record.
+    #[inline(always)]
     fn wants_page(&self, top: Frame) -> bool
         requires stack { Stands self.now }
         requires top { (below : List Frame) × IsTop self.now top below }
@@ -74,6 +77,7 @@ impl WriterStack {
     }
 
     /// A page is needed for the frame on top: it notes that, or is refused and leaves.
+    #[inline(never)]
     fn note_need(&mut self, top: Frame) -> Result<Allot, WriteFault>
         requires top { (below : List Frame) × IsTop self.old top below }
         requires wants { WantsPage self.old top.purpose top.progress }
@@ -99,6 +103,7 @@ impl WriterStack {
     }
 
     /// Reserves the record of the frame on top, which fits in the tail.
+    #[inline(always)]
     fn reserve(&mut self, top: Frame, moment: u64, len: usize) -> Place
         requires stack { Stands self.old }
         requires top { (below : List Frame) × IsTop self.old top below }
@@ -131,6 +136,7 @@ impl WriterStack {
     /// needed; a reserved frame gets its place again. For a close frame a page is needed where the tail holds a record
     /// and no page was added since its first call; else it gets a place of length 0. A frame that is refused as
     /// `Crowded` or `Worn` leaves without a record.
+    #[inline(always)]
     pub fn allot(&mut self) -> Result<Allot, WriteFault>
         requires stack { Stands self.old }
         ensures crowded { result ≡ Err WriteFault.Crowded ↔ (NeedsPage self.old self.old.frames × IsCrowded self.old) }

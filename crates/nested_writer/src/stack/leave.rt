@@ -23,6 +23,7 @@ impl WriterStack {
     ghost use Rattle.nested_writer.specs.IsStack.{IsStack, Stands};
 
     /// Ends the frame on top, whose record is reserved, or which is a close frame that needs no page.
+    #[inline(always)]
     pub fn end(&mut self) -> Result<Ended, WriteFault>
         requires stack { Stands self.old }
         ensures no_frame { result ≡ Err WriteFault.NoFrame ↔ self.old.frames ≡ [] }
@@ -76,6 +77,7 @@ impl WriterStack {
     }
 
     /// Takes the bottom frame off, which has left, where all fills but the tail are released.
+    #[inline(always)]
     pub fn pop_bottom(&mut self)
         requires bottom { IsAtBottom self.old.frames }
         requires released { self.old.older ≡ [] }

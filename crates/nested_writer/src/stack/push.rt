@@ -16,6 +16,7 @@ impl WriterStack {
     ghost use Rattle.nested_writer.specs.declared.frame.Progress.TheVariants.{Waiting};
 
     /// One frame more on top, where fewer than `MAX_FRAMES` stand.
+    #[inline(always)]
     fn push(&mut self, purpose: Purpose)
         requires { length self.old.frames < MAX_FRAMES }
         ensures { self.new ≡ with_frame self.old (record { purpose = purpose; progress = Waiting None }) }
@@ -30,6 +31,7 @@ impl WriterStack {
     }
 
     /// Pushes a frame for a record of this moment and of a payload of `len` bytes.
+    #[inline(always)]
     pub fn begin(&mut self, moment: u64, len: usize) -> Result<(), WriteFault>
         ensures too_deep { result ≡ Err WriteFault.TooDeep ↔ MAX_FRAMES ≤ length self.old.frames }
         ensures too_long { result ≡ Err WriteFault.TooLong
