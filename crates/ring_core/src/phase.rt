@@ -55,8 +55,8 @@ pub enum Phase {
 }
 
 /// What a step answers by which a frame opens or closes a page, or has nothing left to do there.
-#[derive(Clone, Copy, Debug, PartialEq, Eq)]
-pub enum Turned {
+#[derive(Clone, Copy)]
+pub(crate) enum Turned {
     /// It stands.
     Going,
     /// It has left the stack.
@@ -69,7 +69,7 @@ impl Turned {
 
     /// As the ring's answer.
     #[inline(always)]
-    pub fn answer(self) -> Answer
+    pub(crate) fn answer(self) -> Answer
         ensures { result ≡ told self }
     {
         match self {
