@@ -44,9 +44,9 @@ pub(crate) fn put_behind(body: &mut [u8], end: usize, delta: u64, first: bool, l
     ensures end { result.start + result.len ≡ end + encoded_len len delta first }
     ensures len { result.len ≡ slot_len len }
 {
-    let slot = slot_len(len);
     let word_delta = delta_in_words(delta, first);
-    if slot <= SHORT_LIMIT && word_delta < EXTEND_FROM && body.len() - end >= 4 + SHORT_LIMIT {
+    if len <= SHORT_LIMIT && word_delta < EXTEND_FROM && end + (4 + SHORT_LIMIT) <= body.len() {
+        let slot = slot_len(len);
         put_short(&mut body[end..], word_delta as u32, slot);
         return Place {
             start: end + 4,

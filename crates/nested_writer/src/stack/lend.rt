@@ -20,12 +20,12 @@ impl WriterStack {
         ensures not_reserved { result ≡ Err WriteFault.NotReserved ↔ LacksSlot self.now.frames }
         ensures slot { IfOk result (λ slot. IsTopSlot self.now.frames slot) }
     {
-        let Some(top) = self.top else {
-            return Err(WriteFault::NoFrame);
-        };
-        match top.progress {
-            Progress::Reserved(slot) => Ok(slot),
-            Progress::Waiting(_) | Progress::Through(_) | Progress::Left(_) => {
+        match self.top.slot() {
+            Some(slot) => Ok(slot),
+            None => {
+                if self.top.is_none() {
+                    return Err(WriteFault::NoFrame);
+                }
                 Err(WriteFault::NotReserved)
             }
         }

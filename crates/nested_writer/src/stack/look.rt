@@ -52,9 +52,10 @@ impl WriterStack {
         ensures frames { result ≡ length self.now.frames }
         ensures most { result ≤ MAX_FRAMES }
     {
-        match self.top {
-            Some(_) => 1 + self.below.len(),
-            None => 0,
+        if self.top.is_none() {
+            0
+        } else {
+            1 + self.below.len()
         }
     }
 
@@ -63,7 +64,7 @@ impl WriterStack {
     pub fn top(&self) -> Option<Frame>
         ensures { result ≡ top_of self.now.frames }
     {
-        self.top
+        self.top.get()
     }
 
     /// Whether only the bottom frame stands, ended or refused.
@@ -71,7 +72,7 @@ impl WriterStack {
     pub fn is_at_bottom(&self) -> bool
         ensures { IsTrue result ↔ IsAtBottom self.now.frames }
     {
-        match self.top {
+        match self.top.get() {
             Some(top) => self.below.is_empty() && matches!(top.progress, Progress::Left(_)),
             None => false,
         }
@@ -83,7 +84,7 @@ impl WriterStack {
     pub fn awaits_page(&self) -> bool
         ensures { IsTrue result ↔ MayAddPage self.now self.now.frames }
     {
-        let Some(top) = self.top else {
+        let Some(top) = self.top.get() else {
             return false;
         };
         match top.progress {
