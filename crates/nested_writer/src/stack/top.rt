@@ -80,6 +80,7 @@ impl Top {
     }
 
     /// The frame.
+    #[inline(always)]
     pub(crate) fn get(&self) -> Option<Frame>
         ensures { result ≡ self.now }
     {
