@@ -6,7 +6,7 @@ mod random;
 mod refusals;
 mod wishes;
 
-ghost use Rattle.std.specs.Prelude.{◌≡◌, IfOk};
+ghost use Rattle.std.specs.Prelude.{◌≡◌, length, IfOk};
 ghost use Rattle.ring_core.specs.Steps.{IsRing};
 
 use crate::{Answer, Core, Event};
@@ -127,8 +127,15 @@ fn write(rt: &impl Abort, core: &mut Core, payload: &[u8])
     let Ok(slot) = core.top_slot() else {
         return;
     };
-    assert_eq!(rt; payload.len(), slot.place.len);
-    core.payload_mut(slot).copy_from_slice(payload);
+    fill_front(rt, core.payload_mut(slot), payload);
+}
+
+/// Copies a payload to the front of its slot.
+fn fill_front(rt: &impl Abort, slot: &mut [u8], payload: &[u8])
+    ensures { length slot.new ≡ length slot.old }
+{
+    assert!(rt; payload.len() <= slot.len());
+    slot[..payload.len()].copy_from_slice(payload);
 }
 
 /// One step of the reader, with a body of its own.
@@ -278,12 +285,20 @@ fn make_act(
     Ok(())
 }
 
-/// Follows a run from a new ring on.
-fn follow(rt: &impl Abort, alloc: Global, run: &Run<'_>) -> Result<(), NoMemory> {
+/// The ring behind a run, which is followed from a new ring on.
+fn core_behind(rt: &impl Abort, alloc: Global, run: &Run<'_>) -> Result<Core, NoMemory>
+    ensures { IfOk result (λ core. IsRing core) }
+{
     let mut core = core_of(rt, alloc, run)?;
     assert_eq!(rt; core.size(), run.size);
     for (what, answer) in run.acts {
         make_act(rt, alloc, &mut core, *what, *answer)?;
     }
+    Ok(core)
+}
+
+/// Follows a run from a new ring on.
+fn follow(rt: &impl Abort, alloc: Global, run: &Run<'_>) -> Result<(), NoMemory> {
+    core_behind(rt, alloc, run)?;
     Ok(())
 }
