@@ -7,5 +7,6 @@ pub mod Allotted
 pub mod Answered
 pub mod Ends
 pub mod Lending
+pub mod OnTop
 pub mod AtOnce
 pub mod Runs

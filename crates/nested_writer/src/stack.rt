@@ -5,9 +5,11 @@ pub mod lend;
 pub mod look;
 pub mod pages;
 pub mod push;
+mod top;
 pub mod write;
 
 use crate::frame::Frame;
+use crate::stack::top::Top;
 use page_image::{Body, Page};
 use std::alloc::Global;
 use std::collections::VecDeque;
@@ -22,7 +24,7 @@ pub struct WriterStack {
     done: u64,
     older: VecDeque<Page>,
     tail: Page,
-    top: Option<Frame>,
+    top: Top,
     below: VecDeque<Frame>,
     last_moment: u64,
 }
@@ -72,7 +74,7 @@ impl WriterStack {
             done: start,
             older,
             tail: Page::fresh(body, RecordNo(0), FillNo(start)),
-            top: None,
+            top: Top::none(),
             below,
             last_moment: 0,
         })

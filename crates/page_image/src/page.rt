@@ -77,6 +77,7 @@ impl Page {
     /// Adds a record of this moment with a zeroed payload behind the others, where it must fit, and answers where
     /// its payload lies: `len` bytes, rounded up to whole words and at least one word. `prev` is the moment of the
     /// last record, if there is one, and not above `moment`.
+    #[inline(always)]
     pub fn put(&mut self, prev: u64, moment: u64, len: usize) -> Place
         requires room { length self.old.bytes + encoded_len len (moment - prev) (is_blank self.old.bytes)
             ≤ self.old.size }
@@ -155,6 +156,7 @@ impl Page {
     }
 
     /// The payload at this place, to be written. All other bytes of the page stay as they are.
+    #[inline(always)]
     pub fn payload_mut(&mut self, place: Place) -> &mut [u8]
         requires { IsPlaceIn self.old.bytes place.start place.len }
         ensures* lends { sem 𝓛 (LendsPayload self.entry place.start result) }

@@ -7,6 +7,7 @@ ghost use Rattle.record_words.specs.declared.format.TheConstants.{MAX_PAYLOAD};
 use record_words::{EXTEND_FROM, Place, SHORT_LIMIT, put_payload, put_record, put_short, slot_len};
 
 /// The delta that a record's words state: the first record of a page has none.
+#[inline(always)]
 fn delta_in_words(delta: u64, first: bool) -> u64
     ensures { result ≡ (if first then 0 else delta) }
 {
@@ -33,6 +34,7 @@ fn put_any(body: &mut [u8], end: usize, delta: u64, first: bool, len: usize) -> 
 
 /// Writes a record with a zeroed payload behind the first `end` bytes, and answers where the payload lies. The
 /// record ends where its payload does. What stands behind it may be lost.
+#[inline(always)]
 pub(crate) fn put_behind(body: &mut [u8], end: usize, delta: u64, first: bool, len: usize) -> Place
     requires length { len ≤ MAX_PAYLOAD }
     requires time { (first ≡ true) ⊎ (delta < MOMENT_LIMIT) }
@@ -42,9 +44,9 @@ pub(crate) fn put_behind(body: &mut [u8], end: usize, delta: u64, first: bool, l
     ensures end { result.start + result.len ≡ end + encoded_len len delta first }
     ensures len { result.len ≡ slot_len len }
 {
-    let slot = slot_len(len);
     let word_delta = delta_in_words(delta, first);
-    if slot <= SHORT_LIMIT && word_delta < EXTEND_FROM && body.len() - end >= 4 + SHORT_LIMIT {
+    if len <= SHORT_LIMIT && word_delta < EXTEND_FROM && end + (4 + SHORT_LIMIT) <= body.len() {
+        let slot = slot_len(len);
         put_short(&mut body[end..], word_delta as u32, slot);
         return Place {
             start: end + 4,

@@ -17,6 +17,7 @@ pub struct Place {
 
 /// Puts a 32-bit word of this type and delta at the front.
 #[tactic(auto, unfolding(trace_model::specs::Words::le32))]
+#[inline(always)]
 fn put_word(out: &mut [u8], type_len: u32, delta: u32)
     requires type_fits { type_len < 32 }
     requires delta_fits { delta < EXTEND_FROM }
@@ -28,6 +29,7 @@ fn put_word(out: &mut [u8], type_len: u32, delta: u32)
 
 /// Puts a 32-bit number at the front, which stands behind a first word.
 #[tactic(auto, unfolding(trace_model::specs::Words::le32))]
+#[inline(always)]
 fn put_number(out: &mut [u8], number: u32)
     requires { 4 ≤ length out.old }
     ensures { Puts out.old out.new (le32 number) }
@@ -108,6 +110,7 @@ pub fn put_record(out: &mut [u8], delta: u64, first: bool, len: usize) -> Place
 
 /// Writes the word of a record in the short form and a zeroed payload of `slot` bytes at the front of `out`. What
 /// stands behind the record is lost, as far as the longest such record would reach: so few stores serve each length.
+#[inline(always)]
 pub fn put_short(out: &mut [u8], delta: u32, slot: usize)
     requires delta_fits { delta < EXTEND_FROM }
     requires limit { slot ≤ SHORT_LIMIT }

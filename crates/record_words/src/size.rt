@@ -6,6 +6,7 @@ ghost use Rattle.trace_model.specs.declared.limits.TheConstants.{MOMENT_LIMIT};
 use crate::format::{EXTEND_FROM, MAX_PAYLOAD, SHORT_LIMIT};
 
 /// How many bytes a payload of `len` bytes takes in a page: at least 4, and whole words.
+#[inline(always)]
 pub fn slot_len(len: usize) -> usize
     requires { len ≤ MAX_PAYLOAD }
     ensures { result ≡ slot_len len }
@@ -15,6 +16,7 @@ pub fn slot_len(len: usize) -> usize
 
 /// The number of bytes that a record takes, a time extend included, whose payload has `len` bytes
 /// and which comes `delta` after the record before it, or is the first of its page.
+#[inline(always)]
 pub fn size_of(len: usize, delta: u64, first: bool) -> usize
     requires length { len ≤ MAX_PAYLOAD }
     requires time { (first ≡ true) ⊎ (delta < MOMENT_LIMIT) }

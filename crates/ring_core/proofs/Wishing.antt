@@ -16,7 +16,7 @@ use Rattle.nested_writer.specs.IsStack.{IsStack}
 use Rattle.nested_writer.specs.Calls.{with_bottom, asked_frames, IsAtBottom}
 use Rattle.nested_writer.specs.Allotted.{HasActed}
 use Rattle.ring_core.specs.declared.phase.Phase.{Phase}
-use Rattle.ring_core.specs.declared.phase.Phase.TheVariants.{Idle, Looking, Releasing, Wishing}
+use Rattle.ring_core.specs.declared.phase.Phase.TheVariants.{Looking, Releasing, Wishing}
 use Rattle.ring_core.specs.declared.event.Answer.{Answer}
 use Rattle.ring_core.specs.declared.event.Answer.TheVariants.{Going, Gone}
 use Rattle.ring_core.specs.Value.{CoreValue, phase_of}
@@ -83,20 +83,20 @@ module _ (n size start : ℕ) (v : CoreValue) (c : Core) (core : IsCore n size s
         closed = λ f low high. refl;
       })
 
-  pub goes_away : (later : Stack) → GrantsNone v → opened v.stack ≤ v.stack.done + 1 → later ≡ record v.stack { frames = [] } → HasActed v.stack [] later → IsStep n size start c model.steps Gone (record v { stack = later; phase = Idle })
+  pub goes_away : (later : Stack) → GrantsNone v → opened v.stack ≤ v.stack.done + 1 → later ≡ record v.stack { frames = [] } → HasActed v.stack [] later → IsStep n size start c model.steps Gone (record v { stack = later })
   goes_away later none last popped acted = let s = core.shows in let begun = s.opened_is in let done = s.done_is in
       let no_frames : later.frames ≡ [] = ap (λ (x : Stack). x.frames) popped in
-      steps_to Gone (record v { stack = later; phase = Idle }) model.gone (record c { frames = [] })
+      steps_to Gone (record v { stack = later }) model.gone (record c { frames = [] })
       (model.goes_away refl (none n size start c core) (omega arith) refl refl) refl
-      (reshown n size start v c later Idle v.below [] c.history c.held s record {
+      (reshown n size start v c later v.phase v.below [] c.history c.held s record {
         pages_is = ap (λ (x : Stack). x.pages) popped;
         size_is = ap (λ (x : Stack). x.size) popped;
         done_is = ap (λ (x : Stack). x.done) popped;
         opened_is = ap opened popped;
         stack_is = subst (λ (h : List Action). IsStack start h later) (append-nil c.history) (acted start c.history s.stack_is);
-        frames_are = ap (λ (fs : List stack.Frame). ring_frames fs (Idle ∷ v.below)) (sym no_frames);
+        frames_are = ap (λ (fs : List stack.Frame). ring_frames fs (v.phase ∷ v.below)) (sym no_frames);
         below_are = subst (λ (fs : List stack.Frame). AreBelow fs v.below) (sym no_frames) one.below_is;
-        noted = subst (λ (fs : List stack.Frame). AreNotedAlike fs (Idle ∷ v.below)) (sym no_frames) tt;
+        noted = subst (λ (fs : List stack.Frame). AreNotedAlike fs (v.phase ∷ v.below)) (sym no_frames) tt;
         closed = λ f low high. refl;
       })
 

@@ -5,6 +5,8 @@ use Rattle.ring_core.specs.declared.event.Answer.{Answer}
 use Rattle.ring_core.specs.declared.event.Answer.TheVariants.{Going, Gone}
 use Rattle.ring_core.specs.declared.phase.Phase.{Phase}
 use Rattle.ring_core.specs.declared.phase.Phase.TheVariants.{Idle, Releasing, Wishing}
+use Rattle.ring_core.specs.declared.phase.Turned.{Turned}
+use Rattle.ring_core.specs.declared.phase.Turned.TheVariants as turned
 use Rattle.ring_core.specs.Value.{CoreValue}
 
 -- a frame is pushed above those of these phases, the first of which is the top one's
@@ -40,3 +42,8 @@ with_left_phase v = record v {
   phase = phase_after_leave v.stack v.below;
   below = below_after_leave v.below;
 }
+
+-- what a frame's step at the pages answers, as the ring's answer
+abbrev pub told : Turned → Answer
+told turned.Going = Going
+told turned.Gone = Gone

@@ -1,4 +1,5 @@
 //! How far a frame has come with the ring's links, and the reader with its take.
+use crate::event::Answer;
 
 /// Who moves the head: the frame that set the UPDATE, or one above it that found it.
 #[derive(Clone, Copy, Debug, PartialEq, Eq)]
@@ -51,6 +52,31 @@ pub enum Phase {
     Releasing,
     /// It has left, no fill is left to close, and it looks for the reader's wish.
     Wishing,
+}
+
+/// What a step answers by which a frame opens or closes a page, or has nothing left to do there.
+#[derive(Clone, Copy)]
+pub(crate) enum Turned {
+    /// It stands.
+    Going,
+    /// It has left the stack.
+    Gone,
+}
+
+impl Turned {
+    ghost use Rattle.std.specs.Prelude.{◌≡◌};
+    ghost use Rattle.ring_core.specs.Phases.{told};
+
+    /// As the ring's answer.
+    #[inline(always)]
+    pub(crate) fn answer(self) -> Answer
+        ensures { result ≡ told self }
+    {
+        match self {
+            Turned::Going => Answer::Going,
+            Turned::Gone => Answer::Gone,
+        }
+    }
 }
 
 /// How far a take has come: the head that the reader has seen, on this page as this fill.

@@ -56,6 +56,7 @@ impl Core {
     ghost use Rattle.std.specs.Prelude.{◌≡◌, length};
 
     /// How many frames stand on the writer's stack.
+    #[inline(always)]
     pub fn depth(&self) -> usize
         ensures { result ≡ length self.now.stack.frames }
     {
@@ -63,6 +64,7 @@ impl Core {
     }
 
     /// How many bytes of data a page has.
+    #[inline(always)]
     pub fn size(&self) -> usize
         ensures { result ≡ self.now.stack.size }
     {

@@ -2,7 +2,8 @@
 use crate::fault::WriteFault;
 use crate::frame::{Frame, Progress, Purpose, Slot};
 use crate::stack::WriterStack;
-use record_words::{Place, size_of};
+use crate::stack::top::Pushed;
+use record_words::{EXTEND_FROM, Place, SHORT_LIMIT, size_of};
 use trace_model::LINK_FILLS;
 
 /// What a frame gets.
@@ -22,36 +23,47 @@ impl WriterStack {
     ghost use Rattle.nested_writer.specs.Stack.{opened, tail_fill, next_number};
     ghost use Rattle.nested_writer.specs.Calls.{with_progress, after_leave, IsTop, HasLeft, IsUnchanged, WantsPage, NeedsPage, IsCrowded, IsWorn, IsReserved, HasRecordRoom, HasTopLeft};
     ghost use Rattle.nested_writer.specs.IsStack.{IsStack, Stands};
-    ghost use Rattle.nested_writer.specs.Allotted.{IsAllotted};
+    ghost use Rattle.nested_writer.specs.Allotted.{IsAllotted, HasActed};
     ghost use Rattle.nested_writer.specs.Answered.{IsAnswered};
     ghost use Rattle.nested_writer.specs.declared.frame.Frame.{Frame};
     ghost use Rattle.nested_writer.specs.declared.frame.Purpose.TheVariants.{Record, Close};
     ghost use Rattle.nested_writer.specs.declared.frame.Progress.TheVariants.{Waiting, Through, Reserved, Left};
 
     /// The frame on top has come so far.
-    fn go_on(&mut self, top: Frame, progress: Progress)
-        requires { (below : List Frame) × IsTop self.old top below }
-        ensures { (below : List Frame) → IsTop self.old top below
+    #[inline(always)]
+    fn go_on(&mut self, progress: Progress)
+        ensures { (top : Frame) (below : List Frame) → IsTop self.old top below
             → self.new ≡ with_progress self.old top below progress }
     {
-        self.top = Some(Frame { progress, ..top });
+        self.top.go_on(progress);
+    }
+
+    /// The frame on top, which has one below it, leaves.
+    #[inline(never)]
+    fn pop(&mut self)
+        ensures { (top : Frame) (next : Frame) (below : List Frame) → IsTop self.old top (next ∷ below)
+            → self.new ≡ record self.old { frames = next ∷ below } }
+    {
+        if let Some(next) = self.below.pop_front() {
+            self.top.put(next);
+        }
     }
 
     /// The frame on top leaves: the bottom one stays.
-    pub(crate) fn leave(&mut self, top: Frame)
-        requires { (below : List Frame) × IsTop self.old top below }
-        ensures { (below : List Frame) → IsTop self.old top below → self.new ≡ after_leave self.old top below }
+    #[inline(always)]
+    pub(crate) fn leave(&mut self)
+        ensures { (top : Frame) (below : List Frame) → IsTop self.old top below
+            → self.new ≡ after_leave self.old top below }
     {
-        self.top = match self.below.pop_front() {
-            Some(next) => Some(next),
-            None => Some(Frame {
-                progress: Progress::Left(None),
-                ..top
-            }),
-        };
+        if self.below.is_empty() {
+            self.top.leave_on();
+        } else {
+            self.pop();
+        }
     }
 
     /// Whether a page is needed for the frame on top, which has no record.
+    #[inline(always)]
     fn wants_page(&self, top: Frame) -> bool
         requires stack { Stands self.now }
         requires top { (below : List Frame) × IsTop self.now top below }
@@ -74,6 +86,7 @@ impl WriterStack {
     }
 
     /// A page is needed for the frame on top: it notes that, or is refused and leaves.
+    #[inline(never)]
     fn note_need(&mut self, top: Frame) -> Result<Allot, WriteFault>
         requires top { (below : List Frame) × IsTop self.old top below }
         requires wants { WantsPage self.old top.purpose top.progress }
@@ -86,51 +99,107 @@ impl WriterStack {
             → IsAnswered self.old history self.old.frames result }
     {
         if self.older.len() + 1 == self.pages {
-            self.leave(top);
+            self.leave();
             return Err(WriteFault::Crowded);
         }
         let opened = self.opened();
         if opened + self.pages as u64 >= LINK_FILLS {
-            self.leave(top);
+            self.leave();
             return Err(WriteFault::Worn);
         }
-        self.go_on(top, Progress::Waiting(Some(opened)));
+        self.go_on(Progress::Waiting(Some(opened)));
         Ok(Allot::NeedsPage)
     }
 
-    /// Reserves the record of the frame on top, which fits in the tail.
-    fn reserve(&mut self, top: Frame, moment: u64, len: usize) -> Place
+    /// Reserves the record of the frame on top, which fits in the tail, and whose moment is raised to `raised`.
+    #[inline(always)]
+    fn reserve(&mut self, moment: u64, raised: u64, len: usize) -> Place
         requires stack { Stands self.old }
-        requires top { (below : List Frame) × IsTop self.old top below }
-        requires purpose { top.purpose ≡ Record moment len }
-        requires waits { (noted : Option ℕ) × (top.progress ≡ Waiting noted) }
+        requires top { (top : Frame) × (below : List Frame) × (noted : Option ℕ) × IsTop self.old top below
+            × (top.purpose ≡ Record moment len) × (top.progress ≡ Waiting noted) }
+        requires raised { raised ≡ max moment self.old.last_moment }
         requires room { HasRecordRoom self.old moment len }
-        ensures reserved { (below : List Frame) → IsTop self.old top below
+        ensures reserved { (top : Frame) (below : List Frame) → IsTop self.old top below
             → IsReserved self.old top below moment len result self.new }
-        ensures stack { (start : ℕ) (history : List Action)
-            → IsStack start history self.old
-            → IsStack start (history ++ reserve ∷ []) self.new }
+        ensures stack { HasActed self.old (reserve ∷ []) self.new }
     {
-        let moment = moment.max(self.last_moment);
         let number = self.tail.first().0 + self.tail.count();
         let fill = self.tail.fill().0;
-        let place = self.tail.put(self.last_moment, moment, len);
-        self.last_moment = moment;
-        self.top = Some(Frame {
-            progress: Progress::Reserved(Slot {
-                number,
-                fill,
-                place,
-            }),
-            ..top
-        });
+        let place = self.tail.put(self.last_moment, raised, len);
+        self.last_moment = raised;
+        let slot = Slot {
+            number,
+            fill,
+            place,
+        };
+        self.top.reserve(moment, len, slot);
         place
+    }
+
+    /// Whether a record of this moment, of a payload of `len` bytes, is one as nearly all are: in the short form, behind
+    /// another one, and far enough from the page's end for any such record.
+    #[inline(always)]
+    fn fits_plainly(&self, moment: u64, len: usize) -> bool
+        requires stack { Stands self.now }
+        ensures room { IsTrue result → HasRecordRoom self.now moment len }
+        ensures order { IsTrue result → self.now.last_moment ≤ moment }
+    {
+        let delta = moment.wrapping_sub(self.last_moment);
+        let end = self.tail.end();
+        1 <= len
+            && len <= SHORT_LIMIT
+            && end > 0
+            && delta < EXTEND_FROM
+            && end + (4 + SHORT_LIMIT) <= self.tail.size()
+    }
+
+    /// `allot`, however far the frame on top has come.
+    #[inline(never)]
+    fn allot_any(&mut self) -> Result<Allot, WriteFault>
+        requires stack { Stands self.old }
+        ensures crowded { result ≡ Err WriteFault.Crowded ↔ (NeedsPage self.old self.old.frames × IsCrowded self.old) }
+        ensures worn { result ≡ Err WriteFault.Worn
+            ↔ (NeedsPage self.old self.old.frames × (IsCrowded self.old → ⊥) × IsWorn self.old) }
+        ensures no_frame { result ≡ Err WriteFault.NoFrame ↔ self.old.frames ≡ [] }
+        ensures not_reserved { result ≡ Err WriteFault.NotReserved ↔ HasTopLeft self.old.frames }
+        ensures needs_page { result ≡ Ok Allot.NeedsPage
+            ↔ (NeedsPage self.old self.old.frames × (IsCrowded self.old → ⊥) × (IsWorn self.old → ⊥)) }
+        ensures after { IsAllotted self.old self.old.frames result self.new }
+        ensures stays { Stands self.new }
+        ensures answered { (start : ℕ) (history : List Action)
+            → IsStack start history self.old
+            → IsAnswered self.old history self.old.frames result }
+    {
+        let Some(top) = self.top.get() else {
+            return Err(WriteFault::NoFrame);
+        };
+        let noted = match top.progress {
+            Progress::Left(_) => return Err(WriteFault::NotReserved),
+            Progress::Reserved(slot) => return Ok(Allot::Fits(slot.place)),
+            Progress::Waiting(noted) => noted,
+            Progress::Through(noted) => Some(noted),
+        };
+        if self.wants_page(top) {
+            return self.note_need(top);
+        }
+        match top.purpose {
+            Purpose::Record { moment, len } => {
+                let raised = moment.max(self.last_moment);
+                Ok(Allot::Fits(self.reserve(moment, raised, len)))
+            },
+            Purpose::Close => {
+                let noted = noted.unwrap_or(self.opened());
+                self.go_on(Progress::Through(noted));
+                Ok(Allot::Fits(Place { start: 0, len: 0 }))
+            }
+        }
     }
 
     /// Reserves the record of the frame on top, whose moment is raised to that of the last one, or tells that a page is
     /// needed; a reserved frame gets its place again. For a close frame a page is needed where the tail holds a record
     /// and no page was added since its first call; else it gets a place of length 0. A frame that is refused as
     /// `Crowded` or `Worn` leaves without a record.
+    #[inline(always)]
     pub fn allot(&mut self) -> Result<Allot, WriteFault>
         requires stack { Stands self.old }
         ensures crowded { result ≡ Err WriteFault.Crowded ↔ (NeedsPage self.old self.old.frames × IsCrowded self.old) }
@@ -146,25 +215,12 @@ impl WriterStack {
             → IsStack start history self.old
             → IsAnswered self.old history self.old.frames result }
     {
-        let Some(top) = self.top else {
-            return Err(WriteFault::NoFrame);
+        let Some(Pushed { moment, len }) = self.top.waiting() else {
+            return self.allot_any();
         };
-        let noted = match top.progress {
-            Progress::Left(_) => return Err(WriteFault::NotReserved),
-            Progress::Reserved(slot) => return Ok(Allot::Fits(slot.place)),
-            Progress::Waiting(noted) => noted,
-            Progress::Through(noted) => Some(noted),
-        };
-        if self.wants_page(top) {
-            return self.note_need(top);
+        if !self.fits_plainly(moment, len) {
+            return self.allot_any();
         }
-        match top.purpose {
-            Purpose::Record { moment, len } => Ok(Allot::Fits(self.reserve(top, moment, len))),
-            Purpose::Close => {
-                let noted = noted.unwrap_or(self.opened());
-                self.go_on(top, Progress::Through(noted));
-                Ok(Allot::Fits(Place { start: 0, len: 0 }))
-            }
-        }
+        Ok(Allot::Fits(self.reserve(moment, moment, len)))
     }
 }

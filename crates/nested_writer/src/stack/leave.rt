@@ -22,8 +22,9 @@ impl WriterStack {
     ghost use Rattle.nested_writer.specs.Ends.{MayEndTop, MayNotEndTop, IsEnd};
     ghost use Rattle.nested_writer.specs.IsStack.{IsStack, Stands};
 
-    /// Ends the frame on top, whose record is reserved, or which is a close frame that needs no page.
-    pub fn end(&mut self) -> Result<Ended, WriteFault>
+    /// `end`, however far the frame on top has come.
+    #[inline(never)]
+    fn end_any(&mut self) -> Result<Ended, WriteFault>
         requires stack { Stands self.old }
         ensures no_frame { result ≡ Err WriteFault.NoFrame ↔ self.old.frames ≡ [] }
         ensures not_reserved { result ≡ Err WriteFault.NotReserved ↔ MayNotEndTop self.old.frames }
@@ -33,7 +34,7 @@ impl WriterStack {
         ensures ok { OnOk result (IsEnd self.old self.old.frames self.new) }
         ensures err { OnErr result (self.new ≡ self.old) }
     {
-        let Some(top) = self.top else {
+        let Some(top) = self.top.get() else {
             return Err(WriteFault::NoFrame);
         };
         match top.progress {
@@ -45,8 +46,27 @@ impl WriterStack {
         } else {
             Ended::Pending
         };
-        self.leave(top);
+        self.leave();
         Ok(ended)
+    }
+
+    /// Ends the frame on top, whose record is reserved, or which is a close frame that needs no page.
+    #[inline(always)]
+    pub fn end(&mut self) -> Result<Ended, WriteFault>
+        requires stack { Stands self.old }
+        ensures no_frame { result ≡ Err WriteFault.NoFrame ↔ self.old.frames ≡ [] }
+        ensures not_reserved { result ≡ Err WriteFault.NotReserved ↔ MayNotEndTop self.old.frames }
+        ensures pending { result ≡ Ok Ended.Pending ↔ (MayEndTop self.old.frames × (1 < length self.old.frames)) }
+        ensures full { result ≡ Ok Ended.Full ↔ (MayEndTop self.old.frames × (length self.old.frames ≤ 1)) }
+        ensures stays { Stands self.new }
+        ensures ok { OnOk result (IsEnd self.old self.old.frames self.new) }
+        ensures err { OnErr result (self.new ≡ self.old) }
+    {
+        if self.top.holds_record() && self.below.is_empty() {
+            self.leave();
+            return Ok(Ended::Full);
+        }
+        self.end_any()
     }
 
     /// Whether the tail holds a record, so that it can be closed for the reader: then a page may be added once for the
@@ -66,8 +86,8 @@ impl WriterStack {
             return false;
         }
         let opened = self.opened();
-        if let Some(bottom) = self.top {
-            self.top = Some(Frame {
+        if let Some(bottom) = self.top.get() {
+            self.top.put(Frame {
                 progress: Progress::Left(Some(opened)),
                 ..bottom
             });
@@ -76,6 +96,7 @@ impl WriterStack {
     }
 
     /// Takes the bottom frame off, which has left, where all fills but the tail are released.
+    #[inline(always)]
     pub fn pop_bottom(&mut self)
         requires bottom { IsAtBottom self.old.frames }
         requires released { self.old.older ≡ [] }
@@ -83,6 +104,6 @@ impl WriterStack {
         ensures stack { HasActed self.old [] self.new }
         ensures stays { Stands self.old → Stands self.new }
     {
-        self.top = None;
+        self.top.clear();
     }
 }

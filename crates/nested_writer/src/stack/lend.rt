@@ -14,17 +14,18 @@ impl WriterStack {
     ghost use Rattle.nested_writer.specs.IsStack.{IsStack, Stands, IsOpenPage};
 
     /// Where the record of the frame on top stands.
+    #[inline(always)]
     pub fn top_slot(&self) -> Result<Slot, WriteFault>
         ensures no_frame { result ≡ Err WriteFault.NoFrame ↔ self.now.frames ≡ [] }
         ensures not_reserved { result ≡ Err WriteFault.NotReserved ↔ LacksSlot self.now.frames }
         ensures slot { IfOk result (λ slot. IsTopSlot self.now.frames slot) }
     {
-        let Some(top) = self.top else {
-            return Err(WriteFault::NoFrame);
-        };
-        match top.progress {
-            Progress::Reserved(slot) => Ok(slot),
-            Progress::Waiting(_) | Progress::Through(_) | Progress::Left(_) => {
+        match self.top.slot() {
+            Some(slot) => Ok(slot),
+            None => {
+                if self.top.is_none() {
+                    return Err(WriteFault::NoFrame);
+                }
                 Err(WriteFault::NotReserved)
             }
         }
@@ -32,6 +33,7 @@ impl WriterStack {
 
     /// The payload in the slot of the frame on top, to be written. All else stays as it is, and what is written there
     /// leaves the stack that of its history.
+    #[inline(always)]
     pub fn payload_mut(&mut self, slot: Slot) -> &mut [u8]
         requires stack { Stands self.old }
         requires slot { IsTopSlot self.old.frames slot }

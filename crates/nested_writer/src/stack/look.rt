@@ -9,6 +9,7 @@ impl WriterStack {
     ghost use Rattle.nested_writer.specs.Calls.{top_of, IsAtBottom, MayAddPage};
 
     /// How many pages the ring has.
+    #[inline(always)]
     pub fn pages(&self) -> usize
         ensures pages { result ≡ self.now.pages }
         ensures least { MIN_PAGES ≤ result }
@@ -18,6 +19,7 @@ impl WriterStack {
     }
 
     /// How many bytes of data a page has.
+    #[inline(always)]
     pub fn size(&self) -> usize
         ensures size { result ≡ self.now.size }
         ensures least { MIN_SIZE ≤ result }
@@ -27,6 +29,7 @@ impl WriterStack {
     }
 
     /// How many fills are closed; that is the number of the oldest open one.
+    #[inline(always)]
     pub fn done(&self) -> u64
         ensures { result ≡ self.now.done }
     {
@@ -34,6 +37,7 @@ impl WriterStack {
     }
 
     /// How many fills are begun, those closed counted; that is the number of the next one.
+    #[inline(always)]
     pub fn opened(&self) -> u64
         ensures begun { result ≡ opened self.now }
         ensures open_pages { result ≤ self.now.done + self.now.pages }
@@ -43,28 +47,32 @@ impl WriterStack {
     }
 
     /// How many frames stand.
+    #[inline(always)]
     pub fn depth(&self) -> usize
         ensures frames { result ≡ length self.now.frames }
         ensures most { result ≤ MAX_FRAMES }
     {
-        match self.top {
-            Some(_) => 1 + self.below.len(),
-            None => 0,
+        if self.top.is_none() {
+            0
+        } else {
+            1 + self.below.len()
         }
     }
 
     /// The frame on top, and how far it has come.
+    #[inline(always)]
     pub fn top(&self) -> Option<Frame>
         ensures { result ≡ top_of self.now.frames }
     {
-        self.top
+        self.top.get()
     }
 
     /// Whether only the bottom frame stands, ended or refused.
+    #[inline(always)]
     pub fn is_at_bottom(&self) -> bool
         ensures { IsTrue result ↔ IsAtBottom self.now.frames }
     {
-        match self.top {
+        match self.top.get() {
             Some(top) => self.below.is_empty() && matches!(top.progress, Progress::Left(_)),
             None => false,
         }
@@ -72,10 +80,11 @@ impl WriterStack {
 
     /// Whether a page may be added: the frame on top was told that it needs one, or the bottom frame was asked to close
     /// the tail, and none was added since.
+    #[inline(always)]
     pub fn awaits_page(&self) -> bool
         ensures { IsTrue result ↔ MayAddPage self.now self.now.frames }
     {
-        let Some(top) = self.top else {
+        let Some(top) = self.top.get() else {
             return false;
         };
         match top.progress {

@@ -1,12 +1,33 @@
 //! Frames that are pushed.
+ghost use Rattle.std.specs.Prelude.{◌≡◌, ◌<◌, length};
+ghost use Rattle.std.specs.VecDeque.{deque_capacity};
+ghost use Rattle.nested_writer.specs.Inside.{frames_from};
+
 use crate::fault::WriteFault;
 use crate::frame::{Frame, Progress, Purpose};
 use crate::stack::WriterStack;
+use crate::stack::top::Top;
 use record_words::size_of;
+use std::collections::VecDeque;
 use trace_model::{MAX_FRAMES, MOMENT_LIMIT};
 
+/// How many bytes a record may take beside its payload, without a time extend: two words, and zeros up to a whole word.
+const MOST_AROUND: usize = 12;
+
+/// Puts the frame on top, if one stands, in front of those below it.
+#[inline(never)]
+fn cover(top: &Top, below: &mut VecDeque<Frame>)
+    requires { length below.old.items < deque_capacity below.old }
+    ensures items { below.new.items ≡ frames_from top.now below.old.items }
+    ensures room { deque_capacity below.new ≡ deque_capacity below.old }
+{
+    if let Some(frame) = top.get() {
+        below.push_front_reserved(frame);
+    }
+}
+
 impl WriterStack {
-    ghost use Rattle.std.specs.Prelude.{◌≡◌, ℕ, ◌+◌, ◌≤◌, ◌<◌, ◌↔◌, [], ◌∷◌, ◌++◌, List, length, IsOk, OnOk, OnErr};
+    ghost use Rattle.std.specs.Prelude.{◌≡◌, ℕ, ◌+◌, ◌≤◌, ◌<◌, ◌↔◌, [], ◌∷◌, ◌++◌, List, length, IsTrue, IsOk, OnOk, OnErr};
     ghost use Rattle.trace_model.specs.declared.limits.TheConstants.{MAX_FRAMES, MOMENT_LIMIT};
     ghost use Rattle.trace_model.specs.History.{Action, push, push_close};
     ghost use Rattle.trace_model.specs.Steps.{IsTooLong};
@@ -16,20 +37,67 @@ impl WriterStack {
     ghost use Rattle.nested_writer.specs.declared.frame.Progress.TheVariants.{Waiting};
 
     /// One frame more on top, where fewer than `MAX_FRAMES` stand.
+    #[inline(always)]
     fn push(&mut self, purpose: Purpose)
         requires { length self.old.frames < MAX_FRAMES }
         ensures { self.new ≡ with_frame self.old (record { purpose = purpose; progress = Waiting None }) }
     {
-        if let Some(top) = self.top {
-            self.below.push_front_reserved(top);
+        if !self.top.is_none() {
+            cover(&self.top, &mut self.below);
         }
-        self.top = Some(Frame {
-            purpose,
-            progress: Progress::Waiting(None),
-        });
+        match purpose {
+            Purpose::Record { moment, len } => self.top.wait(moment, len),
+            Purpose::Close => self.top.put(Frame {
+                purpose,
+                progress: Progress::Waiting(None),
+            }),
+        }
+    }
+
+    /// `admit`, whatever stands.
+    #[inline(never)]
+    fn admit_any(&self, moment: u64, len: usize) -> Result<(), WriteFault>
+        ensures too_deep { result ≡ Err WriteFault.TooDeep ↔ MAX_FRAMES ≤ length self.now.frames }
+        ensures too_long { result ≡ Err WriteFault.TooLong
+            ↔ ((length self.now.frames < MAX_FRAMES) × IsTooLong self.now.size len) }
+        ensures late { result ≡ Err WriteFault.LateMoment
+            ↔ ((length self.now.frames < MAX_FRAMES) × (IsTooLong self.now.size len → ⊥) × (MOMENT_LIMIT ≤ moment)) }
+        ensures begun { IsOk result
+            ↔ ((length self.now.frames < MAX_FRAMES) × (IsTooLong self.now.size len → ⊥) × (moment < MOMENT_LIMIT)) }
+    {
+        if self.depth() >= MAX_FRAMES {
+            return Err(WriteFault::TooDeep);
+        }
+        if len > self.size || size_of(len, 0, true) > self.size {
+            return Err(WriteFault::TooLong);
+        }
+        if moment >= MOMENT_LIMIT {
+            return Err(WriteFault::LateMoment);
+        }
+        Ok(())
+    }
+
+    /// Whether a frame for a record of this moment and of a payload of `len` bytes may be pushed.
+    #[inline(always)]
+    fn admit(&self, moment: u64, len: usize) -> Result<(), WriteFault>
+        ensures too_deep { result ≡ Err WriteFault.TooDeep ↔ MAX_FRAMES ≤ length self.now.frames }
+        ensures too_long { result ≡ Err WriteFault.TooLong
+            ↔ ((length self.now.frames < MAX_FRAMES) × IsTooLong self.now.size len) }
+        ensures late { result ≡ Err WriteFault.LateMoment
+            ↔ ((length self.now.frames < MAX_FRAMES) × (IsTooLong self.now.size len → ⊥) × (MOMENT_LIMIT ≤ moment)) }
+        ensures begun { IsOk result
+            ↔ ((length self.now.frames < MAX_FRAMES) × (IsTooLong self.now.size len → ⊥) × (moment < MOMENT_LIMIT)) }
+        ensures ok { OnOk result
+            ((length self.now.frames < MAX_FRAMES) × (IsTooLong self.now.size len → ⊥) × (moment < MOMENT_LIMIT)) }
+    {
+        if self.top.is_none() && len <= self.size - MOST_AROUND && moment < MOMENT_LIMIT {
+            return Ok(());
+        }
+        self.admit_any(moment, len)
     }
 
     /// Pushes a frame for a record of this moment and of a payload of `len` bytes.
+    #[inline(always)]
     pub fn begin(&mut self, moment: u64, len: usize) -> Result<(), WriteFault>
         ensures too_deep { result ≡ Err WriteFault.TooDeep ↔ MAX_FRAMES ≤ length self.old.frames }
         ensures too_long { result ≡ Err WriteFault.TooLong
@@ -46,15 +114,7 @@ impl WriterStack {
             → IsStack start history self.old
             → IsStack start (history ++ push moment len ∷ []) self.new) }
     {
-        if self.depth() >= MAX_FRAMES {
-            return Err(WriteFault::TooDeep);
-        }
-        if len > self.size || size_of(len, 0, true) > self.size {
-            return Err(WriteFault::TooLong);
-        }
-        if moment >= MOMENT_LIMIT {
-            return Err(WriteFault::LateMoment);
-        }
+        self.admit(moment, len)?;
         self.push(Purpose::Record { moment, len });
         Ok(())
     }

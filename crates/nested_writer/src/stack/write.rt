@@ -1,5 +1,4 @@
 //! A record that is written at once, where no frame stands and it fits in the tail.
-use crate::frame::{Frame, Progress, Purpose};
 use crate::stack::WriterStack;
 use record_words::{EXTEND_FROM, SHORT_LIMIT, size_of};
 use trace_model::MOMENT_LIMIT;
@@ -55,13 +54,7 @@ impl WriterStack {
         let prev = self.last_moment;
         self.last_moment = raised;
         self.tail.put_payload(prev, raised, payload);
-        self.top = Some(Frame {
-            purpose: Purpose::Record {
-                moment,
-                len: payload.len(),
-            },
-            progress: Progress::Left(None),
-        });
+        self.top.leave(moment, payload.len());
     }
 
     /// `write`, whatever the record.
@@ -79,7 +72,7 @@ impl WriterStack {
         ensures nothing { result ≡ Wrote.Nothing → self.new ≡ self.old }
     {
         let len = payload.len();
-        if self.top.is_some()
+        if !self.top.is_none()
             || len > self.size
             || size_of(len, 0, true) > self.size
             || moment >= MOMENT_LIMIT

@@ -14,6 +14,7 @@ impl Page {
     }
 
     /// How many bytes of the body the records take.
+    #[inline(always)]
     pub fn end(&self) -> usize
         ensures { result ≡ length self.now.bytes }
     {
@@ -21,6 +22,7 @@ impl Page {
     }
 
     /// The number of the first record.
+    #[inline(always)]
     pub fn first(&self) -> RecordNo
         ensures { result.0 ≡ self.now.first }
     {
@@ -28,6 +30,7 @@ impl Page {
     }
 
     /// How many records the page holds.
+    #[inline(always)]
     pub fn count(&self) -> u64
         ensures { result ≡ self.now.count }
     {
@@ -35,6 +38,7 @@ impl Page {
     }
 
     /// Which fill of its ring the page is.
+    #[inline(always)]
     pub fn fill(&self) -> FillNo
         ensures { result.0 ≡ self.now.fill }
     {
@@ -42,6 +46,7 @@ impl Page {
     }
 
     /// How many bytes the page has for records.
+    #[inline(always)]
     pub fn size(&self) -> usize
         ensures { result ≡ self.now.size }
     {

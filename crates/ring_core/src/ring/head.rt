@@ -1,7 +1,6 @@
 //! The steps of a frame that needs a page, up to the fill's beginning: it looks for a free position, and where there
 //! is none moves the head.
-use crate::event::Answer;
-use crate::phase::{Phase, Role};
+use crate::phase::{Phase, Role, Turned};
 use crate::ring::Core;
 use crate::ring::links::{header, normal, update};
 use link_marks::Mark;
@@ -16,15 +15,17 @@ impl Core {
     ghost use Rattle.ring_core.specs.declared.phase.Role.TheVariants.{Helper};
     ghost use Rattle.ring_core.specs.Value.{role_of};
     ghost use Rattle.ring_core.specs.Heads.{HasHeader, ClaimsHead};
+    ghost use Rattle.ring_core.specs.Phases.{told};
     ghost use Rattle.ring_core.specs.Steps.{Makes, IsRing};
 
     /// A load of the link into the position of the fill to open: it is free, or its page is the head, or a frame below
     /// is moving the head.
-    pub(crate) fn look(&mut self, noted: u64) -> Answer
+    #[inline(never)]
+    pub(crate) fn look(&mut self, noted: u64) -> Turned
         requires ring { IsRing self.old }
         requires top { self.old.stack.frames ≢ [] }
         requires phase { self.old.phase ≡ Looking noted }
-        ensures { Makes self.old model.steps result self.new }
+        ensures { Makes self.old model.steps (told result) self.new }
     {
         if noted != self.stack.opened() {
             return self.begin_anew();
@@ -40,15 +41,16 @@ impl Core {
                 page,
             },
         };
-        Answer::Going
+        Turned::Going
     }
 
     /// A compare and exchange of that link from HEADER to UPDATE, by which the head is lost.
-    pub(crate) fn claim(&mut self, noted: u64, page: u16) -> Answer
+    #[inline(never)]
+    pub(crate) fn claim(&mut self, noted: u64, page: u16) -> Turned
         requires ring { IsRing self.old }
         requires top { self.old.stack.frames ≢ [] }
         requires phase { self.old.phase ≡ Claiming noted page }
-        ensures { Makes self.old model.steps result self.new }
+        ensures { Makes self.old model.steps (told result) self.new }
     {
         if noted != self.stack.opened() {
             return self.begin_anew();
@@ -62,7 +64,7 @@ impl Core {
         } else {
             Phase::Looking { noted }
         };
-        Answer::Going
+        Turned::Going
     }
 
     /// Sets the UPDATE in place of the HEADER, where that tells that this page is the head, as the fill a round before
@@ -78,11 +80,12 @@ impl Core {
     }
 
     /// A load of the next link: does it still wait for the HEADER?
-    pub(crate) fn look_next(&mut self, role: Role, noted: u64, page: u16) -> Answer
+    #[inline(never)]
+    pub(crate) fn look_next(&mut self, role: Role, noted: u64, page: u16) -> Turned
         requires ring { IsRing self.old }
         requires top { self.old.stack.frames ≢ [] }
         requires phase { self.old.phase ≡ LookingNext role noted page }
-        ensures { Makes self.old model.steps result self.new }
+        ensures { Makes self.old model.steps (told result) self.new }
     {
         if self.stops(role, noted) {
             return self.begin_anew();
@@ -98,15 +101,16 @@ impl Core {
             },
             _ => after_next(role, noted, page),
         };
-        Answer::Going
+        Turned::Going
     }
 
     /// A compare and exchange of the next link from NORMAL to HEADER.
-    pub(crate) fn mark(&mut self, role: Role, noted: u64, page: u16, next: u16) -> Answer
+    #[inline(never)]
+    pub(crate) fn mark(&mut self, role: Role, noted: u64, page: u16, next: u16) -> Turned
         requires ring { IsRing self.old }
         requires top { self.old.stack.frames ≢ [] }
         requires phase { self.old.phase ≡ Marking role noted page next }
-        ensures { Makes self.old model.steps result self.new }
+        ensures { Makes self.old model.steps (told result) self.new }
     {
         if self.stops(role, noted) {
             return self.begin_anew();
@@ -114,7 +118,7 @@ impl Core {
         let behind = noted - self.positions() + 1;
         self.exchange(behind, normal(next, behind), header(next, behind));
         self.phase = after_next(role, noted, page);
-        Answer::Going
+        Turned::Going
     }
 
     /// A helper stops where another frame has begun a fill.
@@ -129,15 +133,16 @@ impl Core {
     }
 
     /// A store of that link, from the frame's own UPDATE to NORMAL.
-    pub(crate) fn clear(&mut self, noted: u64, page: u16) -> Answer
+    #[inline(never)]
+    pub(crate) fn clear(&mut self, noted: u64, page: u16) -> Turned
         requires ring { IsRing self.old }
         requires top { self.old.stack.frames ≢ [] }
         requires phase { self.old.phase ≡ Clearing noted page }
-        ensures { Makes self.old model.steps result self.new }
+        ensures { Makes self.old model.steps (told result) self.new }
     {
         self.set_link(noted, normal(page, noted));
         self.phase = Phase::Opening { noted, page };
-        Answer::Going
+        Turned::Going
     }
 }
 

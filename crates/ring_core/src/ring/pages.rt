@@ -1,7 +1,7 @@
 //! The steps by which pages come to the writer and go: a fill is begun, fills are closed, and the reader's wish is
 //! looked for.
 use crate::event::Answer;
-use crate::phase::Phase;
+use crate::phase::{Phase, Turned};
 use crate::ring::Core;
 use trace_model::LINK_FILLS;
 
@@ -11,14 +11,16 @@ impl Core {
     ghost use Rattle.nested_writer.specs.Stack.{opened};
     ghost use Rattle.ring_core.specs.declared.phase.Phase.TheVariants.{Opening, Releasing, Wishing};
     ghost use Rattle.ring_core.specs.declared.event.Answer.TheVariants.{Going};
+    ghost use Rattle.ring_core.specs.Phases.{told};
     ghost use Rattle.ring_core.specs.Steps.{Makes, IsRing, BeginsFill, GrantsNone};
 
     /// The page to open is taken from its home and is the tail from now on.
-    pub(crate) fn open(&mut self, noted: u64, page: u16) -> Answer
+    #[inline(never)]
+    pub(crate) fn open(&mut self, noted: u64, page: u16) -> Turned
         requires ring { IsRing self.old }
         requires top { self.old.stack.frames ≢ [] }
         requires phase { self.old.phase ≡ Opening noted page }
-        ensures { Makes self.old model.steps result self.new }
+        ensures { Makes self.old model.steps (told result) self.new }
     {
         if noted == self.stack.opened() {
             self.begin_fill(page);
@@ -42,20 +44,22 @@ impl Core {
     }
 
     /// The oldest fill that isn't closed is closed: its page goes home.
-    pub(crate) fn release(&mut self) -> Answer
+    #[inline(never)]
+    pub(crate) fn release(&mut self) -> Turned
         requires ring { IsRing self.old }
         requires top { self.old.stack.frames ≢ [] }
         requires phase { self.old.phase ≡ Releasing }
-        ensures { Makes self.old model.steps result self.new }
+        ensures { Makes self.old model.steps (told result) self.new }
     {
         let page = self.page_at(self.stack.done());
         self.homes[page as usize] = Some(self.stack.drop_front());
         self.phase = self.closing_phase();
-        Answer::Going
+        Turned::Going
     }
 
     /// A load of the reader's wish: where it is for the tail, and the tail holds a record and isn't the last fill, the
     /// frame closes it; else it closes what was begun meanwhile, or is gone.
+    #[inline(always)]
     pub(crate) fn load_wish(&mut self) -> Answer
         requires ring { IsRing self.old }
         requires top { self.old.stack.frames ≢ [] }
@@ -71,12 +75,12 @@ impl Core {
             return Answer::Going;
         }
         self.stack.pop_bottom();
-        self.phase = Phase::Idle;
         Answer::Gone
     }
 
     /// Whether the reader's wish is for the tail, which holds a record and isn't the last fill: then the frame notes
     /// the next fill.
+    #[inline(always)]
     fn grant_wish(&mut self) -> bool
         requires ring { IsRing self.old }
         requires top { self.old.stack.frames ≢ [] }

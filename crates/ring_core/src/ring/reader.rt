@@ -18,6 +18,7 @@ impl Core {
     ghost use Rattle.ring_core.specs.Taking.{with_spare_home, with_head_taken};
 
     /// The reader makes one step. It keeps the body only where it takes a page.
+    #[inline(never)]
     pub(crate) fn read(&mut self, body: Body) -> Answer
         requires ring { IsRing self.old }
         requires size { length body ≡ self.old.stack.size }

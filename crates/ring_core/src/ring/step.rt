@@ -12,6 +12,7 @@ impl Core {
 
     /// One event, which is one step of the ring's model: its answer tells the model's, and the ring is in the state
     /// behind it. The body of a `Read` comes back with every answer but `Taken`.
+    #[inline(always)]
     pub fn step(&mut self, event: Event) -> Answer
         requires ring { IsRing self.old }
         requires size { HasItsSize self.old event }
@@ -25,6 +26,7 @@ impl Core {
     }
 
     /// Hands the event to the function of its kind.
+    #[inline(always)]
     fn obey(&mut self, event: Event) -> Answer
         requires ring { IsRing self.old }
         requires size { HasItsSize self.old event }
@@ -42,27 +44,28 @@ impl Core {
     }
 
     /// One step of the frame on top, in its phase.
+    #[inline(always)]
     fn step_top(&mut self) -> Answer
         requires ring { IsRing self.old }
         ensures { Makes self.old model.steps result self.new }
     {
-        if self.depth() == 0 {
+        if self.stack.top().is_none() {
             return Answer::Refused(WriteFault::NoFrame);
         }
         match self.phase {
             Phase::Idle => self.reserve(),
-            Phase::Looking { noted } => self.look(noted),
-            Phase::Claiming { noted, page } => self.claim(noted, page),
-            Phase::LookingNext { role, noted, page } => self.look_next(role, noted, page),
+            Phase::Looking { noted } => self.look(noted).answer(),
+            Phase::Claiming { noted, page } => self.claim(noted, page).answer(),
+            Phase::LookingNext { role, noted, page } => self.look_next(role, noted, page).answer(),
             Phase::Marking {
                 role,
                 noted,
                 page,
                 next,
-            } => self.mark(role, noted, page, next),
-            Phase::Clearing { noted, page } => self.clear(noted, page),
-            Phase::Opening { noted, page } => self.open(noted, page),
-            Phase::Releasing => self.release(),
+            } => self.mark(role, noted, page, next).answer(),
+            Phase::Clearing { noted, page } => self.clear(noted, page).answer(),
+            Phase::Opening { noted, page } => self.open(noted, page).answer(),
+            Phase::Releasing => self.release().answer(),
             Phase::Wishing => self.load_wish(),
         }
     }

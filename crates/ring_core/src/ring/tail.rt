@@ -1,6 +1,6 @@
 //! The steps of a frame at the tail: it reserves, and tries again once a fill was begun.
 use crate::event::Answer;
-use crate::phase::Phase;
+use crate::phase::{Phase, Turned};
 use crate::ring::Core;
 use nested_writer::Allot;
 use nested_writer::frame::{Progress, Purpose};
@@ -11,17 +11,18 @@ impl Core {
     ghost use Rattle.trace_model.specs.Steps as model;
     ghost use Rattle.trace_model.specs.Frames.{noted_fill};
     ghost use Rattle.nested_writer.specs.Stack.{opened};
-    ghost use Rattle.ring_core.specs.declared.event.Answer.TheVariants.{Going};
+    ghost use Rattle.ring_core.specs.declared.phase.Turned.TheVariants.{Going};
     ghost use Rattle.ring_core.specs.declared.phase.Phase.TheVariants.{Idle};
     ghost use Rattle.ring_core.specs.Value.{phase_of};
     ghost use Rattle.trace_model.specs.History.{Action};
     ghost use Rattle.nested_writer.specs.Ends.{MayEndTop, IsEnd};
     ghost use Rattle.nested_writer.specs.IsStack.{IsStack};
-    ghost use Rattle.ring_core.specs.Phases.{with_left_phase, left_answer};
+    ghost use Rattle.ring_core.specs.Phases.{with_left_phase, left_answer, told};
     ghost use Rattle.ring_core.specs.Steps.{Makes, IsRing, IsShown, BeginsAnew, LeavesWithout, IsCloseTop};
 
     /// The record of the frame on top is reserved in the tail page, or there is nothing to close; or a page is needed,
     /// and refused or noted. A frame that has reserved gets its number again.
+    #[inline(always)]
     pub(crate) fn reserve(&mut self) -> Answer
         requires ring { IsRing self.old }
         requires top { self.old.stack.frames ≢ [] }
@@ -36,7 +37,7 @@ impl Core {
                 match top.progress {
                     Progress::Reserved(slot) => Answer::Reserved(RecordNo(slot.number)),
                     Progress::Waiting(_) | Progress::Through(_) | Progress::Left(_) => {
-                        self.end_close()
+                        self.end_close().answer()
                     }
                 }
             }
@@ -54,27 +55,29 @@ impl Core {
     }
 
     /// The close frame on top, for which no page is needed, leaves.
-    fn end_close(&mut self) -> Answer
+    #[inline(never)]
+    fn end_close(&mut self) -> Turned
         requires stack { (start : ℕ) × (history : List Action) × IsStack start history self.old.stack }
         requires through { MayEndTop self.old.stack.frames }
-        ensures answer { result ≡ left_answer self.old.below }
+        ensures answer { told result ≡ left_answer self.old.below }
         ensures left { IsEnd self.old.stack self.old.stack.frames self.new.stack }
         ensures phase { self.new ≡ with_left_phase (record self.old { stack = self.new.stack }) }
     {
         match self.stack.end() {
             Ok(_) => self.pop_phase(),
-            Err(fault) => Answer::Refused(fault),
+            Err(_) => unreachable!(),
         }
     }
 
     /// A fill was begun since the frame on top noted what to open: a record frame tries again, a close frame has what
     /// it wanted and leaves, and one that has left goes on to close fills.
-    pub(crate) fn begin_anew(&mut self) -> Answer
+    #[inline(never)]
+    pub(crate) fn begin_anew(&mut self) -> Turned
         requires shown { IsShown self.old }
         requires top { self.old.stack.frames ≢ [] }
         requires passed { (noted : ℕ) × (noted_fill (phase_of self.old.phase) ≡ Some noted)
             × (noted ≢ opened self.old.stack) }
-        ensures { BeginsAnew self.old result self.new }
+        ensures { BeginsAnew self.old (told result) self.new }
     {
         let Some(top) = self.stack.top() else {
             unreachable!()
@@ -93,23 +96,23 @@ impl Core {
     }
 
     /// The frame on top goes on in this phase.
-    fn go_on(&mut self, phase: Phase) -> Answer
+    fn go_on(&mut self, phase: Phase) -> Turned
         ensures answer { result ≡ Going }
         ensures phase { self.new ≡ record self.old { phase = phase } }
     {
         self.phase = phase;
-        Answer::Going
+        Turned::Going
     }
 
     /// The close frame on top leaves, since the tail that it was to close is closed.
-    fn leave_closed(&mut self) -> Answer
+    fn leave_closed(&mut self) -> Turned
         requires shown { IsShown self.old }
         requires close { (noted : ℕ) × IsCloseTop self.old noted × (noted ≢ opened self.old.stack) }
-        ensures { LeavesWithout self.old result self.new }
+        ensures { LeavesWithout self.old (told result) self.new }
     {
         match self.stack.allot() {
             Ok(_) => self.end_close(),
-            Err(fault) => Answer::Refused(fault),
+            Err(_) => unreachable!(),
         }
     }
 }

@@ -13,6 +13,7 @@ impl Core {
 
     /// Where the record of the frame on top stands. Refused with `NoFrame` where none stands, and with `NotReserved`
     /// where the one on top has no record.
+    #[inline(always)]
     pub fn top_slot(&self) -> Result<Slot, WriteFault>
         ensures no_frame { result ≡ Err WriteFault.NoFrame ↔ self.now.stack.frames ≡ [] }
         ensures not_reserved { result ≡ Err WriteFault.NotReserved ↔ LacksSlot self.now.stack.frames }
@@ -23,6 +24,7 @@ impl Core {
 
     /// The payload in the slot of the frame on top, to be written. All else stays as it is, and the ring is in the same
     /// state whatever is written.
+    #[inline(always)]
     pub fn payload_mut(&mut self, slot: Slot) -> &mut [u8]
         requires ring { IsRing self.old }
         requires slot { IsTopSlot self.old.stack.frames slot }

@@ -3,8 +3,8 @@ use Rattle.trace_model.specs.Words.{encoding}
 use Rattle.page_image.proofs.Behind.{take-put_one}
 use Rattle.page_image.proofs.put.put_behind.Goals as goal
 
-pub returns-then-body-end-clause-bytes : goal.returns-then-body-end-clause-bytes
-returns-then-body-end-clause-bytes c =
+pub returns-then-end-body-clause-bytes : goal.returns-then-end-body-clause-bytes
+returns-then-end-body-clause-bytes c =
     let small : c.delta_in_words-word_delta.result < 2 ^ 27 = omega arith in
     let long : 4 + c.slot_len-slot.result ≤ length c.put_short.new.out = omega arith in
     take-put_one c.args.body.now c.put_short.new.out (replicate c.slot_len-slot.result 0) c.args.end _ _ (4 + c.slot_len-slot.result) c.args.delta c.delta_in_words-word_delta.result c.args.first (omega arith) (omega arith) long c.put_short.ensures.put c.delta_in_words-word_delta.ensures small

@@ -58,8 +58,8 @@ returns-clause-stack c = λ start history old.
     let done = written_at_once start history s c.args.moment payload tail' place none short fits.2 (omega (arith, long, room)) (subst (λ (m : ℕ). IsPutWith s.tail tail' s.last_moment m (length payload) (padded payload) place) raised is) k in
     let left : Frame = record { purpose = Record c.args.moment (length payload); progress = Left None } in
     let actions : List Action = push c.args.moment (length payload) ∷ reserve ∷ leave (Some payload) ∷ [] in
-    subst (λ (fs : List Frame). IsStack start (history ++ actions) (record s { tail = tail'; frames = left ∷ fs; last_moment = c.args.raised })) (sym (none_below c.self.inside.top c.self.inside.below.items none))
-    (subst (λ (m : ℕ). IsStack start (history ++ actions) (record s { tail = tail'; frames = left ∷ []; last_moment = m })) (sym raised) done)
+    rw c.leave.ensures (subst (λ (fs : List Frame). IsStack start (history ++ actions) (record s { tail = tail'; frames = left ∷ fs; last_moment = c.args.raised })) (sym (none_below c.self.inside.top c.self.inside.below.items none))
+    (subst (λ (m : ℕ). IsStack start (history ++ actions) (record s { tail = tail'; frames = left ∷ []; last_moment = m })) (sym raised) done))
 
 pub returns-clause-stays : goal.returns-clause-stays
 returns-clause-stays c = let (start, history, k) = c.requires.stack in (start, _, returns-clause-stack c start history k)

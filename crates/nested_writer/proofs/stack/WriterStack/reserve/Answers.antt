@@ -1,4 +1,4 @@
-use Rattle.std.proofs.Common.{◌≡◌, ℕ, ◌+◌, ◌-◌, ◌≤◌, max, Bool, ◌∷◌, List, length, replicate, sym, ap, ◌∙◌, subst, arith, rules, length-append}
+use Rattle.std.proofs.Common.{◌≡◌, ℕ, ◌+◌, ◌-◌, ◌≤◌, max, Bool, ◌∷◌, List, length, replicate, refl, sym, ap, ◌∙◌, subst, arith, rules, length-append}
 use Rattle.std.proofs.lemmas.List.{length-replicate}
 use Rattle.trace_model.specs.History.{reserved_records}
 use Rattle.trace_model.specs.Packing.{opens_of, is_wished}
@@ -6,6 +6,8 @@ use Rattle.trace_model.specs.Words.{encoding, encoded_len, slot_len}
 use Rattle.trace_model.proofs.Lengths.{length-encoding}
 use Rattle.page_image.specs.Contents.{is_blank}
 use Rattle.nested_writer.specs.declared.frame.Frame.{Frame}
+use Rattle.nested_writer.specs.declared.frame.Purpose.TheVariants.{Record}
+use Rattle.nested_writer.specs.declared.frame.Progress.TheVariants.{Waiting}
 use Rattle.nested_writer.specs.Stack.{Stack, tail_fill}
 use Rattle.nested_writer.specs.Inside.{shown, frames_from}
 use Rattle.nested_writer.specs.Calls.{HasRecordRoom}
@@ -33,22 +35,23 @@ pub returns-clause-stack : goal.returns-clause-stack
 returns-clause-stack c = λ start history old.
     let s : Stack = shown c.self.inside in
     let k : IsStack start history s = subst (IsStack start history) (sym c.self.view_is) old in
-    let (below, on_top) = c.requires.top in
-    let on_top' : frames_from c.self.inside.top c.self.inside.below.items ≡ c.args.top ∷ below = ap (λ (x : Stack). x.frames) c.self.view_is ∙ on_top in
-    let found = top_is c.self.inside.top c.self.inside.below.items c.args.top below c.self.invariant.top_first on_top' in
+    let (top, below, noted, on_top, purpose, waits) = c.requires.top in
+    let on_top' : frames_from c.self.inside.top c.self.inside.below.items ≡ top ∷ below = ap (λ (x : Stack). x.frames) c.self.view_is ∙ on_top in
+    let waiting : Frame = record { purpose = Record c.args.moment c.args.len; progress = Waiting noted } in
+    let same : top ≡ waiting = λ i. record { purpose = purpose i; progress = waits i } in
+    let found = top_is c.self.inside.top c.self.inside.below.items top below c.self.invariant.top_first on_top' in
     let put = c.put-place.ensures in
     let fill_is : c.fill-fill.result.0 ≡ tail_fill s = c.fill-fill.ensures ∙ k.holds.tail_is.fill_is in
-    let delta : ℕ = c.max-moment.result - s.last_moment in
+    let delta : ℕ = c.args.raised - s.last_moment in
     let blank : Bool = is_blank s.tail.bytes in
     let zeros : List ℕ = replicate (slot_len c.args.len) 0 in
     let long : length c.put-place.new.self.bytes ≡ length s.tail.bytes + encoded_len c.args.len delta blank =
     ap length put.bytes ∙ length-append s.tail.bytes (encoding delta blank zeros) ∙ ap (λ (n : ℕ). length s.tail.bytes + n) (length-encoding c.args.len delta blank zeros (length-replicate (slot_len c.args.len) 0)) in
-    let raised : c.max-moment.result ≡ max c.args.moment s.last_moment = search rules in
+    let raised : c.args.raised ≡ max c.args.moment s.last_moment = c.requires.raised ∙ ap (λ (x : Stack). max c.args.moment x.last_moment) (sym c.self.view_is) in
     let room = subst (λ (x : Stack). HasRecordRoom x c.args.moment c.args.len) (sym c.self.view_is) c.requires.room in
     let room' : length s.tail.bytes + encoded_len c.args.len delta blank ≤ s.size = subst (λ (m : ℕ). length s.tail.bytes + encoded_len c.args.len (m - s.last_moment) blank ≤ s.size) (sym raised) room in
-    let (noted, waits) = c.requires.waits in
-    reserved_with start history s c.args.top c.self.inside.below.items c.args.moment c.args.len noted c.put-place.new.self c.put-place.result c.max-moment.result (c.first.result.0 + c.count.result) c.fill-fill.result.0
-    raised (omega (arith, c.first.ensures, c.count.ensures)) fill_is (on_top' ∙ ap (λ (l : List Frame). c.args.top ∷ l) (sym found.1)) c.requires.purpose waits (omega (arith, long, room')) record {
+    rw c.reserve.ensures (reserved_with start history s waiting c.self.inside.below.items c.args.moment c.args.len noted c.put-place.new.self c.put-place.result c.args.raised (c.first.result.0 + c.count.result) c.fill-fill.result.0
+    raised (omega (arith, c.first.ensures, c.count.ensures)) fill_is (on_top' ∙ (λ i. same i ∷ sym found.1 i)) refl refl (omega (arith, long, room')) record {
       page = put.page;
       records = put.records;
       long = long;
@@ -61,4 +64,4 @@ returns-clause-stack c = λ start history old.
       number = put.number;
       places_stay = put.places_stay;
       len_is = put.len;
-    } k
+    } k)

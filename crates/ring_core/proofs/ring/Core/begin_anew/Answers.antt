@@ -6,6 +6,7 @@ use Rattle.nested_writer.specs.declared.frame.Progress.{Progress}
 use Rattle.nested_writer.specs.declared.frame.Progress.TheVariants.{Waiting, Through, Reserved, Left}
 use Rattle.nested_writer.specs.Calls.{top_of}
 use Rattle.ring_core.specs.Value.{CoreValue}
+use Rattle.ring_core.specs.Phases.{told}
 use Rattle.ring_core.proofs.Anew.{top_from, closes_anew, leaver_anew, tries_anew}
 use Rattle.ring_core.proofs.ring.Core.begin_anew.Goals as goal
 
@@ -56,7 +57,7 @@ pub returns-in-Close : goal.returns-in-Close
 returns-in-Close c =
     let v : CoreValue = c.args.self.now in
     let (below, is) = top_from v.stack.frames c.in-Some.top (c.in-Some.ensures ∙ ap (λ (x : CoreValue). top_of x.stack.frames) c.self.view_is) in
-    closes_anew v c.in-Some.top below _ c.leave_closed.result c.leave_closed.new.self is c.in-Close.is c.in-Waiting.is c.leave_closed.ensures
+    closes_anew v c.in-Some.top below _ (told c.leave_closed.result) c.leave_closed.new.self is c.in-Close.is c.in-Waiting.is c.leave_closed.ensures
 
 pub returns-in-Left : goal.returns-in-Left
 returns-in-Left c =

@@ -5,6 +5,7 @@ use Rattle.ring_core.specs.declared.event.Answer.TheVariants.{Going}
 use Rattle.ring_core.specs.declared.phase.Phase.{Phase}
 use Rattle.ring_core.specs.Value.{CoreValue}
 use Rattle.ring_core.specs.Steps.{IsStep}
+use Rattle.ring_core.specs.Phases.{told}
 use Rattle.ring_core.proofs.HeadMoves.{claims_late, claims_head, claims_none}
 use Rattle.ring_core.proofs.ring.Core.claim.Goals.{then-claim_head, else-claim_head}
 use Rattle.ring_core.proofs.ring.Core.claim.Goals as goal
@@ -12,7 +13,7 @@ use Rattle.ring_core.proofs.ring.Core.claim.Goals as goal
 pub returns-then-noted-opened : goal.returns-then-noted-opened
 returns-then-noted-opened c = λ n size start s old.
     let passed : c.args.noted ≢ opened c.args.self.now.stack = λ e. c.if-noted-opened.true (e ∙ sym (c.opened.ensures.begun ∙ ap (λ (v : CoreValue). opened v.stack) c.self.view_is)) in
-    claims_late n size start c.args.self.now s old c.requires.top c.args.noted c.args.page c.begin_anew.result c.begin_anew.new.self c.requires.phase passed c.begin_anew.ensures
+    claims_late n size start c.args.self.now s old c.requires.top c.args.noted c.args.page (told c.begin_anew.result) c.begin_anew.new.self c.requires.phase passed c.begin_anew.ensures
 
 pub returns : goal.returns
 returns c = λ n size start s old.

@@ -12,6 +12,7 @@ use Rattle.ring_core.specs.Inside.{shown}
 use Rattle.ring_core.specs.IsCore.{IsCore}
 use Rattle.ring_core.specs.Steps.{IsStep}
 use Rattle.trace_model.specs.Steps as model
+use Rattle.ring_core.specs.Phases.{told}
 use Rattle.ring_core.proofs.HeadMoves.{looks_late, looks_normal, looks_header, looks_update}
 use Rattle.ring_core.proofs.ring.Core.look.Goals.{in-Normal, in-Header, in-Update}
 use Rattle.ring_core.proofs.ring.Core.look.Goals as goal
@@ -19,7 +20,7 @@ use Rattle.ring_core.proofs.ring.Core.look.Goals as goal
 pub returns-then-noted-opened : goal.returns-then-noted-opened
 returns-then-noted-opened c = λ n size start s old.
     let passed : c.args.noted ≢ opened c.args.self.now.stack = λ e. c.if-noted-opened.true (e ∙ sym (c.opened.ensures.begun ∙ ap (λ (v : CoreValue). opened v.stack) c.self.view_is)) in
-    looks_late n size start c.args.self.now s old c.requires.top c.args.noted c.begin_anew.result c.begin_anew.new.self c.requires.phase passed c.begin_anew.ensures
+    looks_late n size start c.args.self.now s old c.requires.top c.args.noted (told c.begin_anew.result) c.begin_anew.new.self c.requires.phase passed c.begin_anew.ensures
 
 pub returns : goal.returns
 returns c = λ n size start s old.

@@ -13,6 +13,7 @@ use Rattle.ring_core.specs.Value.{CoreValue, role_of}
 use Rattle.ring_core.specs.Inside.{shown}
 use Rattle.ring_core.specs.IsCore.{IsCore}
 use Rattle.ring_core.specs.Steps.{IsStep}
+use Rattle.ring_core.specs.Phases.{told}
 use Rattle.ring_core.proofs.HeadMoves.{says_normal, round_next, next_late, next_waits, next_passed}
 use Rattle.ring_core.proofs.ring.Core.look_next.Goals.{in-Normal, in_default, in_default-via-in-Normal+else-link-behind, in_default-via-in_default}
 use Rattle.ring_core.proofs.ring.Core.look_next.Goals as goal
@@ -20,7 +21,7 @@ use Rattle.ring_core.proofs.ring.Core.look_next.Goals as goal
 pub returns-then-stops : goal.returns-then-stops
 returns-then-stops c = λ n size start s old.
     let (helps, passed) = c.stops.ensures.stops c.if-stops.true in
-    next_late n size start c.args.self.now s old c.requires.top c.args.role c.args.noted c.args.page c.begin_anew.result c.begin_anew.new.self c.requires.phase helps passed c.begin_anew.ensures
+    next_late n size start c.args.self.now s old c.requires.top c.args.role c.args.noted c.args.page (told c.begin_anew.result) c.begin_anew.new.self c.requires.phase helps passed c.begin_anew.ensures
 
 pub overflow_sub-behind : goal.overflow_sub-behind
 overflow_sub-behind c =

@@ -5,13 +5,14 @@ use Rattle.trace_model.specs.Steps as model
 use Rattle.ring_core.specs.declared.event.Answer.TheVariants.{Going}
 use Rattle.ring_core.specs.Value.{CoreValue}
 use Rattle.ring_core.specs.Steps.{IsStep}
+use Rattle.ring_core.specs.Phases.{told}
 use Rattle.ring_core.proofs.HeadMoves.{round_mark, mark_late, mark_exchanged}
 use Rattle.ring_core.proofs.ring.Core.mark.Goals as goal
 
 pub returns-then-stops : goal.returns-then-stops
 returns-then-stops c = λ n size start s old.
     let (helps, passed) = c.stops.ensures.stops c.if-stops.true in
-    mark_late n size start c.args.self.now s old c.requires.top c.args.role c.args.noted c.args.page c.args.next c.begin_anew.result c.begin_anew.new.self c.requires.phase helps passed c.begin_anew.ensures
+    mark_late n size start c.args.self.now s old c.requires.top c.args.role c.args.noted c.args.page c.args.next (told c.begin_anew.result) c.begin_anew.new.self c.requires.phase helps passed c.begin_anew.ensures
 
 pub overflow_sub-behind : goal.overflow_sub-behind
 overflow_sub-behind c =

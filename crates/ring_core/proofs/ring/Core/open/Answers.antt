@@ -4,6 +4,7 @@ use Rattle.nested_writer.specs.Stack.{opened}
 use Rattle.ring_core.specs.declared.phase.Phase.TheVariants.{Opening}
 use Rattle.ring_core.specs.Value.{CoreValue}
 use Rattle.ring_core.specs.Steps.{IsShown, BeginsAnew, BeginsFill}
+use Rattle.ring_core.specs.Phases.{told}
 use Rattle.ring_core.proofs.Opened.{noted_in, opened_now, opened_late}
 use Rattle.ring_core.proofs.ring.Core.open.Goals as goal
 use Rattle.ring_core.proofs.ring.Core.open.Goals.{then-noted-opened, else-noted-opened}
@@ -35,8 +36,8 @@ returns c = λ n size start m core.
     let v : CoreValue = c.args.self.now in
     let begun : c.opened.result ≡ opened v.stack = c.opened.ensures.begun ∙ ap (λ (x : CoreValue). opened x.stack) c.self.view_is in
     elim c.if-noted-opened.branch [
-      | then-noted-opened w ↦ opened_now n size start v m core c.requires.top c.args.noted c.args.page c.requires.phase c.begin_anew.result c.begin_anew.new.self
+      | then-noted-opened w ↦ opened_now n size start v m core c.requires.top c.args.noted c.args.page c.requires.phase (told c.begin_anew.result) c.begin_anew.new.self
           c.if-noted-opened.self (w.if-noted-opened.true ∙ begun) (subst (BeginsFill v c.args.page) (sym w.self-is) w.begin_fill.ensures.shown) c.begin_anew.ensures
-      | else-noted-opened w ↦ opened_late n size start v m core c.requires.top c.args.noted c.args.page c.requires.phase c.begin_anew.result c.begin_anew.new.self
-          (λ e. w.if-noted-opened.false (e ∙ sym begun)) (subst (λ (x : CoreValue). BeginsAnew x c.begin_anew.result c.begin_anew.new.self) w.self-is c.begin_anew.ensures)
+      | else-noted-opened w ↦ opened_late n size start v m core c.requires.top c.args.noted c.args.page c.requires.phase (told c.begin_anew.result) c.begin_anew.new.self
+          (λ e. w.if-noted-opened.false (e ∙ sym begun)) (subst (λ (x : CoreValue). BeginsAnew x (told c.begin_anew.result) c.begin_anew.new.self) w.self-is c.begin_anew.ensures)
     ]

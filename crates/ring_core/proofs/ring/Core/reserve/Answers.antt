@@ -73,7 +73,7 @@ returns-in-Waiting c = λ n size start s now.
     (subst (λ (a : Allot). IsAnswered v.stack s.history v.stack.frames (Ok a)) c.in-Ok-Fits.field-0-is (c.in-Ok-Fits.ensures.answered start s.history core.shows.stack_is))
     (subst (λ (a : Allot). IsAllotted v.stack v.stack.frames (Ok a) c.allot.new.self) c.in-Ok-Fits.field-0-is c.in-Ok-Fits.ensures.after)
     c.in-Some.ensures (has_none c.in-Some.top.progress c.in-Waiting.is) in
-    rw (c.end_close.ensures.answer, c.end_close.ensures.phase)
+    rw (c.answer.ensures, c.end_close.ensures.answer, c.end_close.ensures.phase)
     (nothing_found n size start v s core resting top rest is c.allot.new.self c.end_close.new.self.stack closing c.end_close.ensures.left)
 
 pub returns-in-Ok-NeedsPage : goal.returns-in-Ok-NeedsPage
