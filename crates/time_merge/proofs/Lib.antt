@@ -1,2 +1,4 @@
 pub mod Ordered
 pub mod ByNumber
+pub mod Merged
+pub mod ByTime

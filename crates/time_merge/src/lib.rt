@@ -1,7 +1,7 @@
 //! Listings: what a collector has, in the order of time.
 //!
-//! The lines of a listing are put together CPU by CPU and number by number, and then sorted by their moments alone. The
-//! sort is stable, so that lines of one moment stay in the order of their CPUs and numbers.
+//! Each CPU's records are walked by number, as lines, and the walks are merged by moment, CPU and number. Where the
+//! moments of a CPU fall, the lines are then sorted in place.
 #![tactic(auto)]
 
 mod by_time;

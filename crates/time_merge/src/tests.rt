@@ -1,12 +1,12 @@
 //! Listings of parcels that are read from bytes: the numbers on two lines, the image's header on the next, and the data
 //! behind it.
 use crate::{Line, listing};
-use collector::Collector;
-use page_numbers::Parcel;
+use collector::{AddFault, Collector};
+use page_numbers::{Parcel, ParcelFault};
 use std::alloc::Global;
 use std::process::Abort;
 use std::test::Fail;
-use trace_model::{CpuId, Moment, RecordNo};
+use trace_model::{CpuId, Moment, NoMemory, RecordNo};
 
 /// CPU 0: a record at moment 10 and one at moment 30.
 const OF_CPU_0: &[u8] = b"\0\0\0\0\0\0\0\0\0\0\0\0\0\0\0\0\
@@ -32,6 +32,19 @@ const AT_ONCE: &[u8] = b"\x02\0\0\0\0\0\0\0\0\0\0\0\0\0\0\0\
     \x14\0\0\0\0\0\0\0\x10\0\0\0\0\0\0\0\
     \x01\0\0\0\x0d\x0d\x0d\x0d\x01\0\0\0\x0e\x0e\x0e\x0e";
 
+/// CPU 1: records at moments 4 and 9.
+const RISING: &[u8] = b"\x01\0\0\0\0\0\0\0\0\0\0\0\0\0\0\0\
+    \0\0\0\0\0\0\0\0\0\0\0\0\0\0\0\0\
+    \x04\0\0\0\0\0\0\0\x10\0\0\0\0\0\0\0\
+    \x01\0\0\0\x1a\x1a\x1a\x1a\xa1\0\0\0\x1b\x1b\x1b\x1b";
+
+/// CPU 2: a record at moment 12, and behind a time stamp each, one at moment 7 and one at moment 9.
+const BACK_AND_FORTH: &[u8] = b"\x02\0\0\0\0\0\0\0\0\0\0\0\0\0\0\0\
+    \0\0\0\0\0\0\0\0\0\0\0\0\0\0\0\0\
+    \x0c\0\0\0\0\0\0\0\x28\0\0\0\0\0\0\0\
+    \x01\0\0\0\x2a\x2a\x2a\x2a\xff\0\0\0\0\0\0\0\x01\0\0\0\x2b\x2b\x2b\x2b\
+    \x3f\x01\0\0\0\0\0\0\x01\0\0\0\x2c\x2c\x2c\x2c";
+
 /// The moment, CPU and number of a line, and the value of each of its four bytes.
 #[derive(Clone, Copy)]
 struct Told(u64, u32, u64, u8);
@@ -48,10 +61,12 @@ fn compare(rt: &impl Abort, alloc: Global, row: Row) -> Result<(), Fail> {
     let mut collector = Collector::new(alloc);
     for bytes in row.parcels {
         match Parcel::from_bytes(alloc, bytes) {
-            Ok(parcel) => {
-                let added = collector.add(parcel);
-                assert!(rt; added.is_ok());
-            }
+            Ok(parcel) => match collector.add(parcel) {
+                Ok(_) => {}
+                Err(AddFault::NoMemory) => return Err(NoMemory)?,
+                Err(fault) => assert!(rt; false, "{fault:?}"),
+            },
+            Err(ParcelFault::NoMemory) => return Err(NoMemory)?,
             Err(fault) => assert!(rt; false, "{fault:?}"),
         }
     }
@@ -112,4 +127,31 @@ fn time_order_within_a_cpu(rt: HostRuntime) -> Result<(), Fail> {
         lines: &[Told(4, 0, 1, 0x0b), Told(9, 0, 0, 0x0a)],
     };
     compare(&rt, rt.alloc(), row)
+}
+
+/// Moments of several CPUs fall, and all lines stand by them.
+#[test]
+fn time_order_where_moments_fall(rt: HostRuntime) -> Result<(), Fail> {
+    let row = Row {
+        parcels: &[BACK_AND_FORTH, RISING, GOING_BACK],
+        lines: &[
+            Told(4, 0, 1, 0x0b),
+            Told(4, 1, 0, 0x1a),
+            Told(7, 2, 1, 0x2b),
+            Told(9, 0, 0, 0x0a),
+            Told(9, 1, 1, 0x1b),
+            Told(9, 2, 2, 0x2c),
+            Told(12, 2, 0, 0x2a),
+        ],
+    };
+    compare(&rt, rt.alloc(), row)
+}
+
+/// An empty collector has no lines.
+#[test]
+fn no_lines_of_no_records(rt: HostRuntime) -> Result<(), Fail> {
+    let alloc = rt.alloc();
+    let collector = Collector::new(alloc);
+    assert_eq!(rt; listing(alloc, &collector)?.len(), 0);
+    Ok(())
 }
