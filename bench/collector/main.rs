@@ -52,9 +52,7 @@ fn go(last: &str, parcels: &[Parcel], deliveries: &[usize]) -> String {
         counts.count(&collector.add(&parcels[*place]));
     }
     let Counts { new, known, clashes, taken_and_missing } = counts;
-    let (records, runs) = (collector.count(), collector.missing().count());
     let _ = writeln!(text, "new {new} known {known} clashes {clashes} taken-and-missing {taken_and_missing}");
-    let _ = writeln!(text, "records {records} runs {runs}");
     if last == "list" {
         let lines = collector.listing();
         let moment = lines.last().map_or(0, |line| line.moment);

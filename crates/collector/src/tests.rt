@@ -1,5 +1,8 @@
 //! Parcels in a row, what each is answered, and what the collector has then. Their bytes are written out: the numbers
 //! on two lines, the image's header on the next, and the data behind it.
+mod plain;
+mod random;
+
 use crate::{AddFault, Added, Collector};
 use page_borrow::Entry;
 use page_numbers::Parcel;

@@ -1,0 +1,448 @@
+//! Random parcels, added to collectors as to plain ones: all answers and all that is told are compared.
+use super::plain::{Draft, Numbered, Plain, Written};
+use crate::{AddFault, Added, Collector};
+use page_borrow::Entry;
+use page_numbers::Parcel;
+use std::alloc::Global;
+use std::process::Abort;
+use std::test::Fail;
+use trace_model::{CpuId, NoMemory, RecordNo};
+
+/// How many lists of deliveries.
+const LISTS: u32 = 1_000;
+
+const SEED: u64 = 1;
+
+/// How many parcels a list chooses from, and how many of them it delivers.
+const PARCELS: usize = 16;
+
+const DELIVERIES: u32 = 32;
+
+/// How often each kind of answer comes at least.
+const OFTEN: u32 = 200;
+
+const CPUS: &[CpuId] = &[CpuId(0), CpuId(255)];
+
+/// Numbers are those below `LOW_END`, those from `HIGH` on, and in between missing ones alone.
+const LOW_END: u64 = 20;
+
+const HIGH: u64 = u64::MAX - 20;
+
+/// Random numbers from a seed, by the SplitMix64 generator.
+#[derive(Drop)]
+struct Numbers {
+    state: u64,
+}
+
+impl Numbers {
+    fn next(&mut self) -> u64 {
+        self.state = self.state.wrapping_add(0x9e37_79b9_7f4a_7c15);
+        let mixed = (self.state ^ (self.state >> 30)).wrapping_mul(0xbf58_476d_1ce4_e5b9);
+        let mixed = (mixed ^ (mixed >> 27)).wrapping_mul(0x94d0_49bb_1331_11eb);
+        mixed ^ (mixed >> 31)
+    }
+
+    /// A number below this one, or 0.
+    fn below(&mut self, bound: u64) -> u64 {
+        if bound == 0 { 0 } else { self.next() % bound }
+    }
+
+    /// One of these.
+    fn one_of<T: Copy>(&mut self, rt: &impl Abort, list: &[T]) -> T {
+        let index = self.below(list.len() as u64) as usize;
+        assert!(rt; index < list.len());
+        list[index]
+    }
+
+    /// A number that parcels are about.
+    fn number(&mut self, rt: &impl Abort) -> u64 {
+        let low = self.below(LOW_END + 2);
+        let high = HIGH
+            .saturating_sub(2)
+            .saturating_add(self.below(LOW_END + 3));
+        let any = self.next();
+        self.one_of(rt, &[low, low, low, low, high, high, high, any])
+    }
+}
+
+/// What the CPUs of a list have and miss: all that its genuine parcels tell, and some of what its forged ones do.
+#[derive(Clone, Copy)]
+struct World {
+    salt: u64,
+}
+
+impl World {
+    fn misses(&self, cpu: CpuId, number: u64) -> bool {
+        let is_between = LOW_END <= number && number < HIGH;
+        is_between || ((number >> 2) ^ u64::from(cpu.0) ^ self.salt) % 3 == 0
+    }
+
+    fn record(&self, cpu: CpuId, number: u64) -> Written {
+        Written {
+            moment: (number & 0xfff).wrapping_mul(8),
+            byte: (number ^ u64::from(cpu.0) ^ self.salt).to_le_bytes()[0],
+        }
+    }
+
+    /// A parcel of what there is.
+    fn genuine(
+        &self,
+        rt: &impl Abort,
+        alloc: Global,
+        numbers: &mut Numbers,
+    ) -> Result<Draft, NoMemory> {
+        let cpu = numbers.one_of(rt, CPUS);
+        let first = numbers.number(rt);
+        let mut low = first;
+        for _ in 0..numbers.below(6) {
+            if low > 0 && self.misses(cpu, low - 1) {
+                low -= 1;
+            }
+        }
+        if LOW_END < low && low <= HIGH && numbers.below(2) == 0 {
+            low = low.saturating_sub(numbers.below(low - LOW_END + 1));
+        }
+        let mut records = Vec::new(alloc);
+        for number in first..first.saturating_add(numbers.below(8)) {
+            if self.misses(cpu, number) {
+                break;
+            }
+            records.push(self.record(cpu, number))?;
+        }
+        Ok(Draft {
+            cpu,
+            low,
+            first,
+            records,
+        })
+    }
+
+    /// A parcel that may tell anything.
+    fn forged(
+        &self,
+        rt: &impl Abort,
+        alloc: Global,
+        numbers: &mut Numbers,
+    ) -> Result<Draft, NoMemory> {
+        let cpu = numbers.one_of(rt, CPUS);
+        let first = numbers.number(rt);
+        let missed = [0, 0, 0, 1, numbers.below(6), numbers.below(first), first];
+        let low = first.saturating_sub(numbers.one_of(rt, &missed));
+        let mut records = Vec::new(alloc);
+        for number in first..first.saturating_add(numbers.below(4)) {
+            records.push(self.record(cpu, number))?;
+        }
+        Ok(Draft {
+            cpu,
+            low,
+            first,
+            records,
+        })
+    }
+
+    /// A parcel of what there is, but for one record.
+    fn spoiled(
+        &self,
+        rt: &impl Abort,
+        alloc: Global,
+        numbers: &mut Numbers,
+    ) -> Result<Draft, NoMemory> {
+        let mut draft = self.genuine(rt, alloc, numbers)?;
+        let index = numbers.below(draft.records.len() as u64) as usize;
+        if let Some(written) = draft.records.get_mut(index) {
+            if numbers.below(2) == 0 {
+                written.byte ^= 1;
+            } else {
+                written.moment = written.moment.wrapping_add(1);
+            }
+        }
+        Ok(draft)
+    }
+
+    /// The parcels of a list.
+    fn parcels(
+        &self,
+        rt: &impl Abort,
+        alloc: Global,
+        numbers: &mut Numbers,
+    ) -> Result<Vec<Draft>, NoMemory> {
+        let mut drafts = Vec::with_capacity(alloc, PARCELS)?;
+        for _ in 0..PARCELS {
+            let draft = match numbers.below(6) {
+                0 => self.forged(rt, alloc, numbers)?,
+                1 => self.spoiled(rt, alloc, numbers)?,
+                _ => self.genuine(rt, alloc, numbers)?,
+            };
+            drafts.push(draft)?;
+        }
+        Ok(drafts)
+    }
+}
+
+/// The parcel's bytes.
+fn bytes_of(alloc: Global, draft: &Draft) -> Result<Vec<u8>, NoMemory> {
+    let missed = draft.first.wrapping_sub(draft.low);
+    let mut last = match draft.records.first() {
+        Some(written) => written.moment,
+        None => 0,
+    };
+    let flag = if missed > 0 { 1 << 31 } else { 0 };
+    let commit = (draft.records.len() as u64).wrapping_mul(8) | flag;
+    let mut bytes = Vec::new(alloc);
+    for number in [u64::from(draft.cpu.0), 0, draft.first, missed, last, commit] {
+        bytes.extend_from_slice(&number.to_le_bytes())?;
+    }
+    for written in &draft.records {
+        let delta = written.moment.wrapping_sub(last);
+        let word = delta.wrapping_mul(32).wrapping_add(1).to_le_bytes();
+        bytes.extend_from_slice(&word[..4])?;
+        bytes.extend_from_slice(&[written.byte; 4])?;
+        last = written.moment;
+    }
+    Ok(bytes)
+}
+
+/// A collector, and the plain one that tells what it has to answer.
+#[derive(Drop)]
+struct Side<'a> {
+    collector: Collector,
+    plain: Plain<'a>,
+}
+
+/// How often what was answered.
+#[derive(Clone, Copy, Debug)]
+struct Tally {
+    new: u32,
+    known: u32,
+    clashes: u32,
+    taken_and_missing: u32,
+    merged: u32,
+    not_merged: u32,
+    same: u32,
+    not_same: u32,
+}
+
+impl Tally {
+    fn add(&mut self, answer: Result<Added, AddFault>) {
+        let count = match answer {
+            Ok(Added::New) => &mut self.new,
+            Ok(Added::Known) => &mut self.known,
+            Err(AddFault::Clash(_, _)) => &mut self.clashes,
+            Err(_) => &mut self.taken_and_missing,
+        };
+        *count = count.wrapping_add(1);
+    }
+
+    fn merge(&mut self, answer: Result<(), AddFault>) {
+        let count = match answer {
+            Ok(()) => &mut self.merged,
+            Err(_) => &mut self.not_merged,
+        };
+        *count = count.wrapping_add(1);
+    }
+
+    fn same(&mut self, answer: bool) {
+        let count = if answer {
+            &mut self.same
+        } else {
+            &mut self.not_same
+        };
+        *count = count.wrapping_add(1);
+    }
+
+    /// Each answer came often.
+    fn check(&self, rt: &impl Abort) {
+        let counts = [
+            self.new,
+            self.known,
+            self.clashes,
+            self.taken_and_missing,
+            self.merged,
+            self.not_merged,
+            self.same,
+            self.not_same,
+        ];
+        for count in counts {
+            assert!(rt; count >= OFTEN, "{self:?}");
+        }
+    }
+}
+
+/// Compares an entry with a record.
+fn compare_entry(rt: &impl Abort, entry: Entry<'_>, number: u64, expected: Written) {
+    assert_eq!(rt; entry.number, RecordNo(number));
+    assert_eq!(rt; entry.moment.0, expected.moment);
+    assert_eq!(rt; entry.bytes, [expected.byte; 4].as_slice());
+}
+
+impl<'a> Side<'a> {
+    fn new(alloc: Global) -> Side<'a> {
+        Side {
+            collector: Collector::new(alloc),
+            plain: Plain::new(alloc),
+        }
+    }
+
+    /// Adds a parcel to both.
+    fn add(
+        &mut self,
+        rt: &impl Abort,
+        draft: &'a Draft,
+        parcel: Parcel,
+    ) -> Result<Result<Added, AddFault>, NoMemory> {
+        let expected = self.plain.add(draft)?;
+        assert_eq!(rt; self.collector.add(parcel), expected, "{draft:?}");
+        Ok(expected)
+    }
+
+    /// Merges both with those of another side.
+    fn merge(
+        &mut self,
+        rt: &impl Abort,
+        other: &Side<'a>,
+    ) -> Result<Result<(), AddFault>, NoMemory> {
+        let expected = self.plain.merge(&other.plain)?;
+        assert_eq!(rt; self.collector.merge(&other.collector), expected);
+        Ok(expected)
+    }
+
+    /// Whether both have and miss the same.
+    fn same(&self, rt: &impl Abort, other: &Side<'a>) -> bool {
+        let expected = self.plain.is_same(&other.plain);
+        assert_eq!(rt; self.collector.same(&other.collector), expected);
+        expected
+    }
+
+    /// Compares what is known of a number.
+    fn compare_number(&self, rt: &impl Abort, cpu: CpuId, number: u64) {
+        let is_missing = self.collector.is_missing(cpu, RecordNo(number));
+        assert_eq!(rt;
+            is_missing,
+            self.plain.misses(cpu, number),
+            "{cpu:?} {number}"
+        );
+        match (
+            self.collector.get(cpu, RecordNo(number)),
+            self.plain.record(cpu, number),
+        ) {
+            (Some(entry), Some(expected)) => compare_entry(rt, entry, number, expected),
+            (entry, expected) => {
+                assert!(rt; entry.is_none() && expected.is_none(), "{cpu:?} {number}")
+            }
+        }
+    }
+
+    /// Compares the records of a CPU.
+    fn compare_records(&self, rt: &impl Abort, cpu: CpuId) {
+        let mut from = 0;
+        for entry in self.collector.records(cpu) {
+            match self.plain.next_record(cpu, from) {
+                Some(expected) => compare_entry(rt, entry, expected.number, expected.written),
+                None => assert!(rt; false, "one more: {entry:?}"),
+            }
+            from = entry.number.0.wrapping_add(1);
+        }
+        assert_eq!(rt; self.plain.next_record(cpu, from), None);
+    }
+
+    /// Compares the missing numbers of a CPU.
+    fn compare_missing(&self, rt: &impl Abort, cpu: CpuId) {
+        let mut from = 0;
+        for (first, last) in self.collector.missing(cpu) {
+            let run = (first.0, last.0.wrapping_add(1));
+            assert_eq!(rt; Some(run), self.plain.next_run(cpu, from));
+            from = run.1;
+        }
+        assert_eq!(rt; self.plain.next_run(cpu, from), None);
+    }
+
+    /// Compares the parcels that are kept.
+    fn compare_kept(&self, rt: &impl Abort) {
+        let (kept, expected) = (self.collector.parcels(), self.plain.kept());
+        assert_eq!(rt; kept.len(), expected.len());
+        for (parcel, draft) in kept.iter().zip(expected) {
+            assert_eq!(rt; parcel.cpu(), draft.cpu);
+            assert_eq!(rt; parcel.first().0, draft.first);
+            assert_eq!(rt; parcel.missed(), draft.first.wrapping_sub(draft.low));
+            assert_eq!(rt; parcel.count(), draft.records.len() as u64);
+        }
+    }
+
+    /// Compares all that is told of a CPU, and what is known of some of its numbers.
+    fn compare_cpu(&self, rt: &impl Abort, numbers: &mut Numbers, cpu: CpuId) {
+        self.compare_records(rt, cpu);
+        self.compare_missing(rt, cpu);
+        for _ in 0..6 {
+            self.compare_number(rt, cpu, numbers.number(rt));
+        }
+    }
+
+    /// Compares all that is told.
+    fn compare(&self, rt: &impl Abort, numbers: &mut Numbers) {
+        for cpu in CPUS {
+            self.compare_cpu(rt, numbers, *cpu);
+        }
+        self.compare_kept(rt);
+    }
+}
+
+/// One list of deliveries to two collectors, which are merged now and then.
+fn compare_list(
+    rt: &impl Abort,
+    alloc: Global,
+    numbers: &mut Numbers,
+    tally: &mut Tally,
+) -> Result<(), Fail> {
+    let world = World {
+        salt: numbers.next(),
+    };
+    let drafts = world.parcels(rt, alloc, numbers)?;
+    let mut one = Side::new(alloc);
+    let mut other = Side::new(alloc);
+    for _ in 0..DELIVERIES {
+        let index = numbers.below(drafts.len() as u64) as usize;
+        assert!(rt; index < drafts.len());
+        let draft = &drafts[index];
+        let bytes = bytes_of(alloc, draft)?;
+        let to = numbers.below(3);
+        if to != 0 {
+            let parcel = Parcel::from_bytes(alloc, &bytes)?;
+            tally.add(one.add(rt, draft, parcel)?);
+            one.compare_cpu(rt, numbers, draft.cpu);
+        }
+        if to != 1 {
+            let parcel = Parcel::from_bytes(alloc, &bytes)?;
+            tally.add(other.add(rt, draft, parcel)?);
+            other.compare_cpu(rt, numbers, draft.cpu);
+        }
+        if numbers.below(12) == 0 {
+            tally.merge(one.merge(rt, &other)?);
+            tally.same(one.same(rt, &other));
+            tally.merge(other.merge(rt, &one)?);
+            tally.same(one.same(rt, &other));
+        }
+    }
+    one.compare(rt, numbers);
+    other.compare(rt, numbers);
+    Ok(())
+}
+
+#[test]
+fn answers_as_the_plain_collector(rt: HostRuntime) -> Result<(), Fail> {
+    let mut numbers = Numbers { state: SEED };
+    let mut tally = Tally {
+        new: 0,
+        known: 0,
+        clashes: 0,
+        taken_and_missing: 0,
+        merged: 0,
+        not_merged: 0,
+        same: 0,
+        not_same: 0,
+    };
+    for _ in 0..LISTS {
+        compare_list(&rt, rt.alloc(), &mut numbers, &mut tally)?;
+    }
+    tally.check(&rt);
+    Ok(())
+}
