@@ -14,13 +14,12 @@ use Rattle.trace_model.specs.Steps.{pushes, pushes_close, steps, ends, reads, wi
 use Rattle.trace_model.proofs.NextRecords.{records_snoc}
 use Rattle.trace_model.proofs.FillCuts.{opens_of-open_fill, opened_last}
 use Rattle.trace_model.proofs.PackedHistories.{tail_is, fit_open}
-use Rattle.link_marks.specs.KeptLinks.{PhaseKept, LinkKept, is_normal, is_header, is_update, LinksKept}
+use Rattle.link_marks.specs.KeptLinks.{LinkKept, is_normal, is_header, is_update, LinksKept}
 use Rattle.link_marks.specs.KeptStack.{MayBeIn}
 use Rattle.link_marks.specs.KeptPacking.{PackedAt}
 use Rattle.link_marks.specs.RingKept.{IsRingKept}
 use Rattle.link_marks.specs.Ranks.{state_rank, late_rank, claim_rank, tail_rank, idle_rank, wish_rank, phase_rank, top_rank, frame_rank, StepsComeToAnEnd, EndsComeToAnEnd, FramesAreNearTheirEnd}
 use Rattle.link_marks.proofs.Positions.{link_turn}
-use Rattle.link_marks.proofs.FrameChanges.{top_kept}
 use Rattle.link_marks.proofs.FramePhases.{none_some}
 use Rattle.link_marks.proofs.HistorySteps.{top_agrees, top_stack, wishing_left}
 
@@ -152,9 +151,6 @@ module _ (n size start : ℕ) (c : Core) (frame : Frame) (below : List Frame) (r
 
   old : (phase : Phase) → frame.phase ≡ phase → frame_rank n c ≡ 3 * (c.opened - c.done) + phase_rank n c frame.state phase
   old phase same = ap (λ (fs : List Frame). 3 * (c.opened - c.done) + top_rank n c fs) top ∙ ap (λ (p : Phase). 3 * (c.opened - c.done) + phase_rank n c frame.state p) same
-
-  kept_in : (phase : Phase) → frame.phase ≡ phase → PhaseKept n c.links c.order c.head c.done c.opened phase
-  kept_in phase same = subst (PhaseKept n c.links c.order c.head c.done c.opened) same (top_kept n c frame below k top)
 
   goes : (after : Core) (phase next : Phase) → frame.phase ≡ phase → phase_rank n c frame.state next < phase_rank n c frame.state phase → after ≡ in_phase c frame below next → frame_rank n after < frame_rank n c
   goes after phase next same less is = subst (λ (a : Core). frame_rank n a < frame_rank n c) (sym is)

@@ -15,9 +15,6 @@ module _ (n size : ℕ) (c : Core) (k : LinksKept n c) where
   old : (phase : ReaderPhase) → c.reader.phase ≡ phase → reader_rank n c ≡ reader_phase_rank n c phase
   old phase same = ap (reader_phase_rank n c) same
 
-  lowers : (after : Core) (phase next : ReaderPhase) → c.reader.phase ≡ phase → reader_rank n after < reader_phase_rank n c phase → reader_rank n after < reader_rank n c
-  lowers after phase next same less = subst (λ (m : ℕ). reader_rank n after < m) (sym (old phase same)) less
-
   -- a fill at the position of the reader's hint, and above that, lies a round above it at least
   round_above : (g : ℕ) → g % n ≡ c.reader.hint % n → c.reader.hint < g → c.reader.hint + n ≤ g
   round_above g at above = dite (dec_le (c.reader.hint + n) g)
