@@ -36,9 +36,6 @@ taken_by xs = flat_map (λ x. taken_in x.answer) xs
 
 -- ---- what the reader took
 
-not_longer : (xs : List Taken) (t : Taken) → xs ++ t ∷ [] ≡ xs → ⊥
-not_longer xs t e = let more = ap (length {A = Taken}) e in let long = length-append xs (t ∷ []) in omega arith
-
 module _ (n size start : ℕ) (c : Core) (event : Event) (answer : Answer) (after : Core) (kept : IsRingKept n size start c) (step : Step n size c event answer after) where
   -- an answer that isn't a take's takes nothing
   none_taken : ((t : Taken) → answer ≢ swapped t) → after.reader.taken ≡ c.reader.taken ++ []
