@@ -22,7 +22,7 @@ use std::marker::Model;
 pub struct Core {
     /// The writer's frames, the pages that they write, and how many fills are begun and closed.
     stack: WriterStack,
-    /// How far the frame on top has come.
+    /// How far the frame on top has come. Where none stands it says nothing.
     phase: Phase,
     /// How far those below it have come, the upper ones first.
     below: VecDeque<Phase>,
