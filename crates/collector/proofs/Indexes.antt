@@ -1,17 +1,23 @@
 -- What an index tells where its ranges grow, and where those of one CPU change.
-use Rattle.std.proofs.Common.{◌≡◌, ◌≢◌, ℕ, ◌<◌, ◌≤◌, ◌↔◌, ◌⊎◌, ⊎_elim, List, [], ◌∷◌, ◌++◌, length, Option, Some, None, sym, ap, ◌∙◌, subst}
-use Rattle.std.specs.Option.{IfNone}
+use Rattle.std.proofs.Common.{◌≡◌, ◌≢◌, ℕ, ◌<◌, ◌≤◌, ◌↔◌, ◌⊎◌, ⊎_elim, List, [], ◌∷◌, ◌++◌, length, Option, Some, None, MatchOption, refl, sym, ap, ◌∙◌, subst}
+use Rattle.std.specs.Bool.{⊤}
+use Rattle.std.specs.Option.{IfNone, IsSomeAnd}
+use Rattle.std.specs.Ordering.{nat_cmp}
+use Rattle.std.specs.BTreeMap.{get, is_at}
+use Rattle.std.specs.Map.{lookup}
 use Rattle.std.proofs.Math.ListN.{set}
 use Rattle.std.proofs.lemmas.Option.{none-some}
-use Rattle.std.specs.List.{slice_get}
+use Rattle.std.specs.List.{slice_get, AllZip}
+use Rattle.std.proofs.lemmas.Slice.Zip.{AllZip-left, AllZip-right}
 use Rattle.trace_model.proofs.Elements.{some_is, get_in_front}
 use Rattle.collector.specs.declared.ranges.Content.{Content}
 use Rattle.collector.specs.declared.ranges.Content.TheVariants.{Kept, Missing}
 use Rattle.collector.specs.declared.ranges.Ranges.{Ranges}
 use Rattle.collector.specs.declared.index.Index.{Index}
-use Rattle.collector.specs.Ranges.{Tells, TellSame, AreApart, IsLaid}
+use Rattle.collector.specs.Ranges.{Tells, TellSame, AreApart, IsLaid, IsCopy}
 use Rattle.collector.specs.Index.{TellsOf, AreAllApart, TellSameOf}
 use Rattle.collector.proofs.Places.{get_pushed, get_set_here, get_set_other}
+use Rattle.collector.proofs.Spans.{keys_tell_same}
 
 -- ---- one CPU's ranges
 
@@ -124,3 +130,44 @@ laid_behind old mid new cpu low first end parcel same laid = record {
     (λ t. (same n content).1 ((laid.behind n content ge).1 t)),
   );
 }
+
+-- ---- ranges copied
+
+copy_keys : (ranges copy : Ranges) → IsCopy ranges copy → (q : ℕ) → get nat_cmp copy.spans q ≡ get nat_cmp ranges.spans q
+copy_keys ranges copy e q = ap (λ es. lookup (is_at (nat_cmp q)) es) e
+
+copy_apart : (ranges copy : Ranges) → IsCopy ranges copy → AreApart ranges → AreApart copy
+copy_apart ranges copy e apart first later span other at at_later lt =
+    apart first later span other (sym (copy_keys ranges copy e first) ∙ at) (sym (copy_keys ranges copy e later) ∙ at_later) lt
+
+source_of : (o : Option Ranges) (copy : Ranges) → IsSomeAnd o (λ ranges. IsCopy ranges copy) → (ranges : Ranges) × (o ≡ Some ranges) × IsCopy ranges copy
+source_of None copy h = absurd h
+source_of (Some ranges) copy h = (ranges, refl, h)
+
+copy_of : (o : Option Ranges) (ranges : Ranges) → IsSomeAnd o (λ copy. IsCopy ranges copy) → (copy : Ranges) × (o ≡ Some copy) × IsCopy ranges copy
+copy_of None ranges h = absurd h
+copy_of (Some copy) ranges h = (copy, refl, h)
+
+module _ (index copy : Index) (zip : AllZip IsCopy index.cpus.items copy.cpus.items) where
+  source_at : (cpu : ℕ) (x : Ranges) → slice_get copy.cpus.items cpu ≡ Some x
+      → (ranges : Ranges) × (slice_get index.cpus.items cpu ≡ Some ranges) × IsCopy ranges x
+  source_at cpu x at = source_of (slice_get index.cpus.items cpu) x
+      (subst (λ (o : Option Ranges). MatchOption o ⊤ (λ y. IsSomeAnd (slice_get index.cpus.items cpu) (λ ranges. IsCopy ranges y))) at
+      (AllZip-right IsCopy index.cpus.items copy.cpus.items zip cpu))
+
+  copy_at : (cpu : ℕ) (x : Ranges) → slice_get index.cpus.items cpu ≡ Some x
+      → (ranges : Ranges) × (slice_get copy.cpus.items cpu ≡ Some ranges) × IsCopy x ranges
+  copy_at cpu x at = copy_of (slice_get copy.cpus.items cpu) x
+      (subst (λ (o : Option Ranges). MatchOption o ⊤ (λ y. IsSomeAnd (slice_get copy.cpus.items cpu) (λ ranges. IsCopy y ranges))) at
+      (AllZip-left IsCopy index.cpus.items copy.cpus.items zip cpu))
+
+  pub copies_apart : AreAllApart index → AreAllApart copy
+  copies_apart all cpu x at = let h = source_at cpu x at in copy_apart h.0 x h.2 (all cpu h.0 h.1)
+
+  pub copies_same : (cpu : ℕ) → TellSameOf index copy cpu
+  copies_same cpu n content = (
+    (λ t. let h = copy_at cpu t.ranges t.at in
+        record { ranges = h.0; at = h.1; tells = (keys_tell_same t.ranges h.0 (copy_keys t.ranges h.0 h.2) n content).0 t.tells }),
+    (λ t. let h = source_at cpu t.ranges t.at in
+        record { ranges = h.0; at = h.1; tells = (keys_tell_same h.0 t.ranges (copy_keys h.0 t.ranges h.2) n content).1 t.tells }),
+  )

@@ -1,6 +1,6 @@
 -- An index stands for the kept parcels, from none on, through each one that is kept.
 use Rattle.std.proofs.Common.{◌≡◌, ◌≢◌, ⊎_elim, ℕ, ◌+◌, ◌-◌, ◌<◌, ◌≤◌, ◌↔◌, List, [], ◌∷◌, ◌++◌, length, Option, Some, None, IfSome, IfNone, refl, sym, ap, ◌∙◌, subst, arith}
-use Rattle.std.specs.List.{slice_get}
+use Rattle.std.specs.List.{slice_get, AllZip}
 use Rattle.std.proofs.lemmas.Bool.{cases_lt, cases_eq}
 use Rattle.std.proofs.lemmas.Option.{none-some, slice_get_within}
 use Rattle.trace_model.specs.Record.{Record}
@@ -12,10 +12,11 @@ use Rattle.trace_model.proofs.Joined.{joined_left}
 use Rattle.collector.specs.declared.ranges.Content.{Content}
 use Rattle.collector.specs.declared.ranges.Content.TheVariants.{Kept, Missing}
 use Rattle.collector.specs.declared.index.Index.{Index}
-use Rattle.collector.specs.Ranges.{IsLaid}
+use Rattle.collector.specs.Ranges.{IsLaid, IsCopy}
 use Rattle.collector.specs.Index.{TellsOf, AreAllApart, TellSameOf, IsIn, IsTold, IsIndexed}
 use Rattle.collector.specs.Shown.{IsShown}
 use Rattle.collector.proofs.Places.{get_pushed, get_last, get_within}
+use Rattle.collector.proofs.Indexes.{copies_apart, copies_same}
 
 -- ---- none
 
@@ -92,6 +93,11 @@ indexed_same ps old new x apart same = record {
       record { kept = a.kept; parcel = a.parcel; tells = (same cpu n (Kept a.kept)).0 a.tells; at = a.at; pair = a.pair };
   misses = λ cpu n m. (same cpu n Missing).0 (x.misses cpu n m);
 }
+
+-- ---- a copy
+
+pub copy_indexed : (ps : List Parcel) (index copy : Index) → IsIndexed ps index → AllZip IsCopy index.cpus.items copy.cpus.items → IsIndexed ps copy
+copy_indexed ps index copy x zip = indexed_same ps index copy x (copies_apart index copy zip x.apart) (copies_same index copy zip)
 
 -- ---- one more kept
 

@@ -1,5 +1,5 @@
 -- A collector that is made parcel by parcel: what it has, and which parcels it keeps.
-use Rattle.std.proofs.Common.{◌≡◌, inl, inr, ℕ, ◌+◌, ◌<◌, ◌≤◌, ◌↔◌, Bool, true, false, MatchBool, List, [], ◌∷◌, ◌++◌, length, take, get_or, Some, append_assoc, refl, sym, ap, ◌∙◌, subst}
+use Rattle.std.proofs.Common.{◌≡◌, inl, inr, ℕ, ◌+◌, ◌<◌, ◌≤◌, ◌↔◌, Bool, true, false, MatchBool, List, [], ◌∷◌, ◌++◌, length, take, get_or, Some, append_assoc, append-nil, ⊎_elim, refl, sym, ap, ◌∙◌, subst}
 use Rattle.std.specs.List.{slice_get}
 use Rattle.std.proofs.lemmas.List.{take_more, take_all}
 use Rattle.trace_model.specs.Parcel.{Parcel}
@@ -28,10 +28,6 @@ one_below ps k p at = record {
   has = λ cpu n r h. record { index = k; parcel = p; at = at; pair = own_has p cpu n r h };
   misses = λ cpu n m. record { index = k; parcel = p; at = at; missing = own_misses p cpu n m };
 }
-
-pub copy_agrees : (ps copy : List Parcel) (k : ℕ) (p : Parcel) → Agree ps → copy ≡ take k ps → slice_get ps k ≡ Some p → Agree (copy ++ p ∷ [])
-copy_agrees ps copy k p agree is at = below_agrees (copy ++ p ∷ []) ps
-    (joined_below copy (p ∷ []) ps (subst (λ (qs : List Parcel). IsBelow qs ps) (sym is) (taken_below ps k)) (one_below ps k p at)) agree
 
 -- ---- one more of the other's
 
@@ -74,6 +70,27 @@ pub next_merged : (old qs mid new : List Parcel) (k : ℕ) (q : Parcel) → k < 
 next_merged old qs mid new k q within is merged kept =
     subst (λ (xs : List Parcel). IsMerged old xs new) (ap (λ (x : Parcel). take k qs ++ x ∷ []) is ∙ sym (take_more qs k q within))
     (merged_more old (take k qs) mid new q merged kept)
+
+-- ---- back to the own parcels
+
+-- those of a merged collector begin with its own
+starts_with : (old xs new : List Parcel) → IsMerged old xs new → (rest : List Parcel) × (new ≡ old ++ rest)
+starts_with old [] new merged = ([], merged ∙ sym (append-nil old))
+starts_with old (x ∷ xs) new merged =
+    let h : (rest : List Parcel) × (new ≡ merged.0 ++ rest) = starts_with merged.0 xs new merged.2 in
+    ⊎_elim
+    (λ (known : IsBelow (x ∷ []) old × (merged.0 ≡ old)). (h.0, h.1 ∙ ap (λ (ps : List Parcel). ps ++ h.0) known.1))
+    (λ (kept : (IsBelow (x ∷ []) old → ⊥) × (merged.0 ≡ old ++ x ∷ [])).
+    (x ∷ h.0, h.1 ∙ ap (λ (ps : List Parcel). ps ++ h.0) kept.1 ∙ append_assoc old (x ∷ []) h.0))
+    merged.1
+
+take_own : (ps rest : List Parcel) → take (length ps) (ps ++ rest) ≡ ps
+take_own [] rest = refl
+take_own (p ∷ ps) rest = ap (λ (xs : List Parcel). p ∷ xs) (take_own ps rest)
+
+pub merged_goes_back : (old xs new : List Parcel) → IsMerged old xs new → take (length old) new ≡ old
+merged_goes_back old xs new merged =
+    let h = starts_with old xs new merged in ap (take (length old)) h.1 ∙ take_own old h.0
 
 -- ---- all of them
 

@@ -139,6 +139,26 @@ alike_fit ps qs cpu n agree others_agree beside = ⊎_elim
     })
     beside
 
+-- what isn't known there fits
+pub unknown_fits : (ps qs : List Parcel) (cpu n : ℕ) → IsUnknown qs cpu n → FitTogether ps qs cpu n
+unknown_fits ps qs cpu n unknown = record {
+  one_record = λ r other h g. absurd (unknown.no_record other g);
+  not_missing = λ r h m. unknown.not_missing m;
+  not_taken = λ r m h. unknown.no_record r h;
+}
+
+-- behind where two are looked at, up to the next number of which something is known there
+pub fit_up_to : (ps qs : List Parcel) (cpu at end next : ℕ) → ((n : ℕ) → n < at → FitTogether ps qs cpu n)
+    → ((n : ℕ) → at ≤ n → n < end → FitTogether ps qs cpu n) → ((n : ℕ) → end ≤ n → n < next → IsUnknown qs cpu n)
+    → (n : ℕ) → n < next → FitTogether ps qs cpu n
+fit_up_to ps qs cpu at end next before here unknown n lt = ⊎_elim
+    (λ (seen : n < at). before n seen)
+    (λ (ge : at ≤ n). ⊎_elim
+    (λ (within : n < end). here n ge within)
+    (λ (behind : end ≤ n). unknown_fits ps qs cpu n (unknown n behind lt))
+    (cases_lt n end))
+    (cases_lt n at)
+
 pub one_fit : (ps qs : List Parcel) (cpu n : ℕ) → IsBeside ps qs cpu n OneKnows → FitTogether ps qs cpu n
 one_fit ps qs cpu n beside = ⊎_elim
     (λ (b : IsUnknown ps cpu n × ((IsTaken qs cpu n) ⊎ (Misses qs cpu n))). record {
@@ -146,11 +166,7 @@ one_fit ps qs cpu n beside = ⊎_elim
       not_missing = λ r h m. b.0.no_record r h;
       not_taken = λ r m h. b.0.not_missing m;
     })
-    (λ (b : ((IsTaken ps cpu n) ⊎ (Misses ps cpu n)) × IsUnknown qs cpu n). record {
-      one_record = λ r other h g. absurd (b.1.no_record other g);
-      not_missing = λ r h m. b.1.not_missing m;
-      not_taken = λ r m h. b.1.no_record r h;
-    })
+    (λ (b : ((IsTaken ps cpu n) ⊎ (Misses ps cpu n)) × IsUnknown qs cpu n). unknown_fits ps qs cpu n b.1)
     beside
 
 pub odds_taken : (ps qs : List Parcel) (cpu n : ℕ) → IsBeside ps qs cpu n AtOdds → IsTakenAndMissingAt (ps ++ qs) cpu n

@@ -1,5 +1,5 @@
 -- What a change of one range does to what is told.
-use Rattle.std.proofs.Common.{◌≡◌, ⊎_elim, ℕ, ◌<◌, ◌≤◌, ◌↔◌, false, List, [], ◌∷◌, ◌++◌, Option, Some, None, IsSome, is_some, refl, sym, ap, ◌∙◌, subst, rules, arith}
+use Rattle.std.proofs.Common.{◌≡◌, ◌≢◌, ⊎_elim, ℕ, ◌<◌, ◌≤◌, ◌↔◌, false, List, [], ◌∷◌, ◌++◌, Option, Some, None, IsSome, is_some, refl, sym, ap, ◌∙◌, subst, rules, arith}
 use Rattle.std.specs.Ordering.{nat_cmp, is_eq}
 use Rattle.std.specs.Cmp.{nat_cmp_is}
 use Rattle.std.specs.declared.cmp.Ordering.TheVariants.{Less, Greater}
@@ -13,7 +13,7 @@ use Rattle.collector.specs.declared.ranges.Content.{Content}
 use Rattle.collector.specs.declared.ranges.Span.{Span}
 use Rattle.collector.specs.declared.ranges.Ranges.{Ranges}
 use Rattle.collector.specs.declared.ranges.Content.TheVariants.{Kept, Missing}
-use Rattle.collector.specs.Ranges.{Tells, TellSame, KeepsEdges, IsLaid}
+use Rattle.collector.specs.Ranges.{Tells, TellSame, IsFree, KeepsEdges, IsLaid}
 
 -- ---- one key
 
@@ -147,3 +147,38 @@ both_laid old ready mid new low first end parcel up on same a b = record {
     tell_same_at : (n : ℕ) (content : Content) {x y z : Ranges} → (Tells x n content ↔ Tells y n content)
         → (Tells y n content ↔ Tells z n content) → (Tells x n content ↔ Tells z n content)
     tell_same_at n content f g = ((λ t. g.0 (f.0 t)), (λ t. f.1 (g.1 t)))
+
+-- ---- a parcel laid where nothing is told
+
+-- the same ranges tell the same
+pub keys_tell_same : (old new : Ranges) → ((q : ℕ) → get nat_cmp new.spans q ≡ get nat_cmp old.spans q) → TellSame old new
+keys_tell_same old new same number content = (
+  (λ t. record { first = t.first; span = t.span; at = same t.first ∙ t.at; from = t.from; below = t.below; content_is = t.content_is }),
+  (λ t. record { first = t.first; span = t.span; at = sym (same t.first) ∙ t.at; from = t.from; below = t.below; content_is = t.content_is }),
+)
+
+module _ (old mid : Ranges) (low first end : ℕ) (up : low ≤ first) (on : first ≤ end) (free : IsFree old low end)
+    (others : (q : ℕ) → (low < first → q ≢ low) → get nat_cmp mid.spans q ≡ get nat_cmp old.spans q) where
+  -- what stands behind the missing numbers is free still
+  pub free_behind : (low < first → (span : Span) → get nat_cmp mid.spans low ≡ Some span → span.end ≤ first) → IsFree mid first end
+  free_behind ends = record {
+    cut = λ f span at lt. ⊎_elim
+        (λ (e : f ≡ low). ends (omega arith) span (subst (λ (q : ℕ). get nat_cmp mid.spans q ≡ Some span) e at))
+        (λ (apart : f ≡ low → ⊥).
+        let was : get nat_cmp old.spans f ≡ Some span = sym (others f (λ _. apart)) ∙ at in
+        ⊎_elim
+        (λ (before : f < low). let le = free.cut f span was before in omega arith)
+        (λ (from : low ≤ f). let none = free.none f from (omega arith) in cc)
+        (cases_lt f low))
+        (cases_eq f low);
+    none = λ q from below. others q (λ lt e. omega arith) ∙ free.none q (omega arith) below;
+  }
+
+  -- without the missing numbers all is as it was
+  pub undone : (refused new : Ranges) → first < end → ((q : ℕ) → get nat_cmp refused.spans q ≡ get nat_cmp mid.spans q)
+      → Updates nat_cmp refused.spans new.spans low None → TellSame old new
+  undone refused new some same removed = keys_tell_same old new (λ q. ⊎_elim
+      (λ (e : q ≡ low). ap (λ (k : ℕ). get nat_cmp new.spans k) e ∙ removed.1
+          ∙ sym (ap (λ (k : ℕ). get nat_cmp old.spans k) e ∙ free.none low (omega arith) (omega arith)))
+      (λ (apart : q ≡ low → ⊥). others_stay refused.spans new.spans low None removed q apart ∙ same q ∙ others q (λ _. apart))
+      (cases_eq q low))

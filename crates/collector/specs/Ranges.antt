@@ -1,5 +1,5 @@
 -- What ranges tell of the numbers of one CPU.
-use Rattle.std.specs.Prelude.{◌≡◌, ℕ, ◌<◌, ◌≤◌, ◌↔◌, Some, IsSome}
+use Rattle.std.specs.Prelude.{◌≡◌, ℕ, ◌<◌, ◌≤◌, ◌↔◌, Some, None, IsSome}
 use Rattle.std.specs.Ordering.{nat_cmp}
 use Rattle.std.specs.BTreeMap.{get}
 use Rattle.collector.specs.declared.ranges.Content.{Content}
@@ -34,9 +34,18 @@ IsMarked ranges number = IsSome (get nat_cmp ranges.spans number)
 abbrev pub IsCut : Ranges → ℕ → Type 0
 IsCut ranges place = (first : ℕ) (span : Span) → HasSpan ranges first span → first < place → span.end ≤ place
 
+-- no range begins from one place up to another one, or reaches over the first from in front of it
+pub record IsFree (ranges : Ranges) (low end : ℕ) : Type 0 where
+  pub cut : IsCut ranges low
+  pub none : (q : ℕ) → low ≤ q → q < end → get nat_cmp ranges.spans q ≡ None
+
 -- both tell the same of each number
 abbrev pub TellSame : Ranges → Ranges → Type 0
 TellSame old new = (number : ℕ) (content : Content) → (Tells old number content ↔ Tells new number content)
+
+-- both have the same ranges
+abbrev pub IsCopy : Ranges → Ranges → Type 0
+IsCopy ranges copy = copy.spans.entries ≡ ranges.spans.entries
 
 -- where a range began, or none reached over, it is so still
 pub record KeepsEdges (old new : Ranges) : Type 0 where

@@ -24,6 +24,8 @@ pub(crate) enum Beside {
 pub(crate) struct Both {
     pub(crate) end: u64,
     pub(crate) beside: Beside,
+    /// Where to look next.
+    pub(crate) next: u64,
 }
 
 fn pair(own: Option<Content>, other: Option<Content>) -> Beside
@@ -44,6 +46,7 @@ impl Collector {
     ghost use Rattle.std.specs.Prelude.{ℕ, ◌<◌, ◌≤◌};
     ghost use Rattle.trace_model.specs.Collection.{Agree};
     ghost use Rattle.collector.specs.Beside.{IsBeside};
+    ghost use Rattle.collector.specs.Shown.{IsUnknown};
 
     /// What is known here and there of a number of a CPU and of those behind it.
     pub(crate) fn beside(&self, other: &Collector, cpu: CpuId, number: u64) -> Both
@@ -56,9 +59,41 @@ impl Collector {
     {
         let own = self.stretch(cpu, number);
         let that = other.stretch(cpu, number);
+        let end = own.end.min(that.end);
         Both {
-            end: own.end.min(that.end),
+            end,
             beside: pair(own.content, that.content),
+            next: end,
+        }
+    }
+
+    /// The same, and then the next number of which something may be known there.
+    pub(crate) fn beside_known(&self, other: &Collector, cpu: CpuId, number: u64) -> Both
+        ensures shown { (n : ℕ) → number ≤ n → n < result.end
+            → IsBeside self.now other.now cpu.0 n result.beside }
+        ensures goes_on { number < u64.MAX → number < result.end }
+        ensures up_to { result.end ≤ u64.MAX }
+        ensures next { result.end ≤ result.next }
+        ensures unknown { (n : ℕ) → result.end ≤ n → n < result.next → IsUnknown other.now cpu.0 n }
+        ensures agree { Agree self.now }
+        ensures others_agree { Agree other.now }
+    {
+        let both = self.beside(other, cpu, number);
+        Both {
+            next: other.next_known(cpu, both.end),
+            ..both
+        }
+    }
+
+    /// A number from this one on, with none in front of it of which something is known here.
+    fn next_known(&self, cpu: CpuId, number: u64) -> u64
+        ensures from { number ≤ result }
+        ensures unknown { (n : ℕ) → number ≤ n → n < result → IsUnknown self.now cpu.0 n }
+    {
+        let stretch = self.stretch(cpu, number);
+        match stretch.content {
+            Some(_) => number,
+            None => number.max(stretch.end),
         }
     }
 }

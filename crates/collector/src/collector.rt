@@ -27,10 +27,11 @@ impl Model for Collector {
 }
 
 impl Collector {
-    ghost use Rattle.std.specs.Prelude.{◌≡◌, ℕ, ◌+◌, ◌<◌, ◌≤◌, List, [], ◌∷◌, ◌++◌, length, slice_get, Some, OnOk, OnErr};
+    ghost use Rattle.std.specs.Prelude.{◌≡◌, ℕ, ◌+◌, ◌<◌, ◌≤◌, List, [], ◌∷◌, ◌++◌, length, take, slice_get, Some, IfOk, OnOk, OnErr};
     ghost use Rattle.trace_model.specs.Collection.{Agree};
     ghost use Rattle.collector.specs.Sound.{AreSound};
     ghost use Rattle.collector.specs.Shown.{IsShown};
+    ghost use Rattle.collector.specs.Index.{IsIndexed};
 
     /// A collector that keeps no parcel.
     pub fn new(alloc: Global) -> Collector
@@ -40,13 +41,6 @@ impl Collector {
             parcels: Vec::new(alloc),
             index: Index::new(alloc),
         }
-    }
-
-    /// A collector that keeps no parcel, with the same allocator.
-    pub(crate) fn empty(&self) -> Collector
-        ensures { result ≡ [] }
-    {
-        Collector::new(self.index.allocator())
     }
 
     /// The kept parcels, in the order in which they were added. They agree, and the collector has and misses what
@@ -92,5 +86,21 @@ impl Collector {
             .lay(parcel.cpu(), low, first, end, self.parcels.len())?;
         self.parcels.push(parcel)?;
         Ok(())
+    }
+
+    /// A second index that tells the same.
+    pub(crate) fn copied_index(&self) -> Result<Index, NoMemory>
+        ensures { IfOk result (λ copy. IsIndexed self.now copy) }
+    {
+        Ok(self.index.copied()?)
+    }
+
+    /// Keeps no more than the first parcels, so many as this index stands for.
+    pub(crate) fn go_back(&mut self, count: usize, index: Index)
+        requires { IsIndexed (take count self.old) index }
+        ensures { self.new ≡ take count self.old }
+    {
+        self.parcels.truncate(count);
+        self.index = index;
     }
 }

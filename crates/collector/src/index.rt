@@ -1,6 +1,7 @@
 //! The numbers of each CPU of which something is known.
-ghost use Rattle.std.specs.Prelude.{◌≡◌, ◌≢◌, ℕ, ◌<◌, ◌≤◌, ◌↔◌, length, IfSome, IfNone, OnOk, OnErr};
-ghost use Rattle.collector.specs.Ranges.{IsLaid};
+ghost use Rattle.std.specs.Prelude.{◌≡◌, ◌≢◌, ℕ, ◌<◌, ◌≤◌, ◌↔◌, length, IfSome, IfNone, IfOk, OnOk, OnErr};
+ghost use Rattle.std.specs.List.{AllZip};
+ghost use Rattle.collector.specs.Ranges.{IsLaid, IsCopy};
 ghost use Rattle.collector.specs.Index.{TellsOf, AreAllApart, TellSameOf};
 ghost use Rattle.collector.specs.declared.ranges.Content.{Content};
 
@@ -27,9 +28,18 @@ impl Index {
         }
     }
 
-    /// Where its memory comes from.
-    pub(crate) fn allocator(&self) -> Global {
-        self.alloc
+    /// The same once more.
+    pub(crate) fn copied(&self) -> Result<Index, NoMemory>
+        ensures { IfOk result (λ copy. AllZip IsCopy self.now.cpus.items copy.cpus.items) }
+    {
+        let mut cpus = Vec::with_capacity(self.alloc, self.cpus.len())?;
+        for ranges in &self.cpus {
+            cpus.push(ranges.copied()?)?;
+        }
+        Ok(Index {
+            cpus,
+            alloc: self.alloc,
+        })
     }
 
     /// What is known of a number of a CPU, and of those behind it.

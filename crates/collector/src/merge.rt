@@ -3,10 +3,10 @@ use crate::beside::Beside;
 use crate::collector::Collector;
 use crate::entries::first_difference;
 use crate::fault::AddFault;
-use trace_model::{CpuId, MAX_CPUS, NoMemory, RecordNo};
+use trace_model::{CpuId, MAX_CPUS, RecordNo};
 
 impl Collector {
-    ghost use Rattle.std.specs.Prelude.{◌≡◌, ℕ, ◌<◌, ◌≤◌, ◌++◌, IfOk, IfErr, OnOk, OnErr};
+    ghost use Rattle.std.specs.Prelude.{◌≡◌, ℕ, ◌<◌, ◌≤◌, ◌++◌, length, take, IfErr, OnOk, OnErr};
     ghost use Rattle.trace_model.specs.Collection.{Agree, IsLeastUpperBound};
     ghost use Rattle.collector.specs.Sound.{AreSound};
     ghost use Rattle.collector.specs.Beside.{FitTogether};
@@ -23,23 +23,27 @@ impl Collector {
         ensures refused { OnErr result (self.new ≡ self.old) }
     {
         self.look_at_all(other)?;
-        let mut joined = self.copied()?;
-        for parcel in other.parcels() {
-            joined.add(parcel.share()?)?;
+        let count = self.parcels().len();
+        let index = self.copied_index()?;
+        if self.add_all(other).is_err() {
+            self.go_back(count, index);
+            return Err(AddFault::NoMemory);
         }
-        *self = joined;
         Ok(())
     }
 
-    /// A collector that keeps the same parcels, shared.
-    fn copied(&self) -> Result<Collector, NoMemory>
-        ensures { IfOk result (λ copy. copy ≡ self.now) }
+    /// Adds the other's parcels, in their order, with which those here agree. Where memory is refused, some of them are
+    /// added.
+    fn add_all(&mut self, other: &Collector) -> Result<(), AddFault>
+        requires { Agree (self.old ++ other.now) }
+        ensures join { OnOk result (IsLeastUpperBound self.old other.now self.new) }
+        ensures kept { OnOk result (IsMerged self.old other.now self.new) }
+        ensures refused { OnErr result (take (length self.old) self.new ≡ self.old) }
     {
-        let mut copy = self.empty();
-        for parcel in self.parcels() {
-            copy.keep(parcel.share()?)?;
+        for parcel in other.parcels() {
+            self.add(parcel.share()?)?;
         }
-        Ok(copy)
+        Ok(())
     }
 
     /// Looks whether two collectors are at odds.
@@ -66,7 +70,7 @@ impl Collector {
         let others = other.parcels();
         let mut at = 0;
         while at < u64::MAX {
-            let both = self.beside(other, cpu, at);
+            let both = self.beside_known(other, cpu, at);
             match both.beside {
                 Beside::Records(here, there) => {
                     if let Some(number) = first_difference(
@@ -82,7 +86,7 @@ impl Collector {
                 Beside::Alike => {}
                 Beside::OneKnows => {}
             }
-            at = both.end;
+            at = both.next;
         }
         Ok(())
     }

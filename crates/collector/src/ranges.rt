@@ -1,9 +1,10 @@
 //! The numbers of one CPU, as disjoint ranges in their order.
-ghost use Rattle.std.specs.Prelude.{◌≡◌, ℕ, ◌+◌, ◌^◌, ◌<◌, ◌≤◌, ◌↔◌, Some, None, IsSome, IfSome, IfNone, OnOk, OnErr};
+ghost use Rattle.std.specs.Prelude.{◌≡◌, ◌≢◌, ℕ, ◌+◌, ◌^◌, ◌<◌, ◌≤◌, ◌↔◌, Some, None, IsSome, IsTrue, IfSome, IfNone, IfOk, OnOk, OnErr};
 ghost use Rattle.std.specs.Ordering.{nat_cmp};
 ghost use Rattle.std.specs.BTreeMap.{get};
-ghost use Rattle.collector.specs.Ranges.{AreApart, Tells, TellSame, IsMarked, IsCut, KeepsEdges, IsLaid};
+ghost use Rattle.collector.specs.Ranges.{HasSpan, AreApart, Tells, TellSame, IsMarked, IsCut, IsFree, KeepsEdges, IsLaid, IsCopy};
 ghost use Rattle.collector.specs.declared.ranges.Content.{Content};
+ghost use Rattle.collector.specs.declared.ranges.Span.{Span};
 
 use std::alloc::Global;
 use std::collections::BTreeMap;
@@ -89,6 +90,15 @@ impl Ranges {
         }
     }
 
+    /// The same ranges once more.
+    pub(crate) fn copied(&self) -> Result<Ranges, NoMemory>
+        ensures { IfOk result (λ copy. IsCopy self.now copy) }
+    {
+        Ok(Ranges {
+            spans: self.spans.clone()?,
+        })
+    }
+
     /// What is known of a number and of those behind it.
     pub(crate) fn stretch(&self, number: u64) -> Stretch
         requires { AreApart self.now }
@@ -172,6 +182,70 @@ impl Ranges {
         }
     }
 
+    /// Whether no range begins from one place up to another one, or reaches over the first.
+    fn is_free(&self, low: u64, end: u64) -> bool
+        requires { AreApart self.now }
+        ensures { IsTrue result → IsFree self.now low end }
+    {
+        if let Some((first, span)) = last_up_to(&self.spans, low) {
+            if first == low || low < span.end {
+                return false;
+            }
+        }
+        match first_behind(&self.spans, low) {
+            Some(behind) => end <= behind,
+            None => true,
+        }
+    }
+
+    /// Tells this of numbers that are free.
+    fn put(&mut self, first: u64, end: u64, content: Content) -> Result<(), NoMemory>
+        requires apart { AreApart self.old }
+        requires free { IsFree self.old first end }
+        ensures apart { AreApart self.new }
+        ensures inside { OnOk result ((n : ℕ) → first ≤ n → n < end → Tells self.new n content) }
+        ensures alone { OnOk result ((n : ℕ) (other : Content) → first ≤ n → n < end
+            → Tells self.new n other → other ≡ content) }
+        ensures in_front { (n : ℕ) (other : Content) → n < first → (Tells self.old n other ↔ Tells self.new n other) }
+        ensures behind { (n : ℕ) (other : Content) → end ≤ n → (Tells self.old n other ↔ Tells self.new n other) }
+        ensures others { (q : ℕ) → (first < end → q ≢ first)
+            → get nat_cmp self.new.spans q ≡ get nat_cmp self.old.spans q }
+        ensures ends { first < end → (span : Span) → HasSpan self.new first span → span.end ≤ end }
+        ensures refused { OnErr result ((q : ℕ) → get nat_cmp self.new.spans q ≡ get nat_cmp self.old.spans q) }
+        ensures nothing { OnErr result (first < end) }
+    {
+        if first < end {
+            self.spans.insert(first, Span { end, content })?;
+        }
+        Ok(())
+    }
+
+    /// Tells of free numbers what `lay` does.
+    fn lay_free(
+        &mut self,
+        low: u64,
+        first: u64,
+        end: u64,
+        parcel: usize,
+    ) -> Result<(), NoMemory>
+        requires apart { AreApart self.old }
+        requires low { low ≤ first }
+        requires forward { first ≤ end }
+        requires free { IsFree self.old low end }
+        ensures apart { AreApart self.new }
+        ensures laid { OnOk result (IsLaid (Tells self.old) (Tells self.new) low first end parcel) }
+        ensures refused { OnErr result (TellSame self.old self.new) }
+    {
+        self.put(low, first, Content::Missing)?;
+        match self.put(first, end, Content::Kept(parcel)) {
+            Ok(()) => Ok(()),
+            Err(refused) => {
+                self.spans.remove(&low);
+                Err(refused)
+            }
+        }
+    }
+
     /// Tells that the numbers from `low` up to `first` are missing, and that those from there up to `end` are in the
     /// kept parcel at this index, whatever was told of them before.
     pub(crate) fn lay(
@@ -188,6 +262,9 @@ impl Ranges {
         ensures laid { OnOk result (IsLaid (Tells self.old) (Tells self.new) low first end parcel) }
         ensures refused { OnErr result (TellSame self.old self.new) }
     {
+        if self.is_free(low, end) {
+            return self.lay_free(low, first, end, parcel);
+        }
         self.mark(low)?;
         self.mark(first)?;
         self.cut(end)?;

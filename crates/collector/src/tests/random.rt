@@ -8,10 +8,8 @@ use std::process::Abort;
 use std::test::Fail;
 use trace_model::{CpuId, NoMemory, RecordNo};
 
-/// How many lists of deliveries.
-const LISTS: u32 = 1_000;
-
-const SEED: u64 = 1;
+/// How many lists of deliveries each test has.
+const LISTS: u32 = 200;
 
 /// How many parcels a list chooses from, and how many of them it delivers.
 const PARCELS: usize = 16;
@@ -19,7 +17,7 @@ const PARCELS: usize = 16;
 const DELIVERIES: u32 = 32;
 
 /// How often each kind of answer comes at least.
-const OFTEN: u32 = 200;
+const OFTEN: u32 = 40;
 
 const CPUS: &[CpuId] = &[CpuId(0), CpuId(255)];
 
@@ -283,26 +281,41 @@ impl<'a> Side<'a> {
         }
     }
 
-    /// Adds a parcel to both.
+    /// Adds a parcel to both. Where memory is refused, nothing has changed, and the next call is answered.
     fn add(
         &mut self,
         rt: &impl Abort,
+        numbers: &mut Numbers,
         draft: &'a Draft,
         parcel: Parcel,
     ) -> Result<Result<Added, AddFault>, NoMemory> {
+        let again = parcel.share()?;
+        let mut answer = self.collector.add(parcel);
+        if answer == Err(AddFault::NoMemory) {
+            self.compare(rt, numbers);
+            answer = self.collector.add(again);
+        }
         let expected = self.plain.add(draft)?;
-        assert_eq!(rt; self.collector.add(parcel), expected, "{draft:?}");
+        assert_eq!(rt; answer, expected, "{draft:?}");
         Ok(expected)
     }
 
-    /// Merges both with those of another side.
+    /// Merges both with those of another side. Where memory is refused, nothing has changed, and the next call is
+    /// answered.
     fn merge(
         &mut self,
         rt: &impl Abort,
+        numbers: &mut Numbers,
         other: &Side<'a>,
     ) -> Result<Result<(), AddFault>, NoMemory> {
+        let mut answer = self.collector.merge(&other.collector);
+        if answer == Err(AddFault::NoMemory) {
+            self.compare(rt, numbers);
+            answer = self.collector.merge(&other.collector);
+        }
         let expected = self.plain.merge(&other.plain)?;
-        assert_eq!(rt; self.collector.merge(&other.collector), expected);
+        assert_eq!(rt; answer, expected);
+        self.compare(rt, numbers);
         Ok(expected)
     }
 
@@ -407,18 +420,18 @@ fn compare_list(
         let to = numbers.below(3);
         if to != 0 {
             let parcel = Parcel::from_bytes(alloc, &bytes)?;
-            tally.add(one.add(rt, draft, parcel)?);
+            tally.add(one.add(rt, numbers, draft, parcel)?);
             one.compare_cpu(rt, numbers, draft.cpu);
         }
         if to != 1 {
             let parcel = Parcel::from_bytes(alloc, &bytes)?;
-            tally.add(other.add(rt, draft, parcel)?);
+            tally.add(other.add(rt, numbers, draft, parcel)?);
             other.compare_cpu(rt, numbers, draft.cpu);
         }
         if numbers.below(12) == 0 {
-            tally.merge(one.merge(rt, &other)?);
+            tally.merge(one.merge(rt, numbers, &other)?);
             tally.same(one.same(rt, &other));
-            tally.merge(other.merge(rt, &one)?);
+            tally.merge(other.merge(rt, numbers, &one)?);
             tally.same(one.same(rt, &other));
         }
     }
@@ -427,9 +440,9 @@ fn compare_list(
     Ok(())
 }
 
-#[test]
-fn answers_as_the_plain_collector(rt: HostRuntime) -> Result<(), Fail> {
-    let mut numbers = Numbers { state: SEED };
+/// Lists of deliveries made from a seed.
+fn compare_lists(rt: &impl Abort, alloc: Global, seed: u64) -> Result<(), Fail> {
+    let mut numbers = Numbers { state: seed };
     let mut tally = Tally {
         new: 0,
         known: 0,
@@ -441,8 +454,33 @@ fn answers_as_the_plain_collector(rt: HostRuntime) -> Result<(), Fail> {
         not_same: 0,
     };
     for _ in 0..LISTS {
-        compare_list(&rt, rt.alloc(), &mut numbers, &mut tally)?;
+        compare_list(rt, alloc, &mut numbers, &mut tally)?;
     }
-    tally.check(&rt);
+    tally.check(rt);
     Ok(())
+}
+
+#[test]
+fn first_lists(rt: HostRuntime) -> Result<(), Fail> {
+    compare_lists(&rt, rt.alloc(), 1)
+}
+
+#[test]
+fn second_lists(rt: HostRuntime) -> Result<(), Fail> {
+    compare_lists(&rt, rt.alloc(), 2)
+}
+
+#[test]
+fn third_lists(rt: HostRuntime) -> Result<(), Fail> {
+    compare_lists(&rt, rt.alloc(), 3)
+}
+
+#[test]
+fn fourth_lists(rt: HostRuntime) -> Result<(), Fail> {
+    compare_lists(&rt, rt.alloc(), 4)
+}
+
+#[test]
+fn fifth_lists(rt: HostRuntime) -> Result<(), Fail> {
+    compare_lists(&rt, rt.alloc(), 5)
 }

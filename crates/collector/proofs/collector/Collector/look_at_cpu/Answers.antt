@@ -6,7 +6,7 @@ use Rattle.trace_model.specs.Parcel.{Parcel}
 use Rattle.collector.specs.declared.beside.Beside.TheVariants.{Records}
 use Rattle.collector.specs.Beside.{IsBeside}
 use Rattle.collector.proofs.Looking.{in_within}
-use Rattle.collector.proofs.SideBySide.{records_clash, records_fit, odds_taken, alike_fit, one_fit, front_fits}
+use Rattle.collector.proofs.SideBySide.{records_clash, records_fit, odds_taken, alike_fit, one_fit, front_fits, fit_up_to}
 use Rattle.collector.proofs.collector.Collector.look_at_cpu.Goals as goal
 
 pub returns-in-Some-clause-fault : goal.returns-in-Some-clause-fault
@@ -15,7 +15,7 @@ returns-in-Some-clause-fault c =
     let qs = c.args.other.now in
     let cpu = c.args.cpu.0 in
     let at = c.loop-at.at in
-    let both = c.beside-both in
+    let both = c.beside_known-both in
     let i = c.in-Records.here in
     let j = c.in-Records.there in
     let p = c.index-kept-here.result in
@@ -40,7 +40,7 @@ returns-in-AtOdds-clause-fault c =
     let qs = c.args.other.now in
     let cpu = c.args.cpu.0 in
     let at = c.loop-at.at in
-    let both = c.beside-both in (
+    let both = c.beside_known-both in (
       odds_taken ps qs cpu at (subst (IsBeside ps qs cpu at) c.in-AtOdds.is (both.ensures.shown at (omega arith) (omega arith))),
       front_fits ps qs cpu at c.parcels-kept.ensures.sound both.ensures.agree both.ensures.others_agree c.requires c.loop-at.invariant,
     )
@@ -51,7 +51,7 @@ loop-at-preserved-in_default c =
     let qs = c.args.other.now in
     let cpu = c.args.cpu.0 in
     let at = c.loop-at.at in
-    let both = c.beside-both in
+    let both = c.beside_known-both in
     let i = c.in-Records.here in
     let j = c.in-Records.there in
     let p = c.index-kept-here.result in
@@ -60,10 +60,9 @@ loop-at-preserved-in_default c =
     let here = shown at (omega arith) (omega arith) in
     let p_is : slice_get ps i ≡ Some p = slice_get_read ps (length ps) i p refl (in_within ps i cpu at here.0) (c.index-kept-here.is ∙ ap (λ (xs : List Parcel). get_or xs i p) c.parcels-kept.ensures.parcels) in
     let q_is : slice_get qs j ≡ Some q = slice_get_read qs (length qs) j q refl (in_within qs j cpu at here.1) (c.index-others-there.is ∙ ap (λ (xs : List Parcel). get_or xs j q) c.parcels-others.ensures.parcels) in
-    λ n lt. ⊎_elim
-    (λ (seen : n < at). c.loop-at.invariant n seen)
-    (λ (ge : at ≤ n). records_fit ps qs i j cpu n p q both.ensures.agree both.ensures.others_agree p_is q_is (shown n ge lt) (c.in_default.ensures.none n ge lt))
-    (cases_lt n at)
+    fit_up_to ps qs cpu at both.result.end both.result.next c.loop-at.invariant
+    (λ n ge lt. records_fit ps qs i j cpu n p q both.ensures.agree both.ensures.others_agree p_is q_is (shown n ge lt) (c.in_default.ensures.none n ge lt))
+    both.ensures.unknown
 
 pub loop-at-preserved-in-Alike : goal.loop-at-preserved-in-Alike
 loop-at-preserved-in-Alike c =
@@ -71,11 +70,10 @@ loop-at-preserved-in-Alike c =
     let qs = c.args.other.now in
     let cpu = c.args.cpu.0 in
     let at = c.loop-at.at in
-    let both = c.beside-both in
-    λ n lt. ⊎_elim
-    (λ (seen : n < at). c.loop-at.invariant n seen)
-    (λ (ge : at ≤ n). alike_fit ps qs cpu n both.ensures.agree both.ensures.others_agree (subst (IsBeside ps qs cpu n) c.in-Alike.is (both.ensures.shown n ge lt)))
-    (cases_lt n at)
+    let both = c.beside_known-both in
+    fit_up_to ps qs cpu at both.result.end both.result.next c.loop-at.invariant
+    (λ n ge lt. alike_fit ps qs cpu n both.ensures.agree both.ensures.others_agree (subst (IsBeside ps qs cpu n) c.in-Alike.is (both.ensures.shown n ge lt)))
+    both.ensures.unknown
 
 pub loop-at-preserved : goal.loop-at-preserved
 loop-at-preserved c =
@@ -83,8 +81,7 @@ loop-at-preserved c =
     let qs = c.args.other.now in
     let cpu = c.args.cpu.0 in
     let at = c.loop-at.at in
-    let both = c.beside-both in
-    λ n lt. ⊎_elim
-    (λ (seen : n < at). c.loop-at.invariant n seen)
-    (λ (ge : at ≤ n). one_fit ps qs cpu n (subst (IsBeside ps qs cpu n) c.in-OneKnows.is (both.ensures.shown n ge lt)))
-    (cases_lt n at)
+    let both = c.beside_known-both in
+    fit_up_to ps qs cpu at both.result.end both.result.next c.loop-at.invariant
+    (λ n ge lt. one_fit ps qs cpu n (subst (IsBeside ps qs cpu n) c.in-OneKnows.is (both.ensures.shown n ge lt)))
+    both.ensures.unknown
