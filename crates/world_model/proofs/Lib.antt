@@ -2,6 +2,9 @@
 pub mod LineRuns
 pub mod LineIsOne
 pub mod TakenPages
+-- a payload for each frame
+pub mod FramesMove
+pub mod LanePayloads
 -- worlds: what every line keeps
 pub mod Lookups
 pub mod WorldsKept
