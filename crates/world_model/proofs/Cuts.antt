@@ -222,7 +222,7 @@ module _ (n size start : ℕ) (c : Core) (r : IsReached n size start c) where
       let all = first_below 0 cuts (length xs) (suc i) (omega arith) rising in
       let lies = lies_in cuts xs number (length cuts - i) i (omega arith) rising low (omega arith) in
       let least = lies.least_le in let begins = lies.first_le in let ends = lies.number_lt in let le = lies.fill_le in
-      let here : lies.fill ≡ i = dite (dec_le lies.fill i) (λ le. omega arith) (λ more. let rise = rises (suc i) lies.fill (omega arith) le in absurd (let no : ⊥ = omega arith in no)) in
+      let here : lies.fill ≡ i = dite (dec_le lies.fill i) (λ le. omega arith) (λ more. let rise = rises (suc i) lies.fill (omega arith) le in absurd {A = lies.fill ≡ i} (let no : ⊥ = omega arith in no)) in
       let e' = ap (λ (m : ℕ). get_or (0 ∷ cuts) m 0 + length (get_or (cut_from 0 cuts xs) m [])) here in (omega arith, omega arith)
 
   -- ---- the whole
@@ -316,7 +316,7 @@ module _ (n size start : ℕ) (c : Core) (r : IsReached n size start c) where
           let first : t.held.first ≡ parcel.first = ap (λ (q : Parcel). q.first) p.parcel_is in
           let there : slice_get (map as_record t.held.records) i ≡ Some x = ⊎_elim
               (λ (y, within, is, same). is ∙ sym (record_of p.index t i y p.page_at is) ∙ ap (slice_get (committed_records c.history)) back ∙ committed)
-              (λ (past, none). absurd (let no : ⊥ = omega arith in no)) (slice_get_cases (map as_record t.held.records) i).1 in
+              (λ (past, none). absurd {A = slice_get (map as_record t.held.records) i ≡ Some x} (let no : ⊥ = omega arith in no)) (slice_get_cases (map as_record t.held.records) i).1 in
           record {
             index = k;
             parcel = parcel;

@@ -2,12 +2,14 @@
 pub mod LineRuns
 pub mod LineIsOne
 pub mod TakenPages
+-- a payload for each frame
+pub mod FramesMove
+pub mod LanePayloads
 -- worlds: what every line keeps
 pub mod Lookups
 pub mod WorldsKept
 pub mod OneWorld
 pub mod Cuts
 pub mod GenuineWorlds
--- a ring's frames have their payloads, and come to their ends
-pub mod LanesKept
+-- frames and takes come to their ends
 pub mod LineEnds

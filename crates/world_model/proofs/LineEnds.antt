@@ -11,7 +11,7 @@ use Rattle.link_marks.proofs.FrameEnds.{steps_lower, ends_lower, frames_are_near
 use Rattle.link_marks.proofs.TakeEnds.{takes_lower, takes_are_near}
 use Rattle.link_marks.proofs.RingsKept.{reached_kept}
 use Rattle.world_model.specs.Lanes.{Lane, lane_behind, event_in, event_on_top, FrameRun, ReaderRun, IsAnswered}
-use Rattle.world_model.specs.LaneLaws.{FrameRunsAreShort, ReaderRunsAreShort}
+use Rattle.world_model.specs.LineEnds.{FrameRunsAreShort, ReaderRunsAreShort}
 use Rattle.world_model.proofs.WorldsKept.{reached_on}
 
 -- an answer that isn't another one is that the take goes on

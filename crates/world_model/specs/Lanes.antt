@@ -1,7 +1,7 @@
 -- What a line of a script does to the ring of its CPU: the exchanges that it has with it. docs/FORMATS.md, "Script".
-use Rattle.std.specs.Prelude.{◌≡◌, ◌≢◌, ℕ, ◌-◌, ◌<◌, ◌≤◌, ◌⊎◌, List, [], ◌∷◌, length, drop}
+use Rattle.std.specs.Prelude.{◌≡◌, ◌≢◌, ℕ, ◌-◌, ◌<◌, ◌≤◌, ◌⊎◌, ⊤, List, [], ◌∷◌, length, drop}
 use Rattle.trace_model.specs.Words.{padded}
-use Rattle.trace_model.specs.Frames.{FrameState, waiting, reserved, left, Frame, no_frame}
+use Rattle.trace_model.specs.Frames.{Kind, for_record, for_close, FrameState, waiting, reserved, left, Frame, no_frame}
 use Rattle.trace_model.specs.Ring.{IsStart, Core}
 use Rattle.trace_model.specs.Steps.{Event, pushes, pushes_close, steps, ends, reads, wishes, Answer, pushed, going, reserved_as, pending, full, gone, refused, reading, empty, moving, swapped, wished_for, Step, Exchange}
 use Rattle.script_model.specs.Script.{Command, begin_frame, step_frame, finish_frame, write, close, step_reader, take_page, wish, deliver}
@@ -43,6 +43,21 @@ payloads_with payload (wished_for fill) payloads = payloads
 -- the ring after a frame was to be pushed, with this payload
 abbrev pub lane_with : Lane → List ℕ → Answer → Core → Lane
 lane_with lane payload answer core = record { core = core; payloads = payloads_with payload answer lane.payloads }
+
+-- a frame's payload has the length that it was pushed for; a close frame's is empty
+abbrev pub FitsKind : Kind → List ℕ → Type 0
+FitsKind (for_record moment len) payload = length payload ≡ len
+FitsKind for_close payload = payload ≡ []
+
+-- the payloads are those of the frames, one for one
+abbrev pub FitFrames : List Frame → List (List ℕ) → Type 0
+FitFrames [] [] = ⊤
+FitFrames [] (payload ∷ payloads) = ⊥
+FitFrames (frame ∷ below) [] = ⊥
+FitFrames (frame ∷ below) (payload ∷ payloads) = FitsKind frame.kind payload × FitFrames below payloads
+
+abbrev pub HasPayloads : Lane → Type 0
+HasPayloads lane = FitFrames lane.core.frames lane.payloads
 
 -- ---- the exchanges of the frame on top
 

@@ -2,5 +2,5 @@ pub mod Lanes
 pub mod Log
 pub mod World
 pub mod Headline
-pub mod LaneLaws
+pub mod LineEnds
 pub mod Printing

@@ -7,7 +7,6 @@ ghost use Rattle.script_model.specs.Script.{Script, Command};
 ghost use Rattle.script_model.specs.ScriptLimits.{IsWithinLimits};
 ghost use Rattle.world_model.specs.World.{World, Obeys, WorldBehind, WorldOf};
 ghost use Rattle.world_model.specs.Headline.{IsGenuineWorld};
-ghost use Rattle.world_model.specs.LaneLaws.{FrameRunsAreShort, LinesKeepLanes, NewLanesAreKept, ReaderRunsAreShort};
 
 /// A script has one world at most, behind any of its lines and behind all of them; and a line that is obeyed leads
 /// from the world in front of it to one behind it.
@@ -43,16 +42,4 @@ pub fn collectors_join()
     ensures same { (script : Script) (w : World) (one other : ℕ) (parcels others : List Parcel) →
         IsGenuineWorld script w → slice_get w.delivered one ≡ Some parcels → slice_get w.delivered other ≡ Some others →
         ((parcel : Parcel) → (Contains parcels parcel ↔ Contains others parcel)) → IsSame parcels others }
-{}
-
-/// Behind each line a ring's frames have their payloads, as they do in a new ring.
-pub fn lanes_are_kept()
-    ensures new { NewLanesAreKept }
-    ensures lines { LinesKeepLanes }
-{}
-
-/// What a line asks of a frame until it is gone, and of the reader until it answers, comes to an end.
-pub fn lines_come_to_an_end()
-    ensures frames { FrameRunsAreShort }
-    ensures takes { ReaderRunsAreShort }
 {}
