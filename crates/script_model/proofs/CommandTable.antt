@@ -1,9 +1,9 @@
 -- Fields are read as a command exactly where they spell it.
-use Rattle.std.proofs.Common.{◌≡◌, ℕ, Bool, true, false, cond, List, [], ◌∷◌, codes, drop, Result, Ok, Err, refl, sym, ◌∙◌, ap, subst}
+use Rattle.std.proofs.Common.{◌≡◌, ℕ, true, List, [], ◌∷◌, codes, Result, Ok, Err, sym, ◌∙◌, ap, subst}
 use Rattle.std.specs.Str.{bytes_eq}
-use Rattle.std.proofs.lemmas.Bool.{both_ways, cond-false, false_from_ne_true}
-use Rattle.std.proofs.lemmas.Slice.Eq.{bytes_eq-Decides}
-use Rattle.text_model.specs.Script.{LineFault, bad_line, ◌>>=◌, decimal_in, number_below, names_cpu, cpu_in, payload_in}
+use Rattle.std.proofs.lemmas.Bool.{cond-false}
+use Rattle.text_model.specs.Script.{LineFault, bad_line, ◌>>=◌, decimal_in, number_below, cpu_in, payload_in}
+use Rattle.text_model.proofs.ScriptTable.{same_word, cpu_is_no_delivery}
 use Rattle.script_model.specs.Script.{Command, begin_frame, step_frame, finish_frame, write, close, step_reader, take_page, wish, deliver, count_in, record_in, of_cpu, steps_in, deliver_in, command_of, SpellsRecord, SpellsOfCpu, SpellsSteps, SpellsCommand}
 use Rattle.script_model.proofs.Readings.{ok_is_no_err, same_ok, bind_ok, chosen}
 
@@ -13,9 +13,6 @@ Read X = Result X LineFault
 
 abbrev Field : Type 0
 Field = List ℕ
-
-pub same_word : (field word : Field) → bytes_eq field word ≡ true → field ≡ word
-same_word field word h = (bytes_eq-Decides field word).0 h
 
 bad_is_no_command : (command : Command) → (let r : Read Command = Err bad_line in r ≡ Ok command) → ⊥
 bad_is_no_command command h = ok_is_no_err command bad_line (sym h)
@@ -172,18 +169,6 @@ deliver_read cpus collectors k x f collector cpu fill h i j =
     ∙ ap (λ (r : Read ℕ). r >>= λ cpu. decimal_in f >>= λ fill.
     let c : Read Command = Ok (deliver collector cpu fill) in c) i
     ∙ ap (λ (r : Read ℕ). r >>= λ fill. let c : Read Command = Ok (deliver collector cpu fill) in c) j
-
-cpu_is_no_delivery_at : (cpus cpu : ℕ) (field : Field) (names : Bool) → (field ≡ codes "d") → names_cpu field ≡ names
-    → cond names (number_below cpus (drop 1 field)) (Err bad_line) ≡ Ok cpu → ⊥
-cpu_is_no_delivery_at cpus cpu field true is names h = both_ways (names_cpu field) (ap names_cpu is) names
-cpu_is_no_delivery_at cpus cpu field false is names h = ok_is_no_err cpu bad_line (sym h)
-
--- a field that names a CPU isn't the word of a delivery
-cpu_is_no_delivery : (cpus cpu : ℕ) (field : Field) → cpu_in cpus field ≡ Ok cpu → bytes_eq field (codes "d") ≡ false
-unfolding cpu_in
-cpu_is_no_delivery cpus cpu field h =
-    false_from_ne_true (bytes_eq field (codes "d"))
-    (λ yes. cpu_is_no_delivery_at cpus cpu field (names_cpu field) (same_word field (codes "d") yes) refl h)
 
 pub spelled_command : (cpus collectors : ℕ) (fields : List Field) (command : Command)
     → SpellsCommand cpus collectors command fields → command_of cpus collectors fields ≡ Ok command

@@ -13,7 +13,7 @@ use Rattle.text_model.specs.Script.{LineFault, bad_line, out_of_range, decimal_i
 use Rattle.script_model.specs.declared.script_limits.TheConstants.{MIN_LINE_STEPS, MAX_LINE_STEPS}
 use Rattle.script_model.specs.Script.{Command, begin_frame, step_frame, finish_frame, write, close, step_reader, take_page, wish, Script, count_in, record_in, of_cpu, steps_in, deliver_in, command_of, command_in, header_settings, start_setting, GivesStart, SpellCommands, SpellScript, ParsesScript}
 use Rattle.script_model.specs.ScriptLimits.{IsRecordWithin, AreStepsWithin, IsCommandWithin, IsWithinLimits}
-use Rattle.script_model.proofs.FieldLimits.{tested-within, then-within, Is64Bit, decimal_in-within, number_below-within, cpu_in-within, AreBytes, payload_in-within, IsAllowed, value_in-within, settings-within}
+use Rattle.text_model.proofs.ParsedLimits.{tested-within, then-within, Is64Bit, decimal_in-within, number_below-within, cpu_in-within, AreBytes, payload_in-within, IsAllowed, value_in-within, settings-within}
 
 -- ---- commands
 

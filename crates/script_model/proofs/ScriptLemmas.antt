@@ -5,7 +5,7 @@ use Rattle.std.proofs.lemmas.List.{append-nil, length-append}
 use Rattle.trace_model.specs.declared.limits.TheConstants.{START_FILL}
 use Rattle.text_model.specs.Script.{LineFault, bad_line, ◌>>=◌, NumberedLine, Setting, value_in, GiveSettings, IsFaultySetting, IsMissingSetting}
 use Rattle.text_model.specs.ScriptReading.{numbered_reading, settings_from}
-use Rattle.text_model.proofs.ScriptLemmas.{settings_ok, settings_given, settings_err, faulty_setting_read, missing_setting_read}
+use Rattle.text_model.proofs.ScriptLemmas.{settings_ok, settings_given, settings_err, faulty_setting_read, missing_setting_read, length_given, four_values}
 use Rattle.script_model.specs.Script.{Command, Script, command_in, header_settings, start_setting, is_start_line, BeginsNoStart, GivesStart, SpellCommands, SpellScript, IsFaultyStart, IsFaultyCommand}
 use Rattle.script_model.specs.ScriptReading.{commands_from, start_given, start_from, script_from}
 use Rattle.script_model.proofs.Readings.{ok_is_no_err, same_ok, same_err, bind_ok, bind_err}
@@ -284,27 +284,16 @@ pub script_from_settings : (end : ℕ) (lines : List NumberedLine)
 unfolding script_from
 script_from_settings end lines = refl
 
--- as many lines as settings, and as many values
-lengths_given : (header : List NumberedLine) (settings : List Setting) (values : List ℕ)
-    → GiveSettings header settings values
-    → (length header ≡ length settings) × (length values ≡ length settings)
-lengths_given [] [] [] h = (refl, refl)
-lengths_given (line ∷ header) (s ∷ settings) (value ∷ values) h =
-    let others = lengths_given header settings values h.1 in
-    (ap (λ (n : ℕ). suc n) others.0, ap (λ (n : ℕ). suc n) others.1)
-lengths_given [] [] (value ∷ values) h = absurd h
-lengths_given [] (s ∷ settings) values h = absurd h
-lengths_given (line ∷ header) [] values h = absurd h
-lengths_given (line ∷ header) (s ∷ settings) [] h = absurd h
-
-four_values : (values : List ℕ) → length values ≡ 4
-    → values ≡ get_or values 0 0 ∷ get_or values 1 0 ∷ get_or values 2 0 ∷ get_or values 3 0 ∷ []
-four_values [] h = absurd (omega (arith, h))
-four_values (a ∷ []) h = absurd (omega (arith, h))
-four_values (a ∷ b ∷ []) h = absurd (omega (arith, h))
-four_values (a ∷ b ∷ c ∷ []) h = absurd (omega (arith, h))
-four_values (a ∷ b ∷ c ∷ d ∷ []) h = refl
-four_values (a ∷ b ∷ c ∷ d ∷ e ∷ values) h = absurd (omega (arith, h))
+-- as many lines as settings
+header_length : (header : List NumberedLine) (settings : List Setting) (values : List ℕ)
+    → GiveSettings header settings values → length header ≡ length settings
+header_length [] [] [] h = refl
+header_length (line ∷ header) (s ∷ settings) (value ∷ values) h =
+    ap (λ (n : ℕ). suc n) (header_length header settings values h.1)
+header_length [] [] (value ∷ values) h = absurd h
+header_length [] (s ∷ settings) values h = absurd h
+header_length (line ∷ header) [] values h = absurd h
+header_length (line ∷ header) (s ∷ settings) [] h = absurd h
 
 -- the values of a script's header
 abbrev values_of : Script → List ℕ
@@ -326,7 +315,7 @@ header_ok end lines x is =
       cut = given.1;
       settings =
           subst (λ (values : List ℕ). GiveSettings given.0 header_settings values)
-          (four_values x.0 (lengths_given given.0 header_settings x.0 given.2).1) given.2;
+          (four_values x.0 (length_given given.0 header_settings x.0 given.2)) given.2;
     }
 
 header_read : (end : ℕ) (header rest : List NumberedLine) (s : Script)
@@ -423,7 +412,7 @@ start_fault lines x e header f = record {
     start = refl;
     commands = tt;
   };
-  at_its_place = (lengths_given header.header header_settings _ header.settings).0;
+  at_its_place = header_length header.header header_settings _ header.settings;
   is_start = f.is_start;
   fails = f.fails;
 }
@@ -433,7 +422,7 @@ command_fault : (lines : List NumberedLine) (x : Settings) (y : Start) (e : ℕ 
     → CommandFault (get_or x.0 2 0) (get_or x.0 3 0) y.1 e → IsFaultyCommand lines e.0 e.1
 command_fault lines x y e header start f =
     let line : NumberedLine = (e.0, f.line) in
-    let four = (lengths_given header.header header_settings _ header.settings).0 in
+    let four = header_length header.header header_settings _ header.settings in
     let begins : length start.start_line ≡ 0 → BeginsNoStart (f.front ++ line ∷ f.behind) =
     λ none. subst BeginsNoStart f.cut (start.no_start none) in
     let long = length-append header.header (start.start_line ++ f.front) in
@@ -488,7 +477,7 @@ script_err end lines e h =
 header_alone : (front : List NumberedLine) (s : Script) (h : SpellScript front s)
     → length front ≡ length header_settings → front ≡ h.header
 header_alone front s h all =
-    let four = (lengths_given h.header header_settings (values_of s) h.settings).0 in
+    let four = header_length h.header header_settings (values_of s) h.settings in
     let long = length-append h.header (h.start_line ++ h.behind) in
     let cut = ap (λ (ls : List NumberedLine). length ls) h.cut in
     h.cut ∙ ap (λ (ls : List NumberedLine). h.header ++ ls)
@@ -532,7 +521,7 @@ command_fault_read end lines e f =
       fits = h.commands;
       fails = f.fails;
     } in
-    let four = (lengths_given h.header header_settings (values_of s) h.settings).0 in
+    let four = header_length h.header header_settings (values_of s) h.settings in
     let front = ap (λ (ls : List NumberedLine). length ls) h.cut in
     let long = length-append h.header (h.start_line ++ h.behind) in
     let short = length-append h.start_line h.behind in

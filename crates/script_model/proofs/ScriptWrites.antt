@@ -12,7 +12,7 @@ use Rattle.script_model.specs.declared.script_limits.TheConstants.{MIN_LINE_STEP
 use Rattle.script_model.specs.Script.{Command, begin_frame, step_frame, finish_frame, write, close, step_reader, take_page, wish, deliver, Script, count_in, command_of, command_in, cpus_setting, collectors_setting, start_setting, SpellCommands, ParsesScript}
 use Rattle.script_model.specs.ScriptWriting.{command_fields, command_text, script_text}
 use Rattle.script_model.specs.ScriptLimits.{IsCommandWithin, IsWithinLimits}
-use Rattle.script_model.proofs.FieldTexts.{is_free, fields_of-line_of, is_free-line_of, lines_of-text_of, all_significant, decimal_free, cpu_free, some_cpu, some_decimal, cpu_in-cpu_text, number_below-decimal, setting_spelled}
+use Rattle.text_model.proofs.ScriptWrites.{is_free, fields_of-line_of, is_free-line_of, lines_of-text_of, all_significant, decimal_free, cpu_free, some_cpu, some_decimal, cpu_in-cpu_text, number_below-decimal, setting_spelled}
 use Rattle.script_model.proofs.CommandTable.{spelled_command}
 
 -- ---- commands

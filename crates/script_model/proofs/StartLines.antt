@@ -6,7 +6,7 @@ use Rattle.text_model.specs.Text.{fields_of, is_well_spaced}
 use Rattle.text_model.specs.Script.{bad_line, decimal_in, ◌>>=◌, cpu_in, allowed_for, value_given, value_of, value_in, NumberedLine}
 use Rattle.script_model.specs.Script.{Command, of_cpu, command_of, command_in, start_setting, are_of_start, is_start_line, BeginsNoStart, SpellCommands}
 use Rattle.script_model.proofs.Readings.{ok_is_no_err}
-use Rattle.script_model.proofs.CommandTable.{same_word}
+use Rattle.text_model.proofs.ScriptTable.{same_word}
 
 -- ---- a line that gives the first fill is a start line
 given_by_word : (pages start : ℕ) (word number : List ℕ) (same : Bool) → bytes_eq word (codes "start") ≡ same

@@ -5,7 +5,7 @@ use Rattle.text_model.specs.Script.{LineFault, ◌>>=◌, decimal_in, NumberedLi
 use Rattle.text_model.specs.ScriptReading.{numbered_reading, setting_from, settings_from, significant_lines_after, end_line_after}
 use Rattle.script_model.specs.Script.{Script, header_settings, start_setting, BeginsNoStart, ParsesScript, FirstScriptFault, AddsStartZero}
 use Rattle.script_model.specs.ScriptReading.{start_from, script_from, script_in}
-use Rattle.script_model.proofs.FieldTexts.{setting_allowed}
+use Rattle.text_model.proofs.ScriptWrites.{setting_allowed}
 use Rattle.script_model.proofs.StartLines.{given_is_start}
 use Rattle.script_model.proofs.ScriptLemmas.{Read, Settings, Start, then_commands, then_start, script_from_settings, start_line_read, no_start_read}
 use Rattle.script_model.proofs.ScriptReads.{script_reads, fault_reads}

@@ -17,33 +17,33 @@ use Rattle.text_model.specs.ScriptLimits.{IsCommandWithin, IsWithinLimits}
 -- ---- answers
 
 -- a value that is answered only where a test holds
-tested-within : {A : Type 0} (P : A → Type 0) (test : Bool) (r : Result A LineFault) (fault : LineFault) → (test ≡ true → IfOk r P) → IfOk (cond test r (Err fault)) P
+pub tested-within : {A : Type 0} (P : A → Type 0) (test : Bool) (r : Result A LineFault) (fault : LineFault) → (test ≡ true → IfOk r P) → IfOk (cond test r (Err fault)) P
 tested-within P true r fault h = h refl
 tested-within P false r fault h = tt
 
 -- one answer after the other
-then-within : {A B : Type 0} (P : A → Type 0) (Q : B → Type 0) (r : Result A LineFault) (f : A → Result B LineFault) → IfOk r P → ((x : A) → P x → IfOk (f x) Q) → IfOk (r >>= f) Q
+pub then-within : {A B : Type 0} (P : A → Type 0) (Q : B → Type 0) (r : Result A LineFault) (f : A → Result B LineFault) → IfOk r P → ((x : A) → P x → IfOk (f x) Q) → IfOk (r >>= f) Q
 then-within P Q (Ok x) f h g = g x h
 then-within P Q (Err e) f h g = tt
 
 -- ---- numbers and bytes
 
-Is64Bit : ℕ → Type 0
+abbrev pub Is64Bit : ℕ → Type 0
 Is64Bit n = n < 2 ^ 64
 
-decimal_in-within : (field : List ℕ) → IfOk (decimal_in field) Is64Bit
-unfolding decimal_in is_decimal Is64Bit
+pub decimal_in-within : (field : List ℕ) → IfOk (decimal_in field) Is64Bit
+unfolding decimal_in is_decimal
 decimal_in-within field = tested-within Is64Bit (is_decimal field) (Ok (digits_value 10 field)) bad_number (λ h. ltb-true (digits_value 10 field) (2 ^ 64) (and_parts _ _ h).1)
 
-number_below-within : (limit : ℕ) (field : List ℕ) → IfOk (number_below limit field) (λ n. n < limit)
+pub number_below-within : (limit : ℕ) (field : List ℕ) → IfOk (number_below limit field) (λ n. n < limit)
 unfolding number_below
 number_below-within limit field = then-within Is64Bit (λ n. n < limit) (decimal_in field) _ (decimal_in-within field) (λ n small. tested-within (λ n. n < limit) (ltb n limit) (Ok n) out_of_range (λ h. ltb-true n limit h))
 
-cpu_in-within : (cpus : ℕ) (field : List ℕ) → IfOk (cpu_in cpus field) (λ cpu. cpu < cpus)
+pub cpu_in-within : (cpus : ℕ) (field : List ℕ) → IfOk (cpu_in cpus field) (λ cpu. cpu < cpus)
 unfolding cpu_in
 cpu_in-within cpus field = tested-within (λ cpu. cpu < cpus) (names_cpu field) _ bad_line (λ h. number_below-within cpus _)
 
-AreBytes : List ℕ → Type 0
+abbrev pub AreBytes : List ℕ → Type 0
 AreBytes bytes = All (λ b. b < 256) bytes
 
 pairs-within : (digits : List ℕ) → list_all (λ c. is_digit c 16) digits ≡ true → AllByRecursion (λ b. b < 256) (bytes_of_pairs digits)
@@ -65,8 +65,8 @@ is_same text other h = (bytes_eq-Decides text other).0 h
 no_bytes-within : (text : List ℕ) → text ≡ no_bytes_text → AllByRecursion (λ b. b < 256) (bytes_of_pairs text)
 no_bytes-within text is = subst (λ (t : List ℕ). AllByRecursion (λ b. b < 256) (bytes_of_pairs t)) (sym is) tt
 
-payload_in-within : (field : List ℕ) → IfOk (payload_in field) AreBytes
-unfolding payload_in is_hex AreBytes
+pub payload_in-within : (field : List ℕ) → IfOk (payload_in field) AreBytes
+unfolding payload_in is_hex
 payload_in-within field = tested-within AreBytes (is_hex field) (Ok (hex_bytes field)) bad_hex (λ h. All-from_recursion (λ b. b < 256) (hex_bytes field) (elim (or_cases (bytes_eq field no_bytes_text) _ h) [
   | inl none ↦ no_bytes-within field (is_same field no_bytes_text none)
   | inr pairs ↦ pairs-within field (and_parts _ _ pairs).1
@@ -75,7 +75,7 @@ payload_in-within field = tested-within AreBytes (is_hex field) (Ok (hex_bytes f
 -- ---- commands
 
 write_in-within : (cpus collectors : ℕ) (cpu_field moment_field payload_field : List ℕ) → IfOk (write_in cpus cpu_field moment_field payload_field) (IsCommandWithin cpus collectors)
-unfolding write_in Is64Bit AreBytes
+unfolding write_in
 write_in-within cpus collectors cpu_field moment_field payload_field =
     then-within (λ cpu. cpu < cpus) (IsCommandWithin cpus collectors) (cpu_in cpus cpu_field) _ (cpu_in-within cpus cpu_field) (λ cpu here.
     then-within Is64Bit (IsCommandWithin cpus collectors) (decimal_in moment_field) _ (decimal_in-within moment_field) (λ moment small.
@@ -92,7 +92,7 @@ take_in-within cpus collectors cpu_field =
     then-within (λ cpu. cpu < cpus) (IsCommandWithin cpus collectors) (cpu_in cpus cpu_field) _ (cpu_in-within cpus cpu_field) (λ cpu here. here)
 
 deliver_in-within : (cpus collectors : ℕ) (collector_field cpu_field fill_field : List ℕ) → IfOk (deliver_in cpus collectors collector_field cpu_field fill_field) (IsCommandWithin cpus collectors)
-unfolding deliver_in Is64Bit
+unfolding deliver_in
 deliver_in-within cpus collectors collector_field cpu_field fill_field =
     then-within (λ collector. collector < collectors) (IsCommandWithin cpus collectors) (number_below collectors collector_field) _ (number_below-within collectors collector_field) (λ collector known.
     then-within (λ cpu. cpu < cpus) (IsCommandWithin cpus collectors) (cpu_in cpus cpu_field) _ (cpu_in-within cpus cpu_field) (λ cpu here.
@@ -130,10 +130,10 @@ commands-within cpus collectors (line ∷ lines) [] h = absurd h
 -- ---- the header
 
 -- a value that the setting may have
-record IsAllowed (s : Setting) (n : ℕ) : Type 0 where
-  min : s.min ≤ n
-  max : n ≤ s.max
-  step : n % s.step ≡ 0
+pub record IsAllowed (s : Setting) (n : ℕ) : Type 0 where
+  pub min : s.min ≤ n
+  pub max : n ≤ s.max
+  pub step : n % s.step ≡ 0
 
 allowed_for-within : (s : Setting) (n : ℕ) → IfOk (allowed_for s n) (IsAllowed s)
 allowed_for-within s n = tested-within (IsAllowed s) _ (Ok n) out_of_range (λ h.
@@ -153,17 +153,16 @@ value_of-within s (word ∷ []) = tt
 value_of-within s (word ∷ number ∷ []) = value_given-within s word number
 value_of-within s (word ∷ number ∷ more ∷ fields) = tt
 
-value_in-within : (s : Setting) (line : List ℕ) → IfOk (value_in s line) (IsAllowed s)
+pub value_in-within : (s : Setting) (line : List ℕ) → IfOk (value_in s line) (IsAllowed s)
 unfolding value_in
 value_in-within s line = tested-within (IsAllowed s) (is_well_spaced (fields_of line)) _ bad_line (λ h. value_of-within s (fields_of line))
 
-AreAllowed : List Setting → List ℕ → Type 0
+abbrev pub AreAllowed : List Setting → List ℕ → Type 0
 AreAllowed [] values = Unit {0}
 AreAllowed (s ∷ settings) [] = Unit {0}
 AreAllowed (s ∷ settings) (value ∷ values) = IsAllowed s value × AreAllowed settings values
 
-settings-within : (lines : List NumberedLine) (settings : List Setting) (values : List ℕ) → GiveSettings lines settings values → AreAllowed settings values
-unfolding AreAllowed
+pub settings-within : (lines : List NumberedLine) (settings : List Setting) (values : List ℕ) → GiveSettings lines settings values → AreAllowed settings values
 settings-within lines [] values h = tt
 settings-within lines (s ∷ settings) [] h = tt
 settings-within (line ∷ lines) (s ∷ settings) (value ∷ values) h =
@@ -171,7 +170,6 @@ settings-within (line ∷ lines) (s ∷ settings) (value ∷ values) h =
 settings-within [] (s ∷ settings) (value ∷ values) h = absurd h
 
 pub SpellScript-within : (lines : List NumberedLine) (script : Script) → SpellScript lines script → IsWithinLimits script
-unfolding AreAllowed
 SpellScript-within lines script h =
     let values = settings-within h.header header_settings (script.pages ∷ script.size ∷ script.cpus ∷ script.collectors ∷ []) h.settings in
     let pages = values.0 in

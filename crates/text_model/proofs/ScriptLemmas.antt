@@ -309,7 +309,7 @@ script_from_settings : (end : ℕ) (lines : List NumberedLine) → script_from e
 unfolding script_from
 script_from_settings end lines = refl
 
-length_given : (header : List NumberedLine) (settings : List Setting) (values : List ℕ) → GiveSettings header settings values → length values ≡ length settings
+pub length_given : (header : List NumberedLine) (settings : List Setting) (values : List ℕ) → GiveSettings header settings values → length values ≡ length settings
 length_given [] [] [] h = refl
 length_given (line ∷ header) (s ∷ settings) (value ∷ values) h = ap (λ (n : ℕ). suc n) (length_given header settings values h.1)
 length_given [] [] (value ∷ values) h = absurd h
@@ -317,7 +317,7 @@ length_given [] (s ∷ settings) values h = absurd h
 length_given (line ∷ header) [] values h = absurd h
 length_given (line ∷ header) (s ∷ settings) [] h = absurd h
 
-four_values : (values : List ℕ) → length values ≡ 4 → values ≡ get_or values 0 0 ∷ get_or values 1 0 ∷ get_or values 2 0 ∷ get_or values 3 0 ∷ []
+pub four_values : (values : List ℕ) → length values ≡ 4 → values ≡ get_or values 0 0 ∷ get_or values 1 0 ∷ get_or values 2 0 ∷ get_or values 3 0 ∷ []
 four_values [] h = absurd (omega (arith, h))
 four_values (a ∷ []) h = absurd (omega (arith, h))
 four_values (a ∷ b ∷ []) h = absurd (omega (arith, h))

@@ -22,7 +22,7 @@ bind_ok : {A B : Type 0} (r : Read A) (f : A → Read B) (y : B) → (r >>= f) �
 bind_ok (Ok x) f y h = (x, refl, h)
 bind_ok (Err e) f y h = absurd (err_is_no_ok e y h)
 
-same_word : (field word : Field) → bytes_eq field word ≡ true → field ≡ word
+pub same_word : (field word : Field) → bytes_eq field word ≡ true → field ≡ word
 same_word field word h = (bytes_eq-Decides field word).0 h
 
 -- ---- what is read is spelled
@@ -91,7 +91,7 @@ cpu_is_no_delivery_at cpus cpu field true is names h = both_ways (names_cpu fiel
 cpu_is_no_delivery_at cpus cpu field false is names h = err_is_no_ok bad_line cpu h
 
 -- a field that names a CPU isn't the word of a delivery
-cpu_is_no_delivery : (cpus cpu : ℕ) (field : Field) → cpu_in cpus field ≡ Ok cpu → bytes_eq field (codes "d") ≡ false
+pub cpu_is_no_delivery : (cpus cpu : ℕ) (field : Field) → cpu_in cpus field ≡ Ok cpu → bytes_eq field (codes "d") ≡ false
 unfolding cpu_in
 cpu_is_no_delivery cpus cpu field h =
     false_from_ne_true (bytes_eq field (codes "d")) (λ yes. cpu_is_no_delivery_at cpus cpu field (names_cpu field) (same_word field (codes "d") yes) refl h)

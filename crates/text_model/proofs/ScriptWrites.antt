@@ -16,7 +16,7 @@ use Rattle.text_model.proofs.TextLemmas.{numerals, decimal_in-decimal, payload_i
 
 -- ---- a byte that a text hasn't
 -- no byte of the text is c
-abbrev is_free : ℕ → List ℕ → Bool
+abbrev pub is_free : ℕ → List ℕ → Bool
 is_free c text = list_all (λ b. not (b == c)) text
 
 same_byte : (c : ℕ) → (c == c) ≡ true
@@ -35,7 +35,7 @@ split_last c (b ∷ text) h =
     slice_split-cons_no (λ b. b == c) b text (not-true (b == c) parts.0) ∙ ap (onto_first b) (split_last c text parts.1)
 
 -- ---- fields
-fields_of-line_of : (fields : List (List ℕ)) → 0 < length fields → list_all (is_free 32) fields ≡ true → fields_of (line_of fields) ≡ fields
+pub fields_of-line_of : (fields : List (List ℕ)) → 0 < length fields → list_all (is_free 32) fields ≡ true → fields_of (line_of fields) ≡ fields
 fields_of-line_of [] some h = absurd (omega arith)
 fields_of-line_of (f ∷ []) some h = split_last 32 f (and_parts (is_free 32 f) _ h).0
 fields_of-line_of (f ∷ g ∷ fields) some h =
@@ -46,7 +46,7 @@ is_free-append : (c : ℕ) (xs ys : List ℕ) → is_free c xs ≡ true → is_f
 is_free-append c [] ys h k = k
 is_free-append c (b ∷ xs) ys h k = let parts = and_parts (not (b == c)) _ h in and_from _ _ parts.0 (is_free-append c xs ys parts.1 k)
 
-is_free-line_of : (fields : List (List ℕ)) → list_all (is_free 10) fields ≡ true → is_free 10 (line_of fields) ≡ true
+pub is_free-line_of : (fields : List (List ℕ)) → list_all (is_free 10) fields ≡ true → is_free 10 (line_of fields) ≡ true
 is_free-line_of [] h = refl
 is_free-line_of (f ∷ []) h = (and_parts (is_free 10 f) _ h).0
 is_free-line_of (f ∷ g ∷ fields) h =
@@ -67,10 +67,10 @@ without_empty_end-push [] = refl
 without_empty_end-push (l ∷ []) = refl
 without_empty_end-push (l ∷ m ∷ lines) = ap (λ (ls : List (List ℕ)). l ∷ ls) (without_empty_end-push (m ∷ lines))
 
-lines_of-text_of : (lines : List (List ℕ)) → list_all (is_free 10) lines ≡ true → lines_of (text_of lines) ≡ lines
+pub lines_of-text_of : (lines : List (List ℕ)) → list_all (is_free 10) lines ≡ true → lines_of (text_of lines) ≡ lines
 lines_of-text_of lines h = ap without_empty_end (split-text_of lines h) ∙ without_empty_end-push lines
 
-all_significant : (n : ℕ) (lines : List (List ℕ)) → list_all is_significant lines ≡ true → filter (λ (x : NumberedLine). is_significant x.1) (enumerate_from n lines) ≡ enumerate_from n lines
+pub all_significant : (n : ℕ) (lines : List (List ℕ)) → list_all is_significant lines ≡ true → filter (λ (x : NumberedLine). is_significant x.1) (enumerate_from n lines) ≡ enumerate_from n lines
 all_significant n [] h = refl
 all_significant n (l ∷ lines) h =
     let parts = and_parts (is_significant l) _ h in
@@ -84,27 +84,27 @@ digits_free : (c : ℕ) (text : List ℕ) → c < 48 → all_ascii_digits text �
 digits_free c [] small h = refl
 digits_free c (b ∷ text) small h = let parts = and_parts (is_ascii_digit b) _ h in and_from _ _ (digit_is_no c b small parts.0) (digits_free c text small parts.1)
 
-decimal_free : (c n : ℕ) → c < 48 → n < 2 ^ 64 → is_free c (decimal n) ≡ true
+pub decimal_free : (c n : ℕ) → c < 48 → n < 2 ^ 64 → is_free c (decimal n) ≡ true
 decimal_free c n small fits = digits_free c (decimal n) small (digits_decimal numerals n fits)
 
-cpu_free : (c cpu : ℕ) → c < 48 → cpu < 2 ^ 64 → is_free c (cpu_text cpu) ≡ true
+pub cpu_free : (c cpu : ℕ) → c < 48 → cpu < 2 ^ 64 → is_free c (cpu_text cpu) ≡ true
 cpu_free c cpu small fits = and_from _ _ (not_from_false (99 == c) (ne_eqb 99 c (λ same. omega arith))) (decimal_free c cpu small fits)
 
-some_cpu : (cpu : ℕ) → ltb 0 (length (cpu_text cpu)) ≡ true
+pub some_cpu : (cpu : ℕ) → ltb 0 (length (cpu_text cpu)) ≡ true
 some_cpu cpu = lt-ltb 0 (length (cpu_text cpu)) (omega arith)
 
-some_decimal : (n : ℕ) → n < 2 ^ 64 → ltb 0 (length (decimal n)) ≡ true
+pub some_decimal : (n : ℕ) → n < 2 ^ 64 → ltb 0 (length (decimal n)) ≡ true
 some_decimal n fits = lt-ltb 0 (length (decimal n)) (decimal_nonempty n fits)
 
 -- ---- values read back
-cpu_in-cpu_text : (cpus cpu : ℕ) → cpu < cpus → cpu < 2 ^ 64 → cpu_in cpus (cpu_text cpu) ≡ Ok cpu
+pub cpu_in-cpu_text : (cpus cpu : ℕ) → cpu < cpus → cpu < 2 ^ 64 → cpu_in cpus (cpu_text cpu) ≡ Ok cpu
 unfolding cpu_in number_below
 cpu_in-cpu_text cpus cpu below fits =
     cond-true (names_cpu (cpu_text cpu)) _ _ (and_from _ _ (some_decimal cpu fits) (digits_decimal numerals cpu fits))
     ∙ ap (λ (r : Result ℕ LineFault). r >>= λ n. cond (ltb n cpus) (let good : Result ℕ LineFault = Ok n in good) (Err out_of_range)) (decimal_in-decimal cpu fits)
     ∙ cond-true (ltb cpu cpus) _ _ (lt-ltb cpu cpus below)
 
-number_below-decimal : (limit n : ℕ) → n < limit → n < 2 ^ 64 → number_below limit (decimal n) ≡ Ok n
+pub number_below-decimal : (limit n : ℕ) → n < limit → n < 2 ^ 64 → number_below limit (decimal n) ≡ Ok n
 unfolding number_below
 number_below-decimal limit n below fits =
     ap (λ (r : Result ℕ LineFault). r >>= λ n. cond (ltb n limit) (let good : Result ℕ LineFault = Ok n in good) (Err out_of_range)) (decimal_in-decimal n fits)
@@ -189,16 +189,16 @@ value_in-setting_text s value some free fits allowed =
     ∙ ap (λ (r : Result ℕ LineFault). r >>= allowed_for s) (decimal_in-decimal value fits)
     ∙ allowed
 
-setting_allowed : (s : Setting) (n : ℕ) → s.min ≤ n → n ≤ s.max → n % s.step ≡ 0 → allowed_for s n ≡ Ok n
+pub setting_allowed : (s : Setting) (n : ℕ) → s.min ≤ n → n ≤ s.max → n % s.step ≡ 0 → allowed_for s n ≡ Ok n
 setting_allowed s n low high step =
     cond-true _ _ _ (and_from _ _ (and_from _ _ (le-leb s.min n low) (le-leb n s.max high)) (eq-eqb (n % s.step) 0 step))
 
 -- what a line of the header is made of
-record IsSetting (s : Setting) (value : ℕ) : Type 0 where
-  read : value_in s (setting_text s value) ≡ Ok value
-  no_feed : is_free 10 (setting_text s value) ≡ true
+pub record IsSetting (s : Setting) (value : ℕ) : Type 0 where
+  pub read : value_in s (setting_text s value) ≡ Ok value
+  pub no_feed : is_free 10 (setting_text s value) ≡ true
 
-setting_spelled : (s : Setting) (value : ℕ) → 0 < length s.word → is_free 32 s.word ≡ true → is_free 10 s.word ≡ true → s.max < 2 ^ 64
+pub setting_spelled : (s : Setting) (value : ℕ) → 0 < length s.word → is_free 32 s.word ≡ true → is_free 10 s.word ≡ true → s.max < 2 ^ 64
     → s.min ≤ value → value ≤ s.max → value % s.step ≡ 0 → IsSetting s value
 setting_spelled s value some free_space free_feed small low high step =
     let fits : value < 2 ^ 64 = omega arith in
