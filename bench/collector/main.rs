@@ -3,11 +3,12 @@
 //!
 //!     collector generate in-order|reverse|shuffled RECORDS SEED    a file of genuine parcels, each delivered twice
 //!     collector generate forged|overlapping PARCELS SEED           parcels that overlap at random (loads.rs)
-//!     collector read|add|list|tell                                 how far to go with such a file, on standard input
+//!     collector read|add|list|halves|merge|tell                    how far to go with such a file, on standard input
 //!
-//! `read` reads the parcels, `add` delivers them too, `list` makes the listing too, and each prints counts; `tell` does
-//! all and prints every answer. What was read or made stays until the end, so that what one of them takes more than the
-//! one before, of time or of memory, is what that step takes.
+//! `read` reads the parcels, `add` delivers them too, `list` makes the listing too, and each prints counts; `halves`
+//! delivers every other parcel to one collector and the rest to another one, and `merge` puts the second into the
+//! first; `tell` does all and prints every answer. What was read or made stays until the end, so that what one of them
+//! takes more than the one before, of time or of memory, is what that step takes.
 
 mod loads;
 mod map;
@@ -60,6 +61,22 @@ fn go(last: &str, parcels: &[Parcel], deliveries: &[usize]) -> String {
     }
     // To free it is no part of adding.
     mem::forget(collector);
+    text
+}
+
+/// Delivers every other parcel to one collector and the rest to another one, and merges them where that is asked.
+fn halve(last: &str, parcels: &[Parcel], deliveries: &[usize]) -> String {
+    let (mut halves, mut counts) = ([Collector::default(), Collector::default()], Counts::default());
+    for (at, place) in deliveries.iter().enumerate() {
+        counts.count(&halves[at % 2].add(&parcels[*place]));
+    }
+    let Counts { new, known, clashes, taken_and_missing } = counts;
+    let mut text = format!("new {new} known {known} clashes {clashes} taken-and-missing {taken_and_missing}\n");
+    let [mut one, other] = halves;
+    if last == "merge" {
+        let _ = writeln!(text, "merge {}", answer_of(one.merge(&other), "done"));
+    }
+    mem::forget((one, other));
     text
 }
 
@@ -124,7 +141,7 @@ fn run(words: &[&str]) -> Option<Result<(), io::Error>> {
         let bytes = loads::generated(load, count.parse().ok()?, seed.parse().ok()?)?;
         return Some(out.write_all(&bytes).and_then(|()| out.flush()));
     }
-    let [last @ ("read" | "add" | "list" | "tell")] = words else {
+    let [last @ ("read" | "add" | "list" | "halves" | "merge" | "tell")] = words else {
         return None;
     };
     let mut bytes = Vec::new();
@@ -136,6 +153,7 @@ fn run(words: &[&str]) -> Option<Result<(), io::Error>> {
     };
     let told = match *last {
         "tell" => tell(&mut out, &parcels, &deliveries),
+        "halves" | "merge" => out.write_all(halve(last, &parcels, &deliveries).as_bytes()),
         last => out.write_all(go(last, &parcels, &deliveries).as_bytes()),
     };
     Some(told.and_then(|()| out.flush()))
@@ -151,7 +169,7 @@ fn main() -> ExitCode {
             ExitCode::FAILURE
         }
         None => {
-            eprintln!("usage: collector generate LOAD COUNT SEED | collector read|add|list|tell");
+            eprintln!("usage: collector generate LOAD COUNT SEED | collector read|add|list|halves|merge|tell");
             ExitCode::from(2)
         }
     }

@@ -1,52 +1,15 @@
 -- A collector that is made parcel by parcel: what it has, and which parcels it keeps.
-use Rattle.std.proofs.Common.{◌≡◌, inl, inr, ℕ, ◌+◌, ◌<◌, ◌≤◌, ◌↔◌, Bool, true, false, MatchBool, List, [], ◌∷◌, ◌++◌, length, take, get_or, Some, append_assoc, append-nil, ⊎_elim, refl, sym, ap, ◌∙◌, subst}
-use Rattle.std.specs.List.{slice_get}
+use Rattle.std.proofs.Common.{◌≡◌, inl, inr, ℕ, ◌+◌, ◌<◌, ◌≤◌, ◌↔◌, Bool, true, false, MatchBool, List, [], ◌∷◌, ◌++◌, length, take, get_or, append_assoc, append-nil, ⊎_elim, refl, sym, ap, ◌∙◌, subst}
 use Rattle.std.proofs.lemmas.List.{take_more, take_all}
 use Rattle.trace_model.specs.Parcel.{Parcel}
 use Rattle.trace_model.specs.Collection.{Agree, IsBelow, IsSame, IsLeastUpperBound}
 use Rattle.trace_model.proofs.Joined.{joined_left, joined_right, joined_below, below_agrees}
 use Rattle.trace_model.proofs.Collections.{below_below, same_itself, same_same, same_joined}
-use Rattle.collector.specs.declared.fault.AddFault.{AddFault}
-use Rattle.collector.specs.declared.fault.AddFault.TheVariants.{Clash, TakenAndMissing, NoMemory}
 use Rattle.collector.specs.declared.added.Added.{Added}
 use Rattle.collector.specs.declared.added.Added.TheVariants.{New, Known}
-use Rattle.collector.specs.Faults.{IsAddFault}
 use Rattle.collector.specs.Merged.{IsKeptBehind, IsMerged}
-use Rattle.collector.proofs.Places.{get_taken}
-use Rattle.collector.proofs.Adding.{own_has, own_misses}
-
--- ---- some of the parcels
-
-pub taken_below : (ps : List Parcel) (k : ℕ) → IsBelow (take k ps) ps
-taken_below ps k = record {
-  has = λ cpu n r h. record { index = h.index; parcel = h.parcel; at = get_taken ps k h.index h.parcel h.at; pair = h.pair };
-  misses = λ cpu n m. record { index = m.index; parcel = m.parcel; at = get_taken ps k m.index m.parcel m.at; missing = m.missing };
-}
-
-pub one_below : (ps : List Parcel) (k : ℕ) (p : Parcel) → slice_get ps k ≡ Some p → IsBelow (p ∷ []) ps
-one_below ps k p at = record {
-  has = λ cpu n r h. record { index = k; parcel = p; at = at; pair = own_has p cpu n r h };
-  misses = λ cpu n m. record { index = k; parcel = p; at = at; missing = own_misses p cpu n m };
-}
 
 -- ---- one more of the other's
-
-pub next_agrees : (ps qs joined : List Parcel) (k : ℕ) (q : Parcel) → Agree (ps ++ qs) → IsSame joined (ps ++ take k qs)
-    → slice_get qs k ≡ Some q → Agree (joined ++ q ∷ [])
-next_agrees ps qs joined k q agree same at = below_agrees (joined ++ q ∷ []) (ps ++ qs)
-    (joined_below joined (q ∷ []) (ps ++ qs)
-    (below_below joined (ps ++ take k qs) (ps ++ qs) same.below
-    (joined_below ps (take k qs) (ps ++ qs) (joined_left ps qs) (below_below (take k qs) qs (ps ++ qs) (taken_below qs k) (joined_right ps qs))))
-    (below_below (q ∷ []) qs (ps ++ qs) (one_below qs k q at) (joined_right ps qs)))
-    agree
-
--- parcels that agree have no fault but refused memory
-pub agree_fault : (ps qs : List Parcel) (f : AddFault) → Agree ps → Agree qs → IsAddFault ps f → IsAddFault qs f
-agree_fault ps qs (Clash cpu number) agree others_agree (clash, front) =
-    absurd (clash.differ (agree.one_record cpu.0 number.0 clash.one clash.other clash.has clash.has_other))
-agree_fault ps qs (TakenAndMissing cpu number) agree others_agree (both, front) =
-    absurd (agree.not_missing cpu.0 number.0 both.one both.has both.misses)
-agree_fault ps qs NoMemory agree others_agree is = others_agree
 
 pub next_same : (ps qs joined new : List Parcel) (k : ℕ) (q : Parcel) → k < length qs → q ≡ get_or qs k q → IsSame joined (ps ++ take k qs)
     → IsSame new (joined ++ q ∷ []) → IsSame new (ps ++ take (k + 1) qs)

@@ -1,5 +1,5 @@
 -- The element at an index of a list that one was put behind, or set in.
-use Rattle.std.proofs.Common.{◌≡◌, ◌≢◌, ℕ, zero, suc, ◌<◌, ◌⊎◌, inl, inr, ⊎_elim, List, [], ◌∷◌, ◌++◌, length, take, Some, refl, sym, ap, arith}
+use Rattle.std.proofs.Common.{◌≡◌, ◌≢◌, ℕ, zero, suc, ◌<◌, ◌⊎◌, inl, inr, ⊎_elim, List, [], ◌∷◌, ◌++◌, length, Some, refl, sym, ap, arith}
 use Rattle.std.proofs.Math.ListN.{set}
 use Rattle.std.proofs.lemmas.Option.{none-some}
 use Rattle.std.specs.List.{slice_get}
@@ -31,9 +31,3 @@ pub get_within : {A : Type 0} (xs : List A) (k : ℕ) → k < length xs → (x :
 get_within [] k within = absurd (omega arith)
 get_within (x ∷ xs) zero within = (x, refl)
 get_within (x ∷ xs) (suc k) within = get_within xs k (omega arith)
-
-pub get_taken : {A : Type 0} (xs : List A) (k i : ℕ) (x : A) → slice_get (take k xs) i ≡ Some x → slice_get xs i ≡ Some x
-get_taken xs zero i x at = absurd (none-some x at)
-get_taken [] (suc k) i x at = absurd (none-some x at)
-get_taken (y ∷ xs) (suc k) zero x at = at
-get_taken (y ∷ xs) (suc k) (suc i) x at = get_taken xs k i x at

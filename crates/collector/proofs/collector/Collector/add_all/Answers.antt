@@ -1,9 +1,6 @@
-use Rattle.std.proofs.Common.{◌≡◌, ◌++◌, ◌∷◌, [], ◌<◌, List, length, take, get_or, Some, Ok, refl, sym, ap, ◌∙◌, subst, rules, arith}
-use Rattle.std.specs.List.{slice_get}
-use Rattle.std.proofs.lemmas.Option.{slice_get_read}
+use Rattle.std.proofs.Common.{◌≡◌, ◌<◌, List, length, take, get_or, Ok, sym, ap, ◌∙◌, subst, rules, arith}
 use Rattle.trace_model.specs.Parcel.{Parcel}
-use Rattle.trace_model.specs.Collection.{Agree}
-use Rattle.collector.proofs.Merging.{next_agrees, next_same, kept_behind, next_merged, same_least, merged_goes_back}
+use Rattle.collector.proofs.Merging.{next_same, kept_behind, next_merged, same_least, merged_goes_back}
 use Rattle.collector.proofs.collector.Collector.add_all.Goals as goal
 
 pub loop-parcel-preserved : goal.loop-parcel-preserved

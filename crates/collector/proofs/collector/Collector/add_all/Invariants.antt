@@ -1,4 +1,4 @@
-use Rattle.std.proofs.Common.{◌≡◌, ◌++◌, length, take}
+use Rattle.std.proofs.Common.{◌++◌, take}
 use Rattle.trace_model.specs.Collection.{IsSame}
 use Rattle.collector.specs.Merged.{IsMerged}
 use Rattle.collector.proofs.collector.Collector.add_all.Given as goal
