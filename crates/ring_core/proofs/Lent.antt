@@ -1,6 +1,12 @@
 -- The payload of the frame on top, which is lent and written.
-use Rattle.std.proofs.Common.{◌≡◌, ℕ, ◌+◌, ◌-◌, Bool, true, false, cond, eqb, List, [], ◌∷◌, length, length-set, take, drop, refl, sym, ap, ◌∙◌, subst, arith, length-drop, length-take-le}
+use Rattle.std.proofs.Common.{◌≡◌, ℕ, ◌+◌, ◌-◌, ◌≤◌, Bool, true, false, cond, eqb, List, [], ◌∷◌, ◌++◌, length, length-set, take, drop, refl, sym, ap, ◌∙◌, subst, arith, length-drop, length-take-le}
 use Rattle.std.specs.Prelude.{slice_range, slice_set, slice_index_or}
+use Rattle.std.proofs.lemmas.Bool.{cond-true, cond-false, eq-eqb, ne_eqb}
+use Rattle.std.proofs.lemmas.List.{drop-take, drop_at, take-take, take_at, get_or-set_same}
+use Rattle.std.proofs.lemmas.Option.{slice_get_within, get_or_from_slice_get}
+use Rattle.trace_model.specs.Words.{slot_len}
+use Rattle.trace_model.specs.Overwriting.{overwritten, bytes_at}
+use Rattle.trace_model.specs.Frames.{for_record, Frame as ModelFrame}
 use Rattle.trace_model.specs.History.{Action}
 use Rattle.trace_model.specs.Ring.{Core}
 use Rattle.trace_model.proofs.Overwritten.{place-within}
@@ -10,13 +16,13 @@ use Rattle.nested_writer.specs.declared.frame.Slot.{Slot}
 use Rattle.nested_writer.specs.declared.frame.Progress.{Progress}
 use Rattle.nested_writer.specs.declared.frame.Progress.TheVariants.{Reserved}
 use Rattle.nested_writer.specs.declared.frame.Frame.{Frame}
-use Rattle.nested_writer.specs.Stack.{Stack, opened}
+use Rattle.nested_writer.specs.Stack.{Stack, opened, tail_fill}
 use Rattle.nested_writer.specs.Calls.{IsTopSlot}
 use Rattle.nested_writer.specs.Lending.{with_slot}
-use Rattle.nested_writer.specs.IsStack.{IsOpenPage, IsStack}
+use Rattle.nested_writer.specs.IsStack.{IsOpenPage, is_tail, is_older, IsStack}
 use Rattle.ring_core.specs.Value.{CoreValue}
 use Rattle.ring_core.specs.IsCore.{ring_frames, AreBelow, AreNotedAlike, Shows, IsCore}
-use Rattle.ring_core.specs.Answers.{top_bytes}
+use Rattle.ring_core.specs.Answers.{open_page, bytes_of_progress, top_bytes}
 use Rattle.ring_core.specs.Lending.{with_reserved, with_top, with_top_payload}
 use Rattle.ring_core.proofs.Reshown.{reshown}
 use Rattle.ring_core.proofs.Ended.{stands, bytes_are}
@@ -56,6 +62,39 @@ on_top s slot is = by_frames s.frames refl is
     by_frames : (frames : List Frame) → s.frames ≡ frames → IsTopSlot frames slot → IsOnTop s slot
     by_frames [] same none = absurd none
     by_frames (top ∷ rest) same has = record { top = top; rest = rest; stack_is = same; has = has }
+
+-- the first frames of two lists that are the same are of one kind
+same_kind : (a b : ModelFrame) (xs ys : List ModelFrame) → ◌≡◌ {A = List ModelFrame} (a ∷ xs) (b ∷ ys) → a.kind ≡ b.kind
+same_kind a b xs ys e = let heads : a ≡ b = cc in ap (λ (f : ModelFrame). f.kind) heads
+
+-- the bytes that are put over others stand there
+overwritten_there : (bytes : List ℕ) (start len : ℕ) (part : List ℕ) → length part ≡ len → start + len ≤ length bytes → bytes_at start len (take (length bytes) (overwritten bytes start part)) ≡ part
+overwritten_there bytes start len part long within =
+    let more : ℕ = length bytes - start in
+    let behind : List ℕ = drop (start + length part) bytes in
+    ap (λ (k : ℕ). take len (drop start (take k (overwritten bytes start part)))) (let sum : length bytes ≡ start + more = omega arith in sum)
+    ∙ ap (take len) (drop-take start more (overwritten bytes start part))
+    ∙ ap (λ (l : List ℕ). take len (take more l)) (drop_at (take start bytes) (part ++ behind) start (length-take-le start bytes (omega arith)))
+    ∙ take-take len more (part ++ behind) (omega arith)
+    ∙ take_at part behind len long
+
+-- the page of the slot, as it is when bytes are written there
+page_written : (s : Stack) (slot : Slot) (part : List ℕ) (page : Contents) → s.tail.fill ≡ tail_fill s → IsOpenPage s.done s.older s.tail slot.fill page → (open_page (with_slot s slot part) slot.fill).bytes ≡ (with_payload page slot.place.start part).bytes
+page_written s slot part page tail_is (is_tail at is) =
+    let here = eq-eqb slot.fill s.tail.fill (at ∙ sym tail_is) in
+    ap (λ (t : Stack). (open_page t slot.fill).bytes) (cond-true _ _ _ here)
+    ∙ ap (λ (p : Contents). p.bytes) (cond-true _ _ _ here)
+    ∙ ap (λ (p : Contents). (with_payload p slot.place.start part).bytes) (sym is)
+page_written s slot part page tail_is (is_older k at is) =
+    let inside = slice_get_within s.older k page is in
+    let there : slot.fill - s.done ≡ k = omega arith in
+    let other = ne_eqb slot.fill s.tail.fill (λ same. omega (arith, same, tail_is)) in
+    let old : Contents = with_payload (slice_index_or s.older (slot.fill - s.done) s.tail) slot.place.start part in
+    ap (λ (t : Stack). (open_page t slot.fill).bytes) (cond-false _ _ _ other)
+    ∙ ap (λ (p : Contents). p.bytes) (cond-false _ _ _ other)
+    ∙ ap (λ (p : Contents). p.bytes) (get_or-set_same s.older (slot.fill - s.done) old s.tail (omega arith))
+    ∙ ap (λ (j : ℕ). (with_payload (slice_index_or s.older j s.tail) slot.place.start part).bytes) there
+    ∙ ap (λ (p : Contents). (with_payload p slot.place.start part).bytes) (get_or_from_slice_get s.older k page s.tail is)
 
 module _ (n size start : ℕ) (v : CoreValue) (c : Core) (core : IsCore n size start v c) (slot : Slot) (is : IsTopSlot v.stack.frames slot) where
   t : IsOnTop v.stack slot
@@ -102,3 +141,21 @@ module _ (n size start : ℕ) (v : CoreValue) (c : Core) (core : IsCore n size s
           closed = λ f low high. refl;
         };
       }
+
+  -- the slot has the room of its frame's record
+  pub slot_fits : (frame : ModelFrame) (below : List ModelFrame) (moment len : ℕ) → c.frames ≡ frame ∷ below → frame.kind ≡ for_record moment len → slot.place.len ≡ slot_len len
+  slot_fits frame below moment len top kind =
+      let (moment', len', kind', lies) = stands n size start v c core t.top t.rest slot t.stack_is t.has _ _ model_is in
+      let same : for_record moment len ≡ for_record moment' len' = sym kind ∙ same_kind frame _ below _ (sym top ∙ model_is) ∙ kind' in
+      let lens : len ≡ len' = cc in
+      lies.fills_slot ∙ ap slot_len (sym lens)
+
+  -- what is written is what then stands there
+  pub written_there : (part : List ℕ) → length part ≡ slot.place.len → top_bytes (with_slot v.stack slot part) v.stack.frames ≡ part
+  written_there part long =
+      let (moment, len, kind, lies) = stands n size start v c core t.top t.rest slot t.stack_is t.has _ _ model_is in
+      let within = place-within lies.page.bytes slot.place.start slot.place.len lies.place.place in
+      ap (λ (fs : List Frame). top_bytes (with_slot v.stack slot part) fs) t.stack_is
+      ∙ ap (bytes_of_progress (with_slot v.stack slot part)) t.has
+      ∙ ap (bytes_at slot.place.start slot.place.len) (page_written v.stack slot part lies.page core.shows.stack_is.holds.tail_is.fill_is lies.open_page)
+      ∙ overwritten_there lies.page.bytes slot.place.start slot.place.len part long within

@@ -1,6 +1,8 @@
 -- The payload of the frame on top, which a ring lends out to be written.
 use Rattle.std.specs.Prelude.{◌≡◌, ℕ, List, [], ◌∷◌, length}
 use Rattle.std.specs.Borrow.{Lends, MutBor, Fml, Array, u8}
+use Rattle.trace_model.specs.Words.{slot_len}
+use Rattle.trace_model.specs.Frames.{for_record, Frame as ModelFrame}
 use Rattle.trace_model.specs.Ring.{Core}
 use Rattle.nested_writer.specs.declared.frame.Slot.{Slot}
 use Rattle.nested_writer.specs.declared.frame.Progress.{Progress}
@@ -43,3 +45,11 @@ StaysRing v = (n size start : ℕ) (c : Core) (part : List ℕ)
     → IsCore n size start v c
     → length part ≡ length (top_bytes v.stack v.stack.frames)
     → IsCore n size start (with_top_payload v part) c
+
+-- in each state that the ring is in, the slot has just the room of the record that the frame on top was pushed for
+abbrev pub FitsFrame : CoreValue → Slot → Type 0
+FitsFrame v slot = (n size start : ℕ) (c : Core) (frame : ModelFrame) (below : List ModelFrame) (moment len : ℕ)
+    → IsCore n size start v c
+    → c.frames ≡ frame ∷ below
+    → frame.kind ≡ for_record moment len
+    → slot.place.len ≡ slot_len len

@@ -19,6 +19,7 @@ impl WriterStack {
         ensures no_frame { result ≡ Err WriteFault.NoFrame ↔ self.now.frames ≡ [] }
         ensures not_reserved { result ≡ Err WriteFault.NotReserved ↔ LacksSlot self.now.frames }
         ensures slot { IfOk result (λ slot. IsTopSlot self.now.frames slot) }
+        ensures found { (slot : Slot) → IsTopSlot self.now.frames slot → result ≡ Ok slot }
     {
         match self.top.slot() {
             Some(slot) => Ok(slot),

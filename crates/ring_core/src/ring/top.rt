@@ -8,7 +8,8 @@ impl Core {
     ghost use Rattle.std.specs.Borrow.{sem};
     ghost use Rattle.nested_writer.specs.Calls.{LacksSlot, IsTopSlot};
     ghost use Rattle.ring_core.specs.Answers.{top_bytes};
-    ghost use Rattle.ring_core.specs.Lending.{LendsSlot, StaysRing, with_slot_payload};
+    ghost use Rattle.ring_core.specs.Lending.{FitsFrame, LendsSlot, StaysRing, with_slot_payload};
+    ghost use Rattle.nested_writer.specs.Lending.{with_slot};
     ghost use Rattle.ring_core.specs.Steps.{IsRing};
 
     /// Where the record of the frame on top stands. Refused with `NoFrame` where none stands, and with `NotReserved`
@@ -18,6 +19,7 @@ impl Core {
         ensures no_frame { result ≡ Err WriteFault.NoFrame ↔ self.now.stack.frames ≡ [] }
         ensures not_reserved { result ≡ Err WriteFault.NotReserved ↔ LacksSlot self.now.stack.frames }
         ensures slot { IfOk result (λ slot. IsTopSlot self.now.stack.frames slot) }
+        ensures found { (slot : Slot) → IsTopSlot self.now.stack.frames slot → result ≡ Ok slot }
     {
         self.stack.top_slot()
     }
@@ -31,6 +33,9 @@ impl Core {
         ensures* lends { sem 𝓛 (LendsSlot self.entry slot result) }
         ensures payload { result.now ≡ top_bytes self.old.stack self.old.stack.frames }
         ensures len { length result.now ≡ slot.place.len }
+        ensures fits { FitsFrame self.old slot }
+        ensures written { (part : List ℕ) → length part ≡ slot.place.len
+            → top_bytes (with_slot self.old.stack slot part) self.old.stack.frames ≡ part }
         ensures stays { StaysRing self.old }
         ensures ring { (part : List ℕ) → length part ≡ slot.place.len → IsRing (with_slot_payload self.old slot part) }
     {
