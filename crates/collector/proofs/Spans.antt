@@ -179,6 +179,6 @@ module _ (old mid : Ranges) (low first end : ℕ) (up : low ≤ first) (on : fir
       → Updates nat_cmp refused.spans new.spans low None → TellSame old new
   undone refused new some same removed = keys_tell_same old new (λ q. ⊎_elim
       (λ (e : q ≡ low). ap (λ (k : ℕ). get nat_cmp new.spans k) e ∙ removed.1
-          ∙ sym (ap (λ (k : ℕ). get nat_cmp old.spans k) e ∙ free.none low (omega arith) (omega arith)))
+      ∙ sym (ap (λ (k : ℕ). get nat_cmp old.spans k) e ∙ free.none low (omega arith) (omega arith)))
       (λ (apart : q ≡ low → ⊥). others_stay refused.spans new.spans low None removed q apart ∙ same q ∙ others q (λ _. apart))
       (cases_eq q low))

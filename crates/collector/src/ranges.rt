@@ -221,13 +221,7 @@ impl Ranges {
     }
 
     /// Tells of free numbers what `lay` does.
-    fn lay_free(
-        &mut self,
-        low: u64,
-        first: u64,
-        end: u64,
-        parcel: usize,
-    ) -> Result<(), NoMemory>
+    fn lay_free(&mut self, low: u64, first: u64, end: u64, parcel: usize) -> Result<(), NoMemory>
         requires apart { AreApart self.old }
         requires low { low ≤ first }
         requires forward { first ≤ end }

@@ -18,5 +18,5 @@ loop-ranges-preserved c =
     let is : x ≡ get_or xs k x = c.ranges-item.is ∙ ap (λ (zs : List Ranges). get_or zs k x) items in
     let more : take k xs ++ x ∷ [] ≡ take (k + 1) xs = ap (λ (z : Ranges). take k xs ++ z ∷ []) is ∙ sym (take_more xs k x within) in
     let zipped : AllZip IsCopy (take (k + 1) xs) (ys ++ y ∷ []) = subst (λ (zs : List Ranges). AllZip IsCopy zs (ys ++ y ∷ [])) more
-        (all_zipped_more IsCopy (take k xs) ys x y c.loop-ranges.invariant c.in_ok-copied.ensures) in
+    (all_zipped_more IsCopy (take k xs) ys x y c.loop-ranges.invariant c.in_ok-copied.ensures) in
     subst (λ (zs : List Ranges). AllZip IsCopy (take (k + 1) xs) zs) (sym c.in_ok-push.ensures.items) zipped
