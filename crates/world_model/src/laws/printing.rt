@@ -1,15 +1,24 @@
-//! What is printed of a world, by an example.
-ghost use Rattle.std.specs.Prelude.{◌≡◌, ◌++◌, [], ◌∷◌, true, codes};
-ghost use Rattle.text_model.specs.Log.{asks};
-ghost use Rattle.world_model.specs.Printing.{printed_world};
+//! What is printed of a world, by its texts.
+ghost use Rattle.std.specs.Prelude.{◌≡◌, ℕ, ◌++◌, List, [], ◌∷◌, true, false, flat_map, codes, decimal};
+ghost use Rattle.text_model.specs.Text.{hex_text};
+ghost use Rattle.text_model.specs.Log.{LogLine};
+ghost use Rattle.text_model.specs.Printing.{printed_log_line};
+ghost use Rattle.world_model.specs.Printing.{Shown, printed_line, printed_missing, printed_runs, printed_collector, printed_world};
 
-/// A log of one line, and two collectors: one with a record and a run of missing numbers, the other empty.
-pub fn a_world_is_printed_so()
-    ensures { printed_world true (asks 7 0 2 ∷ [])
-        (record {
-          lines = record { moment = 100; cpu = 0; number = 3; bytes = 1 ∷ 255 ∷ [] } ∷ [];
-          runs = ((0, 2) ∷ []) ∷ [];
-        } ∷ record { lines = []; runs = [] } ∷ [])
-        ≡ codes "7 c0 asks 2" ++ 10 ∷ codes "collector 0" ++ 10 ∷ codes "0 3 100 01ff" ++ 10 ∷ codes "missing 0 0-2"
-        ++ 10 ∷ codes "collector 1" ++ 10 ∷ [] }
+/// The lines of a collector, and what a replay prints: its log, if it is asked for, and its collectors in their order.
+pub fn printed_texts_are()
+    ensures line { (moment cpu number : ℕ) (bytes : List ℕ) →
+        printed_line (record { moment = moment; cpu = cpu; number = number; bytes = bytes })
+        ≡ decimal cpu ++ codes " " ++ decimal number ++ codes " " ++ decimal moment ++ codes " " ++ hex_text bytes
+        ++ 10 ∷ [] }
+    ensures missing { (cpu first last : ℕ) → printed_missing cpu (first, last)
+        ≡ codes "missing " ++ decimal cpu ++ codes " " ++ decimal first ++ codes "-" ++ decimal last ++ 10 ∷ [] }
+    ensures runs { (one other : List (ℕ × ℕ)) → printed_runs (one ∷ other ∷ [])
+        ≡ flat_map (printed_missing 0) one ++ (flat_map (printed_missing 1) other ++ []) }
+    ensures collector { (collector : ℕ) (shown : Shown) → printed_collector collector shown
+        ≡ codes "collector " ++ decimal collector ++ 10 ∷ flat_map printed_line shown.lines
+        ++ printed_runs shown.runs }
+    ensures world { (log : List LogLine) (one other : Shown) → printed_world false log (one ∷ other ∷ [])
+        ≡ printed_collector 0 one ++ (printed_collector 1 other ++ []) }
+    ensures logged { (log : List LogLine) → printed_world true log [] ≡ flat_map printed_log_line log ++ [] }
 {}
