@@ -1,9 +1,9 @@
 -- The script text: what script a text spells as a whole, or which of its lines is the first at fault.
 -- After docs/FORMATS.md, "Script".
 use Rattle.std.specs.Prelude.{◌≡◌, ℕ, ◌+◌, ◌-◌, ◌⊎◌, ⊤, Bool, IsTrue, false, ◌&&◌, if◌then◌else◌, nat_le, List, [], ◌∷◌, ◌++◌, length, codes, bytes_eq, Result, Ok, Err}
-use Rattle.trace_model.specs.declared.limits.TheConstants.{MIN_PAGES, MAX_PAGES, MIN_SIZE, MAX_SIZE, START_FILL, LINK_FILLS}
+use Rattle.trace_model.specs.declared.limits.TheConstants.{START_FILL, LINK_FILLS}
 use Rattle.text_model.specs.Text.{lines_of, fields_of, is_well_spaced}
-use Rattle.text_model.specs.Script.{LineFault, bad_line, bad_number, bad_hex, out_of_range, ◌>>=◌, decimal_in, payload_in, number_below, cpu_in, Setting, pages_setting, size_setting, value_in, NumberedLine, significant_lines, GiveSettings, IsFaultySetting, IsMissingSetting}
+use Rattle.text_model.specs.Script.{LineFault, bad_line, out_of_range, ◌>>=◌, decimal_in, payload_in, number_below, cpu_in, Setting, pages_setting, size_setting, value_in, NumberedLine, significant_lines, GiveSettings, IsFaultySetting, IsMissingSetting}
 use Rattle.script_model.specs.declared.script_limits.TheConstants.{MIN_SCRIPT_CPUS, MAX_SCRIPT_CPUS, MIN_SCRIPT_COLLECTORS, MAX_SCRIPT_COLLECTORS, MIN_LINE_STEPS, MAX_LINE_STEPS}
 
 -- What a line of a script asks for, of a CPU's ring or of a collector. begin_frame: a record frame of this moment and
@@ -166,6 +166,11 @@ are_of_start _ = false
 unfoldable pub is_start_line : List ℕ → Bool
 is_start_line line = is_well_spaced (fields_of line) && are_of_start (fields_of line)
 
+-- the first of these lines, if there is one, is no start line
+abbrev pub BeginsNoStart : List NumberedLine → Type 0
+BeginsNoStart [] = ⊤
+BeginsNoStart (line ∷ lines) = is_start_line line.1 ≡ false
+
 -- What stands between the four settings and the commands, for rings of so many pages: a start line with this value,
 -- or nothing, where the first fill is the one that is meant without it.
 abbrev pub GivesStart : ℕ → List NumberedLine → ℕ → Type 0
@@ -233,3 +238,14 @@ FirstScriptFault text number fault =
     × (fault ≡ bad_line))
     ⊎ IsFaultyStart (significant_lines text) number fault
     ⊎ IsFaultyCommand (significant_lines text) number fault
+
+-- The one text has no start line behind the four lines of its header, and the other has `start 0` there. All other
+-- significant lines are the same in both, and their numbers too.
+pub record AddsStartZero (text other : List ℕ) : Type 0 where
+  pub header : List NumberedLine
+  pub number : ℕ
+  pub behind : List NumberedLine
+  pub whole_header : length header ≡ length header_settings
+  pub no_start : BeginsNoStart behind
+  pub without : significant_lines text ≡ header ++ behind
+  pub with_zero : significant_lines other ≡ header ++ (number, codes "start 0") ∷ behind

@@ -1,6 +1,6 @@
 -- The plain reader of a script, line by line from the front. What it gives is tied to the definition
 -- of whole texts in Script by the laws.
-use Rattle.std.specs.Prelude.{ℕ, if◌then◌else◌, List, [], ◌∷◌, slice_index, Result, Ok, Err}
+use Rattle.std.specs.Prelude.{ℕ, if◌then◌else◌, List, [], ◌∷◌, slice_index, Result, Ok}
 use Rattle.trace_model.specs.declared.limits.TheConstants.{START_FILL}
 use Rattle.text_model.specs.Script.{LineFault, ◌>>=◌, NumberedLine, value_in}
 use Rattle.text_model.specs.ScriptReading.{significant_lines_after, end_line_after, numbered_reading, settings_from}

@@ -2,7 +2,7 @@
 ghost use Rattle.std.specs.Prelude.{◌≡◌, ℕ, ◌+◌, ◌^◌, ◌≤◌, ◌⊎◌, ◌↔◌, List, length, Ok, Err};
 ghost use Rattle.std.specs.List.{enumerate_from};
 ghost use Rattle.text_model.specs.Script.{LineFault};
-ghost use Rattle.script_model.specs.Script.{Command, Script, ParsesScript, FirstScriptFault, command_of, command_in, header_settings, SpellsCommand};
+ghost use Rattle.script_model.specs.Script.{Command, Script, ParsesScript, FirstScriptFault, AddsStartZero, command_of, command_in, header_settings, SpellsCommand};
 ghost use Rattle.script_model.specs.ScriptLimits.{IsCommandWithin, IsWithinLimits};
 ghost use Rattle.script_model.specs.ScriptWriting.{command_text, script_text};
 ghost use Rattle.script_model.specs.ScriptReading.{script_in};
@@ -61,4 +61,12 @@ pub fn script_reads_back()
     ensures { (script : Script) (commands : List Command) → IsWithinLimits script →
         script.commands ≡ enumerate_from (length header_settings + 2) commands →
         ParsesScript (script_text script) script }
+{}
+
+/// Without a start line a text means the same as with `start 0` in its place: the same script, or the same fault.
+pub fn start_zero_is_meant()
+    ensures script { (text other : List ℕ) (script : Script) → AddsStartZero text other →
+        (ParsesScript text script ↔ ParsesScript other script) }
+    ensures fault { (text other : List ℕ) (number : ℕ) (fault : LineFault) → AddsStartZero text other →
+        (FirstScriptFault text number fault ↔ FirstScriptFault other number fault) }
 {}

@@ -1,0 +1,10 @@
+pub mod Readings
+pub mod CommandTable
+pub mod FieldLimits
+pub mod ParsedLimits
+pub mod StartLines
+pub mod ScriptLemmas
+pub mod ScriptReads
+pub mod FieldTexts
+pub mod ScriptWrites
+pub mod StartZero
