@@ -1,10 +1,11 @@
 -- What pairs of hexadecimal digits spell, digit by digit.
-use Rattle.std.proofs.Common.{◌≡◌, ◌≢◌, ℕ, suc, zero, ◌+◌, ◌*◌, ◌%◌, ◌<◌, ◌≤◌, ◌⊎◌, ◌&&◌, Bool, true, false, ◌==◌, ltb, List, [], ◌∷◌, ◌++◌, length, get_or, take, drop, codes, Result, Ok, Err, refl, ◌∙◌, ap, inl, inr, arith, length-drop}
+use Rattle.std.proofs.Common.{◌≡◌, ◌≢◌, ℕ, suc, zero, ◌+◌, ◌*◌, ◌%◌, ◌<◌, ◌≤◌, ◌⊎◌, ◌&&◌, Bool, true, false, ◌==◌, cond, List, [], ◌∷◌, ◌++◌, length, get_or, take, drop, codes, Result, Ok, Err, refl, ◌∙◌, ap, inl, inr, arith, length-drop}
 use Rattle.std.specs.Char.{digit_value, is_digit}
 use Rattle.std.specs.List.{list_all, enumerate_from}
 use Rattle.std.specs.Str.{bytes_eq}
 use Rattle.std.proofs.lemmas.Bool.{ltb-true, lt-ltb, eqb-true, eqb-false, eq-eqb, and_from, and_parts, or_right, or_cases, both_ways, cond-true, cond-false, false_from_ne_true}
-use Rattle.std.proofs.lemmas.List.{append-nil, drop_all}
+use Rattle.std.proofs.Math.Seq.{take-append_seam}
+use Rattle.std.proofs.lemmas.List.{append-nil, take_all, drop_all}
 use Rattle.std.proofs.lemmas.List.Folds.{list_all_more}
 use Rattle.std.proofs.lemmas.Slice.Eq.{bytes_eq-Decides}
 use Rattle.text_model.specs.Text.{is_hex, bytes_of_pairs}
@@ -76,6 +77,11 @@ pub over_all : (bytes new : List ℕ) (start k : ℕ) → length bytes ≤ start
 over_all bytes new start k all =
     let none : drop k (drop start bytes) ≡ [] = drop_all k (drop start bytes) (omega (arith, length-drop start bytes)) in
     ap (λ (bs : List ℕ). take start bytes ++ (new ++ bs)) none ∙ ap (λ (bs : List ℕ). take start bytes ++ bs) (append-nil new)
+
+-- what is put behind the first bytes, or not, leaves them there
+pub front_kept : (old more bytes : List ℕ) (start : ℕ) (put : Bool) → bytes ≡ cond put (old ++ more) old → start ≡ length old → take start bytes ≡ old
+front_kept old more bytes start true is at = ap (take start) is ∙ ap (λ (n : ℕ). take n (old ++ more)) at ∙ take-append_seam old more
+front_kept old more bytes start false is at = ap (take start) is ∙ take_all start old (omega (arith, at))
 
 -- ---- a payload
 pub payload_read : (text : List ℕ) → (length text == 0) ≡ false → length text % 2 ≡ 0 → list_all (λ c. is_digit c 16) text ≡ true → payload_in text ≡ Ok (bytes_of_pairs text)

@@ -9,19 +9,19 @@ use Rattle.script_reader.proofs.commands.Commands.line.Goals as goal
 pub index-line-requires : goal.index-line-requires
 index-line-requires c = omega (arith, c.self.inside.lines.ok.0, length-commands_kept c.self.inside.payloads.items 0 c.self.inside.lines.items, ap (λ (cs : List (ℕ × Command)). length cs) c.self.view_is)
 
-pub payload_start-requires : goal.payload_start-requires
-payload_start-requires c = omega (arith, ap (λ (ls : List KeptLine). length ls) c.as_slice.ensures.value, length-commands_kept c.self.inside.payloads.items 0 c.self.inside.lines.items, ap (λ (cs : List (ℕ × Command)). length cs) c.self.view_is)
+pub payload_start-start-requires : goal.payload_start-start-requires
+payload_start-start-requires c = omega (arith, ap (λ (ls : List KeptLine). length ls) c.as_slice.ensures.value, length-commands_kept c.self.inside.payloads.items 0 c.self.inside.lines.items, ap (λ (cs : List (ℕ × Command)). length cs) c.self.view_is)
 
-pub part_of-requires-clause-order : goal.part_of-requires-clause-order
-part_of-requires-clause-order c =
+pub part_of-payload-requires-clause-order : goal.part_of-payload-requires-clause-order
+part_of-payload-requires-clause-order c =
     let below : c.args.index < length c.self.inside.lines.items = omega (arith, length-commands_kept c.self.inside.payloads.items 0 c.self.inside.lines.items, ap (λ (cs : List (ℕ × Command)). length cs) c.self.view_is) in
     let within = payload_within 0 (length c.self.inside.payloads.items) c.self.inside.lines.items c.args.index c.index-line.result.now c.self.invariant below in
     let at : c.index-line.result.now.end ≡ (get_or c.self.inside.lines.items c.args.index c.index-line.result.now).end = ap (λ (l : KeptLine). l.end) c.index-line.ensures in
     let start : c.payload_start-start.result ≡ start_of 0 c.self.inside.lines.items c.args.index = c.payload_start-start.ensures ∙ ap (λ (ls : List KeptLine). start_of 0 ls c.args.index) c.as_slice.ensures.value in
     omega (arith, within.0, at, start)
 
-pub part_of-requires-clause-within : goal.part_of-requires-clause-within
-part_of-requires-clause-within c =
+pub part_of-payload-requires-clause-within : goal.part_of-payload-requires-clause-within
+part_of-payload-requires-clause-within c =
     let below : c.args.index < length c.self.inside.lines.items = omega (arith, length-commands_kept c.self.inside.payloads.items 0 c.self.inside.lines.items, ap (λ (cs : List (ℕ × Command)). length cs) c.self.view_is) in
     let within = payload_within 0 (length c.self.inside.payloads.items) c.self.inside.lines.items c.args.index c.index-line.result.now c.self.invariant below in
     let at : c.index-line.result.now.end ≡ (get_or c.self.inside.lines.items c.args.index c.index-line.result.now).end = ap (λ (l : KeptLine). l.end) c.index-line.ensures in
