@@ -1,5 +1,5 @@
 -- The commands of a script as they are kept, one more and one of them.
-use Rattle.std.proofs.Common.{◌≡◌, ℕ, suc, zero, ◌+◌, ◌-◌, ◌<◌, ◌≤◌, List, [], ◌∷◌, ◌++◌, length, get_or, take, drop, Some, refl, sym, ◌∙◌, ap, subst, arith, length-append, length-drop}
+use Rattle.std.proofs.Common.{◌≡◌, ℕ, suc, zero, ◌-◌, ◌<◌, ◌≤◌, List, [], ◌∷◌, ◌++◌, length, get_or, take, drop, Some, refl, sym, ◌∙◌, ap, subst, arith, length-append, length-drop}
 use Rattle.std.specs.List.{slice_get}
 use Rattle.std.proofs.Math.Seq.{drop-append_seam}
 use Rattle.std.proofs.lemmas.List.{take-append-le, take_all, drop-append-le}
@@ -43,7 +43,7 @@ line_kept bytes after more lines all line put is end kept =
     let there : line.end ≡ length (bytes ++ more) = end ∙ ap (λ (bs : List ℕ). length bs) put in (
       ap (λ (bs : List ℕ). commands_kept bs 0 all) put ∙ ap (commands_kept (bytes ++ more) 0) is ∙ commands_push bytes more 0 lines line kept there,
       subst (λ (ls : List KeptLine). AreKept 0 (length after) ls) (sym is)
-      (subst (λ (n : ℕ). AreKept 0 n (lines ++ line ∷ [])) end (kept_push 0 (length bytes) lines line kept (omega (arith, there, length-append bytes more)))),
+          (subst (λ (n : ℕ). AreKept 0 n (lines ++ line ∷ [])) end (kept_push 0 (length bytes) lines line kept (omega (arith, there, length-append bytes more)))),
     )
 
 -- ---- one of them

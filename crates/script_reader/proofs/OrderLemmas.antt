@@ -2,10 +2,9 @@
 use Rattle.std.proofs.Common.{◌≡◌, ◌≢◌, ◌==◌, ℕ, ◌+◌, ◌-◌, ◌<◌, ◌⊎◌, Bool, true, false, cond, ltb, leb, ◌&&◌, List, [], ◌∷◌, ◌++◌, length, take, drop, codes, Option, Some, None, Result, Ok, Err, refl, sym, ◌∙◌, ap, subst, inl, inr, arith}
 use Rattle.std.specs.Prelude.{⊤}
 use Rattle.std.specs.Char.{is_digit, is_ascii_digit}
-use Rattle.std.specs.List.{list_all, slice_split, position, All, AllByRecursion}
-use Rattle.std.specs.Str.{all_ascii_digits, bytes_eq}
+use Rattle.std.specs.List.{list_all, position, All, AllByRecursion}
+use Rattle.std.specs.Str.{all_ascii_digits}
 use Rattle.std.proofs.lemmas.Bool.{cond-true, cond-false, and_from, and_parts, or_cases, both_ways, cases_Bool, lt-ltb, ltb-true, eqb-true, ne_eqb, false_from_ne_true}
-use Rattle.std.proofs.lemmas.List.{append-nil}
 use Rattle.std.proofs.lemmas.List.Elements.{All-from_recursion, All-cons, All-nil}
 use Rattle.std.proofs.lemmas.List.Splits.{slice_split_none, length-slice_split}
 use Rattle.std.proofs.lemmas.Slice.Eq.{bytes_eq-Decides}
@@ -19,16 +18,11 @@ use Rattle.script_reader.specs.declared.fault.LineFault as line
 use Rattle.script_reader.specs.declared.order.Order.{Order}
 use Rattle.script_reader.specs.declared.fields.Fields.{Fields}
 use Rattle.script_reader.specs.declared.fields.Fields.TheVariants.{One, Two, Three, More}
-use Rattle.script_reader.specs.Kept.{shown_order, PutsCommand}
-use Rattle.script_reader.specs.ScriptFaults.{Fails, Gives}
+use Rattle.script_reader.specs.Kept.{shown_order}
+use Rattle.script_reader.specs.ScriptFaults.{Fails}
 use Rattle.script_reader.specs.ScriptFields.{fields_seen, AreFields, IsWhole}
 use Rattle.script_reader.proofs.TextParts.{parts_behind, one_part}
 use Rattle.script_reader.proofs.ValueLemmas.{decimal_parts}
-
--- a command without a payload puts none
-pub puts_nothing : (r : Result Order line.LineFault) (old : List ℕ) (read : Result Command LineFault) → Gives (shown_order []) r read → PutsCommand r old old read
-puts_nothing (Ok order) old read h = ([], sym (append-nil old), h)
-puts_nothing (Err fault) old read h = h
 
 -- ---- a field with a byte in it, and no space
 pub record IsSolid (field : List ℕ) : Type 0 where
@@ -44,6 +38,7 @@ all_solid p text other h = All-from_recursion (λ b. (b == 32) ≡ false) text (
   where
     one : (b : ℕ) → p b ≡ true → (b == 32) ≡ false
     one b is = false_from_ne_true (b == 32) (λ same. both_ways (p b) (ap p (eqb-true b 32 same) ∙ other) is)
+
     each : (text : List ℕ) → list_all p text ≡ true → AllByRecursion (λ b. (b == 32) ≡ false) text
     each [] h = tt
     each (b ∷ text) h = let parts = and_parts _ _ h in (one b parts.0, each text parts.1)

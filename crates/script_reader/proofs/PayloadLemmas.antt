@@ -1,5 +1,5 @@
 -- What pairs of hexadecimal digits spell, digit by digit.
-use Rattle.std.proofs.Common.{◌≡◌, ◌≢◌, ℕ, suc, zero, ◌+◌, ◌*◌, ◌%◌, ◌<◌, ◌≤◌, ◌⊎◌, ◌&&◌, Bool, true, false, ◌==◌, cond, List, [], ◌∷◌, ◌++◌, length, get_or, take, drop, codes, Result, Ok, Err, refl, ◌∙◌, ap, inl, inr, arith, length-drop}
+use Rattle.std.proofs.Common.{◌≡◌, ◌≢◌, ℕ, suc, zero, ◌+◌, ◌*◌, ◌%◌, ◌<◌, ◌≤◌, ◌⊎◌, Bool, true, false, ◌==◌, cond, List, [], ◌∷◌, ◌++◌, length, get_or, take, drop, codes, Ok, Err, refl, ◌∙◌, ap, inl, inr, arith, length-drop}
 use Rattle.std.specs.Char.{digit_value, is_digit}
 use Rattle.std.specs.List.{list_all, enumerate_from}
 use Rattle.std.specs.Str.{bytes_eq}
@@ -9,7 +9,7 @@ use Rattle.std.proofs.lemmas.List.{append-nil, take_all, drop_all}
 use Rattle.std.proofs.lemmas.List.Folds.{list_all_more}
 use Rattle.std.proofs.lemmas.Slice.Eq.{bytes_eq-Decides}
 use Rattle.text_model.specs.Text.{is_hex, bytes_of_pairs}
-use Rattle.text_model.specs.Script.{LineFault, bad_hex, payload_in}
+use Rattle.text_model.specs.Script.{bad_hex, payload_in}
 use Rattle.script_reader.specs.declared.payload.TheConstants.{DIGIT_VALUES}
 
 -- ---- the table
@@ -46,6 +46,7 @@ pair_later a b digits k =
   where
     twice : (k : ℕ) → 2 * suc k ≡ suc (suc (2 * k))
     twice k = omega arith
+
     twice_more : (k : ℕ) → 2 * suc k + 1 ≡ suc (suc (2 * k + 1))
     twice_more k = omega arith
 

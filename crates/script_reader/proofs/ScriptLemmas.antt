@@ -1,7 +1,6 @@
 -- What the reader's functions answer, in the words of the plain reader.
-use Rattle.std.proofs.Common.{◌≡◌, ◌≢◌, ◌==◌, ℕ, Bool, true, false, ◌&&◌, List, [], ◌∷◌, ◌++◌, length, codes, Bor, Result, Ok, Err, IfOk, IfErr, refl, sym, ◌∙◌, ap, subst, arith, append_assoc}
-use Rattle.std.specs.Str.{bytes_eq}
-use Rattle.std.proofs.lemmas.Bool.{cond-true, cond-false, and_parts, both_ways, false_from_ne_true}
+use Rattle.std.proofs.Common.{◌≡◌, ◌≢◌, ◌==◌, ℕ, true, false, List, [], ◌∷◌, ◌++◌, length, Bor, Result, Ok, Err, IfOk, IfErr, refl, sym, ◌∙◌, ap, subst, arith, append_assoc}
+use Rattle.std.proofs.lemmas.Bool.{cond-true, cond-false}
 use Rattle.std.proofs.lemmas.List.{append-nil}
 use Rattle.std.proofs.lemmas.List.Splits.{length-slice_split}
 use Rattle.trace_model.specs.declared.limits.TheConstants.{START_FILL}
@@ -20,7 +19,7 @@ use Rattle.script_reader.specs.declared.fault.ScriptFault.TheVariants as scripts
 use Rattle.script_reader.specs.declared.fields.Fields.{Fields}
 use Rattle.script_reader.specs.declared.fields.Fields.TheVariants.{One, Two, Three, More}
 use Rattle.script_reader.specs.declared.order.Order.{Order}
-use Rattle.script_reader.specs.Kept.{shown_order, PutsCommand, PutsCommandAt}
+use Rattle.script_reader.specs.Kept.{PutsCommand, PutsCommandAt}
 use Rattle.script_reader.specs.ScriptFaults.{Fails, Gives, FailsAt, GivesAt, HasScriptHeader, TellsFirstFault, fault_at, reading_at}
 use Rattle.script_reader.specs.ScriptFields.{AreFields}
 

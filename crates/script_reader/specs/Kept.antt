@@ -50,10 +50,13 @@ PutsPayload (Err fault) old new read = Fails fault read
 
 -- the same of a whole command
 abbrev pub PutsCommand : Result Order LineFault → List ℕ → List ℕ → Result model.Command text.LineFault → Type 0
-PutsCommand (Ok order) old new read = (payload : List ℕ) × (new ≡ old ++ payload) × (read ≡ Ok (shown_order payload order))
+PutsCommand (Ok order) old new read =
+    (payload : List ℕ) × (new ≡ old ++ payload) × (read ≡ Ok (shown_order payload order))
 PutsCommand (Err fault) old new read = Fails fault read
 
 -- the same, with the number of the line
-abbrev pub PutsCommandAt : Result Order ScriptFault → List ℕ → List ℕ → Result model.Command (ℕ × text.LineFault) → Type 0
-PutsCommandAt (Ok order) old new read = (payload : List ℕ) × (new ≡ old ++ payload) × (read ≡ Ok (shown_order payload order))
+abbrev pub PutsCommandAt : Result Order ScriptFault → List ℕ → List ℕ
+    → Result model.Command (ℕ × text.LineFault) → Type 0
+PutsCommandAt (Ok order) old new read =
+    (payload : List ℕ) × (new ≡ old ++ payload) × (read ≡ Ok (shown_order payload order))
 PutsCommandAt (Err fault) old new read = FailsAt fault read

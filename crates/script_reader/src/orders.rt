@@ -80,12 +80,7 @@ fn write_in(
 
 /// The command of two fields.
 #[tactic(auto, unfolding(script_model::specs::Script::command_of, script_model::specs::Script::of_cpu))]
-fn order_of_two(
-    cpus: u32,
-    collectors: u16,
-    first: &[u8],
-    second: &[u8],
-) -> Result<Order, LineFault>
+fn order_of_two(cpus: u32, collectors: u16, first: &[u8], second: &[u8]) -> Result<Order, LineFault>
     ensures gives { Gives (shown_order []) result
         (command_of cpus collectors (first.now ∷ second.now ∷ [])) }
     ensures never_out_of_memory { result ≢ Err LineFault.NoMemory }

@@ -88,10 +88,7 @@ fn a_header_fault_is_that_of_its_first_wrong_line(rt: HostRuntime) -> Result<(),
             b"pages 2\nsize 32\ncpus 256\ncollectors 17\n",
             "line 4: OutOfRange\n",
         ),
-        (
-            b"pages 2\nsize 32\ncpus 256\ncollectors 16\n",
-            "a script\n",
-        ),
+        (b"pages 2\nsize 32\ncpus 256\ncollectors 16\n", "a script\n"),
         (b"pages 2\n\n# a\nsize -\n", "line 4: BadNumber\n"),
         (b"\xff\xfe\x00", "line 1: BadLine\n"),
         (
@@ -329,7 +326,13 @@ fn a_script_keeps_its_commands_with_their_lines(rt: HostRuntime) -> Result<(), F
     for (index, (number, command)) in want.iter().enumerate() {
         assert!(rt; index < script.commands.len());
         let line = script.commands.line(index);
-        assert_eq!(rt; line, ScriptLine { number: *number, command: *command });
+        assert_eq!(rt;
+            line,
+            ScriptLine {
+                number: *number,
+                command: *command
+            }
+        );
     }
     Ok(())
 }

@@ -1,4 +1,4 @@
-use Rattle.std.proofs.Common.{◌≡◌, ◌≢◌, ◌<◌, length, arith, get_or-set_other, get_or-set_same, below_more}
+use Rattle.std.proofs.Common.{◌≢◌, ◌<◌, length, arith, get_or-set_other, get_or-set_same, below_more}
 use Rattle.script_reader.proofs.PayloadLemmas.{digits_turn, bytes_are}
 use Rattle.script_reader.proofs.payload.decode.Goals as goal
 

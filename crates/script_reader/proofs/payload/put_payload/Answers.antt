@@ -21,8 +21,8 @@ returns c =
     let front = front_kept c.args.payloads.now.items _ c.extend_from_slice.new.self.items c.len-start.result _ c.extend_from_slice.ensures.items (c.len-start.ensures ∙ c.args.payloads.now.ok.0) in (
       bytes_of_pairs c.args.field.now,
       with_items_is c.extend_from_slice.new.self c.decode_behind.new.bytes (omega (arith, c.as_mut_slice.ensures.len))
-      ∙ c.decode_behind.ensures.bytes c.if-not-decode_behind.false
-      ∙ ap (λ (bs : List ℕ). take c.len-start.result bs ++ bytes_of_pairs c.args.field.now) c.as_mut_slice.ensures.value
-      ∙ ap (λ (bs : List ℕ). bs ++ bytes_of_pairs c.args.field.now) front,
+          ∙ c.decode_behind.ensures.bytes c.if-not-decode_behind.false
+          ∙ ap (λ (bs : List ℕ). take c.len-start.result bs ++ bytes_of_pairs c.args.field.now) c.as_mut_slice.ensures.value
+          ∙ ap (λ (bs : List ℕ). bs ++ bytes_of_pairs c.args.field.now) front,
       payload_read c.args.field.now (sym c.is_empty.ensures ∙ c.if-is_empty.false) (omega arith) (sym c.decode_behind.ensures.digits ∙ c.if-not-decode_behind.false),
     )

@@ -1,4 +1,4 @@
-use Rattle.std.proofs.Common.{List, ℕ, Ok, Result, sym, ◌∙◌, ap}
+use Rattle.std.proofs.Common.{Ok, sym, ◌∙◌, ap}
 use Rattle.std.proofs.lemmas.Result.{err_from_is_err_and}
 use Rattle.script_reader.specs.Kept.{shown_order}
 use Rattle.script_reader.proofs.KeptLemmas.{line_kept}
