@@ -1,0 +1,7 @@
+pub mod TextParts
+pub mod FieldLemmas
+pub mod ValueLemmas
+pub mod PayloadLemmas
+pub mod KeptLemmas
+pub mod OrderLemmas
+pub mod ScriptLemmas

@@ -1,0 +1,4 @@
+pub mod Kept
+pub mod ScriptFaults
+pub mod ScriptFields
+pub mod ScriptTypes

@@ -1,0 +1,72 @@
+-- What the script's reader says of a fault, in the words of text_model.
+use Rattle.std.specs.Prelude.{◌≡◌, ℕ, ⊤, List, ◌++◌, codes, Result, Ok, Err}
+use Rattle.text_model.specs.Script as model
+use Rattle.text_model.specs.Script.{NumberedLine, GiveSettings, significant_lines, bad_line, bad_number, bad_hex, out_of_range, fault_text}
+use Rattle.script_model.specs.Script.{FirstScriptFault, header_settings}
+use Rattle.script_reader.specs.declared.fault.LineFault.{LineFault}
+use Rattle.script_reader.specs.declared.fault.LineFault.TheVariants as line
+use Rattle.script_reader.specs.declared.fault.ScriptFault.{ScriptFault}
+use Rattle.script_reader.specs.declared.fault.ScriptFault.TheVariants as script
+
+-- the fault of the line of this number
+abbrev pub fault_at : ℕ → LineFault → ScriptFault
+fault_at number line.BadLine = script.BadLine number
+fault_at number line.BadNumber = script.BadNumber number
+fault_at number line.BadHex = script.BadHex number
+fault_at number line.OutOfRange = script.OutOfRange number
+fault_at number line.NoMemory = script.NoMemory
+
+-- what was read of the line of this number
+abbrev pub reading_at : {X : Type 0} → ℕ → Result X LineFault → Result X ScriptFault
+reading_at number (Ok x) = Ok x
+reading_at number (Err fault) = Err (fault_at number fault)
+
+-- the reading of a line has this fault, unless memory ran out
+abbrev pub Fails : {X : Type 0} → LineFault → Result X model.LineFault → Type 0
+Fails line.BadLine read = read ≡ Err bad_line
+Fails line.BadNumber read = read ≡ Err bad_number
+Fails line.BadHex read = read ≡ Err bad_hex
+Fails line.OutOfRange read = read ≡ Err out_of_range
+Fails line.NoMemory read = ⊤
+
+-- what a function returned, seen by view, is the reading of a line, unless memory ran out
+abbrev pub Gives : {X Y : Type 0} → (X → Y) → Result X LineFault → Result Y model.LineFault → Type 0
+Gives view (Ok x) read = read ≡ Ok (view x)
+Gives view (Err fault) read = Fails fault read
+
+-- the reading of lines has this fault first, unless memory ran out
+abbrev pub FailsAt : {X : Type 0} → ScriptFault → Result X (ℕ × model.LineFault) → Type 0
+FailsAt (script.BadLine number) read = read ≡ Err (number, bad_line)
+FailsAt (script.BadNumber number) read = read ≡ Err (number, bad_number)
+FailsAt (script.BadHex number) read = read ≡ Err (number, bad_hex)
+FailsAt (script.OutOfRange number) read = read ≡ Err (number, out_of_range)
+FailsAt script.NoMemory read = ⊤
+
+-- what a function returned, seen by view, is the reading of lines, unless memory ran out
+abbrev pub GivesAt : {X Y : Type 0} → (X → Y) → Result X ScriptFault → Result Y (ℕ × model.LineFault) → Type 0
+GivesAt view (Ok x) read = read ≡ Ok (view x)
+GivesAt view (Err fault) read = FailsAt fault read
+
+-- this is the first fault of the text, or memory ran out
+abbrev pub TellsFirstFault : List ℕ → ScriptFault → Type 0
+TellsFirstFault text (script.BadLine number) = FirstScriptFault text number bad_line
+TellsFirstFault text (script.BadNumber number) = FirstScriptFault text number bad_number
+TellsFirstFault text (script.BadHex number) = FirstScriptFault text number bad_hex
+TellsFirstFault text (script.OutOfRange number) = FirstScriptFault text number out_of_range
+TellsFirstFault text script.NoMemory = ⊤
+
+-- the first significant lines of the text are the header of a script
+pub record HasScriptHeader (text : List ℕ) : Type 0 where
+  pub header : List NumberedLine
+  pub behind : List NumberedLine
+  pub cut : significant_lines text ≡ header ++ behind
+  pub values : List ℕ
+  pub settings : GiveSettings header header_settings values
+
+-- how a fault is told, the end of the line aside
+abbrev pub script_fault_text : ScriptFault → List ℕ
+script_fault_text (script.BadLine number) = fault_text number bad_line
+script_fault_text (script.BadNumber number) = fault_text number bad_number
+script_fault_text (script.BadHex number) = fault_text number bad_hex
+script_fault_text (script.OutOfRange number) = fault_text number out_of_range
+script_fault_text script.NoMemory = codes "memory"

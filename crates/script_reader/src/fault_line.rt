@@ -1,0 +1,37 @@
+//! The printing of a script's fault.
+ghost use Rattle.std.specs.Prelude.{◌≡◌, ◌∷◌, [], ◌++◌, OnOk, codes};
+ghost use Rattle.std.specs.Fmt.{decimal};
+ghost use Rattle.script_reader.specs.ScriptFaults.{script_fault_text};
+
+use crate::fault::ScriptFault;
+use itoa::Buffer;
+use trace_model::NoMemory;
+
+// On an error these may leave a part of what they put, in a text that the caller drops.
+
+/// Puts the number of a line and the name of its fault.
+fn put_line_fault(out: &mut Vec<u8>, line: u64, name: &[u8]) -> Result<(), NoMemory>
+    ensures { OnOk result (out.new.items ≡ out.old.items ++ (codes "line " ++ decimal line ++ codes ": " ++ name.now)) }
+{
+    let mut buffer = Buffer::new();
+    out.extend_from_slice(b"line ")?;
+    out.extend_from_slice(buffer.format(line).as_bytes())?;
+    out.extend_from_slice(b": ")?;
+    out.extend_from_slice(name)?;
+    Ok(())
+}
+
+/// Puts the line that tells the fault, as `docs/FORMATS.md`, "Printed text", has it.
+pub fn put_fault(out: &mut Vec<u8>, fault: ScriptFault) -> Result<(), NoMemory>
+    ensures { OnOk result (out.new.items ≡ out.old.items ++ (script_fault_text fault ++ 10 ∷ [])) }
+{
+    match fault {
+        ScriptFault::BadLine(line) => put_line_fault(out, line, b"BadLine")?,
+        ScriptFault::BadNumber(line) => put_line_fault(out, line, b"BadNumber")?,
+        ScriptFault::BadHex(line) => put_line_fault(out, line, b"BadHex")?,
+        ScriptFault::OutOfRange(line) => put_line_fault(out, line, b"OutOfRange")?,
+        ScriptFault::NoMemory => out.extend_from_slice(b"memory")?,
+    }
+    out.push(b'\n')?;
+    Ok(())
+}

@@ -1,0 +1,104 @@
+//! What a field spells: a number, a CPU or bytes.
+ghost use Rattle.std.specs.Prelude.{◌≡◌, ◌≢◌, ◌+◌, ◌-◌, ◌*◌, ◌^◌, ◌<◌, ◌≤◌, true, false, drop, IfOk, SomeIff, MatchOption};
+ghost use Rattle.std.specs.Int.{IsInRange};
+ghost use Rattle.std.specs.Char.{is_ascii_digit};
+ghost use Rattle.std.specs.List.{list_all};
+ghost use Rattle.text_model.specs.Script.{decimal_in, number_below, names_cpu, cpu_in};
+ghost use Rattle.script_model.specs.Script.{count_in};
+ghost use Rattle.script_reader.specs.ScriptFaults.{Gives};
+
+use crate::fault::LineFault;
+use script_model::{MAX_LINE_STEPS, MIN_LINE_STEPS};
+use text_model::MAX_NUMBER_DIGITS;
+use trace_model::CpuId;
+
+/// The number whose last digit is this, behind the digits of another; None where the byte is no
+/// digit, or the number doesn't fit 64 bits.
+fn with_digit(front: u64, digit: u8) -> Option<u64>
+    ensures { SomeIff result
+        (IsInRange 48 57 digit × (front * 10 + (digit - 48) < 2 ^ 64)) (front * 10 + (digit - 48)) }
+{
+    if !digit.is_ascii_digit() {
+        return None;
+    }
+    front.checked_mul(10)?.checked_add(u64::from(digit - b'0'))
+}
+
+/// The number that a field spells.
+pub fn number_of(field: &[u8]) -> Result<u64, LineFault>
+    ensures gives { Gives (λ n. n) result (decimal_in field.now) }
+    ensures never_out_of_memory { result ≢ Err LineFault.NoMemory }
+{
+    if field.is_empty() || field.len() > MAX_NUMBER_DIGITS {
+        return Err(LineFault::BadNumber);
+    }
+    let mut number = 0;
+    for digit in field {
+        let Some(next) = with_digit(number, *digit) else {
+            return Err(LineFault::BadNumber);
+        };
+        number = next;
+    }
+    Ok(number)
+}
+
+/// The number that a field spells, which is to be below the limit.
+#[tactic(auto, unfolding(text_model::specs::Script::number_below))]
+pub fn number_below(limit: u64, field: &[u8]) -> Result<u64, LineFault>
+    ensures gives { Gives (λ n. n) result (number_below limit field.now) }
+    ensures never_out_of_memory { result ≢ Err LineFault.NoMemory }
+    ensures small { IfOk result (λ n. n < limit) }
+{
+    let number = number_of(field)?;
+    if number >= limit {
+        return Err(LineFault::OutOfRange);
+    }
+    Ok(number)
+}
+
+/// Whether each byte is a decimal digit.
+fn are_digits(bytes: &[u8]) -> bool
+    ensures { result ≡ list_all is_ascii_digit bytes.now }
+{
+    bytes.iter().all(|b| b.is_ascii_digit())
+}
+
+/// The digits of a field that is `c` and one digit or more, and nothing else.
+fn cpu_digits(field: &[u8]) -> Option<&[u8]>
+    ensures { MatchOption result (names_cpu field.now ≡ false) (λ digits.
+        (names_cpu field.now ≡ true) × (digits.now ≡ drop 1 field.now)) }
+{
+    let [letter, digits @ ..] = field else {
+        return None;
+    };
+    if *letter != b'c' || digits.is_empty() || !are_digits(digits) {
+        return None;
+    }
+    Some(digits)
+}
+
+/// The CPU that a field names, of so many CPUs.
+#[tactic(auto, unfolding(text_model::specs::Script::cpu_in))]
+pub fn cpu_of(cpus: u32, field: &[u8]) -> Result<CpuId, LineFault>
+    ensures gives { Gives (λ cpu. cpu.0) result (cpu_in cpus field.now) }
+    ensures never_out_of_memory { result ≢ Err LineFault.NoMemory }
+{
+    let Some(digits) = cpu_digits(field) else {
+        return Err(LineFault::BadLine);
+    };
+    let cpu = number_below(u64::from(cpus), digits)?;
+    Ok(CpuId(cpu as u32))
+}
+
+/// The number of steps that a field spells.
+#[tactic(auto, unfolding(script_model::specs::Script::count_in))]
+pub fn count_of(field: &[u8]) -> Result<u64, LineFault>
+    ensures gives { Gives (λ n. n) result (count_in field.now) }
+    ensures never_out_of_memory { result ≢ Err LineFault.NoMemory }
+{
+    let count = number_of(field)?;
+    if count < MIN_LINE_STEPS || count > MAX_LINE_STEPS {
+        return Err(LineFault::OutOfRange);
+    }
+    Ok(count)
+}
