@@ -136,8 +136,10 @@ claimable n c k noted page low high at is = let some_pages = k.some_pages in dit
     told f (is_normal e owed) mark = absurd (let m : normal ≡ header = sym (ap (λ (l : Link). l.mark) e) ∙ mark in cc)
     told f (is_header e here) mark = e ∙ ap (λ (p : ℕ). header_link p f) (sym (ap (λ (l : Link). l.page) e))
     told f (is_update lost sum e st) mark = absurd (let m : update ≡ header = sym (ap (λ (l : Link). l.mark) e) ∙ mark in cc)
+
     page_is : link_into n c.links noted ≡ link_into n c.links c.head → (link_into n c.links c.head).page ≡ page
     page_is turn = sym (ap (λ (l : Link). l.page) turn) ∙ is
+
     inside : LinkKept n c.links c.order c.head c.frames noted → ⊥
     inside (is_normal e owed) = let m : normal ≡ header = sym (ap (λ (l : Link). l.mark) e) ∙ at in cc
     inside (is_header e here) = omega arith
@@ -180,7 +182,7 @@ module _ (n size start : ℕ) (c : Core) (frame : Frame) (below : List Frame) (r
   needs_tail kind kind_is state_is needs =
       let p : PackedAt size c.history c.opened (frame ∷ below) = subst (PackedAt size c.history c.opened) top r.packed in
       (fit_open size c.history frame.kind frame.state (pushed_frames below) (top_stack n start c frame below r.history top) (λ gone. ap pushed_frames ((top_agrees c frame below r.stack top).1 gone)) p.needs.0
-          (subst (NeedsFill size (opens_of c.history) (reserved_records c.history) (is_wished c.history) frame.kind) (sym state_is) (subst (λ (x : Kind). NeedsFill size (opens_of c.history) (reserved_records c.history) (is_wished c.history) x waiting) (sym kind_is) (fill_for kind needs)))).0
+      (subst (NeedsFill size (opens_of c.history) (reserved_records c.history) (is_wished c.history) frame.kind) (sym state_is) (subst (λ (x : Kind). NeedsFill size (opens_of c.history) (reserved_records c.history) (is_wished c.history) x waiting) (sym kind_is) (fill_for kind needs)))).0
     where
       fill_for : (kind : Kind) → NeedsPage size c kind → NeedsFill size (opens_of c.history) (reserved_records c.history) (is_wished c.history) kind waiting
       fill_for (for_record moment len) needs = λ fits. needs (subst (λ (l : List Reservation). FitsBehind size l (reservation_for moment len (reserved_records c.history))) (sym (tail_is c.history)) fits)
@@ -237,6 +239,7 @@ module _ (n size start : ℕ) (c : Core) (frame : Frame) (below : List Frame) (r
     where
       marked : Role → Core
       marked role = in_phase (with_link n c (suc lost) (header_link next (suc lost))) frame below (after_next role noted page)
+
       less : (role : Role) → frame_rank n (marked role) < 3 * (c.opened - c.done) + (state_rank frame.state + late_rank noted c.opened + 7)
       less owner = omega arith
       less helper = omega arith
@@ -323,7 +326,7 @@ ends_lower n size start c frame below number payload answer after r top own (end
     let heads : frame ≡ f = cc in
     let resting = idle_of frame.kind frame.state own (top_agrees c frame below r.stack top).0 in
     leaves n size start c f b r at after idle (Some p) (ap (λ (x : Frame). x.phase) (sym heads) ∙ resting)
-        (subst (λ (x : FrameState). 13 < idle_rank c x) (sym (ap (λ (x : Frame). x.state) (sym heads) ∙ own)) (omega arith)) stays is
+    (subst (λ (x : FrameState). 13 < idle_rank c x) (sym (ap (λ (x : Frame). x.state) (sym heads) ∙ own)) (omega arith)) stays is
   where
     idle_of : (kind : Kind) (state : FrameState) → state ≡ reserved number → MayBeIn kind state frame.phase → frame.phase ≡ idle
     idle_of kind waiting at may = absurd cc

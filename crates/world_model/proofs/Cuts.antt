@@ -94,15 +94,15 @@ module _ (n size start : ℕ) (c : Core) (r : IsReached n size start c) where
   page k t at =
       let fill = kept.partition.fills.each k t at in let from = fill.from_start in let below = kept.partition.below k t at in
       let unread = kept.links.head_le in let behind = kept.links.done_lt in let count = kept.contents.begun in record {
-    from_start = from;
-    below = below;
-    within = omega arith;
-    first_is = ap (λ (h : Held). h.first) fill.held;
-    size_is = length-map t.held.records as_record ∙ ap (λ (h : Held). length h.records) fill.held;
-    some = some_length t.held.records (taken_hold n size start c kept k t at);
-    piece_at = get_map piece_of taken k t at;
-    first_at = kept.partition.firsts k t at;
-  }
+        from_start = from;
+        below = below;
+        within = omega arith;
+        first_is = ap (λ (h : Held). h.first) fill.held;
+        size_is = length-map t.held.records as_record ∙ ap (λ (h : Held). length h.records) fill.held;
+        some = some_length t.held.records (taken_hold n size start c kept k t at);
+        piece_at = get_map piece_of taken k t at;
+        first_at = kept.partition.firsts k t at;
+      }
 
   -- no number is one of a page's own and one that another skips
   apart : (j k : ℕ) (u t : Taken) (number : ℕ) → slice_get taken j ≡ Some u → slice_get taken k ≡ Some t
@@ -179,11 +179,11 @@ module _ (n size start : ℕ) (c : Core) (r : IsReached n size start c) where
             let low_u = q.from_start in
             dite (dec_le u.held.first number)
             (λ yes. dite (ℕ_discrete j (u.fill - start))
-              (λ here. let e = ap (λ (m : ℕ). get_or (0 ∷ cuts) m 0) here in let e' = ap (λ (m : ℕ). length (get_or (cut_from 0 cuts xs) m [])) here in
-              apart i k u t number at_u at yes (omega arith) low high)
-              (λ other. let next = ends_before cuts xs j (u.fill - start) (omega arith) (omega arith) rising in omega arith))
+            (λ here. let e = ap (λ (m : ℕ). get_or (0 ∷ cuts) m 0) here in let e' = ap (λ (m : ℕ). length (get_or (cut_from 0 cuts xs) m [])) here in
+            apart i k u t number at_u at yes (omega arith) low high)
+            (λ other. let next = ends_before cuts xs j (u.fill - start) (omega arith) (omega arith) rising in omega arith))
             (λ no. let next = ends_before cuts xs (u.fill - start) (t.fill - start) (omega arith) (omega arith) rising in
-              apart i k u t u.held.first at_u at (omega arith) (omega arith) (omega arith) (omega arith))
+            apart i k u t u.held.first at_u at (omega arith) (omega arith) (omega arith) (omega arith))
 
     overwritten : IsOverwrittenBefore c.history start deeds t.fill number
     overwritten = record { lost = start + j; was_lost = lost; stands = stands; before = let less = earlier in omega arith; behind = behind }
@@ -298,8 +298,7 @@ module _ (n size start : ℕ) (c : Core) (r : IsReached n size start c) where
           let records : map as_record t.held.records ≡ h.parcel.records = ap (λ (q : Parcel). q.records) p.parcel_is in
           let is = h.pair.number_is in
           let there : slice_get (map as_record t.held.records) h.pair.index ≡ Some x = subst (λ (l : List Record). slice_get l h.pair.index ≡ Some x) (sym records) h.pair.record_is in
-          let low = slice_get_within (map as_record t.held.records) h.pair.index x there in
-          (
+          let low = slice_get_within (map as_record t.held.records) h.pair.index x there in (
             ap (slice_get (committed_records c.history)) (let e : number ≡ t.held.first + h.pair.index = omega arith in e) ∙ record_of p.index t h.pair.index x p.page_at there,
             h.parcel,
             one,
@@ -315,8 +314,8 @@ module _ (n size start : ℕ) (c : Core) (r : IsReached n size start c) where
           let back : t.held.first + i ≡ number = omega arith in
           let first : t.held.first ≡ parcel.first = ap (λ (q : Parcel). q.first) p.parcel_is in
           let there : slice_get (map as_record t.held.records) i ≡ Some x = ⊎_elim
-              (λ (y, within, is, same). is ∙ sym (record_of p.index t i y p.page_at is) ∙ ap (slice_get (committed_records c.history)) back ∙ committed)
-              (λ (past, none). absurd {A = slice_get (map as_record t.held.records) i ≡ Some x} (let no : ⊥ = omega arith in no)) (slice_get_cases (map as_record t.held.records) i).1 in
+          (λ (y, within, is, same). is ∙ sym (record_of p.index t i y p.page_at is) ∙ ap (slice_get (committed_records c.history)) back ∙ committed)
+          (λ (past, none). absurd {A = slice_get (map as_record t.held.records) i ≡ Some x} (let no : ⊥ = omega arith in no)) (slice_get_cases (map as_record t.held.records) i).1 in
           record {
             index = k;
             parcel = parcel;

@@ -41,7 +41,7 @@ module _ (script : Script) (w : World) (kept : IsWorldKept script w) where
       let t = taken_by_reader script w kept parcel.cpu lane parcel lane_at refl has in
       let ring = reached_kept script.pages script.size script.start lane.core (kept.reached parcel.cpu lane lane_at) in
       let same : pieces_of lane.core.reader.taken ≡ pieces_in (parcels_from parcel.cpu w.taken) =
-          pieces_same script.pages script.size script.start lane.core (kept.reached parcel.cpu lane lane_at) parcel.cpu lane.core.reader.taken ∙ ap pieces_in (sym (kept.taken parcel.cpu lane lane_at)) in
+      pieces_same script.pages script.size script.start lane.core (kept.reached parcel.cpu lane lane_at) parcel.cpu lane.core.reader.taken ∙ ap pieces_in (sym (kept.taken parcel.cpu lane lane_at)) in
       record {
         index = t.index;
         piece_is = get_map piece_in (parcels_from parcel.cpu w.taken) t.index parcel t.in_place;

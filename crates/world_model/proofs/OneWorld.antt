@@ -41,9 +41,9 @@ same_new : (script : Script) (a b : World) → IsWithinLimits script → IsNewWo
 same_new script a b limits new other =
     let some : 1 ≤ script.pages = (let pages = limits.min_pages in omega arith) in
     let lanes : a.lanes ≡ b.lanes = same_lists a.lanes b.lanes (new.cpus ∙ sym other.cpus)
-        (λ k d low. same_new_lane script.pages script.start (get_or a.lanes k d) (get_or b.lanes k d) some (new.new k d low) (other.new k d (let p = new.cpus in let q = other.cpus in omega arith))) in
+    (λ k d low. same_new_lane script.pages script.start (get_or a.lanes k d) (get_or b.lanes k d) some (new.new k d low) (other.new k d (let p = new.cpus in let q = other.cpus in omega arith))) in
     let delivered : a.delivered ≡ b.delivered = same_lists a.delivered b.delivered (new.collectors ∙ sym other.collectors)
-        (λ k d low. new.none_delivered k d low ∙ sym (other.none_delivered k d (let p = new.collectors in let q = other.collectors in omega arith))) in
+    (λ k d low. new.none_delivered k d low ∙ sym (other.none_delivered k d (let p = new.collectors in let q = other.collectors in omega arith))) in
     λ i. record { lanes = lanes i; taken = (new.none_taken ∙ sym other.none_taken) i; delivered = delivered i; log = (new.no_log ∙ sym other.no_log) i }
 
 -- ---- a parcel of a CPU and a fill
@@ -80,7 +80,7 @@ module _ (script : Script) (w : World) (kept : IsWorldKept script w) where
       let a = taken_by_reader cpu lane p at is.0 has in let b = taken_by_reader cpu lane q at is'.0 has' in
       let fills = (reached_kept script.pages script.size script.start lane.core (kept.reached cpu lane at)).partition.fills in
       let one = one_fill script.start lane.core a.index b.index a.page b.page fills a.page_at b.page_at
-          (ap (λ (x : Parcel). x.fill) a.parcel_is ∙ is.1 ∙ sym is'.1 ∙ ap (λ (x : Parcel). x.fill) (sym b.parcel_is)) in
+      (ap (λ (x : Parcel). x.fill) a.parcel_is ∙ is.1 ∙ sym is'.1 ∙ ap (λ (x : Parcel). x.fill) (sym b.parcel_is)) in
       sym a.parcel_is ∙ ap (parcel_of cpu) one ∙ b.parcel_is
 
 -- ---- a line

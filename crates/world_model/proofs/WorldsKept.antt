@@ -46,22 +46,22 @@ has_none x (k, low, is) = absurd (omega arith)
 pub new_kept : (script : Script) (w : World) → IsWithinLimits script → IsNewWorld script w → IsWorldKept script w
 new_kept script w limits new =
     let first : (cpu : ℕ) (lane : Lane) → slice_get w.lanes cpu ≡ Some lane → IsNewLane script.pages script.start lane =
-        λ cpu lane at. subst (IsNewLane script.pages script.start) (get_or_from_slice_get w.lanes cpu lane lane at) (new.new cpu lane (slice_get_within w.lanes cpu lane at)) in
+    λ cpu lane at. subst (IsNewLane script.pages script.start) (get_or_from_slice_get w.lanes cpu lane lane at) (new.new cpu lane (slice_get_within w.lanes cpu lane at)) in
     record {
-  cpus = new.cpus;
-  collectors = new.collectors;
-  reached = λ cpu lane at. record {
-    from = lane.core;
-    exchanges = [];
-    may_start = record { some_pages = limits.min_pages; numbers_left = let high = limits.max_start in omega arith };
-    is_new = (first cpu lane at).0;
-    run = refl;
-  };
-  taken = λ cpu lane at. ap (parcels_from cpu) new.none_taken ∙ ap (λ (r : Reader). map (parcel_of cpu) r.taken) (sym (first cpu lane at).0.reader);
-  of_a_cpu = λ parcel has. has_none parcel (subst (λ (l : List Parcel). Contains l parcel) new.none_taken has);
-  delivered = λ collector parcels parcel at has. has_none parcel (subst (λ (l : List Parcel). Contains l parcel)
-      (sym (get_or_from_slice_get w.delivered collector parcels parcels at) ∙ new.none_delivered collector parcels (slice_get_within w.delivered collector parcels at)) has);
-}
+      cpus = new.cpus;
+      collectors = new.collectors;
+      reached = λ cpu lane at. record {
+        from = lane.core;
+        exchanges = [];
+        may_start = record { some_pages = limits.min_pages; numbers_left = let high = limits.max_start in omega arith };
+        is_new = (first cpu lane at).0;
+        run = refl;
+      };
+      taken = λ cpu lane at. ap (parcels_from cpu) new.none_taken ∙ ap (λ (r : Reader). map (parcel_of cpu) r.taken) (sym (first cpu lane at).0.reader);
+      of_a_cpu = λ parcel has. has_none parcel (subst (λ (l : List Parcel). Contains l parcel) new.none_taken has);
+      delivered = λ collector parcels parcel at has. has_none parcel (subst (λ (l : List Parcel). Contains l parcel)
+          (sym (get_or_from_slice_get w.delivered collector parcels parcels at) ∙ new.none_delivered collector parcels (slice_get_within w.delivered collector parcels at)) has);
+    }
 
 -- ---- a line of a ring
 
