@@ -61,8 +61,8 @@ HasBody homes size page = (body : Contents) × (slice_get homes page ≡ Some (S
 -- ---- the ring
 
 -- The value shows a state of the model, in a ring of n positions and pages of this size whose first fill has the number
--- start: the words and the reader are the state's; the writers' stack is what the state's history leaves, in its phases; a
--- page of a fill that is closed and unread is at home with what it holds; and so is a page for each fill that
+-- start: the words and the reader are the state's; the writers' stack is what the state's history leaves, in its
+-- phases; a page of a fill that is closed and unread is at home with what it holds; and so is a page for each fill that
 -- may be begun before one more is closed.
 pub record Shows (n size start : ℕ) (v : CoreValue) (c : Core) : Type 0 where
   pub pages_is : v.stack.pages ≡ n

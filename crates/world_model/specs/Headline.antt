@@ -72,7 +72,8 @@ IsOneOf parcels cpu parcel = Contains parcels parcel × (parcel.cpu ≡ cpu)
 -- What the parcels that were delivered to a collector make of a CPU's history: the collector has just the committed
 -- records that stand in the fill of one of them, under their own numbers, and misses just the numbers that were
 -- overwritten unread before one of them.
-pub record IsExact (history : List Action) (start : ℕ) (deeds : List Deed) (cpu : ℕ) (delivered : List Parcel) : Type 0 where
+pub record IsExact (history : List Action) (start : ℕ) (deeds : List Deed) (cpu : ℕ) (delivered : List Parcel)
+    : Type 0 where
   pub has : (number : ℕ) (r : Record)
       → Has delivered cpu number r
       ↔ ((slice_get (committed_records history) number ≡ Some r)

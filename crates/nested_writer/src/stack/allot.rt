@@ -136,8 +136,8 @@ impl WriterStack {
         place
     }
 
-    /// Whether a record of this moment, of a payload of `len` bytes, is one as nearly all are: in the short form, behind
-    /// another one, and far enough from the page's end for any such record.
+    /// Whether a record of this moment, of a payload of `len` bytes, is one as nearly all are: in the short form,
+    /// behind another one, and far enough from the page's end for any such record.
     #[inline(always)]
     fn fits_plainly(&self, moment: u64, len: usize) -> bool
         requires stack { Stands self.now }

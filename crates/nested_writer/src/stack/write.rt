@@ -89,8 +89,8 @@ impl WriterStack {
     }
 
     /// Writes a record of this moment and payload in one call, where no frame stands and it fits in the tail: what
-    /// `begin`, `allot`, the payload's copy into what `top_mut` lends, and `end` do. Its frame stays at the bottom for
-    /// `pop_bottom`. Anywhere else, and where `begin` would refuse it, nothing changes.
+    /// `begin`, `allot`, the payload's copy into what `payload_mut` lends, and `end` do. Its frame stays at the bottom
+    /// for `pop_bottom`. Anywhere else, and where `begin` would refuse it, nothing changes.
     #[inline(always)]
     pub fn write(&mut self, moment: u64, payload: &[u8]) -> Wrote
         requires stack { Stands self.old }
