@@ -1,5 +1,0 @@
-use Rattle.script_reader.proofs.ScriptLemmas.{puts_numbered}
-use Rattle.script_reader.proofs.read.order_at.Goals as goal
-
-pub returns : goal.returns
-returns c = puts_numbered c.args.line.number c.order_in-order.result c.reading_at.result _ _ _ c.order_in-order.ensures c.reading_at.ensures

@@ -1,4 +1,0 @@
-pub mod Kept
-pub mod ScriptFaults
-pub mod ScriptFields
-pub mod ScriptTypes
