@@ -1,11 +1,5 @@
-pub mod Histories
-pub mod LineHistories
-pub mod Sublists
-pub mod SegmentLemmas
-pub mod Fillings
 pub mod TextLemmas
 pub mod ScriptLemmas
-pub mod ScriptReads
 pub mod ParsedLimits
 pub mod ScriptTable
 pub mod ScriptWrites

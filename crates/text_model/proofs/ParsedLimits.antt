@@ -1,7 +1,6 @@
 -- What a text spells is within the limits: numbers, bytes, commands, scripts.
 use Rattle.std.proofs.Common.{◌≡◌, ℕ, ◌+◌, ◌*◌, ◌%◌, ◌^◌, ◌<◌, ◌≤◌, Bool, true, false, cond, ltb, List, [], ◌∷◌, Result, Ok, Err, refl, sym, subst, arith, inl, inr}
 use Rattle.std.specs.List.{All, AllByRecursion, list_all}
-use Rattle.std.specs.Prelude.{codes}
 use Rattle.std.specs.Result.{IfOk}
 use Rattle.std.specs.Char.{digit_value, is_digit}
 use Rattle.std.specs.Str.{bytes_eq}
@@ -11,8 +10,7 @@ use Rattle.std.proofs.lemmas.List.Elements.{All-from_recursion}
 use Rattle.std.proofs.lemmas.Result.{IfOk-at_ok}
 use Rattle.std.proofs.lemmas.Slice.Eq.{bytes_eq-Decides}
 use Rattle.text_model.specs.Text.{fields_of, is_well_spaced, is_decimal, is_hex, bytes_of_pairs, hex_bytes, no_bytes_text}
-use Rattle.text_model.specs.Script.{Command, Script, LineFault, bad_line, bad_number, bad_hex, out_of_range, ◌>>=◌, decimal_in, payload_in, number_below, names_cpu, cpu_in, write_in, close_in, take_in, deliver_in, command_of, command_in, Setting, allowed_for, value_given, value_of, value_in, NumberedLine, header_settings, GiveSettings, SpellCommands, SpellScript, significant_lines, ParsesScript}
-use Rattle.text_model.specs.ScriptLimits.{IsCommandWithin, IsWithinLimits}
+use Rattle.text_model.specs.Script.{LineFault, bad_line, bad_number, bad_hex, out_of_range, ◌>>=◌, decimal_in, payload_in, number_below, names_cpu, cpu_in, Setting, allowed_for, value_given, value_of, value_in, NumberedLine, GiveSettings}
 
 -- ---- answers
 
@@ -72,61 +70,6 @@ payload_in-within field = tested-within AreBytes (is_hex field) (Ok (hex_bytes f
   | inr pairs ↦ pairs-within field (and_parts _ _ pairs).1
 ]))
 
--- ---- commands
-
-write_in-within : (cpus collectors : ℕ) (cpu_field moment_field payload_field : List ℕ) → IfOk (write_in cpus cpu_field moment_field payload_field) (IsCommandWithin cpus collectors)
-unfolding write_in
-write_in-within cpus collectors cpu_field moment_field payload_field =
-    then-within (λ cpu. cpu < cpus) (IsCommandWithin cpus collectors) (cpu_in cpus cpu_field) _ (cpu_in-within cpus cpu_field) (λ cpu here.
-    then-within Is64Bit (IsCommandWithin cpus collectors) (decimal_in moment_field) _ (decimal_in-within moment_field) (λ moment small.
-    then-within AreBytes (IsCommandWithin cpus collectors) (payload_in payload_field) _ (payload_in-within payload_field) (λ payload bytes. (here, small, bytes))))
-
-close_in-within : (cpus collectors : ℕ) (cpu_field : List ℕ) → IfOk (close_in cpus cpu_field) (IsCommandWithin cpus collectors)
-unfolding close_in
-close_in-within cpus collectors cpu_field =
-    then-within (λ cpu. cpu < cpus) (IsCommandWithin cpus collectors) (cpu_in cpus cpu_field) _ (cpu_in-within cpus cpu_field) (λ cpu here. here)
-
-take_in-within : (cpus collectors : ℕ) (cpu_field : List ℕ) → IfOk (take_in cpus cpu_field) (IsCommandWithin cpus collectors)
-unfolding take_in
-take_in-within cpus collectors cpu_field =
-    then-within (λ cpu. cpu < cpus) (IsCommandWithin cpus collectors) (cpu_in cpus cpu_field) _ (cpu_in-within cpus cpu_field) (λ cpu here. here)
-
-deliver_in-within : (cpus collectors : ℕ) (collector_field cpu_field fill_field : List ℕ) → IfOk (deliver_in cpus collectors collector_field cpu_field fill_field) (IsCommandWithin cpus collectors)
-unfolding deliver_in
-deliver_in-within cpus collectors collector_field cpu_field fill_field =
-    then-within (λ collector. collector < collectors) (IsCommandWithin cpus collectors) (number_below collectors collector_field) _ (number_below-within collectors collector_field) (λ collector known.
-    then-within (λ cpu. cpu < cpus) (IsCommandWithin cpus collectors) (cpu_in cpus cpu_field) _ (cpu_in-within cpus cpu_field) (λ cpu here.
-    then-within Is64Bit (IsCommandWithin cpus collectors) (decimal_in fill_field) _ (decimal_in-within fill_field) (λ fill small. (known, here, small))))
-
--- where both answers are within, so is the one that the tests choose
-one_of : {A : Type 0} (P : A → Type 0) (first second : Bool) (r s : Result A LineFault) (fault : LineFault) → IfOk r P → IfOk s P → IfOk (cond first r (cond second s (Err fault))) P
-one_of P true second r s fault h k = h
-one_of P false true r s fault h k = k
-one_of P false false r s fault h k = tt
-
-command_of-within : (cpus collectors : ℕ) (fields : List (List ℕ)) → IfOk (command_of cpus collectors fields) (IsCommandWithin cpus collectors)
-unfolding command_of
-command_of-within cpus collectors [] = tt
-command_of-within cpus collectors (first ∷ []) = tt
-command_of-within cpus collectors (first ∷ second ∷ []) =
-    one_of (IsCommandWithin cpus collectors) (bytes_eq second (codes "c")) (bytes_eq second (codes "t")) (close_in cpus first) (take_in cpus first) bad_line (close_in-within cpus collectors first) (take_in-within cpus collectors first)
-command_of-within cpus collectors (first ∷ second ∷ third ∷ []) = tt
-command_of-within cpus collectors (first ∷ second ∷ third ∷ fourth ∷ []) =
-    one_of (IsCommandWithin cpus collectors) (bytes_eq first (codes "d")) (bytes_eq second (codes "w")) (deliver_in cpus collectors second third fourth) (write_in cpus first third fourth) bad_line (deliver_in-within cpus collectors second third fourth) (write_in-within cpus collectors first third fourth)
-command_of-within cpus collectors (first ∷ second ∷ third ∷ fourth ∷ fifth ∷ fields) = tt
-
-command_in-within : (cpus collectors : ℕ) (line : List ℕ) → IfOk (command_in cpus collectors line) (IsCommandWithin cpus collectors)
-unfolding command_in
-command_in-within cpus collectors line =
-    tested-within (IsCommandWithin cpus collectors) (is_well_spaced (fields_of line)) _ bad_line (λ h. command_of-within cpus collectors (fields_of line))
-
-commands-within : (cpus collectors : ℕ) (lines : List NumberedLine) (commands : List (ℕ × Command)) → SpellCommands cpus collectors lines commands → AllByRecursion (λ line. IsCommandWithin cpus collectors line.1) commands
-commands-within cpus collectors [] [] h = tt
-commands-within cpus collectors (line ∷ lines) (command ∷ commands) h =
-    (IfOk-at_ok (IsCommandWithin cpus collectors) h.0 (command_in-within cpus collectors line.1), commands-within cpus collectors lines commands h.2)
-commands-within cpus collectors [] (command ∷ commands) h = absurd h
-commands-within cpus collectors (line ∷ lines) [] h = absurd h
-
 -- ---- the header
 
 -- a value that the setting may have
@@ -168,26 +111,3 @@ settings-within lines (s ∷ settings) [] h = tt
 settings-within (line ∷ lines) (s ∷ settings) (value ∷ values) h =
     (IfOk-at_ok (IsAllowed s) h.0 (value_in-within s line.1), settings-within lines settings values h.1)
 settings-within [] (s ∷ settings) (value ∷ values) h = absurd h
-
-pub SpellScript-within : (lines : List NumberedLine) (script : Script) → SpellScript lines script → IsWithinLimits script
-SpellScript-within lines script h =
-    let values = settings-within h.header header_settings (script.pages ∷ script.size ∷ script.cpus ∷ script.collectors ∷ []) h.settings in
-    let pages = values.0 in
-    let size = values.1.0 in
-    let cpus = values.1.1.0 in
-    let collectors = values.1.1.1.0 in
-    record {
-      min_pages = pages.min;
-      max_pages = pages.max;
-      min_size = size.min;
-      max_size = size.max;
-      size_step = size.step;
-      min_cpus = cpus.min;
-      max_cpus = cpus.max;
-      min_collectors = collectors.min;
-      max_collectors = collectors.max;
-      each_command = All-from_recursion (λ line. IsCommandWithin script.cpus script.collectors line.1) script.commands (commands-within script.cpus script.collectors h.behind script.commands h.commands);
-    }
-
-pub ParsesScript-within : (text : List ℕ) (script : Script) → ParsesScript text script → IsWithinLimits script
-ParsesScript-within text script h = SpellScript-within (significant_lines text) script h

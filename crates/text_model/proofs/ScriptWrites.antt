@@ -1,18 +1,16 @@
--- A script that is written is read back.
-use Rattle.std.proofs.Common.{◌≡◌, ℕ, ◌+◌, ◌^◌, ◌<◌, ◌≤◌, ◌%◌, Bool, true, not, ◌==◌, cond, ltb, leb, List, [], ◌∷◌, ◌++◌, length, map, filter, decimal, Result, Ok, Err, refl, sym, ◌∙◌, ap, subst, arith, append_assoc}
+-- Fields, lines and settings that are written are read back.
+use Rattle.std.proofs.Common.{◌≡◌, ℕ, ◌+◌, ◌^◌, ◌<◌, ◌≤◌, ◌%◌, Bool, true, not, ◌==◌, cond, ltb, leb, List, [], ◌∷◌, ◌++◌, length, filter, decimal, Result, Ok, Err, refl, ◌∙◌, ap, arith, append_assoc}
 use Rattle.std.specs.Char.{is_ascii_digit}
-use Rattle.std.specs.List.{slice_split, onto_first, list_all, enumerate_from, AllByRecursion}
+use Rattle.std.specs.List.{slice_split, onto_first, list_all, enumerate_from}
 use Rattle.std.specs.Str.{all_ascii_digits, bytes_eq}
 use Rattle.std.proofs.lemmas.Bool.{lt-ltb, leb-true, le-leb, eq-eqb, ne_eqb, and_from, and_parts, not-true, not_from_false, cond-true}
 use Rattle.std.proofs.lemmas.Fmt.{decimal_nonempty, digits_decimal}
 use Rattle.std.proofs.lemmas.Slice.Eq.{bytes_eq-Decides}
-use Rattle.std.proofs.lemmas.List.Elements.{recursion_from_All}
 use Rattle.std.proofs.lemmas.List.Splits.{slice_split-cons_no, slice_split-cons_yes}
-use Rattle.text_model.specs.Text.{lines_of, fields_of, is_well_spaced, without_empty_end, hex_text}
-use Rattle.text_model.specs.Script.{Command, write, close, take_page, deliver, Script, LineFault, bad_line, out_of_range, NumberedLine, Setting, ◌>>=◌, number_below, names_cpu, cpu_in, write_in, close_in, take_in, deliver_in, command_of, command_in, value_given, value_of, value_in, allowed_for, is_significant, significant_lines, pages_setting, size_setting, cpus_setting, collectors_setting, SpellCommands, ParsesScript}
-use Rattle.text_model.specs.ScriptWriting.{line_of, text_of, cpu_text, command_fields, command_text, setting_text, script_text}
-use Rattle.text_model.specs.ScriptLimits.{IsCommandWithin, IsWithinLimits}
-use Rattle.text_model.proofs.TextLemmas.{numerals, decimal_in-decimal, payload_in-hex_text, hex_text_free, some_hex_text}
+use Rattle.text_model.specs.Text.{lines_of, fields_of, is_well_spaced, without_empty_end}
+use Rattle.text_model.specs.Script.{LineFault, bad_line, out_of_range, NumberedLine, Setting, ◌>>=◌, number_below, names_cpu, cpu_in, value_given, value_of, value_in, allowed_for, is_significant}
+use Rattle.text_model.specs.ScriptWriting.{line_of, text_of, cpu_text, setting_text}
+use Rattle.text_model.proofs.TextLemmas.{numerals, decimal_in-decimal}
 
 -- ---- a byte that a text hasn't
 -- no byte of the text is c
@@ -110,71 +108,6 @@ number_below-decimal limit n below fits =
     ap (λ (r : Result ℕ LineFault). r >>= λ n. cond (ltb n limit) (let good : Result ℕ LineFault = Ok n in good) (Err out_of_range)) (decimal_in-decimal n fits)
     ∙ cond-true (ltb n limit) _ _ (lt-ltb n limit below)
 
--- ---- commands
--- the command of these fields, and what the fields are made of
-record IsSpelled (cpus collectors : ℕ) (command : Command) : Type 0 where
-  read : command_of cpus collectors (command_fields command) ≡ Ok command
-  spaced : is_well_spaced (command_fields command) ≡ true
-  no_space : list_all (is_free 32) (command_fields command) ≡ true
-  no_feed : list_all (is_free 10) (command_fields command) ≡ true
-  some : 0 < length (command_fields command)
-  significant : is_significant (command_text command) ≡ true
-
-fields_spelled : (cpus collectors : ℕ) (command : Command) → cpus ≤ 2 ^ 64 → collectors ≤ 2 ^ 64 → IsCommandWithin cpus collectors command → IsSpelled cpus collectors command
-unfolding command_of write_in close_in take_in deliver_in
-fields_spelled cpus collectors (write cpu moment payload) few_cpus few_collectors h =
-    let cpu_fits : cpu < 2 ^ 64 = omega (arith, h.0) in
-    let bytes = recursion_from_All (λ byte. byte < 256) payload h.2 in
-    record {
-      read = rw (cpu_in-cpu_text cpus cpu h.0 cpu_fits, decimal_in-decimal moment h.1, payload_in-hex_text payload bytes) refl;
-      spaced = and_from _ _ (some_cpu cpu) (and_from _ _ (some_decimal moment h.1) (and_from _ _ (lt-ltb 0 (length (hex_text payload)) (some_hex_text payload)) refl));
-      no_space = and_from _ _ (cpu_free 32 cpu (omega arith) cpu_fits) (and_from _ _ (decimal_free 32 moment (omega arith) h.1) (and_from _ _ (hex_text_free 32 payload (omega arith) bytes) refl));
-      no_feed = and_from _ _ (cpu_free 10 cpu (omega arith) cpu_fits) (and_from _ _ (decimal_free 10 moment (omega arith) h.1) (and_from _ _ (hex_text_free 10 payload (omega arith) bytes) refl));
-      some = omega arith;
-      significant = refl;
-    }
-fields_spelled cpus collectors (close cpu) few_cpus few_collectors h =
-    let cpu_fits : cpu < 2 ^ 64 = omega (arith, h) in
-    record {
-      read = rw (cpu_in-cpu_text cpus cpu h cpu_fits) refl;
-      spaced = and_from _ _ (some_cpu cpu) refl;
-      no_space = and_from _ _ (cpu_free 32 cpu (omega arith) cpu_fits) refl;
-      no_feed = and_from _ _ (cpu_free 10 cpu (omega arith) cpu_fits) refl;
-      some = omega arith;
-      significant = refl;
-    }
-fields_spelled cpus collectors (take_page cpu) few_cpus few_collectors h =
-    let cpu_fits : cpu < 2 ^ 64 = omega (arith, h) in
-    record {
-      read = rw (cpu_in-cpu_text cpus cpu h cpu_fits) refl;
-      spaced = and_from _ _ (some_cpu cpu) refl;
-      no_space = and_from _ _ (cpu_free 32 cpu (omega arith) cpu_fits) refl;
-      no_feed = and_from _ _ (cpu_free 10 cpu (omega arith) cpu_fits) refl;
-      some = omega arith;
-      significant = refl;
-    }
-fields_spelled cpus collectors (deliver collector cpu fill) few_cpus few_collectors h =
-    let cpu_fits : cpu < 2 ^ 64 = omega (arith, h.1) in
-    let collector_fits : collector < 2 ^ 64 = omega (arith, h.0) in
-    record {
-      read = rw (number_below-decimal collectors collector h.0 collector_fits, cpu_in-cpu_text cpus cpu h.1 cpu_fits, decimal_in-decimal fill h.2) refl;
-      spaced = and_from _ _ (some_decimal collector collector_fits) (and_from _ _ (some_cpu cpu) (and_from _ _ (some_decimal fill h.2) refl));
-      no_space = and_from _ _ (decimal_free 32 collector (omega arith) collector_fits) (and_from _ _ (cpu_free 32 cpu (omega arith) cpu_fits) (and_from _ _ (decimal_free 32 fill (omega arith) h.2) refl));
-      no_feed = and_from _ _ (decimal_free 10 collector (omega arith) collector_fits) (and_from _ _ (cpu_free 10 cpu (omega arith) cpu_fits) (and_from _ _ (decimal_free 10 fill (omega arith) h.2) refl));
-      some = omega arith;
-      significant = refl;
-    }
-
-pub command_in-command_text : (cpus collectors : ℕ) (command : Command) → cpus ≤ 2 ^ 64 → collectors ≤ 2 ^ 64 → IsCommandWithin cpus collectors command
-    → command_in cpus collectors (command_text command) ≡ Ok command
-unfolding command_in
-command_in-command_text cpus collectors command few_cpus few_collectors h =
-    let s = fields_spelled cpus collectors command few_cpus few_collectors h in
-    let fields = fields_of-line_of (command_fields command) s.some s.no_space in
-    ap (λ (fs : List (List ℕ)). cond (is_well_spaced fs) (command_of cpus collectors fs) (Err bad_line)) fields
-    ∙ cond-true (is_well_spaced (command_fields command)) _ _ s.spaced
-    ∙ s.read
-
 -- ---- the header
 value_in-setting_text : (s : Setting) (value : ℕ) → 0 < length s.word → is_free 32 s.word ≡ true → value < 2 ^ 64 → allowed_for s value ≡ Ok value
     → value_in s (setting_text s value) ≡ Ok value
@@ -205,81 +138,4 @@ setting_spelled s value some free_space free_feed small low high step =
     record {
       read = value_in-setting_text s value some free_space fits (setting_allowed s value low high step);
       no_feed = is_free-line_of (s.word ∷ decimal value ∷ []) (and_from _ _ free_feed (and_from _ _ (decimal_free 10 value (omega arith) fits) refl));
-    }
-
--- ---- the script
-command_texts-enumerate : (n : ℕ) (commands : List Command) → map (λ (x : ℕ × Command). command_text x.1) (enumerate_from n commands) ≡ map command_text commands
-command_texts-enumerate n [] = refl
-command_texts-enumerate n (command ∷ commands) = ap (λ (ls : List (List ℕ)). command_text command ∷ ls) (command_texts-enumerate (n + 1) commands)
-
-commands_no_feed : (cpus collectors : ℕ) (commands : List Command) → cpus ≤ 2 ^ 64 → collectors ≤ 2 ^ 64 → AllByRecursion (IsCommandWithin cpus collectors) commands
-    → list_all (is_free 10) (map command_text commands) ≡ true
-commands_no_feed cpus collectors [] few_cpus few_collectors h = refl
-commands_no_feed cpus collectors (command ∷ commands) few_cpus few_collectors h =
-    let s = fields_spelled cpus collectors command few_cpus few_collectors h.0 in
-    and_from _ _ (is_free-line_of (command_fields command) s.no_feed) (commands_no_feed cpus collectors commands few_cpus few_collectors h.1)
-
-commands_are_significant : (cpus collectors : ℕ) (commands : List Command) → cpus ≤ 2 ^ 64 → collectors ≤ 2 ^ 64 → AllByRecursion (IsCommandWithin cpus collectors) commands
-    → list_all is_significant (map command_text commands) ≡ true
-commands_are_significant cpus collectors [] few_cpus few_collectors h = refl
-commands_are_significant cpus collectors (command ∷ commands) few_cpus few_collectors h =
-    let s = fields_spelled cpus collectors command few_cpus few_collectors h.0 in
-    and_from _ _ s.significant (commands_are_significant cpus collectors commands few_cpus few_collectors h.1)
-
-commands_spelled : (cpus collectors n : ℕ) (commands : List Command) → cpus ≤ 2 ^ 64 → collectors ≤ 2 ^ 64 → AllByRecursion (IsCommandWithin cpus collectors) commands
-    → SpellCommands cpus collectors (enumerate_from n (map command_text commands)) (enumerate_from n commands)
-commands_spelled cpus collectors n [] few_cpus few_collectors h = tt
-commands_spelled cpus collectors n (command ∷ commands) few_cpus few_collectors h =
-    (command_in-command_text cpus collectors command few_cpus few_collectors h.0, refl, commands_spelled cpus collectors (n + 1) commands few_cpus few_collectors h.1)
-
--- the lines of a script
-abbrev lines_for : Script → List Command → List (List ℕ)
-lines_for script commands = setting_text pages_setting script.pages
-    ∷ setting_text size_setting script.size
-    ∷ setting_text cpus_setting script.cpus
-    ∷ setting_text collectors_setting script.collectors
-    ∷ map command_text commands
-
-commands_within : (P : Command → Type 0) (n : ℕ) (commands : List Command) → AllByRecursion (λ (line : ℕ × Command). P line.1) (enumerate_from n commands) → AllByRecursion P commands
-commands_within P n [] h = tt
-commands_within P n (command ∷ commands) h = (h.0, commands_within P (n + 1) commands h.1)
-
-pub script_text_reads : (script : Script) (commands : List Command) → IsWithinLimits script → script.commands ≡ enumerate_from 5 commands → ParsesScript (script_text script) script
-script_text_reads script commands h numbers =
-    let within : (line : ℕ × Command) → Type 0 = λ line. IsCommandWithin script.cpus script.collectors line.1 in
-    let each : AllByRecursion (IsCommandWithin script.cpus script.collectors) commands =
-    commands_within (IsCommandWithin script.cpus script.collectors) 5 commands
-    (subst (λ (lines : List (ℕ × Command)). AllByRecursion within lines) numbers (recursion_from_All within script.commands h.each_command)) in
-    let few_cpus : script.cpus ≤ 2 ^ 64 = (let below = h.max_cpus in omega arith) in
-    let few_collectors : script.collectors ≤ 2 ^ 64 = (let below = h.max_collectors in omega arith) in
-    let pages = setting_spelled pages_setting script.pages (omega arith) refl refl (omega arith) h.min_pages h.max_pages (omega arith) in
-    let size = setting_spelled size_setting script.size (omega arith) refl refl (omega arith) h.min_size h.max_size h.size_step in
-    let cpus = setting_spelled cpus_setting script.cpus (omega arith) refl refl (omega arith) h.min_cpus h.max_cpus (omega arith) in
-    let collectors = setting_spelled collectors_setting script.collectors (omega arith) refl refl (omega arith) h.min_collectors h.max_collectors (omega arith) in
-    let lines = lines_for script commands in
-    let text : script_text script ≡ text_of lines =
-    ap (λ (cs : List (ℕ × Command)). text_of (setting_text pages_setting script.pages
-    ∷ setting_text size_setting script.size
-    ∷ setting_text cpus_setting script.cpus
-    ∷ setting_text collectors_setting script.collectors
-    ∷ map (λ (x : ℕ × Command). command_text x.1) cs)) numbers
-    ∙ ap (λ (ls : List (List ℕ)). text_of (setting_text pages_setting script.pages
-    ∷ setting_text size_setting script.size
-    ∷ setting_text cpus_setting script.cpus
-    ∷ setting_text collectors_setting script.collectors
-    ∷ ls)) (command_texts-enumerate 5 commands) in
-    let no_feed : list_all (is_free 10) lines ≡ true =
-    and_from _ _ pages.no_feed (and_from _ _ size.no_feed (and_from _ _ cpus.no_feed (and_from _ _ collectors.no_feed (commands_no_feed script.cpus script.collectors commands few_cpus few_collectors each)))) in
-    let significant : list_all is_significant lines ≡ true = commands_are_significant script.cpus script.collectors commands few_cpus few_collectors each in
-    let all : significant_lines (script_text script) ≡ enumerate_from 1 lines =
-    ap significant_lines text
-    ∙ ap (λ (ls : List (List ℕ)). filter (λ (x : NumberedLine). is_significant x.1) (enumerate_from 1 ls)) (lines_of-text_of lines no_feed)
-    ∙ all_significant 1 lines significant in
-    record {
-      header = (1, setting_text pages_setting script.pages) ∷ (2, setting_text size_setting script.size) ∷ (3, setting_text cpus_setting script.cpus) ∷ (4, setting_text collectors_setting script.collectors) ∷ [];
-      behind = enumerate_from 5 (map command_text commands);
-      cut = all;
-      settings = (pages.read, (size.read, (cpus.read, (collectors.read, tt))));
-      commands = subst (λ (cs : List (ℕ × Command)). SpellCommands script.cpus script.collectors (enumerate_from 5 (map command_text commands)) cs) (sym numbers)
-          (commands_spelled script.cpus script.collectors 5 commands few_cpus few_collectors each);
     }

@@ -1,9 +1,6 @@
-pub mod Segments
 pub mod Text
 pub mod Script
-pub mod ScriptLimits
 pub mod ScriptReading
 pub mod ScriptWriting
-pub mod Replay
 pub mod Log
 pub mod Printing

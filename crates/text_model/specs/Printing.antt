@@ -1,8 +1,7 @@
 -- What is printed: the log, collectors, page images, the fault of a script or of an image, out of memory.
 -- docs/FORMATS.md, "Printed text" and "Log".
-use Rattle.std.specs.Prelude.{ℕ, Bool, if◌then◌else◌, List, [], ◌∷◌, ◌++◌, flat_map, codes}
+use Rattle.std.specs.Prelude.{ℕ, List, [], ◌∷◌, ◌++◌, flat_map, codes}
 use Rattle.std.specs.Fmt.{decimal}
-use Rattle.std.specs.List.{enumerate_from}
 use Rattle.trace_model.specs.Record.{Record}
 use Rattle.text_model.specs.Text.{hex_text}
 use Rattle.text_model.specs.Script.{LineFault, fault_text}
@@ -10,20 +9,6 @@ use Rattle.text_model.specs.Log.{LogLine, refused, taken, empty, moving, asks, n
 use Rattle.trace_model.specs.Frames.{Refusal, too_deep, too_long, late_moment, crowded, worn, no_frame, not_reserved}
 use Rattle.trace_model.specs.Faults.{Cause, cut, bad_length, time_overflow}
 use Rattle.trace_model.specs.Image.{Missed, none, unknown, counted, ImageCause, too_short, bad_size, bad_count, bad_word}
-
--- a record's line: its CPU, its number, its moment and its payload
-abbrev pub printed_record : ℕ → ℕ × Record → List ℕ
-printed_record cpu pair =
-    decimal cpu ++ 32 ∷ decimal pair.0 ++ 32 ∷ decimal pair.1.moment ++ 32 ∷ hex_text pair.1.bytes ++ 10 ∷ []
-
--- a collector: its head line, then a line for each of its records, all of this CPU
-abbrev pub printed_collector : ℕ → ℕ → List (ℕ × Record) → List ℕ
-printed_collector collector cpu collected =
-    codes "collector " ++ decimal collector ++ 10 ∷ flat_map (printed_record cpu) collected
-
--- The collectors that a replay leaves, numbered from 0. For now all records are of CPU 0.
-abbrev pub printed_collectors : List (List (ℕ × Record)) → List ℕ
-printed_collectors collectors = flat_map (λ pair. printed_collector pair.0 0 pair.1) (enumerate_from 0 collectors)
 
 -- the name of why a write is refused
 abbrev pub refusal_text : Refusal → List ℕ
@@ -66,11 +51,6 @@ log_line_text (untaken_delivery line collector cpu fill) =
 -- a line of the log
 abbrev pub printed_log_line : LogLine → List ℕ
 printed_log_line line = log_line_text line ++ 10 ∷ []
-
--- what a replay prints: its log, if it is asked for, and then its collectors
-abbrev pub printed_replay : Bool → List LogLine → List (List (ℕ × Record)) → List ℕ
-printed_replay asked log collectors =
-    (if asked then flat_map printed_log_line log else []) ++ printed_collectors collectors
 
 -- the line that tells which line of a script is at fault, and how
 abbrev pub printed_fault : ℕ → LineFault → List ℕ

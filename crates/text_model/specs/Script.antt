@@ -1,28 +1,12 @@
--- The script text: what script a text spells as a whole, or which of its lines is the first at fault.
+-- What the lines of a script text and their fields spell, whichever commands there are; the lines of a header.
 -- After docs/FORMATS.md, "Script".
-use Rattle.std.specs.Prelude.{◌≡◌, ℕ, ◌+◌, ◌%◌, ◌⊎◌, ⊤, Bool, false, not, ◌&&◌, if◌then◌else◌, ◌==◌, nat_lt, nat_le, List, [], ◌∷◌, ◌++◌, length, drop, filter, codes, bytes_eq, decimal, Result, Ok, Err}
+use Rattle.std.specs.Prelude.{◌≡◌, ℕ, ◌+◌, ◌%◌, ⊤, Bool, false, not, ◌&&◌, if◌then◌else◌, ◌==◌, nat_lt, nat_le, List, [], ◌∷◌, ◌++◌, length, drop, filter, codes, bytes_eq, decimal, Result, Ok, Err}
 use Rattle.std.specs.List.{enumerate_from}
 use Rattle.std.specs.Str.{all_ascii_digits}
 use Rattle.std.specs.Str.Parse.{digits_value}
 use Rattle.text_model.specs.Text.{lines_of, fields_of, is_well_spaced, is_decimal, is_hex, hex_bytes}
 use Rattle.trace_model.specs.declared.limits.TheConstants.{MIN_PAGES, MAX_PAGES, MIN_SIZE, MAX_SIZE}
-use Rattle.text_model.specs.declared.script_limits.TheConstants.{SIZE_STEP, MIN_SCRIPT_CPUS, MAX_SCRIPT_CPUS, MIN_SCRIPT_COLLECTORS, MAX_SCRIPT_COLLECTORS}
-
--- What a line of a script asks for. write: a record of this moment and payload. close: leave the
--- tail page. take_page: the reader takes a page. deliver: the collector gets this fill of the CPU.
-pub data Command : Type 0 where
-  write : (cpu moment : ℕ) (payload : List ℕ) → Command
-  close : (cpu : ℕ) → Command
-  take_page : (cpu : ℕ) → Command
-  deliver : (collector cpu fill : ℕ) → Command
-
--- a script: the values of its header, and its commands, each with the number of its line
-pub record Script : Type 0 where
-  pub pages : ℕ
-  pub size : ℕ
-  pub cpus : ℕ
-  pub collectors : ℕ
-  pub commands : List (ℕ × Command)
+use Rattle.text_model.specs.declared.script_limits.TheConstants.{SIZE_STEP}
 
 -- What is wrong with a line. bad_line: its spaces, its word, that another line of the header is due, how
 -- many fields it has, or a field that is to name a CPU and doesn't. bad_number, bad_hex: a field that is no
@@ -64,71 +48,6 @@ names_cpu (letter ∷ digits) = (letter == cpu_letter) && nat_lt 0 (length digit
 unfoldable pub cpu_in : ℕ → List ℕ → Result ℕ LineFault
 cpu_in cpus field = if names_cpu field then number_below cpus (drop 1 field) else Err bad_line
 
--- the fields of `cX w T HEX`, without the word
-unfoldable pub write_in : ℕ → List ℕ → List ℕ → List ℕ → Result Command LineFault
-write_in cpus cpu_field moment_field payload_field = do
-  cpu ← cpu_in cpus cpu_field
-  moment ← decimal_in moment_field
-  payload ← payload_in payload_field
-  Ok (write cpu moment payload)
-
--- the field of `cX c`
-unfoldable pub close_in : ℕ → List ℕ → Result Command LineFault
-close_in cpus cpu_field = do
-  cpu ← cpu_in cpus cpu_field
-  Ok (close cpu)
-
--- the field of `cX t`
-unfoldable pub take_in : ℕ → List ℕ → Result Command LineFault
-take_in cpus cpu_field = do
-  cpu ← cpu_in cpus cpu_field
-  Ok (take_page cpu)
-
--- the fields of `d K cX F`, without the word
-unfoldable pub deliver_in : ℕ → ℕ → List ℕ → List ℕ → List ℕ → Result Command LineFault
-deliver_in cpus collectors collector_field cpu_field fill_field = do
-  collector ← number_below collectors collector_field
-  cpu ← cpu_in cpus cpu_field
-  fill ← decimal_in fill_field
-  Ok (deliver collector cpu fill)
-
--- The command that fields spell, for so many CPUs and collectors: `cX w T HEX`, `cX c`, `cX t` or
--- `d K cX F`. Once the word and the number of fields fit, values are looked at from left to right.
-unfoldable pub command_of : ℕ → ℕ → List (List ℕ) → Result Command LineFault
-command_of cpus collectors (first ∷ second ∷ []) =
-    if bytes_eq second (codes "c") then close_in cpus first
-    else (if bytes_eq second (codes "t") then take_in cpus first
-    else Err bad_line)
-command_of cpus collectors (first ∷ second ∷ third ∷ fourth ∷ []) =
-    if bytes_eq first (codes "d") then deliver_in cpus collectors second third fourth
-    else (if bytes_eq second (codes "w") then write_in cpus first third fourth
-    else Err bad_line)
-command_of cpus collectors _ = Err bad_line
-
--- The same by the commands: what fields spell each.
-abbrev pub SpellsCommand : ℕ → ℕ → Command → List (List ℕ) → Type 0
-SpellsCommand cpus collectors (write cpu moment payload) fields =
-    (x : List ℕ) × (t : List ℕ) × (hex : List ℕ)
-    × (fields ≡ x ∷ codes "w" ∷ t ∷ hex ∷ [])
-    × (cpu_in cpus x ≡ Ok cpu)
-    × (decimal_in t ≡ Ok moment)
-    × (payload_in hex ≡ Ok payload)
-SpellsCommand cpus collectors (close cpu) fields =
-    (x : List ℕ) × (fields ≡ x ∷ codes "c" ∷ []) × (cpu_in cpus x ≡ Ok cpu)
-SpellsCommand cpus collectors (take_page cpu) fields =
-    (x : List ℕ) × (fields ≡ x ∷ codes "t" ∷ []) × (cpu_in cpus x ≡ Ok cpu)
-SpellsCommand cpus collectors (deliver collector cpu fill) fields =
-    (k : List ℕ) × (x : List ℕ) × (f : List ℕ)
-    × (fields ≡ codes "d" ∷ k ∷ x ∷ f ∷ [])
-    × (number_below collectors k ≡ Ok collector)
-    × (cpu_in cpus x ≡ Ok cpu)
-    × (decimal_in f ≡ Ok fill)
-
--- the command that a line spells: its spaces are looked at first
-unfoldable pub command_in : ℕ → ℕ → List ℕ → Result Command LineFault
-command_in cpus collectors line =
-    if is_well_spaced (fields_of line) then command_of cpus collectors (fields_of line) else Err bad_line
-
 -- a line of the header: its word, and the values that it may have, multiples of a step
 pub record Setting : Type 0 where
   pub word : List ℕ
@@ -143,23 +62,6 @@ pages_setting = record { word = codes "pages"; min = MIN_PAGES; max = MAX_PAGES;
 -- the data size of a page, in bytes
 abbrev pub size_setting : Setting
 size_setting = record { word = codes "size"; min = MIN_SIZE; max = MAX_SIZE; step = SIZE_STEP }
-
--- how many CPUs there are
-abbrev pub cpus_setting : Setting
-cpus_setting = record { word = codes "cpus"; min = MIN_SCRIPT_CPUS; max = MAX_SCRIPT_CPUS; step = 1 }
-
--- how many collectors there are
-abbrev pub collectors_setting : Setting
-collectors_setting = record {
-  word = codes "collectors";
-  min = MIN_SCRIPT_COLLECTORS;
-  max = MAX_SCRIPT_COLLECTORS;
-  step = 1;
-}
-
--- the lines of a header, in their order
-abbrev pub header_settings : List Setting
-header_settings = pages_setting ∷ size_setting ∷ cpus_setting ∷ collectors_setting ∷ []
 
 -- a value that this setting may have
 abbrev pub allowed_for : Setting → ℕ → Result ℕ LineFault
@@ -202,28 +104,6 @@ GiveSettings (line ∷ lines) (s ∷ settings) (value ∷ values) =
     (value_in s line.1 ≡ Ok value) × GiveSettings lines settings values
 GiveSettings _ _ _ = ⊥
 
--- these lines spell these commands, one by one, and the numbers of the lines are the commands'
-abbrev pub SpellCommands : ℕ → ℕ → List NumberedLine → List (ℕ × Command) → Type 0
-SpellCommands cpus collectors [] [] = ⊤
-SpellCommands cpus collectors (line ∷ lines) (command ∷ commands) =
-    (command_in cpus collectors line.1 ≡ Ok command.1)
-    × (line.0 ≡ command.0)
-    × SpellCommands cpus collectors lines commands
-SpellCommands cpus collectors _ _ = ⊥
-
--- Significant lines spell a script: a header, and then a command a line.
-pub record SpellScript (lines : List NumberedLine) (script : Script) : Type 0 where
-  pub header : List NumberedLine
-  pub behind : List NumberedLine
-  pub cut : lines ≡ header ++ behind
-  pub settings : GiveSettings header header_settings
-      (script.pages ∷ script.size ∷ script.cpus ∷ script.collectors ∷ [])
-  pub commands : SpellCommands script.cpus script.collectors behind script.commands
-
--- The text spells this script.
-abbrev pub ParsesScript : List ℕ → Script → Type 0
-ParsesScript text script = SpellScript (significant_lines text) script
-
 -- Of these settings, the lines in front of this one give the first, and this one not the next.
 pub record IsFaultySetting (settings : List Setting) (lines : List NumberedLine)
     (number : ℕ) (fault : LineFault)
@@ -248,26 +128,6 @@ pub record IsMissingSetting (settings : List Setting) (lines : List NumberedLine
   pub order : settings ≡ given ++ setting ∷ others
   pub values : List ℕ
   pub fits : GiveSettings lines given values
-
--- The lines in front of this one spell a script, and this one no command of it.
-pub record IsFaultyCommand (lines : List NumberedLine) (number : ℕ) (fault : LineFault) : Type 0 where
-  pub front : List NumberedLine
-  pub line : List ℕ
-  pub behind : List NumberedLine
-  pub cut : lines ≡ front ++ (number, line) ∷ behind
-  pub script : Script
-  pub fits : SpellScript front script
-  pub fails : command_in script.cpus script.collectors line ≡ Err fault
-
--- The line of this number is the first of the text that is at fault, and this is what is wrong with
--- it. Where lines of the header are missing, it is the line behind the last one.
-abbrev pub FirstScriptFault : List ℕ → ℕ → LineFault → Type 0
-FirstScriptFault text number fault =
-    IsFaultySetting header_settings (significant_lines text) number fault
-    ⊎ (IsMissingSetting header_settings (significant_lines text)
-    × (number ≡ length (lines_of text) + 1)
-    × (fault ≡ bad_line))
-    ⊎ IsFaultyCommand (significant_lines text) number fault
 
 -- the name of a fault
 abbrev pub fault_name : LineFault → List ℕ

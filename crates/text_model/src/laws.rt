@@ -1,6 +1,4 @@
 //! Laws over the definitions, as contracts of functions with empty bodies, by subject.
 
 pub mod limits;
-pub mod replays;
-pub mod scripts;
 pub mod texts;

@@ -1,10 +1,10 @@
 -- Records that were written one behind the other are read back.
-use Rattle.std.proofs.Common.{◌≡◌, ℕ, ◌+◌, ◌-◌, ◌%◌, ◌≤◌, Bool, true, false, List, [], ◌∷◌, ◌++◌, length, Some, inl, refl, sym, ap, ◌∙◌, subst, arith, append_assoc, append-nil}
+use Rattle.std.proofs.Common.{◌≡◌, ℕ, ◌+◌, ◌-◌, ◌%◌, ◌≤◌, Bool, true, false, List, [], ◌∷◌, ◌++◌, length, inl, refl, sym, ap, ◌∙◌, subst, arith, append_assoc, append-nil}
 use Rattle.std.specs.List.{AllByRecursion}
 use Rattle.trace_model.specs.Record.{Record}
 use Rattle.trace_model.specs.Words.{Decodes, slot_len, encoding, encoding_of, encodings_behind, page_encoding}
 use Rattle.trace_model.specs.Reading.{EndsInRecord}
-use Rattle.trace_model.specs.Order.{moment_of_last, EndsAt, first_moment_or, NeverFallsFrom, NeverFalls, IsWritable}
+use Rattle.trace_model.specs.Order.{EndsAt, first_moment_or, NeverFallsFrom, NeverFalls, IsWritable}
 use Rattle.trace_model.proofs.Lengths.{slot_len-mod, slot_len_ge_four, padded_whole}
 use Rattle.trace_model.proofs.Appended.{one_record, Decodes-first, Decodes-appended, EndsInRecord-first, EndsInRecord-appended, EndsAt-push, FitsTime-nil}
 
@@ -69,31 +69,3 @@ pub Decodes-page_encoding : (records : List Record) (time : ℕ) → NeverFalls 
 Decodes-page_encoding [] time rises each = Decodes-nil time
 Decodes-page_encoding (r ∷ records) time rises each =
     Decodes-encodings_behind records (encoding_of 0 r true) r.moment (r ∷ []) r.moment (EndsInRecord-encoding_of_first 0 r each.0) (Decodes-encoding_of_first 0 r each.0) refl rises.1 each.1
-
--- ---- a page's data grows at its end
-
--- the moment of the last record, or this one
-abbrev last_or : ℕ → List Record → ℕ
-last_or prev [] = prev
-last_or prev (r ∷ records) = last_or r.moment records
-
-encodings_behind-push : (records : List Record) (prev : ℕ) (r : Record) → encodings_behind prev (records ++ r ∷ []) ≡ encodings_behind prev records ++ encoding_of (last_or prev records) r false
-encodings_behind-push [] prev r = append-nil (encoding_of prev r false)
-encodings_behind-push (x ∷ records) prev r =
-    ap (λ (b : List ℕ). encoding_of prev x false ++ b) (encodings_behind-push records x.moment r)
-    ∙ sym (append_assoc (encoding_of prev x false) (encodings_behind x.moment records) (encoding_of (last_or x.moment records) r false))
-
-last_or-EndsAt : (records : List Record) (prev : ℕ) (x : Record) → moment_of_last (x ∷ records) ≡ Some (last_or x.moment records)
-last_or-EndsAt [] prev x = refl
-last_or-EndsAt (y ∷ records) prev x = last_or-EndsAt records prev y
-
-pub page_encoding-one : (r : Record) → page_encoding (r ∷ []) ≡ encoding_of 0 r true
-page_encoding-one r = append-nil (encoding_of 0 r true)
-
-pub page_encoding-push : (records : List Record) (prev : ℕ) (r : Record) → EndsAt records prev → page_encoding (records ++ r ∷ []) ≡ page_encoding records ++ encoding_of prev r false
-page_encoding-push [] prev r at = absurd (cc)
-page_encoding-push (x ∷ records) prev r at =
-    let there = last_or-EndsAt records prev x in
-    let same : last_or x.moment records ≡ prev = cc in
-    ap (λ (b : List ℕ). encoding_of 0 x true ++ b) (encodings_behind-push records x.moment r ∙ ap (λ (m : ℕ). encodings_behind x.moment records ++ encoding_of m r false) same)
-    ∙ sym (append_assoc (encoding_of 0 x true) (encodings_behind x.moment records) (encoding_of prev r false))

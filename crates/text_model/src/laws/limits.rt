@@ -1,30 +1,13 @@
 //! The limits and the fixed words of scripts, by their values.
-ghost use Rattle.std.specs.Prelude.{◌≡◌, ℕ, [], ◌∷◌, ◌++◌, codes, decimal};
-ghost use Rattle.text_model.specs.Script.{pages_setting, size_setting, cpus_setting, collectors_setting, header_settings};
+ghost use Rattle.std.specs.Prelude.{◌≡◌, ℕ, ◌++◌, codes, decimal};
 ghost use Rattle.text_model.specs.Script.{bad_line, bad_number, bad_hex, out_of_range, fault_text};
 
-use crate::script_limits::{
-    MAX_NUMBER_DIGITS, MAX_SCRIPT_COLLECTORS, MAX_SCRIPT_CPUS, MIN_SCRIPT_COLLECTORS,
-    MIN_SCRIPT_CPUS, SIZE_STEP,
-};
+use crate::script_limits::{MAX_NUMBER_DIGITS, SIZE_STEP};
 
 /// The limits of a script and of its numbers.
 pub fn constants_are()
     ensures digits { MAX_NUMBER_DIGITS ≡ 20 }
     ensures size_step { SIZE_STEP ≡ 4 }
-    ensures min_cpus { MIN_SCRIPT_CPUS ≡ 1 }
-    ensures max_cpus { MAX_SCRIPT_CPUS ≡ 1 }
-    ensures min_collectors { MIN_SCRIPT_COLLECTORS ≡ 1 }
-    ensures max_collectors { MAX_SCRIPT_COLLECTORS ≡ 1 }
-{}
-
-/// The lines of the header: their order, their words and their values.
-pub fn header_is()
-    ensures order { header_settings ≡ pages_setting ∷ size_setting ∷ cpus_setting ∷ collectors_setting ∷ [] }
-    ensures pages { pages_setting ≡ record { word = codes "pages"; min = 2; max = 1024; step = 1 } }
-    ensures size { size_setting ≡ record { word = codes "size"; min = 32; max = 65520; step = 4 } }
-    ensures cpus { cpus_setting ≡ record { word = codes "cpus"; min = 1; max = 1; step = 1 } }
-    ensures collectors { collectors_setting ≡ record { word = codes "collectors"; min = 1; max = 1; step = 1 } }
 {}
 
 /// How a fault of a line is told.
