@@ -1,16 +1,19 @@
-pub mod Rising
-pub mod Deliveries
-pub mod TailRoom
-pub mod Members
-pub mod Numbered
-pub mod Appending
-pub mod PagesKept
-pub mod Fillings
-pub mod Outcomes
-pub mod States
-pub mod TakeSteps
-pub mod DeliverySteps
-pub mod Steps
-pub mod Logged
-pub mod Contracts
-pub mod SoFar
+-- the replay: pages found by their fills; lanes in their places; what a line leads to; what is answered
+pub mod Searches
+pub mod Added
+pub mod EmptyPlaces
+pub mod Placed
+pub mod LinesObeyed
+pub mod Answered
+-- frames and pushes
+pub mod LaneValues
+pub mod FrameRuns
+pub mod FrameTops
+pub mod PushedLanes
+-- takes
+pub mod Logs
+pub mod Told
+pub mod TakesNumbers
+pub mod TakesNew
+pub mod TakesLanes
+pub mod TakesRuns

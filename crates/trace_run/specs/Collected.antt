@@ -1,25 +1,45 @@
--- What the collector of plain pages has.
-use Rattle.std.specs.Prelude.{ℕ, true, if◌then◌else◌, ◌==◌, List, [], ◌∷◌, flat_map}
-use Rattle.trace_model.specs.Record.{Record}
-use Rattle.text_model.specs.Log.{Delivery, new_page, known_page, no_page}
-use Rattle.text_model.specs.Replay.{pairs_of}
-use Rattle.trace_run.specs.declared.taken_pages.TakenPage.{TakenPage}
+-- What is found among the pages that were taken, and what collectors keep of what was delivered to them.
+use Rattle.std.specs.Prelude.{◌≡◌, ℕ, ◌<◌, List, [], ◌∷◌, ◌++◌, length, Option, Some, None, Contains}
+use Rattle.std.specs.List.{slice_get}
+use Rattle.trace_model.specs.Parcel.{Parcel}
+use Rattle.trace_model.specs.Collection.{IsBelow, IsSame}
+use Rattle.text_model.specs.Log.{Delivery, new_page, known_page}
+use Rattle.collector.specs.declared.added.Added.{Added}
+use Rattle.collector.specs.declared.added.Added.TheVariants.{New, Known}
+use Rattle.trace_run.specs.Value.{LaneValue}
 
--- a taken page, delivered where its fill is this one
-abbrev pub with_delivery : ℕ → TakenPage → TakenPage
-with_delivery fill p = if p.page.fill == fill then record p { delivered = true } else p
+-- the fills of parcels rise
+abbrev pub AreRising : List Parcel → Type 0
+AreRising parcels = (j k : ℕ) (earlier later : Parcel)
+    → j < k
+    → slice_get parcels j ≡ Some earlier
+    → slice_get parcels k ≡ Some later
+    → earlier.fill < later.fill
 
--- the pairs of a page that was delivered
-abbrev pub delivered_pairs : TakenPage → List (ℕ × Record)
-delivered_pairs p = if p.delivered then pairs_of p.page else []
+-- the parcel of this fill was taken from the ring of a lane
+abbrev pub IsFound : Option LaneValue → (fill : ℕ) → Parcel → Type 0
+IsFound None fill parcel = ⊥
+IsFound (Some lane) fill parcel = Contains lane.taken parcel × (parcel.fill ≡ fill)
 
--- all pairs that were delivered, by rising number
-abbrev pub collected_pairs : List TakenPage → List (ℕ × Record)
-collected_pairs pages = flat_map delivered_pairs pages
+-- what a collector keeps behind a parcel that was added: the parcel too, where it adds something
+abbrev pub Adds : Added → (old : List Parcel) → Parcel → (new : List Parcel) → Type 0
+Adds New old parcel new = (IsBelow (parcel ∷ []) old → ⊥) × (new ≡ old ++ parcel ∷ [])
+Adds Known old parcel new = IsBelow (parcel ∷ []) old × (new ≡ old)
 
--- what a delivery of this fill brings, where these pages were taken
-abbrev pub delivery_of : ℕ → List TakenPage → Delivery
-delivery_of fill [] = no_page
-delivery_of fill (p ∷ pages) =
-    if p.page.fill == fill then (if p.delivered then known_page else new_page)
-    else delivery_of fill pages
+-- what a delivery brings, by what becomes of its parcel
+abbrev pub delivery_of : Added → Delivery
+delivery_of New = new_page
+delivery_of Known = known_page
+
+-- A collector keeps some of the parcels that were delivered to it, which have and miss together what all of them do.
+pub record IsCollected (kept delivered : List Parcel) : Type 0 where
+  pub same : IsSame kept delivered
+  pub among : (parcel : Parcel) → Contains kept parcel → Contains delivered parcel
+
+-- So it is of each collector.
+pub record AreCollected (collectors delivered : List (List Parcel)) : Type 0 where
+  pub count : length collectors ≡ length delivered
+  pub each : (collector : ℕ) (kept parcels : List Parcel)
+      → slice_get collectors collector ≡ Some kept
+      → slice_get delivered collector ≡ Some parcels
+      → IsCollected kept parcels

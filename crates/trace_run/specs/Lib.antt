@@ -1,5 +1,8 @@
-pub mod Collected
-pub mod PlainPages
-pub mod PlainInside
-pub mod ReplaySteps
 pub mod LogTypes
+pub mod Value
+pub mod Lanes
+pub mod Frames
+pub mod Takes
+pub mod Places
+pub mod Collected
+pub mod Replay

@@ -1,19 +1,16 @@
-//! The replay of a script: what its commands meet, and what its collectors then have.
+//! The replay of a script: what its lines do to the rings of its CPUs, and to its collectors.
 //!
-//! The ring's pages stand in a plain list for now, and a collector is the list of the pages that were
-//! taken, each delivered to it or not.
+//! A lane is the ring of one CPU with the payloads of its frames and the pages that were taken from it; a line is steps
+//! of its lane, or a delivery to a collector.
 #![tactic(auto)]
 
-mod copied_page;
+mod delivery;
+mod lane;
 mod log;
-mod page_write;
-mod plain_list;
+mod places;
 mod script_replay;
-mod taken_pages;
-mod write_fault;
+mod world;
 
-pub use copied_page::CopiedPage;
 pub use log::LogLine;
-pub use script_replay::{ReplayFault, World, replay};
-pub use taken_pages::{TakenPage, TakenPages};
-pub use write_fault::WriteFault;
+pub use script_replay::replay;
+pub use world::{ReplayFault, World};

@@ -1,215 +1,225 @@
-//! The replay of a script over a plain list of pages.
-ghost use Rattle.std.specs.Prelude.{◌≡◌, ◌+◌, [], ◌∷◌, ◌++◌, ◌<◌, ◌^◌, OnOk, IfOk, IsOkUnless, All, map, option_to_list};
-ghost use Rattle.text_model.specs.Script.{write, take_page, deliver};
-ghost use Rattle.text_model.specs.ScriptLimits.{IsWithinLimits};
-ghost use Rattle.text_model.specs.Log.{IsLoggedReplay, delivery_line, take_line};
-ghost use Rattle.trace_run.specs.Collected.{collected_pairs, delivery_of};
-ghost use Rattle.trace_run.specs.PlainPages.{tail_fill, takeable_records, oldest_taking};
-ghost use Rattle.trace_run.specs.LogTypes.{shown_log, shown_logged, shown_log_line};
-ghost use Rattle.trace_run.specs.ReplaySteps.{line_logged, state_after};
-ghost use Rattle.trace_run.specs.declared.script_replay.ReplayFault.TheVariants.{NoMemory as no_memory};
-ghost use Rattle.trace_script.specs.ScriptTypes.{shown_command, script_of};
+//! The replay of a script over the rings of its CPUs: its lines are obeyed, one behind the other.
+ghost use Rattle.std.specs.Prelude.{◌≡◌, ℕ, ◌++◌, [], ◌∷◌, List, length, All, IsOkUnless, IfOk, OnOk};
+ghost use Rattle.text_model.specs.Log as model;
+ghost use Rattle.script_model.specs.Script as model_script;
+ghost use Rattle.script_model.specs.Script.{deliver as delivers};
+ghost use Rattle.script_model.specs.ScriptLimits.{IsWithinLimits};
+ghost use Rattle.world_model.specs.World.{World as WorldSeen};
+ghost use Rattle.world_model.specs.Headline.{IsGenuineWorld};
+ghost use Rattle.trace_script.specs.ScriptTypes.{shown_command, shown_line};
+ghost use Rattle.trace_run.specs.LogTypes.{shown_log_line};
+ghost use Rattle.trace_run.specs.Lanes.{IsLaneOf, HasLine};
+ghost use Rattle.trace_run.specs.Collected.{delivery_of};
+ghost use Rattle.trace_run.specs.Replay.{cpu_of, IsOfRing, IsAmid, IsReady, LeadsOn, IsReplay, AreExact, AreAlike, Join, IsHeadline};
+ghost use Rattle.trace_run.specs.declared.world.ReplayFault.TheVariants.{NoMemory as no_memory};
 
-use crate::log::LogLine;
-use crate::plain_list::PlainList;
-use crate::taken_pages::{Delivery, TakenPages};
-use std::alloc::{AllocFailed, Global};
-use thiserror::Error;
+use crate::delivery::{collect, taken_page};
+use crate::lane::Lane;
+use crate::log::{At, LogLine};
+use crate::places::{put_lane, take_lane};
+use crate::world::{ReplayFault, World};
+use collector::{Added, Collector};
+use std::alloc::Global;
 use trace_model::{CpuId, FillNo, NoMemory};
-use trace_script::{Command, Script};
+use trace_script::{Command, Script, ScriptLine};
 
-/// Why a replay or a run has no world to answer.
-#[derive(Clone, Copy, Debug, PartialEq, Eq, Error)]
-pub enum ReplayFault {
-    /// Memory was refused.
-    #[error("out of memory")]
-    NoMemory,
-    /// The gate of a run didn't let a thread pass.
-    #[error("the gate is shut")]
-    GateShut,
-    /// A thread of a run didn't start.
-    #[error("no thread")]
-    NoThread,
-}
-
-impl From<NoMemory> for ReplayFault {
-    ghost from_gives = { λ _ fault. fault ≡ no_memory };
-
-    fn from(_refused: NoMemory) -> ReplayFault {
-        ReplayFault::NoMemory
-    }
-}
-
-impl<T: Drop> From<AllocFailed<T>> for ReplayFault {
-    ghost from_gives = { λ _ fault. fault ≡ no_memory };
-
-    fn from(_refused: AllocFailed<T>) -> ReplayFault {
-        ReplayFault::NoMemory
-    }
-}
-
-/// A replay between two lines: the pages of the script's CPU, and those that were taken.
+/// A replay between two lines: the lanes that were made so far, each at its CPU's index; the collectors; the log.
 #[derive(Drop)]
-pub struct ReplayState {
-    pub list: PlainList,
-    pub taken: TakenPages,
+pub(crate) struct ReplayState<'a> {
+    lanes: Vec<Option<Box<Lane<'a>>>>,
+    collectors: Vec<Collector>,
+    log: Vec<LogLine>,
 }
 
-/// Writes a record; a write that is refused does nothing, and is told.
-fn write(
-    state: &mut ReplayState,
-    line: u64,
-    cpu: CpuId,
-    moment: u64,
-    payload: &[u8],
-) -> Result<Option<LogLine>, NoMemory>
-    requires { tail_fill state.old.list + 1 < 2 ^ 64 }
-    ensures state { OnOk result (state.new ≡ state_after state.old (write cpu.0 moment payload.now)) }
-    ensures logged { IfOk result (λ logged.
-        shown_logged logged ≡ line_logged state.old line (write cpu.0 moment payload.now)) }
+/// The CPU that a command names.
+fn named_cpu(command: Command) -> CpuId
+    ensures { result.0 ≡ cpu_of (shown_command command.entry) }
 {
-    match state.list.write(moment, payload)? {
-        Some(fault) => Ok(Some(LogLine::Refused { line, cpu, fault })),
-        None => Ok(None),
+    match command {
+        Command::Begin { cpu, .. } => cpu,
+        Command::Step { cpu, .. } => cpu,
+        Command::Finish { cpu } => cpu,
+        Command::Write { cpu, .. } => cpu,
+        Command::Close { cpu } => cpu,
+        Command::StepReader { cpu, .. } => cpu,
+        Command::Take { cpu } => cpu,
+        Command::Wish { cpu } => cpu,
+        Command::Deliver { cpu, .. } => cpu,
     }
 }
 
-/// Takes a page, if one can be taken.
-fn take(state: &mut ReplayState, line: u64, cpu: CpuId) -> Result<LogLine, NoMemory>
-    requires fills { tail_fill state.old.list < 2 ^ 64 }
-    requires records { takeable_records state.old.list < 2 ^ 64 }
-    requires below { All (λ p. p.page.fill < state.old.list.oldest) state.old.taken }
-    ensures state { OnOk result (state.new ≡ state_after state.old (take_page cpu.0)) }
-    ensures logged { IfOk result (λ logged.
-        shown_log_line logged ≡ take_line line cpu.0 (oldest_taking state.old.list)) }
+/// A lane does what a command asks for of it; of a delivery nothing.
+fn run_line<'a>(
+    alloc: Global,
+    lane: &mut Lane<'a>,
+    at: At,
+    command: Command<'a>,
+    log: &mut Vec<LogLine>,
+) -> Result<(), NoMemory>
+    requires { IsLaneOf at.cpu.0 lane.old }
+    ensures { OnOk result (HasLine (shown_command command.entry) at.line at.cpu.0
+        lane.old log.old.items lane.new log.new.items) }
 {
-    let Some(page) = state.list.take()? else {
-        return Ok(LogLine::Empty { line, cpu });
-    };
-    let logged = LogLine::Taken {
-        line,
-        cpu,
-        fill: page.fill(),
-        first: page.first(),
-        count: page.records().len() as u64,
-        missed: 0,
-    };
-    state.taken.add(page)?;
-    Ok(logged)
+    match command {
+        Command::Begin {
+            moment,
+            payload,
+            ..
+        } => lane.begin(at, moment.0, payload, log),
+        Command::Step { count, .. } => lane.step(at, count, log),
+        Command::Finish { .. } => lane.finish(at, log),
+        Command::Write {
+            moment,
+            payload,
+            ..
+        } => lane.write(at, moment.0, payload, log),
+        Command::Close { .. } => lane.close(at, log),
+        Command::StepReader { count, .. } => lane.step_reader(alloc, at, count, log),
+        Command::Take { .. } => lane.take(alloc, at, log),
+        Command::Wish { .. } => lane.wish(at, log),
+        Command::Deliver { .. } => Ok(()),
+    }
 }
 
-/// Delivers a page to the one collector, and tells what that brings.
+/// A line of a CPU's ring.
+fn obey_ring<'a>(
+    alloc: Global,
+    script: &Script,
+    state: &mut ReplayState<'a>,
+    line: ScriptLine<'a>,
+) -> Result<(), NoMemory>
+    requires ready { IsReady script.now (shown_command line.command) state.old }
+    requires ring { IsOfRing (shown_command line.command) }
+    ensures { OnOk result (LeadsOn script.now (shown_line line.entry) state.old state.new) }
+{
+    let cpu = named_cpu(line.command);
+    let at = At {
+        line: line.number,
+        cpu,
+    };
+    let mut lane = take_lane(alloc, script, &mut state.lanes, cpu)?;
+    run_line(alloc, &mut *lane, at, line.command, &mut state.log)?;
+    put_lane(&mut state.lanes, cpu, lane);
+    Ok(())
+}
+
+/// What is logged of a page that was delivered.
+fn told_delivery(added: Added, line: u64, collector: usize, cpu: CpuId, fill: FillNo) -> LogLine
+    ensures { shown_log_line result ≡ model.delivery_line line collector cpu.0 fill.0 (delivery_of added) }
+{
+    match added {
+        Added::New => LogLine::New {
+            line,
+            collector,
+            cpu,
+            fill,
+        },
+        Added::Known => LogLine::Known {
+            line,
+            collector,
+            cpu,
+            fill,
+        },
+    }
+}
+
+/// A line that delivers a fill of a CPU to a collector.
 fn deliver(
     state: &mut ReplayState,
     line: u64,
     collector: usize,
     cpu: CpuId,
     fill: FillNo,
-) -> LogLine
-    ensures state { state.new ≡ state_after state.old (deliver collector cpu.0 fill.0) }
-    ensures logged { shown_log_line result
-        ≡ delivery_line line collector cpu.0 fill.0 (delivery_of fill.0 state.old.taken) }
+) -> Result<(), NoMemory>
+    requires { (script : model_script.Script) × IsReady script (delivers collector cpu.0 fill.0) state.old }
+    ensures { OnOk result ((script : model_script.Script) → IsReady script (delivers collector cpu.0 fill.0) state.old
+        → LeadsOn script (line, delivers collector cpu.0 fill.0) state.old state.new) }
 {
-    match state.taken.deliver(fill) {
-        Delivery::New => LogLine::New {
+    let Some(parcel) = taken_page(state.lanes.as_slice(), cpu, fill) else {
+        state.log.push(LogLine::NotTaken {
             line,
             collector,
             cpu,
             fill,
-        },
-        Delivery::Known => LogLine::Known {
-            line,
-            collector,
-            cpu,
-            fill,
-        },
-        Delivery::NotTaken => LogLine::NotTaken {
-            line,
-            collector,
-            cpu,
-            fill,
-        },
-    }
+        })?;
+        return Ok(());
+    };
+    let added = collect(&mut state.collectors[collector], parcel)?;
+    state
+        .log
+        .push(told_delivery(added, line, collector, cpu, fill))?;
+    Ok(())
 }
 
-/// Obeys the command of the script's line of this number, and tells what is logged of it. What it leaves
-/// where memory is refused is not used.
-fn obey(state: &mut ReplayState, line: u64, command: &Command) -> Result<Option<LogLine>, NoMemory>
-    requires fills { tail_fill state.old.list + 1 < 2 ^ 64 }
-    requires records { takeable_records state.old.list < 2 ^ 64 }
-    requires below { All (λ p. p.page.fill < state.old.list.oldest) state.old.taken }
-    ensures state { OnOk result (state.new ≡ state_after state.old (shown_command command.now)) }
-    ensures logged { IfOk result (λ logged.
-        shown_logged logged ≡ line_logged state.old line (shown_command command.now)) }
+/// A line of the script. What it leaves where memory is refused is not used.
+fn obey<'a>(
+    alloc: Global,
+    script: &Script,
+    state: &mut ReplayState<'a>,
+    line: ScriptLine<'a>,
+) -> Result<(), NoMemory>
+    requires { IsReady script.now (shown_command line.command) state.old }
+    ensures { OnOk result (LeadsOn script.now (shown_line line.entry) state.old state.new) }
 {
-    match command {
-        Command::Write {
-            cpu,
-            moment,
-            payload,
-        } => write(state, line, *cpu, moment.0, payload),
-        Command::Close { cpu: _ } => {
-            state.list.close()?;
-            Ok(None)
-        }
-        Command::Take { cpu } => Ok(Some(take(state, line, *cpu)?)),
+    match line.command {
         Command::Deliver {
             collector,
             cpu,
             fill,
-        } => Ok(Some(deliver(state, line, *collector, *cpu, *fill))),
+        } => deliver(state, line.number, collector, cpu, fill),
+        _ => obey_ring(alloc, script, state, line),
     }
 }
 
-/// Adds what is logged of a command, if anything is.
-fn note(log: &mut Vec<LogLine>, logged: Option<LogLine>) -> Result<(), NoMemory>
-    ensures { OnOk result (shown_log log.new.items
-        ≡ shown_log log.old.items ++ option_to_list (shown_logged logged)) }
+/// So many collectors that keep nothing.
+fn new_collectors(alloc: Global, count: usize) -> Result<Vec<Collector>, NoMemory>
+    ensures count { IfOk result (λ collectors. length collectors.items ≡ count) }
+    ensures new { IfOk result (λ collectors. All (λ kept. kept ≡ []) collectors.items) }
 {
-    if let Some(line) = logged {
-        log.push(line)?;
+    let mut collectors = Vec::new(alloc);
+    while collectors.len() < count {
+        collectors.push(Collector::new(alloc))?;
     }
-    Ok(())
+    Ok(collectors)
 }
 
-/// What the replay of a script leaves: its collectors, by their numbers, and the log.
-#[derive(Drop)]
-pub struct World {
-    /// For now one collector, which is told by the pages that were taken.
-    pub collectors: Vec<TakenPages>,
-    pub log: Vec<LogLine>,
-}
-
-/// Obeys the script's commands one behind the other, and answers the taken pages and the log.
-fn replayed_pages(alloc: Global, script: &Script) -> Result<(TakenPages, Vec<LogLine>), NoMemory>
-    requires { IsWithinLimits (script_of script.now) }
-    ensures { IfOk result (λ left.
-        IsLoggedReplay (script_of script.now) (shown_log left.1.items) (collected_pairs left.0 ∷ [])) }
+/// All lines of the script.
+fn obey_all<'a>(alloc: Global, script: &'a Script) -> Result<ReplayState<'a>, NoMemory>
+    ensures limits { OnOk result (IsWithinLimits script.now) }
+    ensures amid { IfOk result (λ state. IsAmid script.now script.now.commands state) }
 {
-    let mut log = Vec::new(alloc);
     let mut state = ReplayState {
-        list: PlainList::new(alloc, script.pages, script.size)?,
-        taken: TakenPages::new(alloc),
+        lanes: Vec::new(alloc),
+        collectors: new_collectors(alloc, script.collectors())?,
+        log: Vec::new(alloc),
     };
-    for line in &script.commands {
-        let logged = obey(&mut state, line.number, &line.command)?;
-        note(&mut log, logged)?;
+    let commands = script.commands();
+    for index in 0..commands.len() {
+        obey(alloc, script, &mut state, commands.line(index))?;
     }
-    let ReplayState { list, taken } = state;
-    drop(list);
-    Ok((taken, log))
+    Ok(state)
 }
 
-/// Replays a script of one CPU and one collector over a list of its pages. It answers no fault but
-/// `NoMemory`.
+/// Replays a script over rings, one for each CPU that its lines name. It answers no fault but `NoMemory`.
 pub fn replay(alloc: Global, script: &Script) -> Result<World, ReplayFault>
-    requires { IsWithinLimits (script_of script.now) }
-    ensures world { IfOk result (λ world. IsLoggedReplay (script_of script.now)
-        (shown_log world.log.items) (map collected_pairs world.collectors.items)) }
+    ensures world { IfOk result (λ world. (w : WorldSeen)
+        × IsReplay script.now world.collectors.items world.log.items w) }
+    ensures genuine { IfOk result (λ world. (w : WorldSeen)
+        → IsReplay script.now world.collectors.items world.log.items w → IsGenuineWorld script.now w) }
+    ensures exact { IfOk result (λ world. (w : WorldSeen) (genuine : IsGenuineWorld script.now w)
+        → IsReplay script.now world.collectors.items world.log.items w
+        → AreExact script.now world.collectors.items w genuine) }
+    ensures alike { IfOk result (λ world. (w : WorldSeen)
+        → IsReplay script.now world.collectors.items world.log.items w → AreAlike world.collectors.items w) }
+    ensures join { IfOk result (λ world. Join world.collectors.items) }
+    ensures headline { IfOk result (λ world. IsHeadline script.now world.collectors.items world.log.items) }
     ensures memory { IsOkUnless result no_memory }
 {
-    let (taken, log) = replayed_pages(alloc, script)?;
-    let mut collectors = Vec::new(alloc);
-    collectors.push(taken)?;
+    let ReplayState {
+        lanes,
+        collectors,
+        log,
+    } = obey_all(alloc, script)?;
+    drop(lanes);
     Ok(World { collectors, log })
 }

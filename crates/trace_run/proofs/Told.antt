@@ -1,0 +1,14 @@
+-- What an answer of a ring tells, in the log.
+use Rattle.std.proofs.Common.{◌≡◌, ℕ, List, ◌++◌}
+use Rattle.trace_model.specs.Steps as model
+use Rattle.world_model.specs.Log.{logged}
+use Rattle.ring_core.specs.declared.event.Answer.{Answer}
+use Rattle.ring_core.specs.Answers.{Tells}
+use Rattle.trace_run.specs.declared.log.LogLine.{LogLine}
+use Rattle.trace_run.specs.LogTypes.{shown_log}
+
+-- it stands behind the log
+abbrev pub IsTold : (line cpu : ℕ) → Answer → List LogLine → List LogLine → Type 0
+IsTold line cpu answer log more = (size : ℕ) (told : model.Answer)
+    → Tells size answer told
+    → shown_log more ≡ shown_log log ++ logged line cpu told

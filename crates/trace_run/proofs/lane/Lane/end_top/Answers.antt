@@ -1,0 +1,37 @@
+use Rattle.std.proofs.Common.{ℕ, ◌-◌, ◌≤◌, List, ◌++◌, length, replicate, sym, ap, ◌∙◌, subst, Bor}
+use Rattle.nested_writer.specs.Calls.{IsTopSlot}
+use Rattle.trace_run.specs.Value.{LaneValue, shown}
+use Rattle.trace_run.specs.Lanes.{IsLane}
+use Rattle.trace_run.specs.Frames.{AsksTop}
+use Rattle.trace_run.proofs.FrameTops.{has_top_payload, has_room, is_first, asked_end}
+use Rattle.trace_run.proofs.lane.Lane.end_top.Goals as goal
+
+pub put_padded-requires : goal.put_padded-requires
+put_padded-requires c =
+    let v : LaneValue = shown c.self.inside in
+    let top : IsTopSlot v.core.stack.frames c.args.slot =
+    subst (λ (x : LaneValue). IsTopSlot x.core.stack.frames c.args.slot) (sym c.self.view_is) c.requires.slot in
+    let (cpu, (n, size, start, lane, now)) = c.requires.lane in
+    let is : IsLane n size start cpu v lane =
+    subst (λ (x : LaneValue). IsLane n size start cpu x lane) (sym c.self.view_is) now in
+    subst (λ (k : ℕ). length c.in-Some.payload.now.now ≤ k) (sym c.payload_mut.ensures.len)
+    (has_room v lane c.args.slot c.in-Some.payload.now.now
+    (has_top_payload n size start cpu v lane c.args.slot is top c.payload_mut.ensures.fits)
+    (is_first (λ (b : Bor (List ℕ)). b.now) c.self.inside.payloads.items c.in-Some.payload.now
+    c.in-Some.ensures.lookup))
+
+pub returns-clause-step : goal.returns-clause-step
+returns-clause-step c =
+    let v : LaneValue = shown c.self.inside in
+    let payload : List ℕ = c.in-Some.payload.now.now in
+    let top : IsTopSlot v.core.stack.frames c.args.slot =
+    subst (λ (x : LaneValue). IsTopSlot x.core.stack.frames c.args.slot) (sym c.self.view_is) c.requires.slot in
+    subst (λ (x : LaneValue). AsksTop x c.step.result c.step.new.self) c.self.view_is
+    (asked_end v c.args.slot payload c.put_padded.new.slot c.step.result c.step.new.self top
+    c.payload_mut.ensures.fits
+    c.payload_mut.ensures.stays
+    (ap (λ (l : List ℕ). length l) (sym c.payload_mut.ensures.payload) ∙ c.payload_mut.ensures.len)
+    c.payload_mut.ensures.written
+    (is_first (λ (b : Bor (List ℕ)). b.now) c.self.inside.payloads.items c.in-Some.payload.now c.in-Some.ensures.lookup)
+    (c.put_padded.ensures ∙ ap (λ (k : ℕ). payload ++ replicate (k - length payload) 0) c.payload_mut.ensures.len)
+    c.step.ensures.step)

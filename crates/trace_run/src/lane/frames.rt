@@ -1,0 +1,140 @@
+//! The steps of the frame on top.
+ghost use Rattle.std.specs.Prelude.{◌≡◌, ◌≤◌, ◌-◌, ◌++◌, [], ◌∷◌, length, replicate, OnOk};
+ghost use Rattle.trace_model.specs.Frames.{no_frame};
+ghost use Rattle.text_model.specs.Log.{refused};
+ghost use Rattle.trace_run.specs.LogTypes.{shown_log};
+
+use crate::lane::Lane;
+use crate::log::{At, LogLine, tell};
+use nested_writer::WriteFault;
+use nested_writer::frame::Slot;
+use ring_core::{Answer, Event};
+use trace_model::NoMemory;
+
+/// More steps than a frame or a take makes in a ring of the most pages.
+pub(crate) const MOST_STEPS: u64 = 8192;
+
+/// Puts the payload to the front of the slot, and zeros behind it.
+fn put_padded(slot: &mut [u8], payload: &[u8])
+    requires { length payload.now ≤ length slot.old }
+    ensures { slot.new ≡ payload.now ++ replicate (length slot.old - length payload.now) 0 }
+{
+    let (front, behind) = slot.split_at_mut(payload.len());
+    front.copy_from_slice(payload);
+    behind.fill(0);
+}
+
+impl<'a> Lane<'a> {
+    ghost use Rattle.std.specs.Prelude.{◌≡◌, ◌≢◌, ℕ, ◌-◌, [], drop, length, OnOk};
+    ghost use Rattle.script_model.specs.Script.{step_frame, finish_frame};
+    ghost use Rattle.nested_writer.specs.Calls.{IsTopSlot};
+    ghost use Rattle.trace_run.specs.Lanes.{IsLaneOf, Has, HasLine};
+    ghost use Rattle.trace_run.specs.Frames.{AsksTop, StepsOnce, FollowsFrame};
+
+    /// Lets the frame on top make so many steps, if it stands so long.
+    pub(crate) fn step(
+        &mut self,
+        at: At,
+        count: u64,
+        log: &mut Vec<LogLine>,
+    ) -> Result<(), NoMemory>
+        requires { IsLaneOf at.cpu.0 self.old }
+        ensures { OnOk result (HasLine (step_frame at.cpu.0 count) at.line at.cpu.0
+            self.old log.old.items self.new log.new.items) }
+    {
+        if self.core.depth() == 0 {
+            return lack_frame(at, log);
+        }
+        self.follow(at, count, log)
+    }
+
+    /// Lets the frame on top make steps until it is gone.
+    pub(crate) fn finish(&mut self, at: At, log: &mut Vec<LogLine>) -> Result<(), NoMemory>
+        requires { IsLaneOf at.cpu.0 self.old }
+        ensures { OnOk result (HasLine (finish_frame at.cpu.0) at.line at.cpu.0
+            self.old log.old.items self.new log.new.items) }
+    {
+        if self.core.depth() == 0 {
+            return lack_frame(at, log);
+        }
+        self.follow(at, MOST_STEPS, log)
+    }
+
+    /// The frame on top makes steps until so many are made or it is gone.
+    fn follow(&mut self, at: At, count: u64, log: &mut Vec<LogLine>) -> Result<(), NoMemory>
+        requires lane { IsLaneOf at.cpu.0 self.old }
+        requires stands { self.old.core.stack.frames ≢ [] }
+        ensures { OnOk result (Has (FollowsFrame count) at.line at.cpu.0
+            self.old log.old.items self.new log.new.items) }
+    {
+        let depth = self.core.depth();
+        let mut steps = 0;
+        while steps < count && self.core.depth() == depth {
+            let answer = self.step_once();
+            tell(at, &answer, log)?;
+            steps += 1;
+        }
+        Ok(())
+    }
+
+    /// One step of the frame on top, with whose payload its record ends. The payload of a frame that is gone is
+    /// dropped.
+    fn step_once(&mut self) -> Answer
+        requires { (cpu : ℕ) × IsLaneOf cpu self.old }
+        ensures { StepsOnce self.old result self.new }
+    {
+        let answer = self.ask_top();
+        self.forget_gone();
+        answer
+    }
+
+    /// One step of the ring's frame on top.
+    fn ask_top(&mut self) -> Answer
+        requires { (cpu : ℕ) × IsLaneOf cpu self.old }
+        ensures ring { self.new ≡ record self.old { core = self.new.core } }
+        ensures step { AsksTop self.old result self.new.core }
+    {
+        match self.core.top_slot() {
+            Ok(slot) => self.end_top(slot),
+            Err(_) => self.core.step(Event::Step),
+        }
+    }
+
+    /// The record of the frame on top is written, and ended.
+    fn end_top(&mut self, slot: Slot) -> Answer
+        requires lane { (cpu : ℕ) × IsLaneOf cpu self.old }
+        requires slot { IsTopSlot self.old.core.stack.frames slot }
+        ensures ring { self.new ≡ record self.old { core = self.new.core } }
+        ensures step { AsksTop self.old result self.new.core }
+    {
+        match self.payloads.front() {
+            Some(payload) => put_padded(self.core.payload_mut(slot), *payload),
+            None => unreachable!(),
+        }
+        self.core.step(Event::End)
+    }
+
+    /// Drops the payloads of frames that are gone.
+    fn forget_gone(&mut self)
+        ensures { self.new ≡ record self.old {
+          payloads = drop (length self.old.payloads - length self.old.core.stack.frames) self.old.payloads;
+        } }
+    {
+        while self.payloads.len() > self.core.depth() {
+            self.payloads.pop_front();
+        }
+    }
+}
+
+/// No frame stands, which is logged.
+fn lack_frame(at: At, log: &mut Vec<LogLine>) -> Result<(), NoMemory>
+    ensures { OnOk result (shown_log log.new.items
+        ≡ shown_log log.old.items ++ refused at.line at.cpu.0 no_frame ∷ []) }
+{
+    log.push(LogLine::Refused {
+        line: at.line,
+        cpu: at.cpu,
+        fault: WriteFault::NoFrame,
+    })?;
+    Ok(())
+}
