@@ -1,0 +1,20 @@
+use Rattle.collector_text.proofs.RunsBehind.{put_none, put_more, put_all}
+use Rattle.collector_text.proofs.runs.put_runs.Goals as goal
+
+pub loop-cpu-init : goal.loop-cpu-init
+loop-cpu-init c = put_none c.args.collector.now c.args.out.now.items
+
+pub loop-cpu-preserved : goal.loop-cpu-preserved
+loop-cpu-preserved c =
+    let put = c.in_ok-put_runs_of.ensures in
+    put_more c.args.collector.now c.loop-cpu.cpu c.args.out.now.items c.loop-cpu.out.items c.put_runs_of.new.out.items
+    put.0 c.loop-cpu.invariant put.1 put.2
+
+pub returns : goal.returns
+returns c =
+    let put = c.loop-cpu.invariant in (
+      put.runs,
+      put_all c.args.collector.now c.args.out.now.items c.loop-cpu.out.items c.loop-cpu.cpu
+          c.parcels-parcels.ensures.sound c.loop-cpu-test.false put,
+      put.text,
+    )

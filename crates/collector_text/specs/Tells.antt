@@ -1,0 +1,22 @@
+-- What is printed of a collector tells just what it has and misses.
+use Rattle.std.specs.Prelude.{ℕ, List, [], Option, Some, None}
+use Rattle.std.specs.List.{slice_get}
+use Rattle.trace_model.specs.Parcel.{Parcel}
+use Rattle.trace_model.specs.Listing.{IsListing}
+use Rattle.collector.specs.Runs.{AreMissingRuns}
+use Rattle.world_model.specs.Printing.{Shown}
+
+-- what is there, or none
+abbrev pub or_none : {X : Type 0} → Option (List X) → List X
+or_none None = []
+or_none (Some xs) = xs
+
+-- the runs that are told of a CPU, none of one that is behind the last
+abbrev pub runs_of : List (List (ℕ × ℕ)) → ℕ → List (ℕ × ℕ)
+runs_of runs cpu = or_none (slice_get runs cpu)
+
+-- The lines are the listing of what the collector's parcels have, and of each CPU the runs are those of the numbers
+-- that they miss.
+pub record Tells (collector : List Parcel) (shown : Shown) : Type 0 where
+  pub lines : IsListing collector shown.lines
+  pub runs : (cpu : ℕ) → AreMissingRuns collector cpu (runs_of shown.runs cpu)

@@ -1,0 +1,21 @@
+//! What is printed of collectors is decided by what they have and miss, as the contract of a function with an empty body.
+ghost use Rattle.std.specs.Prelude.{◌≡◌, ℕ, Bool, List};
+ghost use Rattle.std.specs.List.{AllZip};
+ghost use Rattle.trace_model.specs.Parcel.{Parcel};
+ghost use Rattle.trace_model.specs.Collection.{IsSame};
+ghost use Rattle.text_model.specs.Log.{LogLine};
+ghost use Rattle.world_model.specs.Printing.{Shown, printed_collector, printed_world};
+ghost use Rattle.collector_text.specs.Tells.{Tells};
+
+/// What tells a collector tells each collector that is the same, and all that tells it has one text. So what is printed
+/// of a world is one text too.
+pub fn texts_are_one()
+    ensures alike { (parcels others : List Parcel) (shown : Shown) →
+        IsSame parcels others → Tells parcels shown → Tells others shown }
+    ensures one { (parcels : List Parcel) (shown other : Shown) (number : ℕ) →
+        Tells parcels shown → Tells parcels other →
+        printed_collector number shown ≡ printed_collector number other }
+    ensures world { (collectors : List (List Parcel)) (shown other : List Shown) (asked : Bool) (log : List LogLine) →
+        AllZip Tells collectors shown → AllZip Tells collectors other →
+        printed_world asked log shown ≡ printed_world asked log other }
+{}

@@ -1,0 +1,47 @@
+//! The lines of a collector's missing numbers.
+ghost use Rattle.std.specs.Prelude.{◌≡◌, ℕ, ◌++◌, List, OnOk, flat_map};
+ghost use Rattle.collector.specs.Runs.{AreMissingRuns};
+ghost use Rattle.world_model.specs.Printing.{printed_missing, printed_runs};
+ghost use Rattle.collector_text.specs.Tells.{runs_of};
+
+use crate::values::put_number;
+use collector::Collector;
+use trace_model::{CpuId, MAX_CPUS, NoMemory, RecordNo};
+
+/// A run's line: its CPU, its first and its last number.
+fn put_run(out: &mut Vec<u8>, cpu: CpuId, first: RecordNo, last: RecordNo) -> Result<(), NoMemory>
+    ensures { OnOk result (out.new.items ≡ out.old.items ++ printed_missing cpu.0 (first.0, last.0)) }
+{
+    out.extend_from_slice(b"missing ")?;
+    put_number(out, u64::from(cpu.0))?;
+    out.push(b' ')?;
+    put_number(out, first.0)?;
+    out.push(b'-')?;
+    put_number(out, last.0)?;
+    out.push(b'\n')?;
+    Ok(())
+}
+
+/// The lines of the missing runs of one CPU.
+fn put_runs_of(out: &mut Vec<u8>, collector: &Collector, cpu: CpuId) -> Result<(), NoMemory>
+    ensures { OnOk result ((runs : List (ℕ × ℕ)) × AreMissingRuns collector.now cpu.0 runs
+        × (out.new.items ≡ out.old.items ++ flat_map (printed_missing cpu.0) runs)) }
+{
+    for (first, last) in collector.missing(cpu) {
+        put_run(out, cpu, first, last)?;
+    }
+    Ok(())
+}
+
+/// The lines of the missing runs of each CPU.
+pub(crate) fn put_runs(out: &mut Vec<u8>, collector: &Collector) -> Result<(), NoMemory>
+    ensures { OnOk result ((runs : List (List (ℕ × ℕ)))
+        × ((cpu : ℕ) → AreMissingRuns collector.now cpu (runs_of runs cpu))
+        × (out.new.items ≡ out.old.items ++ printed_runs runs)) }
+{
+    let _parcels = collector.parcels();
+    for cpu in 0..MAX_CPUS {
+        put_runs_of(out, collector, CpuId(cpu))?;
+    }
+    Ok(())
+}
