@@ -1,21 +1,32 @@
 -- What the commands of the program print for a text, with which exit status.
 use Rattle.std.specs.Prelude.{◌≡◌, ℕ, Bool, ◌⊎◌, List}
+use Rattle.std.specs.List.{AllZip}
 use Rattle.trace_model.specs.Record.{Record}
-use Rattle.text_model.specs.Script.{Script, ParsesScript, LineFault, FirstScriptFault}
-use Rattle.text_model.specs.Log.{LogLine, IsLoggedReplay}
 use Rattle.trace_model.specs.Image.{Missed, DecodesImage, ImageCause, FirstImageFault}
-use Rattle.text_model.specs.Printing.{printed_replay, printed_fault, printed_image, printed_image_fault}
+use Rattle.text_model.specs.Script.{LineFault}
+use Rattle.text_model.specs.Printing.{printed_fault, printed_image, printed_image_fault}
+use Rattle.script_model.specs.Script.{Script, ParsesScript, FirstScriptFault}
+use Rattle.world_model.specs.World.{World, WorldOf}
+use Rattle.world_model.specs.Headline.{IsGenuineWorld}
+use Rattle.world_model.specs.Printing.{Shown, printed_world}
+use Rattle.collector_text.specs.Tells.{Tells}
 use Rattle.command_io.specs.declared.status.TheConstants.{DONE, REFUSED}
 
--- the text spells a script, and these bytes are the printing of a replay of it: its log, if it is asked
--- for, and what it leaves
+-- These bytes are the printing of the script's world: its log, if it is asked for, and of each collector what the pages
+-- that were delivered to it have and miss.
+pub record IsPrinting (script : Script) (asked : Bool) (bytes : List ℕ) : Type 0 where
+  pub world : World
+  pub of_script : WorldOf script world
+  pub genuine : IsGenuineWorld script world
+  pub shown : List Shown
+  pub told : AllZip Tells world.delivered shown
+  pub printed : bytes ≡ printed_world asked world.log shown
+
+-- the text spells a script, and these bytes are the printing of its world
 pub record PrintsReplay (asked : Bool) (text bytes : List ℕ) (status : ℕ) : Type 0 where
   pub script : Script
   pub spelled : ParsesScript text script
-  pub log : List LogLine
-  pub collectors : List (List (ℕ × Record))
-  pub replayed : IsLoggedReplay script log collectors
-  pub printed : bytes ≡ printed_replay asked log collectors
+  pub printing : IsPrinting script asked bytes
   pub done : status ≡ DONE
 
 -- the text has a first fault, and these bytes are its line

@@ -1,40 +1,53 @@
-//! The command `replay`: a script in, the printing of its replay out.
+//! The command `replay`: a script in, the printing of its world out.
 ghost use Rattle.std.specs.Prelude.{◌≡◌, ℕ, ◌∷◌, ◌++◌, [], List, false, IfOk};
-ghost use Rattle.trace_model.specs.Record.{Record};
-ghost use Rattle.text_model.specs.ScriptLimits.{IsWithinLimits};
-ghost use Rattle.text_model.specs.Log.{LogLine, IsLoggedReplay};
-ghost use Rattle.text_model.specs.Printing.{printed_replay};
+ghost use Rattle.std.specs.List.{AllZip};
+ghost use Rattle.world_model.specs.Printing.{Shown, printed_world};
+ghost use Rattle.collector_text.specs.Tells.{Tells};
 ghost use Rattle.command_io.specs.CommandRun.{IsCommandRun};
 ghost use Rattle.command_io.specs.Output.{bytes_of, status_of};
-ghost use Rattle.trace_cli.specs.Commands.{ReplayGives};
 ghost use Rattle.trace_script.specs.ScriptFaults.{script_fault_text};
-ghost use Rattle.trace_script.specs.ScriptTypes.{script_of};
+ghost use Rattle.trace_run.specs.LogTypes.{shown_log};
+ghost use Rattle.trace_run.specs.Replay.{IsHeadline};
+ghost use Rattle.trace_cli.specs.Commands.{IsPrinting, ReplayGives};
 
 use crate::log_printer::put_log;
-use crate::printer::put_collectors;
+use collector_text::put_collectors;
 use command_io::{Command, Output, Sink, Source, run_command};
 use std::alloc::Global;
 use trace_model::NoMemory;
-use trace_run::{ReplayFault, replay};
+use trace_run::{ReplayFault, World, replay};
 use trace_script::{Script, ScriptFault, put_fault, read_script};
 
-/// The printing of a script's replay: the log, if it is asked for, and what it leaves.
-fn print_replay(alloc: Global, script: &Script, log: bool) -> Result<Vec<u8>, NoMemory>
-    requires { IsWithinLimits (script_of script.now) }
-    ensures { IfOk result (λ text. (lines : List LogLine) × (collectors : List (List (ℕ × Record)))
-        × IsLoggedReplay (script_of script.now) lines collectors
-        × (text.items ≡ printed_replay log lines collectors)) }
+/// The world of a script.
+fn replayed(alloc: Global, script: &Script) -> Result<World, NoMemory>
+    ensures { IfOk result (λ world. IsHeadline script.now world.collectors.items world.log.items) }
 {
-    let world = match replay(alloc, script) {
-        Ok(world) => world,
-        Err(ReplayFault::NoMemory) => return Err(NoMemory),
+    match replay(alloc, script) {
+        Ok(world) => Ok(world),
+        Err(ReplayFault::NoMemory) => Err(NoMemory),
         Err(ReplayFault::GateShut | ReplayFault::NoThread) => unreachable!(),
-    };
+    }
+}
+
+/// The printing of a world: the log, if it is asked for, and the collectors.
+fn print_world(alloc: Global, world: &World, log: bool) -> Result<Vec<u8>, NoMemory>
+    ensures { IfOk result (λ text. (shown : List Shown) × AllZip Tells world.now.collectors.items shown
+        × (text.items ≡ printed_world log (shown_log world.now.log.items) shown)) }
+{
     let mut text = Vec::new(alloc);
     if log {
         put_log(&mut text, world.log.as_slice())?;
     }
-    put_collectors(&mut text, world.collectors.as_slice())?;
+    put_collectors(alloc, &mut text, world.collectors.as_slice())?;
+    Ok(text)
+}
+
+/// The printing of a script's world.
+fn print_replay(alloc: Global, script: &Script, log: bool) -> Result<Vec<u8>, NoMemory>
+    ensures { IfOk result (λ text. IsPrinting script.now log text.items) }
+{
+    let world = replayed(alloc, script)?;
+    let text = print_world(alloc, &world, log)?;
     Ok(text)
 }
 

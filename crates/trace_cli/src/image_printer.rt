@@ -7,7 +7,7 @@ ghost use Rattle.page_image.specs.Images.{missed_of};
 ghost use Rattle.page_borrow.specs.Entries.{told};
 ghost use Rattle.trace_cli.specs.ImageFaults.{reader_fault_text, word_fault_text};
 
-use crate::printer::{put_number, put_payload};
+use collector_text::{put_number, put_payload};
 use page_borrow::{Entry, records};
 use page_image::{Image, ImageFault, Missed, Page};
 use record_words::WordFault;

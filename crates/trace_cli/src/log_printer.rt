@@ -2,11 +2,13 @@
 ghost use Rattle.std.specs.Prelude.{◌≡◌, ◌++◌, OnOk, flat_map};
 ghost use Rattle.std.specs.Fmt.{decimal};
 ghost use Rattle.text_model.specs.Printing.{delivery_text, line_text, log_line_text, page_text, printed_log_line, refusal_text};
-ghost use Rattle.trace_run.specs.LogTypes.{shown_fault, shown_log, shown_log_line};
+ghost use Rattle.ring_core.specs.Answers.{refusal_of};
+ghost use Rattle.trace_run.specs.LogTypes.{shown_log, shown_log_line};
 
-use crate::printer::put_number;
+use collector_text::put_number;
+use nested_writer::WriteFault;
 use trace_model::{CpuId, FillNo, NoMemory, RecordNo};
-use trace_run::{LogLine, WriteFault};
+use trace_run::LogLine;
 
 // On an error these may leave a part of what they put, in a text that the caller drops.
 
@@ -19,7 +21,7 @@ fn put_named(out: &mut Vec<u8>, words: &[u8], number: u64) -> Result<(), NoMemor
 }
 
 fn put_fault(out: &mut Vec<u8>, fault: WriteFault) -> Result<(), NoMemory>
-    ensures { OnOk result (out.new.items ≡ out.old.items ++ refusal_text (shown_fault fault)) }
+    ensures { OnOk result (out.new.items ≡ out.old.items ++ refusal_text (refusal_of fault)) }
 {
     match fault {
         WriteFault::TooDeep => out.extend_from_slice(b"TooDeep")?,

@@ -8,7 +8,6 @@ mod image_printer;
 mod laws;
 mod log_printer;
 mod messages;
-mod printer;
 
 use crate::messages::{EndFault, USAGE_LINE};
 pub use command_io::{Sink, Source, Std};

@@ -1,15 +1,34 @@
-//! Scripts that the worked examples leave out, and log lines that no replay logs yet.
+//! Scripts that the worked examples leave out, and each text of the log.
 use crate::commands::replay_to;
 use crate::log_printer::put_log;
-use command_io::{DONE, Std};
+use command_io::{DONE, REFUSED, Std};
+use nested_writer::WriteFault;
 use std::alloc::Global;
 use std::test::Fail;
 use trace_model::{CpuId, FillNo, RecordNo};
-use trace_run::{LogLine, WriteFault};
+use trace_run::LogLine;
 
 const CPU: CpuId = CpuId(3);
 
 const FILL: FillNo = FillNo(40);
+
+// A script with each of the commands.
+const EVERY_COMMAND: &str = lines![
+    "pages 2",
+    "size 32",
+    "cpus 2",
+    "collectors 2",
+    "start 7",
+    "c0 b 1 01020304",
+    "c0 s 1",
+    "c1 w 2 05060708",
+    "c0 f",
+    "c0 a",
+    "c0 c",
+    "c0 r 1",
+    "c0 t",
+    "d 1 c0 7"
+];
 
 /// The whole output of a script, with its log; nothing where its replay isn't done.
 fn logged_output(alloc: Global, script: &str) -> Vec<u8> {
@@ -61,14 +80,15 @@ fn three_pages_keep_the_last_two_closed_ones(rt: HostRuntime) {
         c0 t\n\
         d 0 c0 1\n\
         d 0 c0 2\n";
-    let expected = "11 c0 taken fill 1 first 0 count 1 missed 0\n\
-        12 c0 taken fill 2 first 1 count 1 missed 0\n\
+    let expected = "11 c0 taken fill 1 first 1 count 1 missed 1\n\
+        12 c0 taken fill 2 first 2 count 1 missed 0\n\
         13 c0 empty\n\
         14 d 0 c0 1 new\n\
         15 d 0 c0 2 new\n\
         collector 0\n\
-        0 0 2 02000000\n\
-        0 1 3 03000000\n";
+        0 1 2 02000000\n\
+        0 2 3 03000000\n\
+        missing 0 0-0\n";
     let text = logged_output(rt.alloc(), script);
     assert_eq!(rt; text.as_slice(), expected.as_bytes());
 }
@@ -89,18 +109,95 @@ fn five_pages_keep_the_last_four_closed_ones(rt: HostRuntime) {
         c0 t\n\
         d 0 c0 2\n\
         d 0 c0 5\n";
-    let expected = "17 c0 taken fill 2 first 0 count 1 missed 0\n\
-        18 c0 taken fill 3 first 1 count 1 missed 0\n\
-        19 c0 taken fill 4 first 2 count 1 missed 0\n\
-        20 c0 taken fill 5 first 3 count 1 missed 0\n\
+    let expected = "17 c0 taken fill 2 first 2 count 1 missed 2\n\
+        18 c0 taken fill 3 first 3 count 1 missed 0\n\
+        19 c0 taken fill 4 first 4 count 1 missed 0\n\
+        20 c0 taken fill 5 first 5 count 1 missed 0\n\
         21 c0 empty\n\
         22 d 0 c0 2 new\n\
         23 d 0 c0 5 new\n\
         collector 0\n\
-        0 0 3 03000000\n\
-        0 3 6 06000000\n";
+        0 2 3 03000000\n\
+        0 5 6 06000000\n\
+        missing 0 0-1\n";
     let text = logged_output(rt.alloc(), script);
     assert_eq!(rt; text.as_slice(), expected.as_bytes());
+}
+
+#[test]
+fn a_collector_misses_what_stands_before_its_own_pages(rt: HostRuntime) {
+    let script = "pages 2\nsize 32\ncpus 1\ncollectors 2\n\
+        c0 w 1 01\nc0 c\n\
+        c0 w 2 02\nc0 c\n\
+        c0 t\n\
+        c0 w 3 03\nc0 c\n\
+        c0 w 4 04\nc0 c\n\
+        c0 t\n\
+        d 0 c0 1\n\
+        d 0 c0 3\n\
+        d 1 c0 3\n\
+        d 01 c00 03\n";
+    let expected = "9 c0 taken fill 1 first 1 count 1 missed 1\n\
+        14 c0 taken fill 3 first 3 count 1 missed 1\n\
+        15 d 0 c0 1 new\n\
+        16 d 0 c0 3 new\n\
+        17 d 1 c0 3 new\n\
+        18 d 1 c0 3 known\n\
+        collector 0\n\
+        0 1 2 02000000\n\
+        0 3 4 04000000\n\
+        missing 0 0-0\n\
+        missing 0 2-2\n\
+        collector 1\n\
+        0 3 4 04000000\n\
+        missing 0 2-2\n";
+    let text = logged_output(rt.alloc(), script);
+    assert_eq!(rt; text.as_slice(), expected.as_bytes());
+}
+
+#[test]
+fn a_take_goes_on_where_it_stood(rt: HostRuntime) {
+    let script = "pages 2\nsize 32\ncpus 1\ncollectors 1\n\
+        c0 w 1 01\nc0 c\n\
+        c0 r 3\n\
+        c0 r 1\n\
+        c0 r 1000000\n\
+        c0 r 1\n\
+        c0 t\n";
+    let expected = "8 c0 taken fill 0 first 0 count 1 missed 0\n\
+        9 c0 empty\n\
+        11 c0 empty\n\
+        collector 0\n";
+    let text = logged_output(rt.alloc(), script);
+    assert_eq!(rt; text.as_slice(), expected.as_bytes());
+}
+
+#[test]
+fn every_command_is_obeyed(rt: HostRuntime) {
+    let expected = "10 c0 asks 7\n\
+        13 c0 taken fill 7 first 0 count 1 missed 0\n\
+        14 d 1 c0 7 new\n\
+        collector 0\n\
+        collector 1\n\
+        0 0 1 01020304\n";
+    let text = logged_output(rt.alloc(), EVERY_COMMAND);
+    assert_eq!(rt; text.as_slice(), expected.as_bytes());
+}
+
+#[test]
+fn a_script_cut_anywhere_is_replayed_or_refused(rt: HostRuntime) {
+    let alloc = rt.alloc();
+    for end in 0..=EVERY_COMMAND.len() {
+        let mut text = Vec::new(alloc);
+        let mut reader = Std::new(&EVERY_COMMAND.as_bytes()[..end]);
+        let status = replay_to(alloc, &mut reader, &mut Std::new(&mut text), true);
+        let wanted = if text.as_slice().starts_with(b"line ") {
+            REFUSED
+        } else {
+            DONE
+        };
+        assert_eq!(rt; status, wanted, "{end} bytes");
+    }
 }
 
 #[test]
