@@ -1,22 +1,23 @@
 -- The fields of a line, from the front.
-use Rattle.std.proofs.Common.{◌≡◌, ◌≢◌, ℕ, ◌+◌, Bool, true, List, [], ◌∷◌, length, Option, Some, None, is_some, MatchOption, Bor, refl, ap, subst, arith}
+use Rattle.std.proofs.Common.{◌≡◌, ◌==◌, ℕ, Bool, true, false, List, [], ◌∷◌, length, Option, Some, None, MatchOption, Bor, is_some, not, refl, ap, arith}
 use Rattle.std.specs.List.{slice_split}
+use Rattle.std.proofs.lemmas.Bool.{both_ways}
 use Rattle.std.proofs.lemmas.List.Splits.{length-slice_split}
+use Rattle.text_model.specs.Text.{fields_of}
 
--- one part more than what stands behind the first separator has
-pub part_more : (p : ℕ → Bool) (bytes first : List ℕ) (o : Option (Bor (List ℕ))) (rest : Bor (List ℕ)) → o ≡ Some rest
-    → MatchOption o (slice_split p bytes ≡ first ∷ []) (λ rest. slice_split p bytes ≡ first ∷ slice_split p rest.now)
-    → length (slice_split p bytes) ≡ length (slice_split p rest.now) + 1
-part_more p bytes first o rest is parts =
-    let here = subst (λ (o : Option (Bor (List ℕ))). MatchOption o (slice_split p bytes ≡ first ∷ []) (λ rest. slice_split p bytes ≡ first ∷ slice_split p rest.now)) is parts in
-    omega (arith, ap (λ (parts : List (List ℕ)). length parts) here)
+-- a field, and whether one stands behind it
+abbrev pub IsCut : List ℕ → List ℕ → Option (Bor (List ℕ)) → Type 0
+IsCut line field o = MatchOption o (slice_split (λ b. b == 32) line ≡ field ∷ []) (λ rest. slice_split (λ b. b == 32) line ≡ field ∷ slice_split (λ b. b == 32) rest.now)
 
--- four parts and what stands behind them are more than four
-pub five_parts : (n k l m o : ℕ) (p : ℕ → Bool) (rest : List ℕ) → n ≡ k + 1 → k ≡ l + 1 → l ≡ m + 1 → m ≡ length (slice_split p rest) + 1 → (n ≢ 2) × (n ≢ 4)
-five_parts n k l m o p rest a b c d =
-    let some = length-slice_split p rest in
-    (λ h. omega arith, λ h. omega arith)
+pub one_field : (line field : List ℕ) → fields_of line ≡ field ∷ [] → length (fields_of line) ≡ 1
+one_field line field h = ap (λ (fs : List (List ℕ)). length fs) h
 
-pub some_there : (o : Option (Bor (List ℕ))) → is_some o ≡ true → (rest : Bor (List ℕ)) × (o ≡ Some rest)
-some_there None h = cc
-some_there (Some rest) h = (rest, refl)
+-- a line without a space behind its first field is one field, and one with it more
+pub whole_rest : (line field : List ℕ) (o : Option (Bor (List ℕ))) (r : Bool) → IsCut line field o → is_some o ≡ not r → (r ≡ true → length (fields_of line) ≡ 1) × (length (fields_of line) ≡ 1 → r ≡ true)
+whole_rest line field None true h is = (λ _. one_field line field h, λ one. refl)
+whole_rest line field None false h is = absurd (both_ways false refl is)
+whole_rest line field (Some rest) true h is = absurd (both_ways true is refl)
+whole_rest line field (Some rest) false h is =
+    let some = length-slice_split (λ b. b == 32) rest.now in
+    let more = ap (λ (fs : List (List ℕ)). length fs) h in
+    (λ whole. absurd (both_ways false refl whole), λ one. absurd (omega arith))

@@ -1,5 +1,8 @@
 pub mod TextParts
 pub mod FieldLemmas
 pub mod ValueLemmas
-pub mod HexText
+pub mod PayloadLemmas
+pub mod KeptLemmas
+pub mod OrderLemmas
+pub mod RecordLemmas
 pub mod ScriptLemmas

@@ -1,27 +1,34 @@
 -- What the reader's functions answer, in the words of the plain reader.
-use Rattle.std.proofs.Common.{◌≡◌, ◌≢◌, ℕ, true, false, List, [], ◌∷◌, ◌++◌, length, map, Bor, Result, Ok, Err, IfOk, IfErr, refl, sym, ◌∙◌, ap, subst, inl, inr, arith, append_assoc}
-use Rattle.std.specs.Prelude.{IsTrue}
-use Rattle.std.proofs.lemmas.Bool.{cases_Bool, cond-true, cond-false}
-use Rattle.std.proofs.lemmas.List.{append-nil, map-append}
+use Rattle.std.proofs.Common.{◌≡◌, ◌≢◌, ◌==◌, ℕ, true, false, List, [], ◌∷◌, ◌++◌, length, Bor, Result, Ok, Err, IfOk, IfErr, refl, sym, ◌∙◌, ap, subst, arith, append_assoc}
+use Rattle.std.proofs.lemmas.Bool.{cond-true, cond-false}
+use Rattle.std.proofs.lemmas.List.{append-nil}
+use Rattle.std.proofs.lemmas.List.Splits.{length-slice_split}
+use Rattle.trace_model.specs.declared.limits.TheConstants.{START_FILL}
 use Rattle.text_model.specs.Text.{fields_of, is_well_spaced}
-use Rattle.text_model.specs.Script as model
-use Rattle.text_model.specs.Script.{Command, LineFault, NumberedLine, Setting, ParsesScript, bad_line, bad_number, bad_hex, out_of_range, ◌>>=◌, value_given, value_of, value_in, command_of, command_in}
-use Rattle.text_model.specs.ScriptReading.{numbered_reading, significant_lines_after, setting_from, settings_from, commands_from, script_in}
+use Rattle.text_model.specs.Script.{LineFault, NumberedLine, Setting, bad_line, bad_number, bad_hex, out_of_range, ◌>>=◌, value_given, value_of, value_in}
+use Rattle.text_model.specs.ScriptReading.{numbered_reading, significant_lines_after, end_line_after, setting_from, settings_from}
 use Rattle.text_model.proofs.ScriptLemmas.{settings_ok}
-use Rattle.text_model.proofs.ScriptReads.{script_reads, fault_reads}
-use Rattle.trace_script.specs.declared.script.ScriptLine.{ScriptLine}
+use Rattle.script_model.specs.Script as model
+use Rattle.script_model.specs.Script.{Command, ParsesScript, command_in, start_setting, are_of_start, is_start_line}
+use Rattle.script_model.specs.ScriptReading.{commands_from, start_given, start_from, script_from, script_in}
+use Rattle.script_model.specs.ScriptLimits.{IsWithinLimits}
+use Rattle.script_model.proofs.ParsedLimits.{ParsesScript-within}
+use Rattle.script_model.proofs.ScriptReads.{script_reads, fault_reads}
 use Rattle.trace_script.specs.declared.fault.LineFault as line
 use Rattle.trace_script.specs.declared.fault.LineFault.TheVariants as faults
 use Rattle.trace_script.specs.declared.fault.ScriptFault as script
 use Rattle.trace_script.specs.declared.fault.ScriptFault.TheVariants as scripts
 use Rattle.trace_script.specs.declared.fields.Fields.{Fields}
-use Rattle.trace_script.specs.declared.fields.Fields.TheVariants.{Two, Four, Other}
+use Rattle.trace_script.specs.declared.fields.Fields.TheVariants.{One, Two, Three, More}
+use Rattle.trace_script.specs.declared.header.Header.{Header}
+use Rattle.trace_script.specs.declared.order.Order.{Order}
+use Rattle.trace_script.specs.Kept.{PutsCommand, PutsCommandAt}
 use Rattle.trace_script.specs.ScriptFaults.{Fails, Gives, FailsAt, GivesAt, HasScriptHeader, TellsFirstFault, fault_at, reading_at}
 use Rattle.trace_script.specs.ScriptFields.{AreFields}
-use Rattle.trace_script.specs.ScriptTypes.{shown_line}
+use Rattle.trace_script.specs.ScriptTypes.{values_of, script_of}
 
 -- what is read, or the first line at fault
-abbrev Read : Type 0 → Type 0
+abbrev pub Read : Type 0 → Type 0
 Read X = Result X (ℕ × LineFault)
 
 -- a fault stays one, whatever would come behind it
@@ -51,31 +58,24 @@ value_in_spaced : (s : Setting) (text : List ℕ) → is_well_spaced (fields_of 
 unfolding value_in
 value_in_spaced s text h = cond-true (is_well_spaced (fields_of text)) _ _ h
 
-value_in_badly_spaced : (s : Setting) (text : List ℕ) → is_well_spaced (fields_of text) ≡ false → value_in s text ≡ Err bad_line
+pub value_in_badly_spaced : (s : Setting) (text : List ℕ) → is_well_spaced (fields_of text) ≡ false → value_in s text ≡ Err bad_line
 unfolding value_in
 value_in_badly_spaced s text h = cond-false (is_well_spaced (fields_of text)) _ _ h
 
-pub value_from_two : {X : Type 0} (view : X → ℕ) (s : Setting) (text : List ℕ) (word number : Bor (List ℕ)) (r : Result X line.LineFault) → AreFields (Two word number) (fields_of text)
+pub value_from_two : {X : Type 0} (view : X → ℕ) (s : Setting) (text : List ℕ) (word number : Bor (List ℕ)) (r : Result X line.LineFault) → is_well_spaced (fields_of text) ≡ true → AreFields (Two word number) (fields_of text)
     → Gives view r (value_given s word.now number.now) → Gives view r (value_in s text)
-value_from_two view s text word number r fields h =
-    subst (λ (read : Result ℕ LineFault). Gives view r read) (sym (value_in_spaced s text fields.1 ∙ value_of_two s (fields_of text) word.now number.now fields.0)) h
+value_from_two view s text word number r spaced fields h =
+    subst (λ (read : Result ℕ LineFault). Gives view r read) (sym (value_in_spaced s text spaced ∙ value_of_two s (fields_of text) word.now number.now fields)) h
 
-no_value_from_four : (s : Setting) (text : List ℕ) (a b d e : Bor (List ℕ)) → AreFields (Four a b d e) (fields_of text) → value_in s text ≡ Err bad_line
-no_value_from_four s text a b d e fields =
-    value_in_spaced s text fields.1 ∙ value_of_other s (fields_of text) (λ h. omega (arith, h, ap (λ (fs : List (List ℕ)). length fs) fields.0))
+-- of other fields than two there are more or fewer
+not_two : (text : List ℕ) (f : Fields) → AreFields f (fields_of text) → ((word number : Bor (List ℕ)) → f ≡ Two word number → ⊥) → length (fields_of text) ≢ 2
+not_two text One are h two = omega (arith, are, two)
+not_two text (Two word number) are h two = h word number refl
+not_two text (Three a b d) are h two = omega (arith, ap (λ (fs : List (List ℕ)). length fs) are, two)
+not_two text (More a b d rest) are h two = omega (arith, ap (λ (fs : List (List ℕ)). length fs) are, length-slice_split (λ b. b == 32) rest.now, two)
 
-no_value_from_other : (s : Setting) (text : List ℕ) → AreFields Other (fields_of text) → value_in s text ≡ Err bad_line
-no_value_from_other s text (inl spaces) = value_in_badly_spaced s text spaces
-no_value_from_other s text (inr count) =
-    elim (cases_Bool (is_well_spaced (fields_of text))) [
-      | inl well ↦ value_in_spaced s text well ∙ value_of_other s (fields_of text) count.0
-      | inr badly ↦ value_in_badly_spaced s text badly
-    ]
-
-pub no_value_without_two : (s : Setting) (text : List ℕ) (f : Fields) → AreFields f (fields_of text) → ((word number : Bor (List ℕ)) → f ≡ Two word number → ⊥) → value_in s text ≡ Err bad_line
-no_value_without_two s text (Two word number) fields h = absurd (h word number refl)
-no_value_without_two s text (Four a b d e) fields h = no_value_from_four s text a b d e fields
-no_value_without_two s text Other fields h = no_value_from_other s text fields
+pub no_value_without_two : (s : Setting) (text : List ℕ) (f : Fields) → is_well_spaced (fields_of text) ≡ true → AreFields f (fields_of text) → ((word number : Bor (List ℕ)) → f ≡ Two word number → ⊥) → value_in s text ≡ Err bad_line
+no_value_without_two s text f spaced are h = value_in_spaced s text spaced ∙ value_of_other s (fields_of text) (not_two text f are h)
 
 -- ---- a line's reading, with its number
 fails_numbered : {X : Type 0} (number : ℕ) (fault : line.LineFault) (read : Result X LineFault) → Fails fault read → FailsAt (fault_at number fault) (numbered_reading number read)
@@ -88,12 +88,6 @@ fails_numbered number faults.NoMemory read h = tt
 gives_numbered : {X Y : Type 0} (view : X → Y) (number : ℕ) (r : Result X line.LineFault) (read : Result Y LineFault) → Gives view r read → GivesAt view (reading_at number r) (numbered_reading number read)
 gives_numbered view number (Ok x) read h = ap (numbered_reading number) h
 gives_numbered view number (Err fault) read h = fails_numbered number fault read h
-
--- the same of what the code made of it
-pub gives_read : {X Y : Type 0} (view : X → Y) (number : ℕ) (q : Result X line.LineFault) (r : Result X script.ScriptFault) (read : Result Y LineFault) → Gives view q read → r ≡ reading_at number q
-    → GivesAt view r (numbered_reading number read)
-gives_read {X} view number q r read h is =
-    subst (λ (r : Result X script.ScriptFault). GivesAt view r (numbered_reading number read)) (sym is) (gives_numbered view number q read h)
 
 -- ---- one setting
 setting_from_line : (end : ℕ) (s : Setting) (left : List NumberedLine) (number : ℕ) (text : List ℕ) (rest : List NumberedLine) → left ≡ (number, text) ∷ rest
@@ -116,40 +110,40 @@ pub setting_missing : (end : ℕ) (s : Setting) (left : List NumberedLine) (numb
 unfolding setting_from
 setting_missing end s left number h is = ap (setting_from end s) h ∙ ap (λ (n : ℕ). let r : Read (ℕ × List NumberedLine) = Err (n, bad_line) in r) is
 
--- ---- one command
-command_of_other : (cpus collectors : ℕ) (fields : List (List ℕ)) → length fields ≢ 2 → length fields ≢ 4 → command_of cpus collectors fields ≡ Err bad_line
-unfolding command_of
-command_of_other cpus collectors [] two four = refl
-command_of_other cpus collectors (a ∷ []) two four = refl
-command_of_other cpus collectors (a ∷ b ∷ []) two four = absurd (two refl)
-command_of_other cpus collectors (a ∷ b ∷ d ∷ []) two four = refl
-command_of_other cpus collectors (a ∷ b ∷ d ∷ e ∷ []) two four = absurd (four refl)
-command_of_other cpus collectors (a ∷ b ∷ d ∷ e ∷ f ∷ fields) two four = refl
+-- ---- the start line
+start_from_line : (pages : ℕ) (left : List NumberedLine) (number : ℕ) (text : List ℕ) (rest : List NumberedLine) → left ≡ (number, text) ∷ rest → is_start_line text ≡ true
+    → start_from pages left ≡ (numbered_reading number (value_in (start_setting pages) text) >>= λ value. setting_and value rest)
+unfolding start_from start_given
+start_from_line pages left number text rest h is = ap (start_from pages) h ∙ cond-true (is_start_line text) _ _ is
 
-command_in_spaced : (cpus collectors : ℕ) (text : List ℕ) → is_well_spaced (fields_of text) ≡ true → command_in cpus collectors text ≡ command_of cpus collectors (fields_of text)
-unfolding command_in
-command_in_spaced cpus collectors text h = cond-true (is_well_spaced (fields_of text)) _ _ h
+pub start_read : {X : Type 0} (view : X → ℕ) (pages : ℕ) (left : List NumberedLine) (number : ℕ) (text : List ℕ) (rest : List NumberedLine) (q : Result X line.LineFault) (r : Result X script.ScriptFault)
+    → left ≡ (number, text) ∷ rest → is_start_line text ≡ true → Gives view q (value_in (start_setting pages) text) → r ≡ reading_at number q → GivesAt (λ x. (view x, rest)) r (start_from pages left)
+start_read {X} view pages left number text rest q r h start gives is =
+    let here = setting_and_gives view (reading_at number q) (numbered_reading number (value_in (start_setting pages) text)) rest (gives_numbered view number q (value_in (start_setting pages) text) gives) in
+    let turned = subst (λ (read : Read (ℕ × List NumberedLine)). GivesAt (λ x. (view x, rest)) (reading_at number q) read) (sym (start_from_line pages left number text rest h start)) here in
+    subst (λ (r : Result X script.ScriptFault). GivesAt (λ x. (view x, rest)) r (start_from pages left)) (sym is) turned
 
-command_in_badly_spaced : (cpus collectors : ℕ) (text : List ℕ) → is_well_spaced (fields_of text) ≡ false → command_in cpus collectors text ≡ Err bad_line
-unfolding command_in
-command_in_badly_spaced cpus collectors text h = cond-false (is_well_spaced (fields_of text)) _ _ h
+pub no_start_line : (pages : ℕ) (left : List NumberedLine) (number : ℕ) (text : List ℕ) (rest : List NumberedLine) → left ≡ (number, text) ∷ rest → is_start_line text ≡ false → start_from pages left ≡ Ok (START_FILL, left)
+unfolding start_from
+no_start_line pages left number text rest h other =
+    ap (start_from pages) h ∙ cond-false (is_start_line text) _ _ other ∙ ap (λ (ls : List NumberedLine). let r : Read (ℕ × List NumberedLine) = Ok (START_FILL, ls) in r) (sym h)
 
--- the command of a line with these fields, none of them empty
-pub command_from : {X : Type 0} (view : X → Command) (cpus collectors : ℕ) (text : List ℕ) (fields : List (List ℕ)) (r : Result X line.LineFault)
-    → (fields_of text ≡ fields) × IsTrue (is_well_spaced (fields_of text)) → Gives view r (command_of cpus collectors fields) → Gives view r (command_in cpus collectors text)
-command_from view cpus collectors text fields r are h =
-    subst (λ (read : Result Command LineFault). Gives view r read) (sym (command_in_spaced cpus collectors text are.1 ∙ ap (command_of cpus collectors) are.0)) h
+pub no_line_to_start : (pages : ℕ) (left : List NumberedLine) → left ≡ [] → start_from pages left ≡ Ok (START_FILL, left)
+unfolding start_from
+no_line_to_start pages left h = ap (start_from pages) h ∙ ap (λ (ls : List NumberedLine). let r : Read (ℕ × List NumberedLine) = Ok (START_FILL, ls) in r) (sym h)
 
-pub no_command : (cpus collectors : ℕ) (text : List ℕ) → AreFields Other (fields_of text) → command_in cpus collectors text ≡ Err bad_line
-no_command cpus collectors text (inl spaces) = command_in_badly_spaced cpus collectors text spaces
-no_command cpus collectors text (inr count) =
-    elim (cases_Bool (is_well_spaced (fields_of text))) [
-      | inl well ↦ command_in_spaced cpus collectors text well ∙ command_of_other cpus collectors (fields_of text) count.0 count.1
-      | inr badly ↦ command_in_badly_spaced cpus collectors text badly
-    ]
+-- ---- a command with its number
+pub puts_numbered : (number : ℕ) (q : Result Order line.LineFault) (r : Result Order script.ScriptFault) (old new : List ℕ) (read : Result Command LineFault) → PutsCommand q old new read → r ≡ reading_at number q
+    → PutsCommandAt r old new (numbered_reading number read)
+puts_numbered number q r old new read h is =
+    subst (λ (r : Result Order script.ScriptFault). PutsCommandAt r old new (numbered_reading number read)) (sym is) (by q h)
+  where
+    by : (q : Result Order line.LineFault) → PutsCommand q old new read → PutsCommandAt (reading_at number q) old new (numbered_reading number read)
+    by (Ok order) h = (h.0, h.1, ap (numbered_reading number) h.2)
+    by (Err fault) h = fails_numbered number fault read h
 
 -- ---- the commands of the lines that are left
-abbrev Commands : Type 0
+abbrev pub Commands : Type 0
 Commands = List (ℕ × Command)
 
 abbrev commands_onto : Commands → Commands → Read Commands
@@ -196,10 +190,6 @@ commands_end cpus collectors all left front so_far h =
     ∙ ap (λ (ls : List NumberedLine). commands_from cpus collectors ls >>= commands_onto front) h
     ∙ ap (λ (cs : Commands). let r : Read Commands = Ok cs in r) (append-nil front)
 
--- one line more, as the reader keeps it
-pub shown_push : (lines after : List ScriptLine) (x : ScriptLine) → after ≡ lines ++ x ∷ [] → map shown_line after ≡ map shown_line lines ++ shown_line x ∷ []
-shown_push lines after x h = ap (λ (ls : List ScriptLine). map shown_line ls) h ∙ map-append shown_line lines (x ∷ [])
-
 -- ---- the whole script
 -- the settings that are read stand in the first lines
 header_of : (text : List ℕ) (end : ℕ) (x : List ℕ × List NumberedLine) → settings_from end model.header_settings (significant_lines_after 0 text) ≡ Ok x → HasScriptHeader text
@@ -215,6 +205,26 @@ header_there text end passed rest x none whole h =
     header_of text end x (subst (λ (t : List ℕ). settings_from end model.header_settings (significant_lines_after 0 t) ≡ Ok x) whole
     (subst (λ (n : ℕ). settings_from end model.header_settings (significant_lines_after n rest) ≡ Ok x) none h))
 
+-- pieces that are read one behind the other make a script
+script_made : (end : ℕ) (lines : List NumberedLine) (header : Header) (behind : List NumberedLine) (start : ℕ) (left : List NumberedLine) (commands : Commands)
+    → settings_from end model.header_settings lines ≡ Ok (values_of header, behind) → start_from header.pages behind ≡ Ok (start, left)
+    → commands_from header.cpus header.collectors left ≡ Ok commands → script_from end lines ≡ Ok (script_of header start commands)
+unfolding script_from
+script_made end lines header behind start left commands settings first each = rw (settings, first, each) refl
+
+-- and that script is within its limits
+pub read_within : (text : List ℕ) (passed : ℕ) (rest : List ℕ) (header : Header) (behind : List NumberedLine) (start : ℕ) (left : List NumberedLine) (commands : Commands)
+    → passed ≡ 0 → rest ≡ text
+    → settings_from (end_line_after passed rest) model.header_settings (significant_lines_after passed rest) ≡ Ok (values_of header, behind)
+    → start_from header.pages behind ≡ Ok (start, left) → commands_from header.cpus header.collectors left ≡ Ok commands
+    → IsWithinLimits (script_of header start commands)
+read_within text passed rest header behind start left commands none whole settings first each =
+    let made = script_made (end_line_after passed rest) (significant_lines_after passed rest) header behind start left commands settings first each in
+    let here : script_in text ≡ Ok (script_of header start commands) =
+    subst (λ (t : List ℕ). script_from (end_line_after 0 t) (significant_lines_after 0 t) ≡ Ok (script_of header start commands)) whole
+    (subst (λ (n : ℕ). script_from (end_line_after n rest) (significant_lines_after n rest) ≡ Ok (script_of header start commands)) none made) in
+    ParsesScript-within text (script_of header start commands) ((script_reads text (script_of header start commands)).1 here)
+
 fault_of_reading : (text : List ℕ) (fault : script.ScriptFault) → FailsAt fault (script_in text) → TellsFirstFault text fault
 fault_of_reading text (scripts.BadLine n) h = (fault_reads text n bad_line).1 h
 fault_of_reading text (scripts.BadNumber n) h = (fault_reads text n bad_number).1 h
@@ -222,10 +232,10 @@ fault_of_reading text (scripts.BadHex n) h = (fault_reads text n bad_hex).1 h
 fault_of_reading text (scripts.OutOfRange n) h = (fault_reads text n out_of_range).1 h
 fault_of_reading text scripts.NoMemory h = tt
 
-pub script_found : {X : Type 0} (view : X → model.Script) (text : List ℕ) (r : Result X script.ScriptFault) → GivesAt view r (script_in text) → IfOk r (λ x. ParsesScript text (view x))
-script_found view text (Ok x) h = (script_reads text (view x)).1 h
-script_found view text (Err fault) h = tt
+pub script_found : (text : List ℕ) (r : Result model.Script script.ScriptFault) → GivesAt (λ s. s) r (script_in text) → IfOk r (λ s. ParsesScript text s)
+script_found text (Ok s) h = (script_reads text s).1 h
+script_found text (Err fault) h = tt
 
-pub fault_found : {X : Type 0} (view : X → model.Script) (text : List ℕ) (r : Result X script.ScriptFault) → GivesAt view r (script_in text) → IfErr r (λ fault. TellsFirstFault text fault)
-fault_found view text (Ok x) h = tt
-fault_found view text (Err fault) h = fault_of_reading text fault h
+pub fault_found : (text : List ℕ) (r : Result model.Script script.ScriptFault) → GivesAt (λ s. s) r (script_in text) → IfErr r (λ fault. TellsFirstFault text fault)
+fault_found text (Ok s) h = tt
+fault_found text (Err fault) h = fault_of_reading text fault h

@@ -2,9 +2,11 @@
 use Rattle.std.proofs.Common.{◌≡◌, ℕ, ◌+◌, ◌-◌, ◌<◌, ◌≤◌, Bool, not, true, false, cond, ltb, ◌==◌, filter, List, [], ◌∷◌, length, take, drop, Option, Some, None, MatchOption, Bor, refl, sym, ◌∙◌, ap, inl, inr, arith}
 use Rattle.std.specs.Prelude.{⊤, unwrap_or}
 use Rattle.std.specs.List.{position, position_or_len, slice_split, onto_first, enumerate_from}
-use Rattle.std.proofs.lemmas.Bool.{ltb-true, ltb-false, cases_Bool, cond-true, cond-false, ne_eqb}
+use Rattle.std.proofs.lemmas.Bool.{ltb-true, ltb-false, lt-ltb, cases_Bool, cond-true, cond-false, false_from_ne_true, ne_eqb}
 use Rattle.std.proofs.lemmas.List.{take_rest}
+use Rattle.std.proofs.lemmas.List.Sums.{position_or_len_is}
 use Rattle.std.proofs.lemmas.List.Splits.{slice_split_first, slice_split-cons_yes, slice_split-cons_no}
+use Rattle.memchr.specs.Find.{IsFirstByte, is_byte}
 use Rattle.text_model.specs.Text.{lines_of, without_empty_end}
 use Rattle.text_model.specs.Script.{NumberedLine, is_significant}
 use Rattle.text_model.specs.ScriptReading.{significant_lines_after, end_line_after}
@@ -53,6 +55,18 @@ no_separator p (b ∷ bytes) h = no_separator_at p b bytes (p b) refl (no_separa
 
 pub one_part : (p : ℕ → Bool) (bytes : List ℕ) → None ≡ position p bytes → slice_split p bytes ≡ bytes ∷ []
 one_part p bytes h = no_separator p bytes (place_missing p bytes h)
+
+-- what memchr finds is the first place
+pub first_place : (byte : ℕ) (hay : List ℕ) (r : Option ℕ) → IsFirstByte (is_byte byte) hay r → r ≡ position (λ b. b == byte) hay
+first_place byte hay None h =
+    let at = position_or_len_is (λ b. b == byte) hay (length hay) 0 (omega arith) (λ k l. false_from_ne_true _ (h k (omega arith) l)) (λ l. absurd (omega (arith, l))) in
+    let past : ltb (position_or_len (λ b. b == byte) hay) (length hay) ≡ false = false_from_ne_true _ (λ yes. let l = ltb-true _ _ yes in absurd (omega arith)) in
+    sym (cond-false _ (Some (position_or_len (λ b. b == byte) hay)) None past)
+first_place byte hay (Some k) h =
+    let high = h.0.high in
+    let at = position_or_len_is (λ b. b == byte) hay k 0 (omega arith) (λ j l. false_from_ne_true _ (h.0.before j (omega arith) l)) (λ l. h.1) in
+    let there : ltb (position_or_len (λ b. b == byte) hay) (length hay) ≡ true = lt-ltb _ _ (omega arith) in
+    sym (cond-true _ (Some (position_or_len (λ b. b == byte) hay)) None there ∙ ap (λ (n : ℕ). Some n) at)
 
 -- ---- lines
 -- a text has a first part

@@ -1,17 +1,20 @@
 -- What a field spells, from the front.
-use Rattle.std.proofs.Common.{◌≡◌, ◌≢◌, ◌==◌, ℕ, ◌+◌, ◌-◌, ◌*◌, ◌^◌, ◌<◌, ◌≤◌, ◌⊎◌, true, false, List, length, get_or, take, Result, Ok, Err, refl, sym, ◌∙◌, ap, subst, inl, inr, arith}
+use Rattle.std.proofs.Common.{◌≡◌, ◌≢◌, ◌==◌, ℕ, ◌+◌, ◌-◌, ◌*◌, ◌^◌, ◌<◌, ◌≤◌, ◌⊎◌, true, false, List, ◌∷◌, length, get_or, take, drop, Some, None, ltb, Result, Ok, Err, refl, sym, ◌∙◌, ap, subst, inl, inr, arith}
 use Rattle.std.specs.Char.{digit_value}
 use Rattle.std.specs.Int.{IsInRange}
+use Rattle.std.specs.List.{position, position_or_len}
 use Rattle.std.specs.Str.{all_ascii_digits}
 use Rattle.std.specs.Str.Parse.{digits_value}
-use Rattle.std.proofs.lemmas.Bool.{ltb-true, leb-true, lt-ltb, le-leb, and_from, and_parts, cond-true, cond-false, eqb-false, false_from_ne_true}
+use Rattle.std.proofs.lemmas.Bool.{ltb-true, leb-true, lt-ltb, le-leb, and_from, and_parts, cond-true, cond-false, eqb-false, eq-eqb, ne_eqb, false_from_ne_true}
 use Rattle.std.proofs.lemmas.Int.Digits.{digits_value_more, digits_more}
-use Rattle.std.proofs.lemmas.List.{take_all}
+use Rattle.std.proofs.lemmas.List.{take_all, get_or-take, length-take, length-take-le}
+use Rattle.std.proofs.lemmas.List.Sums.{position_or_len_is}
 use Rattle.std.proofs.lemmas.Str.{digit_value_digit}
-use Rattle.std.proofs.lemmas.Str.Parse.{digit_at, digits_value-take-le}
-use Rattle.text_model.specs.Text.{is_decimal}
+use Rattle.std.proofs.lemmas.Str.Parse.{digit_at, digits_value-take-le, digits_value_short}
+use Rattle.text_model.specs.Text.{fields_of, is_decimal}
 use Rattle.text_model.specs.Script.{LineFault, bad_number, decimal_in}
 use Rattle.text_model.proofs.TextLemmas.{numerals}
+use Rattle.trace_script.proofs.TextParts.{parts_behind}
 
 -- ---- numbers
 no_number : (field : List ℕ) → is_decimal field ≡ false → decimal_in field ≡ Err bad_number
@@ -19,7 +22,7 @@ unfolding decimal_in
 no_number field h = cond-false (is_decimal field) _ _ h
 
 -- the parts of the test
-decimal_parts : (field : List ℕ) → is_decimal field ≡ true → (0 < length field) × (length field ≤ 20) × (all_ascii_digits field ≡ true) × (digits_value 10 field < 2 ^ 64)
+pub decimal_parts : (field : List ℕ) → is_decimal field ≡ true → (0 < length field) × (length field ≤ 20) × (all_ascii_digits field ≡ true) × (digits_value 10 field < 2 ^ 64)
 unfolding is_decimal
 decimal_parts field h =
     let a = and_parts _ _ h in
@@ -83,3 +86,38 @@ number_ends field i number some few whole digits value small =
     number_whole field number (omega arith) few
     (subst (λ (ds : List ℕ). all_ascii_digits ds ≡ true) all digits)
     (value ∙ ap (λ (ds : List ℕ). digits_value 10 ds) all) small
+
+-- ---- a number at the front of a line
+pub short_value : (line : List ℕ) (at number : ℕ) → at < 19 → all_ascii_digits (take at line) ≡ true → number ≡ digits_value 10 (take at line) → number < 10 ^ 18
+short_value line at number short digits value =
+    let few : length (take at line) ≤ 18 = omega (arith, length-take at line) in
+    let small = digits_value_short numerals (take at line) 18 digits few in
+    omega (arith, small)
+
+-- digits up to a space are the first field
+pub fields_cut : (line : List ℕ) (at : ℕ) → at < length line → all_ascii_digits (take at line) ≡ true → get_or line at 0 ≡ 32
+    → fields_of line ≡ take at line ∷ fields_of (take (length line - (at + 1)) (drop (at + 1) line))
+fields_cut line at below digits space = parts_behind (λ b. b == 32) line at place
+  where
+    no_space : (k : ℕ) → k < at → (get_or line k 0 == 32) ≡ false
+    no_space k l =
+        let range : IsInRange 48 57 (get_or line k 0) = subst (λ (c : ℕ). IsInRange 48 57 c) (get_or-take at line k 0 l) (digit_there (take at line) k digits (omega (arith, length-take-le at line (omega arith)))) in
+        ne_eqb (get_or line k 0) 32 (λ same. omega (arith, range.0, same))
+
+    first : position_or_len (λ b. b == 32) line ≡ at
+    first = position_or_len_is (λ b. b == 32) line at 0 (omega arith) no_space (λ l. eq-eqb (get_or line at 0) 32 space)
+
+    place : Some at ≡ position (λ b. b == 32) line
+    place = sym (cond-true (ltb (position_or_len (λ b. b == 32) line) (length line)) (Some (position_or_len (λ b. b == 32) line)) None (lt-ltb _ _ (omega (arith, first))) ∙ ap (λ (n : ℕ). Some n) first)
+
+pub short_decimal : (line : List ℕ) (at number : ℕ) → at < length line → at < 19 → 0 < at → all_ascii_digits (take at line) ≡ true → number ≡ digits_value 10 (take at line) → decimal_in (take at line) ≡ Ok number
+short_decimal line at number below short some digits value =
+    let small = short_value line at number short digits value in
+    let len = length-take-le at line (omega arith) in
+    number_whole (take at line) number (omega (arith, len)) (omega (arith, len)) digits value (omega (arith, small))
+
+-- the first bytes are as many as they are
+pub front_again : (line : List ℕ) (at : ℕ) → at < length line → (length (take at line) < length line) × (take (length (take at line)) line ≡ take at line)
+front_again line at below =
+    let len = length-take-le at line (omega arith) in
+    (omega (arith, len), ap (λ (n : ℕ). take n line) len)

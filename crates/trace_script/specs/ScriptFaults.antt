@@ -1,18 +1,12 @@
 -- What the script's reader says of a fault, in the words of text_model.
 use Rattle.std.specs.Prelude.{◌≡◌, ℕ, ⊤, List, ◌++◌, codes, Result, Ok, Err}
-use Rattle.hex.specs.declared.error.FromHexError.{FromHexError}
-use Rattle.hex.specs.declared.error.FromHexError.TheVariants.{OutOfMemory}
 use Rattle.text_model.specs.Script as model
-use Rattle.text_model.specs.Script.{NumberedLine, FirstScriptFault, GiveSettings, header_settings, significant_lines, bad_line, bad_number, bad_hex, out_of_range, fault_text}
+use Rattle.text_model.specs.Script.{NumberedLine, GiveSettings, significant_lines, bad_line, bad_number, bad_hex, out_of_range, fault_text}
+use Rattle.script_model.specs.Script.{FirstScriptFault, header_settings}
 use Rattle.trace_script.specs.declared.fault.LineFault.{LineFault}
 use Rattle.trace_script.specs.declared.fault.LineFault.TheVariants as line
 use Rattle.trace_script.specs.declared.fault.ScriptFault.{ScriptFault}
 use Rattle.trace_script.specs.declared.fault.ScriptFault.TheVariants as script
-
--- what it means that a payload is refused
-abbrev pub hex_fault : FromHexError → LineFault
-hex_fault OutOfMemory = line.NoMemory
-hex_fault _ = line.BadHex
 
 -- the fault of the line of this number
 abbrev pub fault_at : ℕ → LineFault → ScriptFault

@@ -1,12 +1,24 @@
 -- What the script's reader says of the fields of a line.
-use Rattle.std.specs.Prelude.{◌≡◌, ◌≢◌, ℕ, ◌⊎◌, false, List, [], ◌∷◌, length, IsTrue}
-use Rattle.text_model.specs.Text.{is_well_spaced}
+use Rattle.std.specs.Prelude.{◌≡◌, ℕ, ⊤, List, [], ◌∷◌, length}
+use Rattle.text_model.specs.Text.{fields_of}
 use Rattle.trace_script.specs.declared.fields.Fields.{Fields}
-use Rattle.trace_script.specs.declared.fields.Fields.TheVariants.{Two, Four, Other}
+use Rattle.trace_script.specs.declared.fields.Fields.TheVariants.{One, Two, Three, More}
 
--- these are the fields, and none is empty; or one is empty, or they are neither two nor four
+-- the fields, where what stands behind the third one counts as one, whatever it is; none of a line that has one alone
+abbrev pub fields_seen : Fields → List (List ℕ)
+fields_seen One = []
+fields_seen (Two first second) = first.now ∷ second.now ∷ []
+fields_seen (Three first second third) = first.now ∷ second.now ∷ third.now ∷ []
+fields_seen (More first second third rest) = first.now ∷ second.now ∷ third.now ∷ rest.now ∷ []
+
+-- these are the fields, up to the third; the rest is cut further
 abbrev pub AreFields : Fields → List (List ℕ) → Type 0
-AreFields (Two first second) fields = (fields ≡ first.now ∷ second.now ∷ []) × IsTrue (is_well_spaced fields)
-AreFields (Four first second third fourth) fields =
-    (fields ≡ first.now ∷ second.now ∷ third.now ∷ fourth.now ∷ []) × IsTrue (is_well_spaced fields)
-AreFields Other fields = (is_well_spaced fields ≡ false) ⊎ ((length fields ≢ 2) × (length fields ≢ 4))
+AreFields One fields = length fields ≡ 1
+AreFields (Two first second) fields = fields ≡ first.now ∷ second.now ∷ []
+AreFields (Three first second third) fields = fields ≡ first.now ∷ second.now ∷ third.now ∷ []
+AreFields (More first second third rest) fields = fields ≡ first.now ∷ second.now ∷ third.now ∷ fields_of rest.now
+
+-- what stands behind the third field is one field
+abbrev pub IsWhole : Fields → Type 0
+IsWhole (More first second third rest) = length (fields_of rest.now) ≡ 1
+IsWhole _ = ⊤

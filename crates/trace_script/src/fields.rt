@@ -1,63 +1,74 @@
 //! A line as its fields.
-ghost use Rattle.std.specs.Prelude.{◌≡◌, [], ◌∷◌};
-ghost use Rattle.text_model.specs.Text.{fields_of};
-ghost use Rattle.trace_script.specs.ScriptFields.{AreFields};
+ghost use Rattle.std.specs.Prelude.{◌≡◌, ◌↔◌, IsTrue, [], ◌∷◌, bytes_eq};
+ghost use Rattle.text_model.specs.Text.{fields_of, is_well_spaced};
+ghost use Rattle.trace_script.specs.ScriptFields.{AreFields, IsWhole};
 
-use crate::lines::cut_at;
+use crate::lines::field_cut;
 
 /// The fields of a line, as many as some line of a script has.
 #[derive(Clone, Copy)]
 pub enum Fields<'a> {
+    One,
     Two(&'a [u8], &'a [u8]),
-    Four(&'a [u8], &'a [u8], &'a [u8], &'a [u8]),
-    /// The spaces between them are others than one each, or no line of a script has as many.
-    Other,
+    Three(&'a [u8], &'a [u8], &'a [u8]),
+    /// Three fields, and what stands behind the space after them: one field, or more.
+    More(&'a [u8], &'a [u8], &'a [u8], &'a [u8]),
 }
 
-/// Two fields, where none is empty.
-fn two_fields<'a>(first: &'a [u8], second: &'a [u8]) -> Fields<'a>
-    ensures { AreFields result (first.now ∷ second.now ∷ []) }
-{
-    if first.is_empty() || second.is_empty() {
-        return Fields::Other;
-    }
-    Fields::Two(first, second)
-}
-
-/// Four fields, where none is empty.
-fn four_fields<'a>(
-    first: &'a [u8],
-    second: &'a [u8],
-    third: &'a [u8],
-    fourth: &'a [u8],
-) -> Fields<'a>
-    ensures { AreFields result (first.now ∷ second.now ∷ third.now ∷ fourth.now ∷ []) }
-{
-    if first.is_empty() || second.is_empty() || third.is_empty() || fourth.is_empty() {
-        return Fields::Other;
-    }
-    Fields::Four(first, second, third, fourth)
-}
-
-/// The fields of a line, with exactly one space between them.
+/// The fields of a line, as its spaces cut it.
 pub fn fields_of(line: &[u8]) -> Fields<'_>
     ensures { AreFields result (fields_of line.now) }
 {
-    let (first, rest) = cut_at(line, b' ');
+    let (first, rest) = field_cut(line);
     let Some(rest) = rest else {
-        return Fields::Other;
+        return Fields::One;
     };
-    let (second, rest) = cut_at(rest, b' ');
+    let (second, rest) = field_cut(rest);
     let Some(rest) = rest else {
-        return two_fields(first, second);
+        return Fields::Two(first, second);
     };
-    let (third, rest) = cut_at(rest, b' ');
+    let (third, rest) = field_cut(rest);
     let Some(rest) = rest else {
-        return Fields::Other;
+        return Fields::Three(first, second, third);
     };
-    let (fourth, rest) = cut_at(rest, b' ');
-    if rest.is_some() {
-        return Fields::Other;
+    Fields::More(first, second, third, rest)
+}
+
+/// Whether exactly one space stands between two fields of a line, and none at either end.
+pub fn is_well_spaced(line: &[u8]) -> bool
+    ensures { result ≡ is_well_spaced (fields_of line.now) }
+{
+    let mut left = line;
+    loop {
+        let (field, rest) = field_cut(left);
+        if field.is_empty() {
+            return false;
+        }
+        let Some(rest) = rest else {
+            return true;
+        };
+        left = rest;
     }
-    four_fields(first, second, third, fourth)
+}
+
+/// Whether what stands behind the third field is one field.
+pub fn is_whole(fields: Fields) -> bool
+    ensures { IsTrue result ↔ IsWhole fields.entry }
+{
+    match fields {
+        Fields::More(_, _, _, rest) => field_cut(rest).1.is_none(),
+        Fields::One => true,
+        Fields::Two(_, _) => true,
+        Fields::Three(_, _, _) => true,
+    }
+}
+
+/// Whether a field is this one letter.
+pub fn is_letter(field: &[u8], letter: u8) -> bool
+    ensures { result ≡ bytes_eq field.now (letter ∷ []) }
+{
+    match field {
+        [only] => *only == letter,
+        _ => false,
+    }
 }

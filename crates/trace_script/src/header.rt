@@ -1,18 +1,21 @@
 //! The header of a script.
 ghost use Rattle.std.specs.Prelude.{◌≡◌, ◌≢◌, ◌<◌, ◌≤◌, ◌==◌, ◌%◌, ◌&&◌, nat_le, IfOk};
-ghost use Rattle.text_model.specs.Script.{value_given, value_in, header_settings};
+ghost use Rattle.text_model.specs.Script.{value_given, value_in};
 ghost use Rattle.text_model.specs.ScriptReading.{significant_lines_after, end_line_after, setting_from, settings_from};
+ghost use Rattle.script_model.specs.Script.{header_settings, is_start_line};
+ghost use Rattle.script_model.specs.ScriptReading.{start_from};
 ghost use Rattle.trace_script.specs.ScriptFaults.{Gives, GivesAt};
 ghost use Rattle.trace_script.specs.ScriptTypes.{setting_of, values_of};
 
 use crate::fault::{LineFault, ScriptFault, reading_at};
-use crate::fields::{Fields, fields_of};
+use crate::fields::{Fields, fields_of, is_well_spaced};
 use crate::lines::Lines;
 use crate::values::number_of;
-use text_model::{
-    MAX_SCRIPT_COLLECTORS, MAX_SCRIPT_CPUS, MIN_SCRIPT_COLLECTORS, MIN_SCRIPT_CPUS, SIZE_STEP,
+use script_model::{
+    MAX_SCRIPT_COLLECTORS, MAX_SCRIPT_CPUS, MIN_SCRIPT_COLLECTORS, MIN_SCRIPT_CPUS,
 };
-use trace_model::{MAX_PAGES, MAX_SIZE, MIN_PAGES, MIN_SIZE};
+use text_model::SIZE_STEP;
+use trace_model::{LINK_FILLS, MAX_PAGES, MAX_SIZE, MIN_PAGES, MIN_SIZE, START_FILL};
 
 /// The values of a script's header.
 #[derive(Clone, Copy, Debug, PartialEq, Eq)]
@@ -23,17 +26,19 @@ pub struct Header {
     pub size: usize,
     /// How many CPUs there are.
     pub cpus: u32,
-    /// How many collectors there are.
-    pub collectors: usize,
+    /// How many collectors there are, at most 16.
+    pub collectors: u16,
 }
 
-/// A line of the header.
+/// A line of the header, or the start line behind it.
 #[derive(Clone, Copy)]
 pub enum Setting {
     Pages,
     Size,
     Cpus,
     Collectors,
+    /// Of rings of so many pages.
+    Start(usize),
 }
 
 /// The values that a line of the header may have: multiples of a step.
@@ -54,6 +59,7 @@ impl Setting {
             Setting::Size => b"size",
             Setting::Cpus => b"cpus",
             Setting::Collectors => b"collectors",
+            Setting::Start(_) => b"start",
         }
     }
 
@@ -83,6 +89,11 @@ impl Setting {
             Setting::Collectors => Limits {
                 min: MIN_SCRIPT_COLLECTORS as u64,
                 max: MAX_SCRIPT_COLLECTORS as u64,
+                step: 1,
+            },
+            Setting::Start(pages) => Limits {
+                min: START_FILL,
+                max: (LINK_FILLS - 1).saturating_sub(pages as u64),
                 step: 1,
             },
         }
@@ -124,6 +135,9 @@ fn value_in(setting: Setting, line: &[u8]) -> Result<u64, LineFault>
     ensures never_out_of_memory { result ≢ Err LineFault.NoMemory }
     ensures within { IfOk result (λ value. value ≤ (setting_of setting).max) }
 {
+    if !is_well_spaced(line) {
+        return Err(LineFault::BadLine);
+    }
     match fields_of(line) {
         Fields::Two(word, number) => value_given(setting, word, number),
         _ => Err(LineFault::BadLine),
@@ -165,6 +179,39 @@ pub fn read_header(lines: &mut Lines) -> Result<Header, ScriptFault>
         pages: pages as usize,
         size: size as usize,
         cpus: cpus as u32,
-        collectors: collectors as usize,
+        collectors: collectors as u16,
     })
+}
+
+/// Whether a line is a start line: its spaces, its word and its number of fields are those of one.
+#[tactic(auto, unfolding(script_model::specs::Script::is_start_line))]
+fn is_start_line(line: &[u8]) -> bool
+    ensures { result ≡ is_start_line line.now }
+{
+    if !is_well_spaced(line) {
+        return false;
+    }
+    match fields_of(line) {
+        Fields::Two(word, _) => word == b"start".as_slice(),
+        _ => false,
+    }
+}
+
+/// The number of each ring's first fill, from the next significant line if it is a start line. Another line stays.
+pub fn read_start(lines: &mut Lines, pages: usize) -> Result<u64, ScriptFault>
+    ensures gives { GivesAt
+        (λ start. (start, significant_lines_after lines.new.passed lines.new.rest.now)) result
+        (start_from pages (significant_lines_after lines.old.passed lines.old.rest.now)) }
+    ensures never_out_of_memory { result ≢ Err ScriptFault.NoMemory }
+{
+    let mut behind = *lines;
+    let Some(line) = behind.next_significant() else {
+        return Ok(START_FILL);
+    };
+    if !is_start_line(line.text) {
+        return Ok(START_FILL);
+    }
+    *lines = behind;
+    let start = value_in(Setting::Start(pages), line.text);
+    reading_at(line.number, start)
 }

@@ -1,23 +1,29 @@
-//! The script text: what a script is, its reader, and the line that tells its first fault.
+//! The reader of the script text: what script a text spells, and the line that tells its first fault.
 //!
 //! A script is lines of fields, which `docs/FORMATS.md`, "Script", describes.
 #![tactic(auto)]
 
 mod command;
+mod commands;
 mod fault;
 mod fault_line;
 mod fields;
 mod header;
+mod kept;
 mod lines;
+mod order;
+mod orders;
+mod payload;
 mod read;
 mod script;
 mod values;
 
-pub use command::Command;
+pub use command::{Command, ScriptLine};
+pub use commands::Commands;
 pub use fault::ScriptFault;
 pub use fault_line::put_fault;
 pub use read::read_script;
-pub use script::{Script, ScriptLine};
+pub use script::Script;
 
 #[cfg(test)]
 mod tests;

@@ -5,25 +5,46 @@ ghost use Rattle.text_model.specs.Text.{lines_of};
 ghost use Rattle.text_model.specs.Script.{is_significant};
 ghost use Rattle.text_model.specs.ScriptReading.{significant_lines_after, end_line_after};
 
-/// The index of the first separator, if there is one.
-fn index_of(bytes: &[u8], separator: u8) -> Option<usize>
-    ensures { result ≡ position (λ b. b == separator) bytes.now }
+use memchr::memchr;
+
+/// The index of the first line feed, if there is one.
+fn line_end(text: &[u8]) -> Option<usize>
+    ensures { result ≡ position (λ b. b == 10) text.now }
 {
-    bytes.iter().position(|b| *b == separator)
+    memchr(b'\n', text)
 }
 
-/// What stands in front of the first separator, and what stands behind it, if there is one.
-pub fn cut_at(bytes: &[u8], separator: u8) -> (&[u8], Option<&[u8]>)
+/// What stands in front of the first line feed, and what stands behind it, if there is one.
+fn line_cut(text: &[u8]) -> (&[u8], Option<&[u8]>)
     ensures parts { MatchOption result.1
-        (slice_split (λ b. b == separator) bytes.now ≡ result.0.now ∷ [])
-        (λ rest. slice_split (λ b. b == separator) bytes.now
-        ≡ result.0.now ∷ slice_split (λ b. b == separator) rest.now) }
-    ensures whole { MatchOption result.1 (result.0.now ≡ bytes.now) (λ rest. ⊤) }
-    ensures len { MatchOption result.1 ⊤ (λ rest. length rest.now < length bytes.now) }
+        (slice_split (λ b. b == 10) text.now ≡ result.0.now ∷ [])
+        (λ rest. slice_split (λ b. b == 10) text.now ≡ result.0.now ∷ slice_split (λ b. b == 10) rest.now) }
+    ensures whole { MatchOption result.1 (result.0.now ≡ text.now) (λ rest. ⊤) }
+    ensures len { MatchOption result.1 ⊤ (λ rest. length rest.now < length text.now) }
 {
-    match index_of(bytes, separator) {
-        Some(at) => (&bytes[..at], Some(&bytes[at + 1..])),
-        None => (bytes, None),
+    match line_end(text) {
+        Some(at) => (&text[..at], Some(&text[at + 1..])),
+        None => (text, None),
+    }
+}
+
+/// The index of the first space, if there is one.
+fn space_at(line: &[u8]) -> Option<usize>
+    ensures { result ≡ position (λ b. b == 32) line.now }
+{
+    line.iter().position(|b| *b == b' ')
+}
+
+/// What stands in front of the first space, and what stands behind it, if there is one.
+pub fn field_cut(line: &[u8]) -> (&[u8], Option<&[u8]>)
+    ensures parts { MatchOption result.1
+        (slice_split (λ b. b == 32) line.now ≡ result.0.now ∷ [])
+        (λ rest. slice_split (λ b. b == 32) line.now ≡ result.0.now ∷ slice_split (λ b. b == 32) rest.now) }
+    ensures len { MatchOption result.1 ⊤ (λ rest. length rest.now < length line.now) }
+{
+    match space_at(line) {
+        Some(at) => (&line[..at], Some(&line[at + 1..])),
+        None => (line, None),
     }
 }
 
@@ -36,7 +57,7 @@ pub struct NumberedLine<'a> {
 }
 
 /// The lines of a text that are still to be read.
-#[derive(Drop)]
+#[derive(Clone, Copy)]
 pub struct Lines<'a> {
     /// The text from the next line on.
     pub rest: &'a [u8],
@@ -80,7 +101,7 @@ impl<'a> Lines<'a> {
         if self.rest.is_empty() {
             return None;
         }
-        let (text, rest) = cut_at(self.rest, b'\n');
+        let (text, rest) = line_cut(self.rest);
         self.rest = rest.unwrap_or(&[]);
         self.passed += 1;
         Some(NumberedLine {

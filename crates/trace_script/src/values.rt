@@ -1,14 +1,15 @@
 //! What a field spells: a number, a CPU or bytes.
-ghost use Rattle.std.specs.Prelude.{◌≡◌, ◌≢◌, ◌+◌, ◌-◌, ◌*◌, ◌^◌, ◌<◌, ◌≤◌, true, false, drop, IfOk, SomeIff, MatchOption};
+ghost use Rattle.std.specs.Prelude.{◌≡◌, ◌≢◌, ◌+◌, ◌-◌, ◌*◌, ◌^◌, ◌<◌, ◌≤◌, true, false, ◌∷◌, length, take, drop, Ok, IfOk, IfSome, SomeIff, MatchOption};
 ghost use Rattle.std.specs.Int.{IsInRange};
 ghost use Rattle.std.specs.Char.{is_ascii_digit};
 ghost use Rattle.std.specs.List.{list_all};
-ghost use Rattle.text_model.specs.Script.{decimal_in, number_below, names_cpu, cpu_in, payload_in};
-ghost use Rattle.trace_script.specs.ScriptFaults.{Gives, hex_fault};
+ghost use Rattle.text_model.specs.Text.{fields_of};
+ghost use Rattle.text_model.specs.Script.{decimal_in, number_below, names_cpu, cpu_in};
+ghost use Rattle.script_model.specs.Script.{count_in};
+ghost use Rattle.trace_script.specs.ScriptFaults.{Gives};
 
 use crate::fault::LineFault;
-use hex::FromHexError;
-use std::alloc::Global;
+use script_model::{MAX_LINE_STEPS, MIN_LINE_STEPS};
 use text_model::MAX_NUMBER_DIGITS;
 use trace_model::CpuId;
 
@@ -40,6 +41,46 @@ pub fn number_of(field: &[u8]) -> Result<u64, LineFault>
         number = next;
     }
     Ok(number)
+}
+
+/// Numbers of fewer digits than these fit 64 bits.
+const SHORT_DIGITS: usize = 19;
+
+/// A number at the front of a line, and what stands behind it.
+#[derive(Clone, Copy)]
+pub struct NumberCut<'a> {
+    pub number: u64,
+    /// The field that spells it.
+    pub digits: &'a [u8],
+    /// What stands behind the space that ends the field.
+    pub rest: &'a [u8],
+}
+
+/// The number that the first field of a line spells, if it is a short one, and another field is behind it. None says
+/// nothing of the line.
+#[inline(always)]
+pub fn number_cut(line: &[u8]) -> Option<NumberCut<'_>>
+    ensures fields { IfSome result (λ cut. fields_of line.now ≡ cut.digits.now ∷ fields_of cut.rest.now) }
+    ensures number { IfSome result (λ cut. decimal_in cut.digits.now ≡ Ok cut.number) }
+    ensures front { IfSome result (λ cut. (length cut.digits.now < length line.now)
+        × (take (length cut.digits.now) line.now ≡ cut.digits.now)) }
+{
+    let mut number = 0;
+    for at in 0..line.len().min(SHORT_DIGITS) {
+        let byte = line[at];
+        if byte < b'0' || b'9' < byte {
+            if byte != b' ' || at == 0 {
+                return None;
+            }
+            return Some(NumberCut {
+                number,
+                digits: &line[..at],
+                rest: &line[at + 1..],
+            });
+        }
+        number = 10 * number + u64::from(byte - b'0');
+    }
+    None
 }
 
 /// The number that a field spells, which is to be below the limit.
@@ -90,28 +131,15 @@ pub fn cpu_of(cpus: u32, field: &[u8]) -> Result<CpuId, LineFault>
     Ok(CpuId(cpu as u32))
 }
 
-/// What it means that a payload is refused.
-fn hex_fault(refused: FromHexError) -> LineFault
-    ensures { result ≡ hex_fault refused }
+/// The number of steps that a field spells.
+#[tactic(auto, unfolding(script_model::specs::Script::count_in))]
+pub fn count_of(field: &[u8]) -> Result<u64, LineFault>
+    ensures gives { Gives (λ n. n) result (count_in field.now) }
+    ensures never_out_of_memory { result ≢ Err LineFault.NoMemory }
 {
-    match refused {
-        FromHexError::OutOfMemory => LineFault::NoMemory,
-        _ => LineFault::BadHex,
+    let count = number_of(field)?;
+    if count < MIN_LINE_STEPS || count > MAX_LINE_STEPS {
+        return Err(LineFault::OutOfRange);
     }
-}
-
-/// The bytes that a field spells.
-pub fn payload_of(alloc: Global, field: &[u8]) -> Result<Vec<u8>, LineFault>
-    ensures { Gives (λ payload. payload.items) result (payload_in field.now) }
-{
-    if field == b"-".as_slice() {
-        return Ok(Vec::new(alloc));
-    }
-    if field.is_empty() {
-        return Err(LineFault::BadHex);
-    }
-    match hex::decode(alloc, field) {
-        Ok(bytes) => Ok(bytes),
-        Err(refused) => Err(hex_fault(refused)),
-    }
+    Ok(count)
 }

@@ -1,13 +1,16 @@
-use Rattle.std.proofs.Common.{◌≡◌, ◌++◌, map, length, Ok}
+use Rattle.std.proofs.Common.{◌≡◌, ◌++◌, length, Ok}
 use Rattle.text_model.specs.Script.{◌>>=◌}
-use Rattle.text_model.specs.ScriptReading.{significant_lines_after, commands_from}
-use Rattle.trace_script.specs.ScriptTypes.{shown_line}
+use Rattle.text_model.specs.ScriptReading.{significant_lines_after}
+use Rattle.script_model.specs.ScriptReading.{commands_from}
+use Rattle.trace_script.specs.Kept.{commands_kept, AreKept}
 use Rattle.trace_script.proofs.read.read_commands.Given as goal
 
 abbrev pub invariant-loop-line : goal.invariant-loop-line
-invariant-loop-line l =
-    commands_from l.cpus l.collectors (significant_lines_after l.initial.lines.passed l.initial.lines.rest.now)
-    ≡ (commands_from l.cpus l.collectors (significant_lines_after l.lines.passed l.lines.rest.now) >>= λ commands. Ok (map shown_line l.commands.items ++ commands))
+invariant-loop-line l = record {
+  so_far : commands_from l.cpus l.collectors (significant_lines_after l.initial.lines.passed l.initial.lines.rest.now)
+      ≡ (commands_from l.cpus l.collectors (significant_lines_after l.lines.passed l.lines.rest.now) >>= λ commands. Ok (commands_kept l.payloads.items 0 l.kept.items ++ commands));
+  kept : AreKept 0 (length l.payloads.items) l.kept.items;
+}
 
 abbrev pub decreases-loop-line : goal.decreases-loop-line
 decreases-loop-line l = length l.lines.rest.now

@@ -1,0 +1,89 @@
+//! The commands of a script, as they are kept: 32 bytes a command, and the payloads one behind the other.
+
+ghost use Rattle.std.specs.Prelude.{◌≡◌, ◌<◌, ◌≤◌, length};
+ghost use Rattle.trace_script.specs.Kept.{part, start_of};
+
+use crate::command::ScriptLine;
+use crate::kept::KeptLine;
+use std::marker::Model;
+
+/// Where the payload of the line at this index begins.
+fn payload_start(lines: &[KeptLine], index: usize) -> usize
+    requires { index < length lines.now }
+    ensures { result ≡ start_of 0 lines.now index }
+{
+    if index == 0 {
+        return 0;
+    }
+    lines[index - 1].end
+}
+
+/// The bytes from one place to another.
+fn part_of(bytes: &[u8], start: usize, end: usize) -> &[u8]
+    requires order { start ≤ end }
+    requires within { end ≤ length bytes.now }
+    ensures { result.now ≡ part bytes.now start end }
+{
+    &bytes[start..end]
+}
+
+/// The commands of a script, in the order of their lines.
+#[derive(Debug, Drop)]
+pub struct Commands {
+    lines: Vec<KeptLine>,
+    payloads: Vec<u8>,
+}
+
+impl Model for Commands {
+    ghost use Rattle.std.specs.Prelude.{ℕ, List, length};
+    ghost use Rattle.script_model.specs.Script.{Command as CommandSeen};
+    ghost use Rattle.trace_script.specs.Kept.{commands_kept, AreKept};
+
+    ghost Value = { List (ℕ × CommandSeen) };
+
+    ghost view = { λ c. commands_kept c.payloads.items 0 c.lines.items };
+
+    ghost invariant = { λ c. AreKept 0 (length c.payloads.items) c.lines.items };
+}
+
+impl Commands {
+    ghost use Rattle.std.specs.Prelude.{◌≡◌, ◌<◌, ◌==◌, length, slice_get};
+    ghost use Rattle.trace_script.specs.Kept.{commands_kept, AreKept};
+    ghost use Rattle.trace_script.specs.ScriptTypes.{shown_line};
+
+    /// The commands of these lines, whose payloads are these bytes.
+    pub(crate) fn of(lines: Vec<KeptLine>, payloads: Vec<u8>) -> Commands
+        requires { AreKept 0 (length payloads.items) lines.items }
+        ensures { result ≡ commands_kept payloads.items 0 lines.items }
+    {
+        Commands { lines, payloads }
+    }
+
+    /// How many there are.
+    pub fn len(&self) -> usize
+        ensures { result ≡ length self.now }
+    {
+        self.lines.len()
+    }
+
+    /// Whether there is none.
+    pub fn is_empty(&self) -> bool
+        ensures { result ≡ (length self.now == 0) }
+    {
+        self.len() == 0
+    }
+
+    /// The command at this index, with the number of its line.
+    pub fn line(&self, index: usize) -> ScriptLine<'_>
+        requires { index < length self.now }
+        ensures { slice_get self.now index ≡ Some (shown_line result) }
+    {
+        let line = self.lines[index];
+        let start = payload_start(self.lines.as_slice(), index);
+        let payload = part_of(self.payloads.as_slice(), start, line.end);
+        ScriptLine {
+            number: line.number,
+            command: line.order.with_payload(payload),
+        }
+    }
+}

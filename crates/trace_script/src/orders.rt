@@ -1,0 +1,300 @@
+//! The command that a line spells.
+ghost use Rattle.std.specs.Prelude.{◌≡◌, ◌≢◌, ℕ, [], ◌∷◌, IfSome};
+ghost use Rattle.text_model.specs.Text.{fields_of};
+ghost use Rattle.script_model.specs.Script.{begin_frame, write, record_in, deliver_in, command_of, command_in};
+ghost use Rattle.trace_script.specs.Kept.{shown_order, PutsCommand};
+ghost use Rattle.trace_script.specs.ScriptFaults.{Fails, Gives};
+ghost use Rattle.trace_script.specs.RecordFronts.{IsRecordOrder, IsRecordFront};
+ghost use Rattle.trace_script.specs.ScriptFields.{AreFields, fields_seen};
+
+use crate::fault::LineFault;
+use crate::fields::{Fields, fields_of, is_letter, is_well_spaced, is_whole};
+use crate::order::Order;
+use crate::payload::put_payload;
+use crate::values::{count_of, cpu_of, number_below, number_cut, number_of};
+use trace_model::{CpuId, FillNo, Moment};
+
+/// `d K cX F`
+#[tactic(auto, unfolding(script_model::specs::Script::deliver_in))]
+fn deliver_in(
+    cpus: u32,
+    collectors: u16,
+    collector: &[u8],
+    cpu: &[u8],
+    fill: &[u8],
+) -> Result<Order, LineFault>
+    ensures gives { Gives (shown_order []) result
+        (deliver_in cpus collectors collector.now cpu.now fill.now) }
+    ensures never_out_of_memory { result ≢ Err LineFault.NoMemory }
+{
+    let collector = number_below(u64::from(collectors), collector)?;
+    let cpu = cpu_of(cpus, cpu)?;
+    let fill = number_of(fill)?;
+    Ok(Order::Deliver {
+        collector: collector as u16,
+        cpu,
+        fill: FillNo(fill),
+    })
+}
+
+/// `cX b T HEX`
+#[tactic(auto, unfolding(script_model::specs::Script::record_in))]
+fn begin_in(
+    cpus: u32,
+    cpu: &[u8],
+    moment: &[u8],
+    payload: &[u8],
+    payloads: &mut Vec<u8>,
+) -> Result<Order, LineFault>
+    ensures { PutsCommand result payloads.old.items payloads.new.items
+        (record_in cpus begin_frame cpu.now moment.now payload.now) }
+{
+    let cpu = cpu_of(cpus, cpu)?;
+    let moment = number_of(moment)?;
+    put_payload(payloads, payload)?;
+    Ok(Order::Begin {
+        cpu,
+        moment: Moment(moment),
+    })
+}
+
+/// `cX w T HEX`
+#[tactic(auto, unfolding(script_model::specs::Script::record_in))]
+fn write_in(
+    cpus: u32,
+    cpu: &[u8],
+    moment: &[u8],
+    payload: &[u8],
+    payloads: &mut Vec<u8>,
+) -> Result<Order, LineFault>
+    ensures { PutsCommand result payloads.old.items payloads.new.items
+        (record_in cpus write cpu.now moment.now payload.now) }
+{
+    let cpu = cpu_of(cpus, cpu)?;
+    let moment = number_of(moment)?;
+    put_payload(payloads, payload)?;
+    Ok(Order::Write {
+        cpu,
+        moment: Moment(moment),
+    })
+}
+
+/// The command of two fields.
+#[tactic(auto, unfolding(script_model::specs::Script::command_of, script_model::specs::Script::of_cpu))]
+fn order_of_two(cpus: u32, collectors: u16, first: &[u8], second: &[u8]) -> Result<Order, LineFault>
+    ensures gives { Gives (shown_order []) result
+        (command_of cpus collectors (first.now ∷ second.now ∷ [])) }
+    ensures never_out_of_memory { result ≢ Err LineFault.NoMemory }
+{
+    if is_letter(second, b'f') {
+        let cpu = cpu_of(cpus, first)?;
+        return Ok(Order::Finish { cpu });
+    }
+    if is_letter(second, b'c') {
+        let cpu = cpu_of(cpus, first)?;
+        return Ok(Order::Close { cpu });
+    }
+    if is_letter(second, b't') {
+        let cpu = cpu_of(cpus, first)?;
+        return Ok(Order::Take { cpu });
+    }
+    if is_letter(second, b'a') {
+        let cpu = cpu_of(cpus, first)?;
+        return Ok(Order::Wish { cpu });
+    }
+    Err(LineFault::BadLine)
+}
+
+/// The command of three fields.
+#[tactic(auto, unfolding(script_model::specs::Script::command_of, script_model::specs::Script::steps_in))]
+fn order_of_three(
+    cpus: u32,
+    collectors: u16,
+    first: &[u8],
+    second: &[u8],
+    third: &[u8],
+) -> Result<Order, LineFault>
+    ensures gives { Gives (shown_order []) result
+        (command_of cpus collectors (first.now ∷ second.now ∷ third.now ∷ [])) }
+    ensures never_out_of_memory { result ≢ Err LineFault.NoMemory }
+{
+    if is_letter(second, b's') {
+        let cpu = cpu_of(cpus, first)?;
+        let count = count_of(third)?;
+        return Ok(Order::Step { cpu, count });
+    }
+    if is_letter(second, b'r') {
+        let cpu = cpu_of(cpus, first)?;
+        let count = count_of(third)?;
+        return Ok(Order::StepReader { cpu, count });
+    }
+    Err(LineFault::BadLine)
+}
+
+/// The command of four fields.
+#[tactic(auto, unfolding(script_model::specs::Script::command_of))]
+fn order_of_four(
+    cpus: u32,
+    collectors: u16,
+    first: &[u8],
+    second: &[u8],
+    third: &[u8],
+    fourth: &[u8],
+    payloads: &mut Vec<u8>,
+) -> Result<Order, LineFault>
+    ensures { PutsCommand result payloads.old.items payloads.new.items
+        (command_of cpus collectors (first.now ∷ second.now ∷ third.now ∷ fourth.now ∷ [])) }
+{
+    if is_letter(first, b'd') {
+        return deliver_in(cpus, collectors, second, third, fourth);
+    }
+    if is_letter(second, b'b') {
+        return begin_in(cpus, first, third, fourth, payloads);
+    }
+    if is_letter(second, b'w') {
+        return write_in(cpus, first, third, fourth, payloads);
+    }
+    Err(LineFault::BadLine)
+}
+
+/// The command of a line's fields, where what stands behind the third one counts as one.
+fn order_of(
+    cpus: u32,
+    collectors: u16,
+    fields: Fields,
+    payloads: &mut Vec<u8>,
+) -> Result<Order, LineFault>
+    ensures { PutsCommand result payloads.old.items payloads.new.items
+        (command_of cpus collectors (fields_seen fields.entry)) }
+{
+    match fields {
+        Fields::One => Err(LineFault::BadLine),
+        Fields::Two(first, second) => order_of_two(cpus, collectors, first, second),
+        Fields::Three(first, second, third) => {
+            order_of_three(cpus, collectors, first, second, third)
+        }
+        Fields::More(first, second, third, rest) => {
+            order_of_four(cpus, collectors, first, second, third, rest, payloads)
+        }
+    }
+}
+
+/// What is wrong with a line that has these fields, where this is wrong with them: a fault of the line's form counts
+/// before one of a value.
+fn fault_of(line: &[u8], fields: Fields, fault: LineFault) -> LineFault
+    requires { AreFields fields (fields_of line.now) }
+    ensures { (cpus collectors : ℕ) → Fails fault (command_of cpus collectors (fields_seen fields.entry))
+        → Fails result (command_in cpus collectors line.now) }
+{
+    if !is_whole(fields) {
+        return LineFault::BadLine;
+    }
+    if !is_well_spaced(line) {
+        return LineFault::BadLine;
+    }
+    fault
+}
+
+/// No line that pushes a record frame is shorter, in bytes.
+const MIN_RECORD_LINE: usize = 8;
+
+/// The front of a line that pushes a record frame, and what stands behind it.
+#[derive(Clone, Copy)]
+pub struct RecordFront<'a> {
+    /// The line's fields.
+    pub fields: Fields<'a>,
+    pub order: Order,
+    /// What stands behind the third field.
+    pub payload: &'a [u8],
+}
+
+/// The order of a record frame by its word, if it is one.
+#[inline(always)]
+fn record_order(word: u8, cpu: CpuId, moment: Moment) -> Option<Order>
+    ensures { IfSome result (λ order. IsRecordOrder word cpu moment order) }
+{
+    match word {
+        b'w' => Some(Order::Write { cpu, moment }),
+        b'b' => Some(Order::Begin { cpu, moment }),
+        _ => None,
+    }
+}
+
+/// The front of a line of the form `cX b T HEX` or `cX w T HEX`, if its numbers are short. None says nothing of the
+/// line.
+#[inline(always)]
+fn record_front(cpus: u32, line: &[u8]) -> Option<RecordFront<'_>>
+    ensures { IfSome result (λ front. (collectors : ℕ) → IsRecordFront cpus collectors line.now front) }
+{
+    if line.len() < MIN_RECORD_LINE {
+        return None;
+    }
+    let [letter, named @ ..] = line else {
+        return None;
+    };
+    if *letter != b'c' {
+        return None;
+    }
+    let cpu = number_cut(named)?;
+    if cpu.number >= u64::from(cpus) {
+        return None;
+    }
+    let [word, space, timed @ ..] = cpu.rest else {
+        return None;
+    };
+    if *space != b' ' {
+        return None;
+    }
+    if *word != b'w' && *word != b'b' {
+        return None;
+    }
+    let moment = number_cut(timed)?;
+    let order = record_order(*word, CpuId(cpu.number as u32), Moment(moment.number))?;
+    let first = &line[..cpu.digits.len() + 1];
+    let second = &cpu.rest[..1];
+    Some(RecordFront {
+        fields: Fields::More(first, second, moment.digits, moment.rest),
+        order,
+        payload: moment.rest,
+    })
+}
+
+/// The command that a line's fields spell. Its payload is put behind those that are there.
+///
+/// A line whose fields spell a command is of the right form, so that the form is looked at only where they don't.
+fn order_by_fields(
+    cpus: u32,
+    collectors: u16,
+    line: &[u8],
+    payloads: &mut Vec<u8>,
+) -> Result<Order, LineFault>
+    ensures { PutsCommand result payloads.old.items payloads.new.items
+        (command_in cpus collectors line.now) }
+{
+    let fields = fields_of(line);
+    match order_of(cpus, collectors, fields, payloads) {
+        Ok(order) => Ok(order),
+        Err(fault) => Err(fault_of(line, fields, fault)),
+    }
+}
+
+/// The command that a line spells, for so many CPUs and collectors. Its payload is put behind those that are there.
+///
+/// Nearly all lines of a long script push a record, of short numbers: these are read from the front.
+pub fn order_in(
+    cpus: u32,
+    collectors: u16,
+    line: &[u8],
+    payloads: &mut Vec<u8>,
+) -> Result<Order, LineFault>
+    ensures { PutsCommand result payloads.old.items payloads.new.items
+        (command_in cpus collectors line.now) }
+{
+    if let Some(front) = record_front(cpus, line) {
+        return match put_payload(payloads, front.payload) {
+            Ok(()) => Ok(front.order),
+            Err(fault) => Err(fault_of(line, front.fields, fault)),
+        };
+    }
+    order_by_fields(cpus, collectors, line, payloads)
+}
