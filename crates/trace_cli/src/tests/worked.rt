@@ -795,9 +795,10 @@ fn written_out(alloc: Global, text: &str) -> Result<Vec<u8>, Fail> {
         if skipped > 0 {
             skipped -= 1;
         } else if bytes[at..].starts_with(b"A(") {
+            let digit = bytes.get(at + 2).copied().unwrap_or(b'?');
             for _ in 0..28 {
                 out.push(b'0')?;
-                out.push(bytes[at + 2])?;
+                out.push(digit)?;
             }
             skipped = 3;
         } else {
