@@ -1,4 +1,4 @@
-//! What is printed of collectors is decided by what they have and miss, as the contract of a function with an empty body.
+//! What is printed of collectors is decided by what they have and miss: the contract of a function with an empty body.
 ghost use Rattle.std.specs.Prelude.{◌≡◌, ℕ, Bool, List};
 ghost use Rattle.std.specs.List.{AllZip};
 ghost use Rattle.trace_model.specs.Parcel.{Parcel};

@@ -1,4 +1,4 @@
--- What is printed: the log, collectors, page images, the fault of a script or of an image, out of memory.
+-- What is printed of a line of the log, of a page image, and of the fault of a script or of an image.
 -- docs/FORMATS.md, "Printed text" and "Log".
 use Rattle.std.specs.Prelude.{ℕ, List, [], ◌∷◌, ◌++◌, flat_map, codes}
 use Rattle.std.specs.Fmt.{decimal}
