@@ -5,20 +5,18 @@ use Rattle.std.proofs.lemmas.List.Concat.{flat_map-append}
 use Rattle.trace_model.specs.Record.{Record}
 use Rattle.trace_model.specs.Words.{Word, padding, time_extend, time_stamp, bytes_of_word, joined, delta_of, is_stamp, moment_after, records_of, records_at, MovesTime, IsEnding, Decodes, short_data, long_data}
 use Rattle.trace_model.specs.Reading.{IsData, payload_of, records_in}
-use Rattle.trace_model.specs.Faults.{cut, bad_length, time_overflow}
+use Rattle.trace_model.specs.Faults.{time_overflow}
 use Rattle.trace_model.specs.FirstFault.{FirstFault}
 use Rattle.trace_model.proofs.Lengths.{bytes_of_word_ge}
 use Rattle.trace_model.proofs.Unique.{records_in-Decodes}
 use Rattle.trace_model.proofs.Appended.{FitsTime-nil, FitsTime-push, each-append, moment_after-push, moment_after-stamp, IsData-not_stamp, records_at-data, records_of-push, records_of-push_data}
-use Rattle.trace_model.proofs.FirstFaults.{Decodes-FirstFault}
 use Rattle.record_words.specs.declared.next.WordFault.{WordFault}
-use Rattle.record_words.specs.declared.next.WordFault.TheVariants.{Cut, BadLength, TimeOverflow}
+use Rattle.record_words.specs.declared.next.WordFault.TheVariants.{TimeOverflow}
 use Rattle.record_words.specs.Next.{StandsAt, DataAt, PaddingAt, EndingAt}
 use Rattle.record_words.specs.declared.put.Place.{Place}
 use Rattle.page_image.specs.declared.walk.Reached.{Reached}
-use Rattle.page_image.specs.declared.walk.Passed.{Passed}
 use Rattle.page_image.specs.Counting.{IsCounted, IsFirstWordFault}
-use Rattle.page_image.specs.Walk.{HasRead, HasPassed, records_at_place}
+use Rattle.page_image.specs.Walk.{HasRead, HasPassed}
 
 pub read-start : (bytes : List ℕ) (time : ℕ) (reached : Reached) → reached.at ≡ 0 → reached.moment ≡ time → reached.count ≡ 0 → HasRead bytes time [] reached
 read-start bytes time reached at moment count = record {
@@ -155,21 +153,3 @@ IsData-moves (time_stamp stamp) is = absurd is
 -- a word takes four bytes, so records are few
 pub few_more : (bytes : List ℕ) (at next count : ℕ) (w : Word) → StandsAt bytes at next w → 4 * count ≤ at → 4 * (count + 1) ≤ next
 few_more bytes at next count w here few = let stop = here.next_is in let size = bytes_of_word_ge w in omega arith
-
--- ---- copies of the records
-
--- the copies of the records so far, with those of the word that was stepped over
-pub copied-push : (bytes : List ℕ) (time : ℕ) (words : List Word) (passed : Passed) (before after : List Record) → (is : HasPassed bytes time words passed) → before ≡ records_of time words → after ≡ before ++ records_at_place bytes passed.behind.moment passed.payload
-    → after ≡ records_of time (words ++ is.word ∷ [])
-copied-push bytes time words passed before after is same more =
-    more ∙ ap (λ (rs : List Record). rs ++ records_at_place bytes passed.behind.moment passed.payload) same ∙ ap (λ (rs : List Record). records_of time words ++ rs) (sym is.records_is) ∙ sym (records_of-push time words is.word)
-
--- data that is read whole has these records
-pub copied-whole : (bytes : List ℕ) (time : ℕ) (words : List Word) (records : List Record) → records ≡ records_of time words → Decodes bytes time (records_of time words) → records ≡ records_in time bytes
-copied-whole bytes time words records same reads = same ∙ sym (records_in-Decodes bytes time (records_of time words) reads)
-
--- data that reads has no fault
-pub no_fault : (bytes : List ℕ) (time : ℕ) (records : List Record) (f : WordFault) → Decodes bytes time records → IsFirstWordFault bytes time f → ⊥
-no_fault bytes time records (Cut at) reads first = Decodes-FirstFault bytes time records cut at reads first
-no_fault bytes time records (BadLength at) reads first = Decodes-FirstFault bytes time records bad_length at reads first
-no_fault bytes time records (TimeOverflow at) reads first = Decodes-FirstFault bytes time records time_overflow at reads first

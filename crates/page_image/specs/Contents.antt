@@ -28,3 +28,8 @@ pub record IsPage (page : Contents) : Type 0 where
   pub reads : Decodes page.bytes page.time (records_of_page page)
   pub counted : page.count ≡ length (records_of_page page)
   pub in_time : page.time < 2 ^ 64
+
+-- both have the same time and data, and so the same records
+pub record HaveSameData (page other : Contents) : Type 0 where
+  pub time_is : page.time ≡ other.time
+  pub bytes_are : page.bytes ≡ other.bytes

@@ -1,6 +1,5 @@
 pub mod Contents
 pub mod Lending
-pub mod Copies
 pub mod Walk
 pub mod Counting
 pub mod Images

@@ -4,7 +4,6 @@
 #![tactic(auto)]
 
 mod body;
-mod copies;
 mod count;
 mod image;
 mod page;

@@ -1,4 +1,6 @@
 //! A page: the records of one fill, as they stand in its body.
+mod alike;
+mod fitted;
 mod header;
 mod read;
 mod write;

@@ -1,11 +1,14 @@
-//! Records put into pages, with their bytes written out; places of payloads; copies of records.
+//! Records put into pages, with their bytes written out; places of payloads; what a walk comes by.
 ghost use Rattle.std.specs.Prelude.{◌≡◌, ◌≤◌, length, IfOk, IfSome};
 ghost use Rattle.trace_model.specs.Reading.{EndsInRecord};
 ghost use Rattle.trace_model.specs.Order.{moment_of_last};
 ghost use Rattle.page_image.specs.Contents.{IsPage, records_of_page};
 
+mod records;
+
 use crate::{Body, Page, Place};
 use record_words::size_of;
+pub(crate) use records::{Record, compare_records};
 use std::alloc::Global;
 use std::process::Abort;
 use std::test::Fail;
@@ -300,20 +303,73 @@ fn only_whole_payloads_are_places(rt: HostRuntime) -> Result<(), Fail> {
     Ok(())
 }
 
+/// The records of `FAR_APART` as they stand in a page.
+const FAR_APART_READ: &[Record] = &[
+    Record {
+        moment: 3,
+        bytes: b"\x11\x22\x33\x44",
+    },
+    Record {
+        moment: 134_217_734,
+        bytes: b"\xaa\xbb\xcc\xdd\xee\x00\x00\x00",
+    },
+];
+
 #[test]
-fn records_are_copied(rt: HostRuntime) -> Result<(), Fail> {
+fn a_walk_comes_by_the_records(rt: HostRuntime) -> Result<(), Fail> {
     let page = page_of(&rt, rt.alloc(), ROOM, FAR_APART)?;
-    let copies = page.copied(rt.alloc())?;
-    assert_eq!(rt; copies.len(), 2);
-    assert_eq!(rt; copies[0].0, 3);
-    assert_eq!(rt; copies[0].1.as_slice(), b"\x11\x22\x33\x44".as_slice());
-    assert_eq!(rt; copies[1].0, 134_217_734);
-    assert_eq!(rt;
-        copies[1].1.as_slice(),
-        b"\xaa\xbb\xcc\xdd\xee\x00\x00\x00".as_slice()
-    );
-    let none = blank_page(&rt, rt.alloc(), ROOM)?.copied(rt.alloc())?;
-    assert!(rt; none.is_empty());
+    compare_records(&rt, &page, FAR_APART_READ);
+    compare_records(&rt, &blank_page(&rt, rt.alloc(), ROOM)?, &[]);
+    Ok(())
+}
+
+#[test]
+fn a_fitted_page_is_as_long_as_its_data(rt: HostRuntime) -> Result<(), Fail> {
+    let page = page_of(&rt, rt.alloc(), ROOM, FAR_APART)?;
+    let fitted = page.fitted(rt.alloc())?;
+    assert_eq!(rt; fitted.size(), 28);
+    assert_eq!(rt; fitted.time(), 3);
+    assert_eq!(rt; fitted.first(), RecordNo(7));
+    assert_eq!(rt; fitted.count(), 2);
+    assert_eq!(rt; fitted.fill(), FillNo(3));
+    assert!(rt; fitted.data() == page.data());
+    compare_records(&rt, &fitted, FAR_APART_READ);
+    let blank = blank_page(&rt, rt.alloc(), ROOM)?.fitted(rt.alloc())?;
+    assert_eq!(rt; blank.size(), 0);
+    assert_eq!(rt; blank.end(), 0);
+    Ok(())
+}
+
+/// The first of these records.
+const EARLY: &[Given] = &[Given {
+    moment: 3,
+    payload: b"\x11\x22\x33\x44",
+}];
+
+/// Records of pages with other data: one more, at another moment, with another last byte, and none.
+const NOT_EARLY: &[&[Given]] = &[
+    FAR_APART,
+    &[Given {
+        moment: 4,
+        payload: b"\x11\x22\x33\x44",
+    }],
+    &[Given {
+        moment: 3,
+        payload: b"\x11\x22\x33\x45",
+    }],
+    &[],
+];
+
+/// Pages have the same data where their time and their bytes are the same, whatever their size, numbers and fill.
+#[test]
+fn pages_of_the_same_data(rt: HostRuntime) -> Result<(), Fail> {
+    let page = page_of(&rt, rt.alloc(), ROOM, EARLY)?;
+    let again = page_of(&rt, rt.alloc(), 32, EARLY)?.numbered(RecordNo(9), FillNo(4));
+    assert!(rt; page.has_data_of(&page) && page.has_data_of(&again));
+    for records in NOT_EARLY {
+        let other = page_of(&rt, rt.alloc(), ROOM, records)?;
+        assert!(rt; !page.has_data_of(&other) && !other.has_data_of(&page));
+    }
     Ok(())
 }
 

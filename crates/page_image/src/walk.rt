@@ -1,6 +1,6 @@
 //! The words of a page's data, stepped over one by one from the front, with the time.
 //!
-//! It is the one walk over a page: an image's records are counted by it, copied out of their page, and lent.
+//! It is the one walk over a page: an image's records are counted by it, and a page's are lent.
 ghost use Rattle.std.specs.Prelude.{◌≡◌, ℕ, ◌+◌, ◌*◌, ◌≤◌, ◌<◌, ◌^◌, List, [], ◌++◌, IfOk, IfErr, IfSome, MatchOption, length};
 ghost use Rattle.trace_model.specs.Words.{Word as OneWord, Decodes, records_of};
 ghost use Rattle.page_image.specs.Counting.{IsFirstWordFault};

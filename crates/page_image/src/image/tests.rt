@@ -2,19 +2,13 @@
 ghost use Rattle.std.specs.Prelude.{◌≡◌, ◌≤◌, ◌%◌};
 
 use crate::image::HEADER;
+use crate::tests::{Record, compare_records};
 use crate::{Body, Image, ImageFault, Missed, Page, read_image};
 use record_words::WordFault;
 use std::alloc::Global;
 use std::process::Abort;
 use std::test::Fail;
 use trace_model::{FillNo, MAX_IMAGE, NoMemory, RecordNo};
-
-/// A record: its moment and its bytes.
-#[derive(Clone, Copy)]
-struct Record {
-    moment: u64,
-    bytes: &'static [u8],
-}
 
 /// What an image must tell of its page.
 #[derive(Clone, Copy)]
@@ -33,7 +27,7 @@ struct Row {
 }
 
 /// Compares all that an image tells.
-fn compare(rt: &impl Abort, alloc: Global, image: &Image, told: Told) -> Result<(), NoMemory> {
+fn compare(rt: &impl Abort, image: &Image, told: Told) {
     assert_eq!(rt; image.time, told.time);
     assert_eq!(rt; image.size, told.size);
     assert_eq!(rt; image.missed, told.missed);
@@ -43,28 +37,21 @@ fn compare(rt: &impl Abort, alloc: Global, image: &Image, told: Told) -> Result<
     assert_eq!(rt; page.first(), RecordNo(0));
     assert_eq!(rt; page.fill(), FillNo(0));
     assert_eq!(rt; page.count(), told.records.len() as u64);
-    let copies = page.copied(alloc)?;
-    assert_eq!(rt; copies.len(), told.records.len());
-    for (copy, record) in copies.iter().zip(told.records) {
-        assert_eq!(rt; copy.0, record.moment);
-        assert_eq!(rt; copy.1.as_slice(), record.bytes);
-    }
-    Ok(())
+    compare_records(rt, page, told.records);
 }
 
 /// Reads the images of a table, and compares what they tell.
-fn read_and_compare(rt: &impl Abort, alloc: Global, table: &[Row]) -> Result<(), NoMemory> {
+fn read_and_compare(rt: &impl Abort, alloc: Global, table: &[Row]) {
     for row in table {
         match (read_image(alloc, row.image), row.answer) {
             (Ok(image), Ok(told)) => {
                 assert_eq!(rt; image.page.size() + HEADER, row.image.len());
-                compare(rt, alloc, &image, told)?;
+                compare(rt, &image, told);
             }
             (Err(fault), Err(expected)) => assert_eq!(rt; fault, expected),
             _ => assert!(rt; false, "read or refused"),
         }
     }
-    Ok(())
 }
 
 #[test]
@@ -129,7 +116,8 @@ fn hand_made_images(rt: HostRuntime) -> Result<(), Fail> {
             }),
         },
     ];
-    Ok(read_and_compare(&rt, rt.alloc(), &table)?)
+    read_and_compare(&rt, rt.alloc(), &table);
+    Ok(())
 }
 
 #[test]
@@ -183,7 +171,8 @@ fn image_readings(rt: HostRuntime) -> Result<(), Fail> {
             answer: Err(ImageFault::Word(WordFault::Cut(8))),
         },
     ];
-    Ok(read_and_compare(&rt, rt.alloc(), &table)?)
+    read_and_compare(&rt, rt.alloc(), &table);
+    Ok(())
 }
 
 /// The image of the largest page, which one record fills, is read and written again.
@@ -269,7 +258,7 @@ fn missed_count_in_an_image(rt: HostRuntime) -> Result<(), Fail> {
             }),
         },
     ];
-    read_and_compare(&rt, rt.alloc(), &table)?;
+    read_and_compare(&rt, rt.alloc(), &table);
     let full = page_of_twos(rt.alloc(), 36)?;
     assert_eq!(rt; full.write_image(rt.alloc(), 1)?.as_slice(), table[0].image);
     let roomy = page_of_twos(rt.alloc(), 40)?;
@@ -314,7 +303,7 @@ fn first_record(rt: HostRuntime) -> Result<(), Fail> {
         }],
     };
     match read_image(rt.alloc(), &image) {
-        Ok(read) => compare(&rt, rt.alloc(), &read, told)?,
+        Ok(read) => compare(&rt, &read, told),
         Err(fault) => assert!(rt; false, "{fault:?}"),
     }
     Ok(())

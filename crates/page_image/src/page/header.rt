@@ -3,7 +3,8 @@ use crate::page::Page;
 use trace_model::{FillNo, RecordNo};
 
 impl Page {
-    ghost use Rattle.std.specs.Prelude.{◌≡◌, length};
+    ghost use Rattle.std.specs.Prelude.{◌≡◌, ◌*◌, ◌≤◌, length};
+    ghost use Rattle.trace_model.specs.declared.limits.TheConstants.{MAX_SIZE};
 
     /// The time from which the moments of the records are counted. In a page filled by `put` it is the first
     /// record's moment, and 0 before there is one.
@@ -32,7 +33,8 @@ impl Page {
     /// How many records the page holds.
     #[inline(always)]
     pub fn count(&self) -> u64
-        ensures { result ≡ self.now.count }
+        ensures count { result ≡ self.now.count }
+        ensures few { 4 * result ≤ MAX_SIZE }
     {
         self.count
     }

@@ -24,7 +24,7 @@ overflow_add-number c =
     let k' = (subst (IsStack start history) (sym c.self.view_is) k).holds in
     let fills = c.self.invariant.fills in
     let fits = number_fits start (opens_of history) (reserved_records history) (is_wished history) s k' (omega arith) in
-    omega (arith, c.first.ensures, c.count.ensures)
+    omega (arith, c.first.ensures, c.count.ensures.count)
 
 pub put-place-requires-clause-last : goal.put-place-requires-clause-last
 put-place-requires-clause-last c =
@@ -51,7 +51,7 @@ returns-clause-stack c = λ start history old.
     let room = subst (λ (x : Stack). HasRecordRoom x c.args.moment c.args.len) (sym c.self.view_is) c.requires.room in
     let room' : length s.tail.bytes + encoded_len c.args.len delta blank ≤ s.size = subst (λ (m : ℕ). length s.tail.bytes + encoded_len c.args.len (m - s.last_moment) blank ≤ s.size) (sym raised) room in
     rw c.reserve.ensures (reserved_with start history s waiting c.self.inside.below.items c.args.moment c.args.len noted c.put-place.new.self c.put-place.result c.args.raised (c.first.result.0 + c.count.result) c.fill-fill.result.0
-    raised (omega (arith, c.first.ensures, c.count.ensures)) fill_is (on_top' ∙ (λ i. same i ∷ sym found.1 i)) refl refl (omega (arith, long, room')) record {
+    raised (omega (arith, c.first.ensures, c.count.ensures.count)) fill_is (on_top' ∙ (λ i. same i ∷ sym found.1 i)) refl refl (omega (arith, long, room')) record {
       page = put.page;
       records = put.records;
       long = long;
