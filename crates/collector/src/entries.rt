@@ -18,7 +18,8 @@ pub(crate) fn records_from(parcel: &Parcel, number: u64) -> Records<'_>
     records
 }
 
-/// The first number from `from` on, and in front of `end`, under which two parcels don't have the same record.
+/// The first number from `from` on, and in front of `end`, under which two parcels don't have the same record. Where
+/// their pages are alike, as a shared page is to itself, no record is looked at.
 pub(crate) fn first_difference(parcel: &Parcel, other: &Parcel, from: u64, end: u64) -> Option<u64>
     requires in_parcel { parcel.now.first ≤ from }
     requires in_other { other.now.first ≤ from }
@@ -29,6 +30,9 @@ pub(crate) fn first_difference(parcel: &Parcel, other: &Parcel, from: u64, end: 
     ensures none { IfNone result ((m : ℕ) → from ≤ m → m < end
         → record_of parcel.now m ≡ record_of other.now m) }
 {
+    if parcel.has_page_of(other) {
+        return None;
+    }
     let mut own = records_from(parcel, from);
     let mut others = records_from(other, from);
     for number in from..end {

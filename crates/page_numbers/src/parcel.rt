@@ -38,12 +38,12 @@ impl Model for Parcel {
 }
 
 impl Parcel {
-    ghost use Rattle.std.specs.Prelude.{◌≡◌, ℕ, ◌+◌, ◌^◌, ◌<◌, ◌≤◌, ◌↔◌, length, IfOk, IfErr, OnOk};
+    ghost use Rattle.std.specs.Prelude.{◌≡◌, ℕ, ◌+◌, ◌^◌, ◌<◌, ◌≤◌, ◌↔◌, IsTrue, length, IfOk, IfErr, OnOk};
     ghost use Rattle.trace_model.specs.ParcelBytes.{IsParcel};
     ghost use Rattle.trace_model.specs.declared.limits.TheConstants.{MAX_CPUS};
     ghost use Rattle.page_image.specs.Contents.{Contents, IsPage};
     ghost use Rattle.page_borrow.specs.Entries.{AllStandInPage};
-    ghost use Rattle.page_numbers.specs.Parcels.{parcel_of, entries_of_parcel};
+    ghost use Rattle.page_numbers.specs.Parcels.{parcel_of, entries_of_parcel, IsOfPage, AreAlike, HaveSameRecords};
     ghost use Rattle.page_numbers.specs.Faults.{IsRefused, NumbersOverflow, MissesTooMany};
 
     /// The page as a parcel of this CPU, with so many numbers missing in front of its records. Where it is refused, the
@@ -121,10 +121,19 @@ impl Parcel {
     /// page.
     pub fn records(&self) -> Records<'_>
         ensures entries { result ≡ entries_of_parcel self.now }
-        ensures own_bytes { (page : Contents) × (self.now ≡ parcel_of self.now.cpu page self.now.missed)
-            × AllStandInPage page result }
+        ensures own_bytes { (page : Contents) × IsOfPage self.now page × AllStandInPage page result }
     {
         records(&self.page)
+    }
+
+    /// Whether both parcels' pages are alike: they have the same first number, time and data. Then the parcels have
+    /// the same records under the same numbers. Pages that aren't alike may have the same records too.
+    pub fn has_page_of(&self, other: &Parcel) -> bool
+        ensures records { IsTrue result → HaveSameRecords self.now other.now }
+        ensures pages { (page there : Contents) × IsOfPage self.now page × IsOfPage other.now there
+            × (IsTrue result ↔ AreAlike page there) }
+    {
+        self.first() == other.first() && self.page.has_data_of(&other.page)
     }
 
     /// The same parcel once more, of the same page. No byte of it is copied.

@@ -66,11 +66,18 @@ struct Row {
 /// Where the numbers stand.
 const CPU: usize = 0;
 
+const FILL: usize = 8;
+
 const FIRST: usize = 16;
 
 const MISSED: usize = 24;
 
+const TIME: usize = 32;
+
 const COMMIT: usize = 40;
+
+/// Where the last eight bytes of the record stand.
+const LAST_BYTES: usize = 72;
 
 /// The bytes with these changes.
 fn changed(rt: &impl Abort, changes: &[Change]) -> [u8; 84] {
@@ -413,6 +420,44 @@ fn parcels_of_pages(rt: HostRuntime) -> Result<(), Fail> {
     Ok(())
 }
 
+/// Whether a parcel of these bytes has the page of the one of `TWOS`.
+fn has_page_of_twos(rt: &impl Abort, alloc: Global, bytes: &[u8]) -> bool {
+    match (
+        Parcel::from_bytes(alloc, bytes),
+        Parcel::from_bytes(alloc, TWOS),
+    ) {
+        (Ok(parcel), Ok(twos)) => {
+            assert_eq!(rt; twos.has_page_of(&parcel), parcel.has_page_of(&twos));
+            parcel.has_page_of(&twos)
+        }
+        _ => {
+            assert!(rt; false, "no parcel");
+            false
+        }
+    }
+}
+
+/// Pages are compared by their first number, their time and their data, a record's last byte among it.
+#[test]
+fn parcels_with_the_same_page(rt: HostRuntime) -> Result<(), Fail> {
+    assert!(rt; has_page_of_twos(&rt, rt.alloc(), TWOS));
+    for (at, value, expected) in [
+        (CPU, 3, true),
+        (FILL, 3, true),
+        (FIRST, 3, false),
+        (TIME, 3, false),
+        (LAST_BYTES, 0x0302_0202_0202_0202, false),
+    ] {
+        let bytes = changed(&rt, &[Change { at, value }]);
+        assert_eq!(rt;
+            has_page_of_twos(&rt, rt.alloc(), &bytes),
+            expected,
+            "at {at}"
+        );
+    }
+    Ok(())
+}
+
 /// A shared parcel outlives the one of which it is.
 #[test]
 fn shared_parcels(rt: HostRuntime) -> Result<(), Fail> {
@@ -420,6 +465,7 @@ fn shared_parcels(rt: HostRuntime) -> Result<(), Fail> {
         Ok(parcel) => {
             let shared = parcel.share()?;
             let third = shared.share()?;
+            assert!(rt; shared.has_page_of(&parcel) && third.has_page_of(&shared));
             drop(parcel);
             compare_twos(&rt, &shared);
             drop(shared);
