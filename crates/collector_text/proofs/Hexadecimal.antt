@@ -1,5 +1,5 @@
 -- Hexadecimal digits, as the kit's crate has them and as printed text does.
-use Rattle.std.proofs.Common.{◌≡◌, ℕ, zero, suc, ◌/◌, ◌%◌, ◌<◌, ◌==◌, Bool, true, false, ◌&&◌, inl, inr, List, [], ◌∷◌, flat_map, length, slice_index, refl, arith}
+use Rattle.std.proofs.Common.{◌≡◌, ℕ, zero, suc, ◌/◌, ◌%◌, ◌<◌, ◌==◌, Bool, true, false, ◌&&◌, inl, inr, List, [], ◌∷◌, ◌++◌, flat_map, length, slice_index, take, drop, append_assoc, take-append-drop, append-nil, refl, sym, ap, ◌∙◌, arith}
 use Rattle.std.proofs.lemmas.Bool.{and_parts, cases_lt, eqb-true}
 use Rattle.std.specs.Char.{digit_char}
 use Rattle.text_model.specs.Text.{hex_text}
@@ -45,3 +45,27 @@ pub payload_digits : (bytes : List ℕ) → IsBytes bytes → false ≡ (length 
     → encode_lower bytes ≡ hex_text bytes
 payload_digits [] each some = cc some
 payload_digits (b ∷ bytes) each some = encode_lower_is (b ∷ bytes) each
+
+-- ---- in parts
+
+-- the digits of one part behind those of another
+encode_lower_append : (front back : List ℕ) → encode_lower (front ++ back) ≡ encode_lower front ++ encode_lower back
+unfolding encode_with
+encode_lower_append [] back = refl
+encode_lower_append (b ∷ front) back = let rest = encode_lower_append front back in rw rest refl
+
+-- a part is put, and the rest of what is left behind it
+pub part_more : (n : ℕ) (rest part behind text so_far out : List ℕ) → part ≡ take n rest → behind ≡ drop n rest
+    → so_far ++ encode_lower rest ≡ text → out ≡ so_far ++ encode_lower part → out ++ encode_lower behind ≡ text
+part_more n rest part behind text so_far out front back before put =
+    let whole : encode_lower rest ≡ encode_lower part ++ encode_lower behind =
+    sym (ap encode_lower (take-append-drop n rest)) ∙ encode_lower_append (take n rest) (drop n rest)
+    ∙ rw (front, back) refl in
+    rw put (rw append_assoc (sym (ap (λ (ds : List ℕ). so_far ++ ds) whole) ∙ before))
+
+-- nothing is left
+pub all_put : (rest text out : List ℕ) → (length rest == 0) ≡ true → out ++ encode_lower rest ≡ text → out ≡ text
+unfolding encode_with
+all_put [] text out none before = sym (append-nil out) ∙ before
+all_put (b ∷ rest) text out none before =
+    let e : length (b ∷ rest) ≡ 0 = eqb-true (length (b ∷ rest)) 0 none in absurd (omega arith)

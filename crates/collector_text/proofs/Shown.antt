@@ -1,14 +1,18 @@
 -- The texts of collectors, one behind the other.
-use Rattle.std.proofs.Common.{◌≡◌, ℕ, ◌+◌, ◌<◌, List, [], ◌∷◌, ◌++◌, length, get_or, take, flat_map, append_assoc, sym, ap, ◌∙◌, subst, arith, length-take-le}
-use Rattle.std.specs.List.{AllZip, enumerate_from}
-use Rattle.std.proofs.lemmas.List.{append-nil, take_more}
+use Rattle.std.proofs.Common.{◌≡◌, ℕ, ◌+◌, ◌-◌, ◌<◌, ◌≤◌, List, [], ◌∷◌, ◌++◌, length, get_or, take, drop, flat_map, append_assoc, sym, ap, ◌∙◌, subst, arith, length-take-le, length-drop, length-append}
+use Rattle.std.specs.List.{AllZip, enumerate_from, slice_range}
+use Rattle.std.proofs.lemmas.List.{append-nil, drop-append-le, drop-drop, take-append-le, take_all, take_more}
+use Rattle.std.proofs.Math.Seq.{drop-append_seam, take-add}
 use Rattle.std.specs.Prelude.{codes}
 use Rattle.std.specs.Fmt.{decimal}
 use Rattle.trace_model.specs.Parcel.{Parcel}
 use Rattle.trace_model.specs.Listing.{Line, IsListing}
+use Rattle.trace_model.specs.Collection.{IsSame}
 use Rattle.collector.specs.Runs.{AreMissingRuns}
+use Rattle.text_model.specs.Text.{line_feed}
 use Rattle.world_model.specs.Printing.{Shown, printed_collector, printed_line, printed_runs}
-use Rattle.collector_text.specs.Tells.{Tells, runs_of}
+use Rattle.collector_text.specs.Tells.{Tells, StandsBetween, runs_of, text_below}
+use Rattle.collector_text.proofs.OneText.{same_are_told}
 use Rattle.collector_text.proofs.Appended.{text_more, zip_length, zip_more}
 
 -- the text of these collectors stands behind what was there before
@@ -40,24 +44,99 @@ put_more collectors i collector before so_far out shown inside is put told text 
           (sym so_many ∙ taken) put.text text;
     }
 
--- five texts, one behind the other
-joined : (before head number lines runs first second third fourth out : List ℕ) → first ≡ before ++ head
-    → second ≡ first ++ number → third ≡ second ++ 10 ∷ []
-    → fourth ≡ third ++ lines → out ≡ fourth ++ runs → out ≡ before ++ (head ++ number ++ 10 ∷ lines ++ runs)
-joined before head number lines runs first second third fourth out a b c d e = rw (e, d, c, b, a) (simp append_assoc)
-
--- a collector's head line, its lines and its runs are the whole of its text
-pub told_whole : (parcels : List Parcel) (number : ℕ) (before first second third fourth out : List ℕ)
-    (lines : List Line)
-    → IsListing parcels lines
-    → first ≡ before ++ codes "collector " → second ≡ first ++ decimal number → third ≡ second ++ 10 ∷ []
-    → fourth ≡ third ++ flat_map printed_line lines
+-- the lines and the runs are what stands below a collector's head line
+pub told_below : (parcels : List Parcel) (before middle out : List ℕ) (lines : List Line) → IsListing parcels lines
+    → middle ≡ before ++ flat_map printed_line lines
     → (runs : List (List (ℕ × ℕ))) × ((cpu : ℕ) → AreMissingRuns parcels cpu (runs_of runs cpu))
-    × (out ≡ fourth ++ printed_runs runs)
-    → (shown : Shown) × Tells parcels shown × (out ≡ before ++ printed_collector number shown)
-told_whole parcels number before first second third fourth out lines is a b c d put = (
+    × (out ≡ middle ++ printed_runs runs)
+    → (shown : Shown) × Tells parcels shown × (out ≡ before ++ text_below shown)
+told_below parcels before middle out lines is text put = (
   record { lines = lines; runs = put.0 },
   record { lines = is; runs = put.1 },
-  joined before (codes "collector ") (decimal number) (flat_map printed_line lines) (printed_runs put.0) first second
-      third fourth out a b c d put.2,
+  put.2
+      ∙ ap (λ (t : List ℕ). t ++ printed_runs put.0) text
+      ∙ append_assoc before (flat_map printed_line lines) (printed_runs put.0),
 )
+
+-- a collector that is the same is told by what is put once more
+pub told_again : (others parcels : List Parcel) (before out : List ℕ) (start end : ℕ) → IsSame others parcels
+    → StandsBetween others before start end → out ≡ before ++ slice_range before start end
+    → (shown : Shown) × Tells parcels shown × (out ≡ before ++ text_below shown)
+told_again others parcels before out start end same stands text = (
+  stands.shown,
+  same_are_told others parcels stands.shown same stands.tells,
+  text ∙ ap (λ (t : List ℕ). before ++ t) stands.is,
+)
+
+-- ---- places in a text
+
+-- what stands between two places of a text stands there too where more is put behind it
+pub range_kept : (text more : List ℕ) (start end : ℕ) → start ≤ end → end ≤ length text
+    → slice_range (text ++ more) start end ≡ slice_range text start end
+range_kept text more start end forward inside =
+    rw (drop-append-le start text more (omega arith))
+    (take-append-le (end - start) (drop start text) more (omega (arith, length-drop start text)))
+
+pub stands_kept : (parcels : List Parcel) (text more out : List ℕ) (start end : ℕ) → out ≡ text ++ more
+    → StandsBetween parcels text start end → StandsBetween parcels out start end
+stands_kept parcels text more out start end is stands =
+    let longer = length-append text more in
+    let inside = stands.inside in
+    subst (λ (t : List ℕ). StandsBetween parcels t start end) (sym is) record {
+      shown = stands.shown;
+      tells = stands.tells;
+      forward = stands.forward;
+      inside = omega arith;
+      is = range_kept text more start end stands.forward stands.inside ∙ stands.is;
+    }
+
+-- what was put last ends the text
+pub stands_last : (parcels : List Parcel) (text out : List ℕ) (start : ℕ) → start ≡ length text
+    → (shown : Shown) × Tells parcels shown × (out ≡ text ++ text_below shown)
+    → StandsBetween parcels out start (length out)
+stands_last parcels text out start begin (shown, tells, is) =
+    let longer = length-append text (text_below shown) in
+    let all : length out ≡ length text + length (text_below shown) = ap length is ∙ longer in
+    let so_many : length out - start ≡ length (text_below shown) = omega arith in
+    record {
+      shown = shown;
+      tells = tells;
+      forward = omega arith;
+      inside = omega arith;
+      is = rw (so_many, is, begin, drop-append_seam text (text_below shown)) (take_all _ _ (omega arith));
+    }
+
+-- ---- one part behind the other
+
+-- the text between two places, cut at a third one
+pub range_more : (text : List ℕ) (start at behind : ℕ) → start ≤ at → at ≤ behind
+    → slice_range text start behind ≡ slice_range text start at ++ slice_range text at behind
+range_more text start at behind low high =
+    let all : behind - start ≡ (at - start) + (behind - at) = omega arith in
+    let reach : start + (at - start) ≡ at = omega arith in
+    let rest : drop (at - start) (drop start text) ≡ drop at text =
+    drop-drop (at - start) start text ∙ ap (λ (n : ℕ). drop n text) reach in
+    ap (λ (n : ℕ). take n (drop start text)) all
+    ∙ take-add (at - start) (behind - at) (drop start text)
+    ∙ ap (λ (t : List ℕ). slice_range text start at ++ take (behind - at) t) rest
+
+-- the next part stands behind the others
+pub again_more : (text so_far part out : List ℕ) (start at behind : ℕ) → start ≤ at → at ≤ behind
+    → behind ≤ length text → so_far ≡ text ++ slice_range text start at
+    → part ≡ slice_range so_far at behind → out ≡ so_far ++ part
+    → out ≡ text ++ slice_range text start behind
+again_more text so_far part out start at behind low high inside before of put =
+    let kept : slice_range so_far at behind ≡ slice_range text at behind =
+    ap (λ (t : List ℕ). slice_range t at behind) before
+    ∙ range_kept text (slice_range text start at) at behind high inside in
+    put ∙ ap (λ (t : List ℕ). so_far ++ t) (of ∙ kept) ∙ ap (λ (t : List ℕ). t ++ slice_range text at behind) before
+    ∙ append_assoc text (slice_range text start at) (slice_range text at behind)
+    ∙ ap (λ (t : List ℕ). text ++ t) (sym (range_more text start at behind low high))
+
+-- a head line and what stands below it are a collector's text
+pub told_whole : (parcels : List Parcel) (number : ℕ) (before middle out : List ℕ)
+    → middle ≡ before ++ (codes "collector " ++ decimal number ++ line_feed ∷ [])
+    → (shown : Shown) × Tells parcels shown × (out ≡ middle ++ text_below shown)
+    → (shown : Shown) × Tells parcels shown × (out ≡ before ++ printed_collector number shown)
+told_whole parcels number before middle out head (shown, tells, is) =
+    (shown, tells, rw (is, head) (simp append_assoc))

@@ -1,10 +1,10 @@
 -- What is printed of a collector tells just what it has and misses.
-use Rattle.std.specs.Prelude.{ℕ, List, [], Option, Some, None}
-use Rattle.std.specs.List.{slice_get}
+use Rattle.std.specs.Prelude.{◌≡◌, ℕ, ◌≤◌, List, [], ◌++◌, length, flat_map, Option, Some, None}
+use Rattle.std.specs.List.{slice_get, slice_range}
 use Rattle.trace_model.specs.Parcel.{Parcel}
 use Rattle.trace_model.specs.Listing.{IsListing}
 use Rattle.collector.specs.Runs.{AreMissingRuns}
-use Rattle.world_model.specs.Printing.{Shown}
+use Rattle.world_model.specs.Printing.{Shown, printed_line, printed_runs}
 
 -- what is there, or none
 abbrev pub or_none : {X : Type 0} → Option (List X) → List X
@@ -20,3 +20,15 @@ runs_of runs cpu = or_none (slice_get runs cpu)
 pub record Tells (collector : List Parcel) (shown : Shown) : Type 0 where
   pub lines : IsListing collector shown.lines
   pub runs : (cpu : ℕ) → AreMissingRuns collector cpu (runs_of shown.runs cpu)
+
+-- what is printed of a collector below its head line
+abbrev pub text_below : Shown → List ℕ
+text_below shown = flat_map printed_line shown.lines ++ printed_runs shown.runs
+
+-- What tells the collector is printed between these places of the text.
+pub record StandsBetween (collector : List Parcel) (text : List ℕ) (start end : ℕ) : Type 0 where
+  pub shown : Shown
+  pub tells : Tells collector shown
+  pub forward : start ≤ end
+  pub inside : end ≤ length text
+  pub is : slice_range text start end ≡ text_below shown

@@ -1,25 +1,53 @@
 //! The lines of a collector's records.
-ghost use Rattle.std.specs.Prelude.{◌≡◌, ◌++◌, List, OnOk, flat_map, map};
+ghost use Rattle.std.specs.Prelude.{◌≡◌, ◌+◌, ◌≤◌, [], ◌∷◌, ◌++◌, List, OnOk, drop, flat_map, map};
+ghost use Rattle.std.specs.Fmt.{decimal};
+ghost use Rattle.text_model.specs.Text.{space};
 ghost use Rattle.trace_model.specs.Listing.{Line as LineTold, IsListing};
 ghost use Rattle.time_merge.specs.Lines.{line_told};
 ghost use Rattle.world_model.specs.Printing.{printed_line};
 
-use crate::values::{put_number, put_payload};
+use crate::values::put_payload;
 use collector::Collector;
+use itoa::write_digits;
 use std::alloc::Global;
 use time_merge::{Line, listing};
 use trace_model::NoMemory;
+
+/// As many bytes as the numbers of a line take at most, each with a space behind it.
+const FRONT: usize = 64;
+
+/// Puts the number in decimal and a space, so that they end here, and answers where they begin.
+#[inline(always)]
+fn put_in_front(buffer: &mut [u8; FRONT], number: u64, end: usize) -> usize
+    requires room { 21 ≤ end }
+    requires inside { end ≤ 64 }
+    ensures room { end ≤ result + 21 }
+    ensures inside { result ≤ end }
+    ensures written { drop result buffer.new ≡ decimal number ++ space ∷ drop end buffer.old }
+{
+    buffer[end - 1] = b' ';
+    write_digits(number, buffer, end - 1)
+}
+
+/// The numbers of a line, with a space behind each.
+#[inline(always)]
+fn put_front(out: &mut Vec<u8>, line: &Line<'_>) -> Result<(), NoMemory>
+    ensures { OnOk result (out.new.items ≡ out.old.items ++ (decimal line.now.cpu.0
+        ++ space ∷ decimal line.now.number.0 ++ space ∷ decimal line.now.moment.0 ++ space ∷ [])) }
+{
+    let mut buffer = [0; FRONT];
+    let moment = put_in_front(&mut buffer, line.moment.0, FRONT);
+    let number = put_in_front(&mut buffer, line.number.0, moment);
+    let cpu = put_in_front(&mut buffer, u64::from(line.cpu.0), number);
+    out.extend_from_slice(&buffer[cpu..])?;
+    Ok(())
+}
 
 /// A record's line: its CPU, its number, its moment and its payload.
 fn put_line(out: &mut Vec<u8>, line: &Line<'_>) -> Result<(), NoMemory>
     ensures { OnOk result (out.new.items ≡ out.old.items ++ printed_line (line_told line.now)) }
 {
-    put_number(out, u64::from(line.cpu.0))?;
-    out.push(b' ')?;
-    put_number(out, line.number.0)?;
-    out.push(b' ')?;
-    put_number(out, line.moment.0)?;
-    out.push(b' ')?;
+    put_front(out, line)?;
     put_payload(out, line.bytes)?;
     out.push(b'\n')?;
     Ok(())

@@ -19,14 +19,31 @@ pub fn put_number(out: &mut Vec<u8>, number: u64) -> Result<(), NoMemory>
     Ok(())
 }
 
-/// Puts two digits for each byte.
-fn put_hex(out: &mut Vec<u8>, bytes: &[u8]) -> Result<(), NoMemory>
+/// How many bytes are put at once: room for the digits of so few is zeroed quickly.
+const PART: usize = 256;
+
+/// Puts two digits for each byte of a part.
+#[inline(always)]
+fn put_part(out: &mut Vec<u8>, bytes: &[u8]) -> Result<(), NoMemory>
     ensures { OnOk result (out.new.items ≡ out.old.items ++ encode_lower bytes.now) }
 {
     let start = out.len();
     let digits = bytes.len().saturating_mul(2);
     out.resize(start.saturating_add(digits), 0)?;
     let _written = encode_to_slice(bytes, &mut out[start..]);
+    Ok(())
+}
+
+/// Puts two digits for each byte.
+fn put_hex(out: &mut Vec<u8>, bytes: &[u8]) -> Result<(), NoMemory>
+    ensures { OnOk result (out.new.items ≡ out.old.items ++ encode_lower bytes.now) }
+{
+    let mut rest = bytes;
+    while !rest.is_empty() {
+        let (part, behind) = rest.split_at(rest.len().min(PART));
+        put_part(out, part)?;
+        rest = behind;
+    }
     Ok(())
 }
 

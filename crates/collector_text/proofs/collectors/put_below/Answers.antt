@@ -1,0 +1,19 @@
+use Rattle.std.proofs.lemmas.Result.{on_ok_weaker}
+use Rattle.collector_text.proofs.Shown.{told_again, told_below}
+use Rattle.collector_text.proofs.collectors.put_below.Goals as goal
+
+pub returns-then-same : goal.returns-then-same
+returns-then-same c =
+    let stands = rw c.in-Some.is at c.requires in
+    on_ok_weaker c.put_again.result
+    (told_again c.in-Some.other.now c.args.collector.now c.args.out.now.items c.put_again.new.out.items c.args.start
+    c.args.end (c.same.ensures.0 c.if-same.true) stands)
+    c.put_again.ensures
+
+pub returns : goal.returns
+returns c =
+    let lines = c.in_ok-put_lines.ensures in
+    on_ok_weaker c.put_runs.result
+    (told_below c.args.collector.now c.args.out.now.items c.put_lines.new.out.items c.put_runs.new.out.items lines.0
+    lines.1 lines.2)
+    c.put_runs.ensures
