@@ -44,6 +44,7 @@ pub mod ProgressSteps
 pub mod StepsGiven
 pub mod StepsDetermined
 pub mod OneNewRing
+pub mod FirstLinks
 pub mod CountMoves
 -- the wish
 pub mod Tails

@@ -28,7 +28,7 @@ frozen_yet h a e low = let k = committed_prefix h in
     fewer most least le [] b = tt
     fewer most least le (f ∷ stack) b = ((λ k e. let low = b.0 k e in omega arith), fewer most least le stack b.1)
 
-frozen : (h : List Action) (a : Action) (e : ℕ) → e ≤ committed_len h → take e (map as_record (reserved_records (h ++ a ∷ []))) ≡ take e (map as_record (reserved_records h))
+pub frozen : (h : List Action) (a : Action) (e : ℕ) → e ≤ committed_len h → take e (map as_record (reserved_records (h ++ a ∷ []))) ≡ take e (map as_record (reserved_records h))
 frozen h a e low = take_map as_record e (reserved_records (h ++ a ∷ [])) ∙ ap (map as_record) (frozen_yet h a e low) ∙ sym (take_map as_record e (reserved_records h))
 
 -- the first number of a fill that is begun stays the same

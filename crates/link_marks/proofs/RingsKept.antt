@@ -219,3 +219,15 @@ reached_kept n size start c r = ring_run n size start r.from c r.exchanges (ring
 
 pub reached_ring : (n size start : ℕ) (c : Core) → IsReached n size start c → IsRing n start c
 reached_ring n size start c r = is_ring n size start c (reached_kept n size start c r)
+
+-- one step further
+pub reached_further : (n size start : ℕ) (c : Core) (event : Event) (answer : Answer) (after : Core) → IsReached n size start c → Step n size c event answer after → IsReached n size start after
+reached_further n size start c event answer after r step =
+    let x : Exchange = record { event = event; answer = answer } in
+    record {
+      from = r.from;
+      exchanges = r.exchanges ++ x ∷ [];
+      may_start = r.may_start;
+      is_new = r.is_new;
+      run = run_snoc n size r.from c after r.exchanges x r.run step;
+    }

@@ -27,3 +27,4 @@ pub mod Ranks
 -- worked examples, and wrong steps
 pub mod Examples
 pub mod WrongSteps
+pub mod FirstLinks

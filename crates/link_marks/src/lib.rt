@@ -6,4 +6,4 @@
 pub mod laws;
 pub mod link;
 
-pub use link::{Link, Mark};
+pub use link::{Link, Mark, first_link, header, normal, update};

@@ -1,5 +1,11 @@
 //! A link into a position of the ring, and the word that holds it.
 
+ghost use Rattle.std.specs.Prelude.{◌≡◌, ◌+◌, ◌≤◌, ◌<◌};
+ghost use Rattle.trace_model.specs.Links.{normal_link, header_link, update_link, FitsWord};
+ghost use Rattle.trace_model.specs.declared.limits.TheConstants.{MAX_PAGES, LINK_FILLS};
+ghost use Rattle.link_marks.specs.FirstLinks.{IsFirstLink};
+ghost use Rattle.link_marks.specs.ModelLinks.{link_of};
+
 use trace_model::LINK_PAGES;
 
 /// The page of a link counts from bit 2 of its word on.
@@ -69,6 +75,56 @@ impl Link {
             page: (word / PAGE_UNIT % LINK_PAGES) as u16,
             fill: word / FILL_UNIT,
         })
+    }
+}
+
+/// The link that tells nothing of the page.
+pub fn normal(page: u16, fill: u64) -> Link
+    ensures { link_of result ≡ normal_link page fill }
+{
+    Link {
+        mark: Mark::Normal,
+        page,
+        fill,
+    }
+}
+
+/// The link to the head.
+pub fn header(page: u16, fill: u64) -> Link
+    ensures { link_of result ≡ header_link page fill }
+{
+    Link {
+        mark: Mark::Header,
+        page,
+        fill,
+    }
+}
+
+/// The link to a page away from which the head is moved.
+pub fn update(page: u16, fill: u64) -> Link
+    ensures { link_of result ≡ update_link page fill }
+{
+    Link {
+        mark: Mark::Update,
+        page,
+        fill,
+    }
+}
+
+/// The link into a position of a new ring of so many, whose first fill has the number `start`: each leads to the page of
+/// its number, and the first fill is the head.
+pub fn first_link(position: u16, positions: u64, start: u64) -> Link
+    requires position { position < positions }
+    requires most { positions ≤ MAX_PAGES }
+    requires start { start + positions < LINK_FILLS }
+    ensures first { IsFirstLink positions start position (link_of result) }
+    ensures fits { FitsWord (link_of result) }
+{
+    let fill = start + (position as u64 + positions - start % positions) % positions;
+    if fill == start {
+        header(position, fill)
+    } else {
+        normal(position, fill)
     }
 }
 

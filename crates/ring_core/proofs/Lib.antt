@@ -15,7 +15,6 @@ pub mod Ended
 pub mod ReaderSteps
 pub mod Taking
 pub mod Wishing
-pub mod FirstLinks
 pub mod NewCores
 pub mod Closing
 pub mod Anew

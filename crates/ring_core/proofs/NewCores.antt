@@ -18,7 +18,8 @@ use Rattle.ring_core.specs.declared.phase.ReaderPhase.TheVariants.{LoadingLink}
 use Rattle.ring_core.specs.Value.{CoreValue, reader_phase_of}
 use Rattle.ring_core.specs.IsCore.{ring_frames, AreBelow, AreNotedAlike, HasBody, Shows}
 use Rattle.ring_core.specs.Steps.{IsNewRing}
-use Rattle.ring_core.specs.NewRing.{IsFirstLink, AreFirstLinks, AreFirstPages, AreFirstHomes}
+use Rattle.link_marks.specs.FirstLinks.{IsFirstLink}
+use Rattle.ring_core.specs.NewRing.{AreFirstLinks, AreFirstPages, AreFirstHomes}
 
 -- the parts of a new ring
 pub record HasFirstParts (n size start : ℕ) (laid : List code.Link) (v : CoreValue) : Type 0 where

@@ -1,10 +1,9 @@
 -- A step that is made: the value after it is the ring in the state behind the step.
-use Rattle.std.proofs.Common.{◌≡◌, ℕ, [], ◌∷◌, ◌++◌, sym, ◌∙◌, subst}
+use Rattle.std.proofs.Common.{◌≡◌, ℕ, sym, ◌∙◌, subst}
 use Rattle.trace_model.specs.Ring.{Core}
 use Rattle.trace_model.specs.Steps as model
-use Rattle.link_marks.specs.Reached.{IsReached}
 use Rattle.link_marks.specs.RingKept.{IsRingKept}
-use Rattle.link_marks.proofs.RingsKept.{run_snoc, reached_kept}
+use Rattle.link_marks.proofs.RingsKept.{reached_further, reached_kept}
 use Rattle.ring_core.specs.declared.event.Answer.{Answer}
 use Rattle.ring_core.specs.declared.event.Answer.TheVariants.{Pushed, Going, Reserved, Ended, Gone, Refused, Looking, Empty, Moving, Taken, Wished}
 use Rattle.ring_core.specs.Value.{CoreValue}
@@ -15,18 +14,6 @@ use Rattle.ring_core.specs.Steps.{IsStep, Makes, IsRing}
 -- what every step keeps holds of a ring's state
 pub kept_of : (n size start : ℕ) (v : CoreValue) (c : Core) → IsCore n size start v c → IsRingKept n size start c
 kept_of n size start v c core = reached_kept n size start c core.reached
-
--- one step further
-reached_further : (n size start : ℕ) (c : Core) (event : model.Event) (answer : model.Answer) (after : Core) → IsReached n size start c → model.Step n size c event answer after → IsReached n size start after
-reached_further n size start c event answer after r step =
-    let x : model.Exchange = record { event = event; answer = answer } in
-    record {
-      from = r.from;
-      exchanges = r.exchanges ++ x ∷ [];
-      may_start = r.may_start;
-      is_new = r.is_new;
-      run = run_snoc n size r.from c after r.exchanges x r.run step;
-    }
 
 pub stepped : (n size start : ℕ) (old new : CoreValue) (c : Core) (event : model.Event) (result : Answer) (answer : model.Answer) (after : Core) → IsCore n size start old c → model.Step n size c event answer after → Tells size result answer → Shows n size start new after → IsStep n size start c event result new
 stepped n size start old new c event result answer after core step tells shows = record {

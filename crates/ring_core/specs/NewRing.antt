@@ -1,20 +1,9 @@
 -- The parts of a new ring, position by position and page by page.
-use Rattle.std.specs.Prelude.{◌≡◌, ◌≢◌, ℕ, ◌+◌, ◌%◌, ◌<◌, List, Option, Some}
-use Rattle.std.specs.List.{slice_get}
-use Rattle.trace_model.specs.Links.{Link, normal_link, header_link}
+use Rattle.std.specs.Prelude.{◌≡◌, ◌≢◌, ℕ, ◌<◌, List, Option, Some}
+use Rattle.link_marks.specs.FirstLinks.{EachAt, IsFirstLink}
 use Rattle.link_marks.specs.declared.link.Link as code
 use Rattle.link_marks.specs.ModelLinks.{link_of}
 use Rattle.page_image.specs.Contents.{Contents}
-
--- each element of the list, at its index
-abbrev pub EachAt : {X : Type 0} → (ℕ → X → Type 0) → List X → Type 0
-EachAt {X} P xs = (i : ℕ) (x : X) → slice_get xs i ≡ Some x → P i x
-
--- The link into a position leads to the page of its number, and tells the fill of the first round there; the first fill
--- is the head.
-pub record IsFirstLink (n start position : ℕ) (link : Link) : Type 0 where
-  pub first : position ≡ start % n → link ≡ header_link position start
-  pub others : (f : ℕ) → start < f → f < start + n → f % n ≡ position → link ≡ normal_link position f
 
 abbrev pub AreFirstLinks : (n start : ℕ) → List code.Link → Type 0
 AreFirstLinks n start links = EachAt (λ position link. IsFirstLink n start position (link_of link)) links

@@ -2,8 +2,7 @@
 //! is none moves the head.
 use crate::phase::{Phase, Role, Turned};
 use crate::ring::Core;
-use crate::ring::links::{header, normal, update};
-use link_marks::Mark;
+use link_marks::{Mark, header, normal, update};
 
 impl Core {
     ghost use Rattle.std.specs.Prelude.{◌≡◌, ◌≢◌, ℕ, true, false, [], ◌∷◌};

@@ -1,43 +1,6 @@
 //! The links of a ring, and the positions of its fills.
-ghost use Rattle.std.specs.Prelude.{◌≡◌};
-ghost use Rattle.trace_model.specs.Links.{normal_link, header_link, update_link};
-ghost use Rattle.link_marks.specs.ModelLinks.{link_of};
-
 use crate::ring::Core;
-use link_marks::{Link, Mark};
-
-/// The link that tells nothing of the page.
-pub(crate) fn normal(page: u16, fill: u64) -> Link
-    ensures { link_of result ≡ normal_link page fill }
-{
-    Link {
-        mark: Mark::Normal,
-        page,
-        fill,
-    }
-}
-
-/// The link to the head.
-pub(crate) fn header(page: u16, fill: u64) -> Link
-    ensures { link_of result ≡ header_link page fill }
-{
-    Link {
-        mark: Mark::Header,
-        page,
-        fill,
-    }
-}
-
-/// The link to a page away from which the head is moved.
-pub(crate) fn update(page: u16, fill: u64) -> Link
-    ensures { link_of result ≡ update_link page fill }
-{
-    Link {
-        mark: Mark::Update,
-        page,
-        fill,
-    }
-}
+use link_marks::Link;
 
 impl Core {
     ghost use Rattle.std.specs.Prelude.{◌≡◌, ◌%◌, ◌<◌, ◌≤◌, ◌↔◌, length, IsTrue, true, false};

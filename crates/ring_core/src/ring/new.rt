@@ -1,8 +1,7 @@
 //! A new ring.
 use crate::phase::{Phase, Reader, ReaderPhase};
 use crate::ring::Core;
-use crate::ring::links::{header, normal};
-use link_marks::Link;
+use link_marks::{Link, first_link, normal};
 use nested_writer::WriterStack;
 use page_image::{Body, Page};
 use std::alloc::Global;
@@ -75,21 +74,6 @@ fn first_links(alloc: Global, pages: usize, start: u64) -> Result<Vec<Link>, NoM
     Ok(links)
 }
 
-/// The link into a position of a new ring.
-fn first_link(position: u16, positions: u64, start: u64) -> Link
-    requires position { position < positions }
-    requires most { positions ≤ MAX_PAGES }
-    requires start { start + positions < LINK_FILLS }
-    ensures { IsFirstLink positions start position (link_of result) }
-{
-    let fill = start + (position as u64 + positions - start % positions) % positions;
-    if fill == start {
-        header(position, fill)
-    } else {
-        normal(position, fill)
-    }
-}
-
 /// The pages of a new ring: each position has the page of its number.
 fn first_order(alloc: Global, pages: usize) -> Result<Vec<u16>, NoMemory>
     requires { pages ≤ MAX_PAGES }
@@ -144,5 +128,4 @@ fn first_home(
 
 ghost use Rattle.std.specs.Prelude.{◌≡◌, ◌≢◌, ◌+◌, ◌%◌, ◌≤◌, ◌<◌, length, IfOk};
 ghost use Rattle.trace_model.specs.declared.limits.TheConstants.{MAX_PAGES, MIN_SIZE, MAX_SIZE, LINK_FILLS};
-ghost use Rattle.link_marks.specs.ModelLinks.{link_of};
-ghost use Rattle.ring_core.specs.NewRing.{IsFirstLink, AreFirstLinks, AreFirstPages, IsFirstHome, AreFirstHomes};
+ghost use Rattle.ring_core.specs.NewRing.{AreFirstLinks, AreFirstPages, IsFirstHome, AreFirstHomes};

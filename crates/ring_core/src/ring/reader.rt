@@ -2,8 +2,7 @@
 use crate::event::Answer;
 use crate::phase::{Reader, ReaderPhase};
 use crate::ring::Core;
-use crate::ring::links::{header, normal};
-use link_marks::Mark;
+use link_marks::{Mark, header, normal};
 use page_image::{Body, Page};
 use trace_model::{FillNo, RecordNo};
 

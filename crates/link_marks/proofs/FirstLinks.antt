@@ -1,9 +1,10 @@
 -- The fill of the first round at a position.
-use Rattle.std.proofs.Common.{◌≡◌, ◌≢◌, ℕ, ◌+◌, ◌-◌, ◌%◌, ◌<◌, ◌≤◌, sym, ap, ◌∙◌, mod-lt, mod-eq_of_lt, arith}
+use Rattle.std.proofs.Common.{◌≡◌, ◌≢◌, ℕ, ◌+◌, ◌-◌, ◌%◌, ◌<◌, ◌≤◌, sym, ap, ◌∙◌, subst, mod-lt, mod-eq_of_lt, arith}
 use Rattle.std.proofs.Math.Nat.{add-mod_right, add-mod-mod, mod-add-mod}
-use Rattle.trace_model.specs.Links.{Link, normal_link, header_link}
+use Rattle.trace_model.specs.declared.limits.TheConstants.{MAX_PAGES, LINK_FILLS}
+use Rattle.trace_model.specs.Links.{Mark, Link, normal_link, header_link, FitsWord}
 use Rattle.link_marks.proofs.Positions.{one_position}
-use Rattle.ring_core.specs.NewRing.{IsFirstLink}
+use Rattle.link_marks.specs.FirstLinks.{IsFirstLink}
 
 abbrev pub first_fill : (n start position : ℕ) → ℕ
 first_fill n start position = start + (position + n - start % n) % n
@@ -32,3 +33,10 @@ module _ (n start position : ℕ) (low : position < n) where
     first = λ e. absurd (ne (is_it start (omega arith) (omega arith) (sym e)));
     others = λ f from to there. at ∙ ap (normal_link position) (is_it f (omega arith) to there);
   }
+
+  -- both fit a word
+  first_below : start + n < LINK_FILLS → first_fill n start position < LINK_FILLS
+  first_below numbers = let within = mod-lt (position + n - start % n) (let some : 1 ≤ n = omega arith in some) in omega arith
+
+  pub first_fits : n ≤ MAX_PAGES → start + n < LINK_FILLS → (mark : Mark) (link : Link) → link ≡ record { mark = mark; page = position; fill = first_fill n start position } → FitsWord link
+  first_fits most numbers mark link at = let below = first_below numbers in subst FitsWord (sym at) record { page_fits = omega arith; fill_fits = below }
