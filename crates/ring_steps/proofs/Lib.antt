@@ -1,0 +1,16 @@
+pub mod Placed
+pub mod Heard
+pub mod Private
+pub mod Allowing
+pub mod Words
+pub mod LinkWords
+pub mod ReaderSteps
+pub mod FirstParts
+pub mod Starts
+pub mod FirstSteps
+pub mod Joins
+pub mod WriterParts
+pub mod Paging
+pub mod Linking
+pub mod LinkBounds
+pub mod Taking

@@ -1,0 +1,107 @@
+-- What the writer knows of the numbers in front of its steps on links, and what such a step tells behind.
+use Rattle.std.specs.Prelude.{slice_index_or, true, ◌==◌, ◌↔◌}
+use Rattle.std.proofs.Common.{◌≡◌, ℕ, ◌+◌, ◌-◌, ◌<◌, ◌≤◌, length, Some, refl, sym, ap, ◌∙◌, subst, eq-eqb, arith}
+use Rattle.std.proofs.lemmas.Bool.{eqb-true}
+use Rattle.std.proofs.Math.Logic.{∥∥₁_elim}
+use Rattle.std.proofs.Props.{props}
+use Rattle.trace_model.specs.declared.limits.TheConstants.{MAX_PAGES, LINK_FILLS}
+use Rattle.trace_model.specs.Links.{Link, word_of, FitsWord}
+use Rattle.trace_model.specs.Frames.{Phase, marking, noted_fill}
+use Rattle.trace_model.specs.Ring.{Core, link_into}
+use Rattle.trace_model.specs.Steps.{Answer}
+use Rattle.trace_model.proofs.LinkWords.{word_tells}
+use Rattle.link_marks.specs.KeptLinks.{spot, passed_spot}
+use Rattle.link_marks.specs.RingKept.{IsRingKept}
+use Rattle.link_marks.specs.Reached.{IsReached}
+use Rattle.link_marks.proofs.FrameChanges.{top_kept}
+use Rattle.link_marks.proofs.PageChanges.{page_below}
+use Rattle.link_marks.proofs.RingsKept.{reached_kept}
+use Rattle.ring_steps.specs.declared.rule.Shape.{Shape}
+use Rattle.ring_steps.specs.Views.{Writing, writing_of}
+use Rattle.ring_steps.specs.Seats.{Leads, IsWriterStep}
+use Rattle.ring_steps.specs.Paging.{IsWriterReached, IsTopIn}
+use Rattle.ring_steps.specs.Linking.{tail_in, MarksBehind}
+use Rattle.ring_steps.proofs.Private.{private_reached}
+use Rattle.ring_steps.proofs.Paging.{top_of}
+use Rattle.ring_steps.proofs.Linking.{link_fits}
+
+-- ---- in front
+
+-- a state whose writer's part is this
+record StateNow (shape : Shape) (now : Writing) : Type 0 where
+  core : Core
+  kept : IsRingKept shape.pages shape.size shape.start core
+  is : writing_of core ≡ now
+
+state_now : (shape : Shape) (before now : Writing) → IsWriterReached shape before → Leads shape before now → StateNow shape now
+state_now shape before now known leads =
+    let (exchanges, aside, run, now_is) = leads known.core known.reached known.is in record {
+      core = aside;
+      kept = reached_kept shape.pages shape.size shape.start aside (private_reached shape.pages shape.size shape.start known.core aside exchanges known.reached run);
+      is = now_is;
+    }
+
+module _ (shape : Shape) (before now : Writing) (known : ∥ IsWriterReached shape before ∥₁) (leads : Leads shape before now) where
+  tail_of_state : StateNow shape now → (tail_in now < shape.pages + 1) × (now.opened < LINK_FILLS)
+  tail_of_state st =
+      let c = st.core in let k = st.kept in
+      let count = k.open_pages.count in let behind = k.links.done_lt in let some = k.links.some_pages in let fits = k.links.fits in
+      let at = k.open_pages.each (length c.open_pages - 1) (omega arith) in
+      let below = page_below shape.pages c.order c.spare (c.done + (length c.open_pages - 1)) (omega arith) k.links.apart in
+      let tail_is : tail_in now ≡ slice_index_or c.open_pages (length c.open_pages - 1) 0 = ap tail_in (sym st.is) in
+      let opened_is : now.opened ≡ c.opened = ap (λ (w : Writing). w.opened) (sym st.is) in (omega arith, omega arith)
+
+  pub tail_bounds : (tail_in now < shape.pages + 1) × (now.opened < LINK_FILLS)
+  tail_bounds = ∥∥₁_elim known (Prim.hlevel props) (λ w. tail_of_state (state_now shape before now w leads))
+
+  -- a page that a frame passed, and the fill that it noted
+  passed_of_state : (phase : Phase) (noted page : ℕ) → IsTopIn now.frames phase → passed_spot phase ≡ Some (spot noted page) → noted_fill phase ≡ Some noted → StateNow shape now
+      → (page < shape.pages + 1) × (noted + shape.pages < LINK_FILLS) × (slice_index_or now.open_pages (noted - 1 - now.done) 0 < shape.pages + 1) × (1 ≤ shape.pages)
+  passed_of_state phase noted page on spot_is noted_is st =
+      let c = st.core in let k = st.kept in
+      let some = k.links.some_pages in let count = k.open_pages.count in
+      let top = top_of c.frames phase (subst (λ (w : Writing). IsTopIn w.frames phase) (sym st.is) on) in
+      let facts = top_kept shape.pages c top.frame top.below k.links top.is in
+      let page_is = (facts.passed noted page (ap passed_spot top.phase_is ∙ spot_is)).2 in
+      let (low, high, room, numbers) = facts.noted noted (ap noted_fill top.phase_is ∙ noted_is) in
+      let below = page_below shape.pages c.order c.spare noted (omega arith) k.links.apart in
+      let at = k.open_pages.each (noted - 1 - c.done) (omega arith) in
+      let front_below = page_below shape.pages c.order c.spare (c.done + (noted - 1 - c.done)) (omega arith) k.links.apart in
+      let front_is : slice_index_or now.open_pages (noted - 1 - now.done) 0 ≡ slice_index_or c.open_pages (noted - 1 - c.done) 0 = ap (λ (w : Writing). slice_index_or w.open_pages (noted - 1 - w.done) 0) (sym st.is) in
+      (omega arith, numbers, omega arith, omega arith)
+
+  pub passed_bounds : (phase : Phase) (noted page : ℕ) → IsTopIn now.frames phase → passed_spot phase ≡ Some (spot noted page) → noted_fill phase ≡ Some noted
+      → (page < shape.pages + 1) × (noted + shape.pages < LINK_FILLS) × (slice_index_or now.open_pages (noted - 1 - now.done) 0 < shape.pages + 1) × (1 ≤ shape.pages)
+  passed_bounds phase noted page on spot_is noted_is = ∥∥₁_elim known (Prim.hlevel props) (λ w. passed_of_state phase noted page on spot_is noted_is (state_now shape before now w leads))
+
+  pub behind_fits : (page next behind : ℕ) → MarksBehind shape.pages now page next behind → behind < LINK_FILLS
+  behind_fits page next behind due =
+      let (low, numbers, front, some) = passed_bounds (marking due.role due.noted page next) due.noted page due.phase refl refl in let sum = due.behind_is in omega arith
+
+-- ---- behind
+
+pub seen_as : (shape : Shape) (before : Writing) (sees other : Core → Type 0) (answer : Answer) (after : Writing)
+    → ((core : Core) → IsReached shape.pages shape.size shape.start core → sees core → other core)
+    → IsWriterStep shape before sees answer after
+    → IsWriterStep shape before other answer after
+seen_as shape before sees other answer after turn s = record {
+  core = s.core;
+  next = s.next;
+  reached = s.reached;
+  before_is = s.before_is;
+  seen = turn s.core s.reached s.seen;
+  step = s.step;
+  after_is = s.after_is;
+}
+
+module _ (shape : Shape) (few : shape.pages ≤ MAX_PAGES) (fill found : ℕ) (l : Link) (fits : FitsWord l) (core : Core) (reached : IsReached shape.pages shape.size shape.start core) (seen : word_of (link_into shape.pages core.links fill) ≡ found) where
+  -- the link is the one whose word was found
+  pub link_seen : word_of l ≡ found → link_into shape.pages core.links fill ≡ l
+  link_seen same = word_tells (link_into shape.pages core.links fill) l (link_fits shape.pages shape.size shape.start core fill few reached) fits (seen ∙ sym same)
+
+  -- an exchange was done just where it was there
+  pub done_seen : (from : ℕ) → from ≡ word_of l → ((found == from) ≡ true) ↔ (link_into shape.pages core.links fill ≡ l)
+  done_seen from is = (
+    (λ e. link_seen (sym is ∙ sym (eqb-true found from e))),
+    (λ e. eq-eqb found from (sym seen ∙ (ap word_of e ∙ sym is))),
+  )

@@ -1,0 +1,375 @@
+-- The writer's steps that load and set links, and load the reader's wish.
+use Rattle.std.specs.Prelude.{⊤, slice_index_or, slice_set, Some, ◌==◌}
+use Rattle.std.specs.List.{slice_index}
+use Rattle.std.proofs.Common.{◌≡◌, ◌≢◌, ℕ, suc, ◌+◌, ◌-◌, ◌%◌, ◌<◌, ◌≤◌, Bool, List, [], ◌∷◌, length, refl, sym, ap, ◌∙◌, subst, mod-lt, eq-eqb, ne_eqb, arith}
+use Rattle.std.proofs.lemmas.List.{set-get_or}
+use Rattle.std.proofs.lemmas.List.Elements.{All-get_or}
+use prog.Atomic.{either}
+use Rattle.atomic_table.specs.Table.{keeps}
+use Rattle.trace_model.specs.declared.limits.TheConstants.{MAX_PAGES, LINK_PAGES}
+use Rattle.trace_model.specs.Links.{Link, word_of, normal_link, header_link, update_link, FitsWord}
+use Rattle.trace_model.specs.Frames.{Role, owner, helper, Phase, looking, claiming, looking_next, marking, clearing, opening, wishing, Frame, noted_fill}
+use Rattle.trace_model.specs.Ring.{Core, link_into, links_with, page_at}
+use Rattle.trace_model.specs.Steps.{Event, pushes, pushes_close, steps, ends, reads, wishes, going, Answer, GoesOn, after_next, in_phase, with_head_claimed, with_link, contents_of, LookStep, look_late, sees_free, sees_header, sees_update, ClaimStep, claim_late, claims, claim_fails, NextStep, next_late, sees_normal, sees_other, MarkStep, mark_late, marks, mark_fails, ClearStep, clears, WishStep, grants, closes_more, goes_away, FrameStep, Step, push_step, push_refused, close_step, close_refused, frame_step, frame_lacks, end_step, end_lacks, end_early, read_step, wish_step}
+use Rattle.trace_model.proofs.LinkWords.{word_tells}
+use Rattle.link_marks.specs.KeptLinks.{passed_spot}
+use Rattle.link_marks.specs.RingKept.{IsRingKept}
+use Rattle.link_marks.specs.Reached.{IsReached}
+use Rattle.link_marks.proofs.Positions.{page_turn}
+use Rattle.link_marks.proofs.FrameChanges.{top_kept}
+use Rattle.link_marks.proofs.LinksFit.{links_fit_words}
+use Rattle.link_marks.proofs.PrivateSteps.{IsPrivateOf}
+use Rattle.link_marks.proofs.RingsKept.{reached_kept, reached_further}
+use Rattle.link_marks.proofs.StepsGiven.{each_event_is_a_step}
+use Rattle.ring_steps.specs.declared.rule.Shape.{Shape}
+use Rattle.ring_steps.specs.Views.{Writing, writing_of, Reading, writing}
+use Rattle.ring_steps.specs.Shown.{page_word, page_before, AreWords, Homes}
+use Rattle.ring_steps.specs.Seats.{Sat, emptied, IsWriting, WriterTold}
+use Rattle.ring_steps.specs.Paging.{IsTopIn}
+use Rattle.ring_steps.specs.Linking.{tail_in, LooksBehind, MarksBehind, number_or_zero, noted_on_top, behind_in, LinkTold, WishTold}
+use Rattle.ring_steps.proofs.LinkWords.{with_link_word}
+use Rattle.ring_steps.proofs.Private.{stays_shown}
+use Rattle.ring_steps.proofs.Allowing.{IsShownBy, WriterMoves}
+use Rattle.ring_steps.proofs.Paging.{top_of}
+
+-- ---- the step of the frame on top
+
+abbrev IsSteps : Event → Type 0
+IsSteps (pushes moment len) = ⊥
+IsSteps pushes_close = ⊥
+IsSteps steps = Unit {0}
+IsSteps (ends payload) = ⊥
+IsSteps reads = ⊥
+IsSteps wishes = ⊥
+
+abbrev first_of : Frame → List Frame → Frame
+first_of frame [] = frame
+first_of frame (first ∷ others) = first
+
+abbrev others_of : List Frame → List Frame
+others_of [] = []
+others_of (first ∷ others) = others
+
+module _ (n size : ℕ) (c : Core) (frame : Frame) (below : List Frame) (phase : Phase) (answer : Answer) (after : Core) (top : c.frames ≡ frame ∷ below) (at : frame.phase ≡ phase) where
+  same_top : (other : Frame) (others : List Frame) → c.frames ≡ other ∷ others → FrameStep n size c other others other.phase answer after → FrameStep n size c frame below phase answer after
+  same_top other others is step =
+      let same : other ∷ others ≡ frame ∷ below = sym is ∙ top in
+      subst (λ (p : Phase). FrameStep n size c frame below p answer after) at
+      (subst (λ (fs : List Frame). FrameStep n size c frame fs frame.phase answer after) (ap others_of same)
+      (subst (λ (f : Frame). FrameStep n size c f others f.phase answer after) (ap (first_of frame) same) step))
+
+  frame_stepped : Step n size c steps answer after → FrameStep n size c frame below phase answer after
+  frame_stepped (push_step moment len e few short early a is) = absurd (subst IsSteps e tt)
+  frame_stepped (push_refused moment len why e refused a is) = absurd (subst IsSteps e tt)
+  frame_stepped (close_step e few a is) = absurd (subst IsSteps e tt)
+  frame_stepped (close_refused e many a is) = absurd (subst IsSteps e tt)
+  frame_stepped (frame_step other others e is step) = same_top other others is step
+  frame_stepped (frame_lacks e none a is) = let z = ap (λ (l : List Frame). length l) (sym none ∙ top) in absurd (omega arith)
+  frame_stepped (end_step payload f fs number moment len e is x kind slot a after_is) = absurd (subst IsSteps e tt)
+  frame_stepped (end_lacks payload e none a is) = absurd (subst IsSteps e tt)
+  frame_stepped (end_early payload f fs e is none a after_is) = absurd (subst IsSteps e tt)
+  frame_stepped (read_step e step) = absurd (subst IsSteps e tt)
+  frame_stepped (wish_step e a is) = absurd (subst IsSteps e tt)
+
+-- ---- the fill behind the lost one
+
+noted_top : (frames : List Frame) (phase : Phase) (noted : ℕ) → IsTopIn frames phase → noted_fill phase ≡ Some noted → noted_on_top frames ≡ noted
+noted_top [] phase noted top e = absurd top
+noted_top (frame ∷ below) phase noted top e = ap (λ (p : Phase). number_or_zero (noted_fill p)) top ∙ ap number_or_zero e
+
+pub looks_behind : (n : ℕ) (w : Writing) (page behind : ℕ) → LooksBehind n w page behind → behind ≡ behind_in n w
+looks_behind n w page behind due =
+    let at = noted_top w.frames (looking_next due.role due.noted page) due.noted due.phase refl in let sum = due.behind_is in omega arith
+
+pub marks_behind : (n : ℕ) (w : Writing) (page next behind : ℕ) → MarksBehind n w page next behind → behind ≡ behind_in n w
+marks_behind n w page next behind due =
+    let at = noted_top w.frames (marking due.role due.noted page next) due.noted due.phase refl in let sum = due.behind_is in omega arith
+
+-- ---- words
+
+pub link_fits : (n size start : ℕ) (c : Core) (f : ℕ) → n ≤ MAX_PAGES → IsReached n size start c → FitsWord (link_into n c.links f)
+link_fits n size start c f few reached =
+    let k = reached_kept n size start c reached in let some = k.links.some_pages in let wide = k.links.positions in
+    let (all, spare) = links_fit_words n size start c k (omega arith) in
+    All-get_or FitsWord c.links (f % n) (normal_link 0 0) (let low : f % n < n = mod-lt f (omega arith) in omega arith) all
+
+-- a compare and exchange, done and not done
+done_at : (found from to : ℕ) → found ≡ from → either (found == from) to found ≡ to
+done_at found from to e = subst (λ (b : Bool). either b to found ≡ to) (sym (eq-eqb found from e)) refl
+
+not_done_at : (found from to : ℕ) → found ≢ from → either (found == from) to found ≡ found
+not_done_at found from to ne = subst (λ (b : Bool). either b to found ≡ found) (sym (ne_eqb found from ne)) refl
+
+-- ---- what stays
+
+-- the frames and the links are others, and the head may have gone on
+abbrev moved : Core → List Frame → List Link → ℕ → Core
+moved c frames links head = record c { frames = frames; links = links; head = head }
+
+module _ (shape : Shape) (me : Sat) (is : IsWriting me) (now : Writing) (c : Core) (r : Reading) (ws : List ℕ) (homes : Homes) (s : IsShownBy shape c r ws homes) (now_is : writing_of c ≡ now) (pages : c.open_pages ≡ (writing me.0).open_pages) where
+  kept : IsRingKept shape.pages shape.size shape.start c
+  kept = reached_kept shape.pages shape.size shape.start c s.reached
+
+  moves_on : (i : ℕ) (f : ℕ → ℕ) (sees : ℕ → Core → Type 0) (frames : List Frame) (links : List Link) (head : ℕ)
+      → Step shape.pages shape.size c steps going (moved c frames links head)
+      → c.head ≤ head
+      → sees (slice_index ws i) c
+      → AreWords shape.pages (moved c frames links head) (slice_set ws i (f (slice_index ws i)))
+      → WriterMoves shape r me ws homes i f (λ found after. WriterTold shape now (sees found) going after)
+  moves_on i f sees frames links head step low seen words = record {
+    next = moved c frames links head;
+    act = keeps;
+    valid = tt;
+    shown = record {
+      pages_fit = s.pages_fit;
+      reached = reached_further shape.pages shape.size shape.start c steps going (moved c frames links head) s.reached step;
+      are_words = words;
+      are_homes = record { count = s.are_homes.count; closed = λ f from below. s.are_homes.closed f (omega arith) below; free = s.are_homes.free; spare = s.are_homes.spare };
+      is_reading = record {
+        order_is = s.is_reading.order_is;
+        spare_is = s.is_reading.spare_is;
+        spare_link_is = s.is_reading.spare_link_is;
+        reader_is = s.is_reading.reader_is;
+        wish_is = s.is_reading.wish_is;
+        heard_is = s.is_reading.heard_is;
+      };
+    };
+    told = record {
+      seat = record { view = refl; hand = is.hand ∙ ap emptied (sym pages) };
+      step = record { core = c; next = moved c frames links head; reached = s.reached; before_is = now_is; seen = seen; step = step; after_is = refl };
+    };
+  }
+
+  -- a load, or an exchange that isn't done
+  stays_on : (i : ℕ) (f : ℕ → ℕ) (sees : ℕ → Core → Type 0) (frames : List Frame)
+      → Step shape.pages shape.size c steps going (moved c frames c.links c.head)
+      → sees (slice_index ws i) c
+      → f (slice_index ws i) ≡ slice_index ws i
+      → WriterMoves shape r me ws homes i f (λ found after. WriterTold shape now (sees found) going after)
+  stays_on i f sees frames step seen same =
+      let a = s.are_words in
+      moves_on i f sees frames c.links c.head step (omega arith) seen
+      (subst (AreWords shape.pages (moved c frames c.links c.head)) (sym (ap (λ (k : ℕ). slice_set ws i k) same ∙ set-get_or ws i 0))
+      record { count = a.count; opened = a.opened; done = a.done; wish = a.wish; links = a.links; spare = a.spare })
+
+  -- the frame on top goes on in another phase
+  goes : (answer : Answer) (after next : Core) → Step shape.pages shape.size c steps answer after → answer ≡ going → after ≡ next → Step shape.pages shape.size c steps going next
+  goes answer after next step a after_is =
+      subst (λ (d : Core). Step shape.pages shape.size c steps going d) after_is (subst (λ (x : Answer). Step shape.pages shape.size c steps x after) a step)
+
+  -- ---- where a link's word stands
+
+  -- in that of the page in front
+  front : (f : ℕ) → c.done < f → f ≤ c.opened → slice_index_or c.open_pages (f - 1 - c.done) 0 ≡ page_before shape.pages c.order f
+  front f low high = let count = kept.open_pages.count in
+      kept.open_pages.each (f - 1 - c.done) (omega arith)
+      ∙ (ap (page_at shape.pages c.order) (let e : c.done + (f - 1 - c.done) ≡ f - 1 = omega arith in e)
+      ∙ (sym (page_turn shape.pages c.order (f - 1)) ∙ ap (page_at shape.pages c.order) (let e : f - 1 + shape.pages ≡ f + shape.pages - 1 = omega arith in e)))
+
+  opened_is : now.opened ≡ c.opened
+  opened_is = ap (λ (w : Writing). w.opened) (sym now_is)
+
+  tail_front : tail_in now ≡ page_before shape.pages c.order now.opened
+  tail_front = let count = kept.open_pages.count in let behind = kept.links.done_lt in
+      ap tail_in (sym now_is)
+      ∙ (ap (λ (i : ℕ). slice_index_or c.open_pages i 0) (let e : length c.open_pages - 1 ≡ c.opened - 1 - c.done = omega arith in e)
+      ∙ (front c.opened behind (omega arith) ∙ ap (page_before shape.pages c.order) (sym opened_is)))
+
+  -- the page that a frame passed is in front of the fill behind the lost one
+  passed_front : (page noted behind : ℕ) → page ≡ page_at shape.pages c.order noted → behind + shape.pages ≡ noted + 1 → page ≡ page_before shape.pages c.order behind
+  passed_front page noted behind page_is sum = page_is ∙ ap (page_at shape.pages c.order) (let e : noted ≡ behind + shape.pages - 1 = omega arith in e)
+
+  word_there : (page f : ℕ) → page ≡ page_before shape.pages c.order f → word_of (link_into shape.pages c.links f) ≡ slice_index ws (page_word page)
+  word_there page f e = sym (ap (λ (p : ℕ). slice_index ws (page_word p)) e ∙ s.are_words.links f)
+
+  words_with : (page f : ℕ) (l : Link) (frames : List Frame) (head : ℕ) → page ≡ page_before shape.pages c.order f
+      → AreWords shape.pages (moved c frames (links_with shape.pages c.links f l) head) (slice_set ws (page_word page) (word_of l))
+  words_with page f l frames head e =
+      let some = kept.links.some_pages in
+      let a = with_link_word shape.pages c ws f l (omega arith) kept.links.positions kept.links.apart s.are_words in
+      subst (λ (p : ℕ). AreWords shape.pages (moved c frames (links_with shape.pages c.links f l) head) (slice_set ws (page_word p) (word_of l))) (sym e)
+      record { count = a.count; opened = a.opened; done = a.done; wish = a.wish; links = a.links; spare = a.spare }
+
+  -- the word isn't that of a link which doesn't stand there
+  other_word : (page f : ℕ) (l : Link) → page ≡ page_before shape.pages c.order f → FitsWord l → link_into shape.pages c.links f ≢ l → slice_index ws (page_word page) ≢ word_of l
+  other_word page f l e fits differ same =
+      differ (word_tells (link_into shape.pages c.links f) l (link_fits shape.pages shape.size shape.start c f s.pages_fit s.reached) fits (word_there page f e ∙ same))
+
+  -- ---- loads of links
+
+  abbrev Sees : ℕ → ℕ → Core → Type 0
+  Sees fill found core = word_of (link_into shape.pages core.links fill) ≡ found
+
+  abbrev LoadMoves : (page fill : ℕ) → Type 0
+  LoadMoves page fill = WriterMoves shape r me ws homes (page_word page) (λ n. n) (λ found after. LinkTold shape now fill found after)
+
+  loads : (page fill : ℕ) (frame : Frame) (below : List Frame) (phase : Phase) (answer : Answer) (after : Core) → page ≡ page_before shape.pages c.order fill
+      → Step shape.pages shape.size c steps answer after → answer ≡ going → after ≡ in_phase c frame below phase → LoadMoves page fill
+  loads page fill frame below phase answer after e step a after_is =
+      stays_on (page_word page) (λ n. n) (λ found. Sees fill found) (record frame { phase = phase } ∷ below) (goes answer after (in_phase c frame below phase) step a after_is) (word_there page fill e) refl
+
+  looks : (page noted : ℕ) (frame : Frame) (below : List Frame) (answer : Answer) (after : Core) → page ≡ page_before shape.pages c.order noted → noted ≡ c.opened
+      → Step shape.pages shape.size c steps answer after → LookStep shape.pages c frame below noted answer after → LoadMoves page noted
+  looks page noted frame below answer after e here step (look_late late) = absurd (late.passed here)
+  looks page noted frame below answer after e here step (sees_free p x at a after_is) = loads page noted frame below (opening noted p) answer after e step a after_is
+  looks page noted frame below answer after e here step (sees_header p lost x sum at a after_is) = loads page noted frame below (claiming noted p) answer after e step a after_is
+  looks page noted frame below answer after e here step (sees_update p lost x sum at a after_is) = loads page noted frame below (looking_next helper noted p) answer after e step a after_is
+
+  top_now : (phase : Phase) → IsTopIn now.frames phase → IsTopIn c.frames phase
+  top_now phase top = subst (λ (w : Writing). IsTopIn w.frames phase) (sym now_is) top
+
+  pub load_link_moves : (tail : ℕ) → tail ≡ tail_in now → IsTopIn now.frames (looking now.opened) → LoadMoves tail now.opened
+  load_link_moves tail tail_is phase =
+      let top = top_of c.frames (looking now.opened) (top_now (looking now.opened) phase) in
+      let (answer, after, step) = each_event_is_a_step shape.pages shape.size shape.start c steps kept tt in
+      looks tail now.opened top.frame top.below answer after (tail_is ∙ tail_front) opened_is step
+      (frame_stepped shape.pages shape.size c top.frame top.below (looking now.opened) answer after top.is top.phase_is step)
+
+  nexts : (page behind : ℕ) (frame : Frame) (below : List Frame) (role : Role) (noted : ℕ) (answer : Answer) (after : Core) → page ≡ page_before shape.pages c.order behind → GoesOn role noted c.opened
+      → Step shape.pages shape.size c steps answer after → NextStep shape.pages c frame below role noted page answer after → LoadMoves page behind
+  nexts page behind frame below role noted answer after e on step (next_late helps late) = absurd (late.passed (subst (λ (x : Role). GoesOn x noted c.opened) helps on))
+  nexts page behind frame below role noted answer after e on step (sees_normal lost next x sum at a after_is) = loads page behind frame below (marking role noted page next) answer after e step a after_is
+  nexts page behind frame below role noted answer after e on step (sees_other lost x sum other a after_is) = loads page behind frame below (after_next role noted page) answer after e step a after_is
+
+  pub load_next_moves : (page behind : ℕ) → LooksBehind shape.pages now page behind → LoadMoves page (behind_in shape.pages now)
+  load_next_moves page behind due =
+      let top = top_of c.frames (looking_next due.role due.noted page) (top_now (looking_next due.role due.noted page) due.phase) in
+      let (answer, after, step) = each_event_is_a_step shape.pages shape.size shape.start c steps kept tt in
+      let known = top_kept shape.pages c top.frame top.below kept.links top.is in
+      let passed = known.passed due.noted page (ap passed_spot top.phase_is) in
+      subst (λ (fill : ℕ). LoadMoves page fill) (looks_behind shape.pages now page behind due)
+      (nexts page behind top.frame top.below due.role due.noted answer after (passed_front page due.noted behind passed.2 due.behind_is) (subst (GoesOn due.role due.noted) opened_is due.goes_on) step
+      (frame_stepped shape.pages shape.size c top.frame top.below (looking_next due.role due.noted page) answer after top.is top.phase_is step))
+
+  -- ---- the wish
+
+  asks : (answer : Answer) (after next : Core) → Step shape.pages shape.size c steps answer after → after ≡ next → IsPrivateOf c next → ((page : ℕ) → contents_of next page ≡ contents_of c page) → next.open_pages ≡ c.open_pages
+      → WriterMoves shape r me ws homes 2 (λ n. n) (λ found after. WishTold shape now found after)
+  asks answer after next step after_is own holds same =
+      let shown = stays_shown shape.pages shape.size shape.start c steps answer next r ws homes s (subst (λ (d : Core). Step shape.pages shape.size c steps answer d) after_is step) own
+      (λ f low high. holds (page_at shape.pages c.order f)) in record {
+        next = next;
+        act = keeps;
+        valid = tt;
+        shown = subst (λ (words : List ℕ). IsShownBy shape next r words homes) (sym (set-get_or ws 2 0)) shown;
+        told = record {
+          seat = record { view = refl; hand = is.hand ∙ ap emptied (sym (same ∙ pages)) };
+          answer = answer;
+          step = record {
+            core = c;
+            next = next;
+            reached = s.reached;
+            before_is = now_is;
+            seen = sym s.are_words.wish;
+            step = subst (λ (d : Core). Step shape.pages shape.size c steps answer d) after_is step;
+            after_is = refl;
+          };
+        };
+      }
+
+  wishes_at : (frame : Frame) (below : List Frame) (answer : Answer) (after : Core) → Step shape.pages shape.size c steps answer after → WishStep shape.pages c frame below answer after
+      → WriterMoves shape r me ws homes 2 (λ n. n) (λ found after. WishTold shape now found after)
+  wishes_at frame below answer after step (grants alone granted a after_is) = asks answer after _ step after_is refl (λ page. refl) refl
+  wishes_at frame below answer after step (closes_more alone denied more a after_is) = asks answer after _ step after_is refl (λ page. refl) refl
+  wishes_at frame below answer after step (goes_away alone denied last a after_is) = asks answer after _ step after_is refl (λ page. refl) refl
+
+  pub load_wish_moves : IsTopIn now.frames wishing → WriterMoves shape r me ws homes 2 (λ n. n) (λ found after. WishTold shape now found after)
+  load_wish_moves phase =
+      let top = top_of c.frames wishing (top_now wishing phase) in
+      let (answer, after, step) = each_event_is_a_step shape.pages shape.size shape.start c steps kept tt in
+      wishes_at top.frame top.below answer after step (frame_stepped shape.pages shape.size c top.frame top.below wishing answer after top.is top.phase_is step)
+
+  -- ---- exchanges of links
+
+  abbrev ExchangeMoves : (page fill from to : ℕ) → Type 0
+  ExchangeMoves page fill from to = WriterMoves shape r me ws homes (page_word page) (λ n. either (n == from) to n) (λ found after. LinkTold shape now fill found after)
+
+  done_on : (page fill from to : ℕ) (old new : Link) (frames : List Frame) (head : ℕ) → page ≡ page_before shape.pages c.order fill → from ≡ word_of old → to ≡ word_of new
+      → link_into shape.pages c.links fill ≡ old → c.head ≤ head → Step shape.pages shape.size c steps going (moved c frames (links_with shape.pages c.links fill new) head) → ExchangeMoves page fill from to
+  done_on page fill from to old new frames head e from_is to_is at low step =
+      let found : slice_index ws (page_word page) ≡ from = sym (word_there page fill e) ∙ (ap word_of at ∙ sym from_is) in
+      moves_on (page_word page) (λ n. either (n == from) to n) (λ found. Sees fill found) frames (links_with shape.pages c.links fill new) head step low (word_there page fill e)
+      (subst (λ (word : ℕ). AreWords shape.pages (moved c frames (links_with shape.pages c.links fill new) head) (slice_set ws (page_word page) word))
+      (sym (done_at (slice_index ws (page_word page)) from to found ∙ to_is)) (words_with page fill new frames head e))
+
+  fails_on : (page fill from to : ℕ) (old : Link) (frames : List Frame) → page ≡ page_before shape.pages c.order fill → from ≡ word_of old → FitsWord old
+      → link_into shape.pages c.links fill ≢ old → Step shape.pages shape.size c steps going (moved c frames c.links c.head) → ExchangeMoves page fill from to
+  fails_on page fill from to old frames e from_is fits differ step =
+      stays_on (page_word page) (λ n. either (n == from) to n) (λ found. Sees fill found) frames step (word_there page fill e)
+      (not_done_at (slice_index ws (page_word page)) from to (λ same. other_word page fill old e fits differ (same ∙ from_is)))
+
+  claims_at : (tail page lost from to : ℕ) (frame : Frame) (below : List Frame) (answer : Answer) (after : Core)
+      → lost + shape.pages ≡ now.opened → page < LINK_PAGES → from ≡ word_of (header_link page lost) → to ≡ word_of (update_link page lost) → tail ≡ page_before shape.pages c.order now.opened
+      → Step shape.pages shape.size c steps answer after → ClaimStep shape.pages c frame below now.opened page answer after → ExchangeMoves tail now.opened from to
+  claims_at tail page lost from to frame below answer after sum fits from_is to_is e step (claim_late late) = absurd (late.passed opened_is)
+  claims_at tail page lost from to frame below answer after sum fits from_is to_is e step (claims u x u_sum at a after_is) =
+      let same : u ≡ lost = omega arith in
+      done_on tail now.opened from to (header_link page lost) (update_link page lost) (record frame { phase = looking_next owner now.opened page } ∷ below) (c.head + 1) e from_is to_is
+      (at ∙ ap (header_link page) same) (omega arith)
+      (goes answer after (in_phase (with_head_claimed shape.pages c now.opened page lost) frame below (looking_next owner now.opened page)) step a
+      (after_is ∙ ap (λ (f : ℕ). in_phase (with_head_claimed shape.pages c now.opened page f) frame below (looking_next owner now.opened page)) same))
+  claims_at tail page lost from to frame below answer after sum fits from_is to_is e step (claim_fails x differ a after_is) =
+      let some = kept.links.some_pages in let room = kept.links.fits in let here = opened_is in
+      fails_on tail now.opened from to (header_link page lost) (record frame { phase = looking now.opened } ∷ below) e from_is record { page_fits = fits; fill_fits = omega arith } (differ lost sum)
+      (goes answer after (in_phase c frame below (looking now.opened)) step a after_is)
+
+  pub claim_moves : (tail page lost from to : ℕ) → tail ≡ tail_in now → IsTopIn now.frames (claiming now.opened page)
+      → lost + shape.pages ≡ now.opened → page < LINK_PAGES → from ≡ word_of (header_link page lost) → to ≡ word_of (update_link page lost) → ExchangeMoves tail now.opened from to
+  claim_moves tail page lost from to tail_is phase sum fits from_is to_is =
+      let top = top_of c.frames (claiming now.opened page) (top_now (claiming now.opened page) phase) in
+      let (answer, after, step) = each_event_is_a_step shape.pages shape.size shape.start c steps kept tt in
+      claims_at tail page lost from to top.frame top.below answer after sum fits from_is to_is (tail_is ∙ tail_front) step
+      (frame_stepped shape.pages shape.size c top.frame top.below (claiming now.opened page) answer after top.is top.phase_is step)
+
+  marks_at : (page next behind from to : ℕ) (frame : Frame) (below : List Frame) (role : Role) (noted : ℕ) (answer : Answer) (after : Core)
+      → GoesOn role noted c.opened → behind + shape.pages ≡ noted + 1 → FitsWord (normal_link next behind) → from ≡ word_of (normal_link next behind) → to ≡ word_of (header_link next behind)
+      → page ≡ page_before shape.pages c.order behind
+      → Step shape.pages shape.size c steps answer after → MarkStep shape.pages c frame below role noted page next answer after → ExchangeMoves page behind from to
+  marks_at page next behind from to frame below role noted answer after on sum fits from_is to_is e step (mark_late helps late) = absurd (late.passed (subst (λ (x : Role). GoesOn x noted c.opened) helps on))
+  marks_at page next behind from to frame below role noted answer after on sum fits from_is to_is e step (marks lost x lost_sum at a after_is) =
+      let same : suc lost ≡ behind = omega arith in
+      done_on page behind from to (normal_link next behind) (header_link next behind) (record frame { phase = after_next role noted page } ∷ below) c.head e from_is to_is
+      (subst (λ (f : ℕ). link_into shape.pages c.links f ≡ normal_link next f) same at) (omega arith)
+      (goes answer after (in_phase (with_link shape.pages c behind (header_link next behind)) frame below (after_next role noted page)) step a
+      (after_is ∙ ap (λ (f : ℕ). in_phase (with_link shape.pages c f (header_link next f)) frame below (after_next role noted page)) same))
+  marks_at page next behind from to frame below role noted answer after on sum fits from_is to_is e step (mark_fails lost x lost_sum differ a after_is) =
+      let same : suc lost ≡ behind = omega arith in
+      fails_on page behind from to (normal_link next behind) (record frame { phase = after_next role noted page } ∷ below) e from_is fits
+      (λ at. differ (subst (λ (f : ℕ). link_into shape.pages c.links f ≡ normal_link next f) (sym same) at))
+      (goes answer after (in_phase c frame below (after_next role noted page)) step a after_is)
+
+  pub mark_moves : (page next behind from to : ℕ) → MarksBehind shape.pages now page next behind → next < LINK_PAGES → from ≡ word_of (normal_link next behind) → to ≡ word_of (header_link next behind)
+      → ExchangeMoves page (behind_in shape.pages now) from to
+  mark_moves page next behind from to due fits from_is to_is =
+      let top = top_of c.frames (marking due.role due.noted page next) (top_now (marking due.role due.noted page next) due.phase) in
+      let (answer, after, step) = each_event_is_a_step shape.pages shape.size shape.start c steps kept tt in
+      let known = top_kept shape.pages c top.frame top.below kept.links top.is in
+      let passed = known.passed due.noted page (ap passed_spot top.phase_is) in
+      let (low, high, room, numbers) = known.noted due.noted (ap noted_fill top.phase_is) in let some = kept.links.some_pages in let sum = due.behind_is in
+      subst (λ (fill : ℕ). ExchangeMoves page fill from to) (marks_behind shape.pages now page next behind due)
+      (marks_at page next behind from to top.frame top.below due.role due.noted answer after (subst (GoesOn due.role due.noted) opened_is due.goes_on) due.behind_is
+      record { page_fits = fits; fill_fits = omega arith } from_is to_is (passed_front page due.noted behind passed.2 due.behind_is) step
+      (frame_stepped shape.pages shape.size c top.frame top.below (marking due.role due.noted page next) answer after top.is top.phase_is step))
+
+  -- ---- the store of a link
+
+  abbrev ClearMoves : (page to : ℕ) → Type 0
+  ClearMoves page to = WriterMoves shape r me ws homes (page_word page) (λ _. to) (λ _ after. WriterTold shape now (λ _. ⊤) going after)
+
+  clears_at : (before page noted to : ℕ) (frame : Frame) (below : List Frame) (answer : Answer) (after : Core) → to ≡ word_of (normal_link page noted) → before ≡ page_before shape.pages c.order noted
+      → Step shape.pages shape.size c steps answer after → ClearStep shape.pages c frame below noted page answer after → ClearMoves before to
+  clears_at before page noted to frame below answer after to_is e step (clears lost sum at a after_is) =
+      moves_on (page_word before) (λ _. to) (λ _ _. ⊤) (record frame { phase = opening noted page } ∷ below) (links_with shape.pages c.links noted (normal_link page noted)) c.head
+      (goes answer after (in_phase (with_link shape.pages c noted (normal_link page noted)) frame below (opening noted page)) step a after_is) (omega arith) tt
+      (subst (λ (word : ℕ). AreWords shape.pages (moved c (record frame { phase = opening noted page } ∷ below) (links_with shape.pages c.links noted (normal_link page noted)) c.head) (slice_set ws (page_word before) word))
+      (sym to_is) (words_with before noted (normal_link page noted) (record frame { phase = opening noted page } ∷ below) c.head e))
+
+  pub clear_moves : (before page noted to : ℕ) → before ≡ slice_index_or now.open_pages (noted - 1 - now.done) 0 → IsTopIn now.frames (clearing noted page) → to ≡ word_of (normal_link page noted) → ClearMoves before to
+  clear_moves before page noted to before_is phase to_is =
+      let top = top_of c.frames (clearing noted page) (top_now (clearing noted page) phase) in
+      let (answer, after, step) = each_event_is_a_step shape.pages shape.size shape.start c steps kept tt in
+      let known = top_kept shape.pages c top.frame top.below kept.links top.is in
+      let (low, high, room, numbers) = known.noted noted (ap noted_fill top.phase_is) in
+      clears_at before page noted to top.frame top.below answer after to_is
+      (before_is ∙ (ap (λ (w : Writing). slice_index_or w.open_pages (noted - 1 - w.done) 0) (sym now_is) ∙ front noted low high)) step
+      (frame_stepped shape.pages shape.size c top.frame top.below (clearing noted page) answer after top.is top.phase_is step)

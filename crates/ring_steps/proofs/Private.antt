@@ -1,0 +1,84 @@
+-- Private steps of the writer: the same words and pages at home show the state behind them.
+use Rattle.std.proofs.Common.{◌≡◌, ◌≢◌, ℕ, ◌+◌, ◌<◌, ◌≤◌, List, [], ◌∷◌, length, slice_index_or, sym, ap, ◌∙◌, subst, arith}
+use Rattle.trace_model.specs.Ring.{Held, Core, page_at}
+use Rattle.trace_model.specs.Steps.{contents_of, Event, Answer, Exchange, Step}
+use Rattle.link_marks.specs.RingKept.{IsRingKept}
+use Rattle.link_marks.specs.Reached.{IsReached}
+use Rattle.link_marks.specs.Seats.{PrivateRun}
+use Rattle.link_marks.proofs.PageChanges.{pages_differ}
+use Rattle.link_marks.proofs.PrivateSteps.{private_result, changes_privately, IsPrivateOf}
+use Rattle.link_marks.proofs.SeatPages.{private_leaves_other_pages}
+use Rattle.link_marks.proofs.RingsKept.{reached_kept, reached_further}
+use Rattle.ring_steps.specs.Views.{Reading}
+use Rattle.ring_steps.specs.Shown.{Homes, IsHome, AreWords, AreHomes, IsReading, IsShown}
+use Rattle.ring_steps.proofs.Heard.{first_records, heard_stays}
+
+-- the page of a closed fill is none of the writer's
+pub closed_is_other : (n size start : ℕ) (c : Core) (f : ℕ) → IsRingKept n size start c → c.head ≤ f → f < c.done → (i : ℕ) → i < length c.open_pages → slice_index_or c.open_pages i 0 ≢ page_at n c.order f
+closed_is_other n size start c f k low high i inside e =
+    let some = k.links.some_pages in let le = k.links.head_le in let room = k.links.opened_le in let count = k.open_pages.count in
+    pages_differ n c.order c.spare c.head (c.done + i) f (omega arith) k.links.apart (omega arith) (omega arith) low (omega arith) (λ same. omega arith) (sym (k.open_pages.each i inside) ∙ e)
+
+-- the frames, the history and what pages hold are others; the pages of closed fills hold what they held
+pub stays_shown : (n size start : ℕ) (c : Core) (event : Event) (answer : Answer) (after : Core) (r : Reading) (words : List ℕ) (homes : Homes)
+    → IsShown n size start c r words homes
+    → Step n size c event answer after
+    → IsPrivateOf c after
+    → ((f : ℕ) → c.head ≤ f → f < c.done → contents_of after (page_at n c.order f) ≡ contents_of c (page_at n c.order f))
+    → IsShown n size start after r words homes
+stays_shown n size start c event answer after r words homes s step is holds =
+    let heard = heard_stays n size start c event answer after (reached_kept n size start c s.reached) step in
+    let words_are : AreWords n after words = subst (λ (d : Core). AreWords n d words) (sym is) record {
+      count = s.are_words.count;
+      opened = s.are_words.opened;
+      done = s.are_words.done;
+      wish = s.are_words.wish;
+      links = s.are_words.links;
+      spare = s.are_words.spare;
+    } in
+    let held_is : (f : ℕ) → c.head ≤ f → f < c.done → IsHome homes size (page_at n c.order f) f (contents_of after (page_at n c.order f)) =
+    λ f low high. subst (IsHome homes size (page_at n c.order f) f) (sym (holds f low high)) (s.are_homes.closed f low high) in
+    let head = ap (λ (d : Core). d.head) is in
+    let done = ap (λ (d : Core). d.done) is in
+    let opened = ap (λ (d : Core). d.opened) is in
+    let order = ap (λ (d : Core). d.order) is in
+    let spare = ap (λ (d : Core). d.spare) is in
+    let reader = ap (λ (d : Core). d.reader) is in
+    record {
+      pages_fit = s.pages_fit;
+      reached = reached_further n size start c event answer after s.reached step;
+      are_words = words_are;
+      are_homes = record {
+        count = s.are_homes.count;
+        closed = λ f low high. subst (λ (o : List ℕ). IsHome homes size (page_at n o f) f (contents_of after (page_at n o f))) (sym order) (held_is f (omega arith) (omega arith));
+        free = λ f low high. subst (λ (o : List ℕ). Rattle.ring_steps.specs.Shown.HasBody homes size (page_at n o f)) (sym order) (s.are_homes.free f (omega arith) (omega arith));
+        spare = λ at_home. ap (lib.ListN.get_elem? homes) spare ∙ s.are_homes.spare at_home;
+      };
+      is_reading = record {
+        order_is = s.is_reading.order_is ∙ sym order;
+        spare_is = s.is_reading.spare_is ∙ sym spare;
+        spare_link_is = s.is_reading.spare_link_is ∙ sym (ap (λ (d : Core). d.spare_link) is);
+        reader_is = s.is_reading.reader_is ∙ sym reader;
+        wish_is = s.is_reading.wish_is ∙ sym (ap (λ (d : Core). d.wish) is);
+        heard_is = s.is_reading.heard_is ∙ (sym heard ∙ sym (ap (λ (x : Rattle.trace_model.specs.Ring.Reader). first_records x.expected after.history) reader));
+      };
+    }
+
+pub private_shown : (n size start : ℕ) (c aside : Core) (exchanges : List Exchange) (r : Reading) (words : List ℕ) (homes : Homes) → IsShown n size start c r words homes → PrivateRun n size c exchanges aside → IsShown n size start aside r words homes
+private_shown n size start c aside [] r words homes s run = subst (λ (d : Core). IsShown n size start d r words homes) run s
+private_shown n size start c aside (x ∷ exchanges) r words homes s (own, between, step, run) =
+    let k = reached_kept n size start c s.reached in
+    private_shown n size start between aside exchanges r words homes
+    (stays_shown n size start c x.event x.answer between r words homes s step (changes_privately c between (private_result n size c x.event x.answer between own step))
+    (λ f low high. private_leaves_other_pages n size start c x.event x.answer between k own step (page_at n c.order f) (closed_is_other n size start c f k low high))) run
+
+-- the writer's open pages are the same ones
+pub private_open_pages : (n size : ℕ) (c aside : Core) (exchanges : List Exchange) → PrivateRun n size c exchanges aside → aside.open_pages ≡ c.open_pages
+private_open_pages n size c aside [] run = ap (λ (d : Core). d.open_pages) (sym run)
+private_open_pages n size c aside (x ∷ exchanges) (own, between, step, run) =
+    private_open_pages n size between aside exchanges run ∙ ap (λ (d : Core). d.open_pages) (changes_privately c between (private_result n size c x.event x.answer between own step))
+
+pub private_reached : (n size start : ℕ) (c aside : Core) (exchanges : List Exchange) → IsReached n size start c → PrivateRun n size c exchanges aside → IsReached n size start aside
+private_reached n size start c aside [] reached run = subst (IsReached n size start) run reached
+private_reached n size start c aside (x ∷ exchanges) reached (own, between, step, run) =
+    private_reached n size start between aside exchanges (reached_further n size start c x.event x.answer between reached step) run

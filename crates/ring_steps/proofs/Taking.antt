@@ -1,0 +1,273 @@
+-- The steps of the reader's take: what the words, the pages at home and its part show behind each of them.
+use Rattle.std.proofs.Common.{◌≡◌, ℕ, suc, ◌+◌, ◌-◌, ◌%◌, ◌<◌, ◌≤◌, List, [], ◌∷◌, get_or, map, take, Option, Some, None, Bool, true, false, refl, sym, ap, ◌∙◌, subst, mod-lt, lt_of_not-le, arith, length-set}
+use Rattle.std.specs.Prelude.{⊤, slice_set}
+use Rattle.std.specs.List.{slice_index}
+use Rattle.std.proofs.lemmas.List.{get_or-set_same, get_or-set_other, set-get_or}
+use Rattle.std.proofs.lemmas.List.Elements.{All-get_or}
+use mathlib.Core.Option.{some}
+use mathlib.Core.Option as maybe
+use mathlib.Core.Logic.{dite}
+use native.Mathlib.Decide.{dec_le}
+use lib.ListN.{get_elem?}
+use Rattle.atomic_table.specs.Table.{Act, keeps, takes, gives, Valid, put_back, rest, homes_after, carried_after}
+use Rattle.atomic_table.proofs.Lists.{set_here, set_else}
+use Rattle.trace_model.specs.declared.limits.TheConstants.{MAX_PAGES}
+use Rattle.trace_model.specs.History.{as_record, reserved_records}
+use Rattle.trace_model.specs.Links.{Mark, normal, header, update, Link, word_of, normal_link, header_link, FitsWord}
+use Rattle.trace_model.specs.Ring.{Core, ReaderPhase, loading_link, loading_done, storing_link, swapping, Reader, AreApart, link_into, page_at}
+use Rattle.trace_model.specs.Steps as model
+use Rattle.trace_model.specs.Steps.{loads_header, loads_update, loads_owed, loads_passed, push_step, push_refused, close_step, close_refused, frame_step, frame_lacks, end_step, end_lacks, end_early, read_step, wish_step}
+use Rattle.link_marks.specs.declared.link.Mark as own_mark
+use Rattle.link_marks.specs.declared.link.Mark.TheVariants as own_marks
+use Rattle.link_marks.specs.declared.link.Link as own_link
+use Rattle.link_marks.specs.ModelLinks.{mark_of, link_of}
+use Rattle.link_marks.specs.RingKept.{IsRingKept}
+use Rattle.link_marks.specs.Seats.{IsOfReader}
+use Rattle.link_marks.proofs.LinksFit.{links_fit_words}
+use Rattle.link_marks.proofs.RingsKept.{reached_kept, reached_further}
+use Rattle.link_marks.proofs.SeatSteps.{reader_leaves_writer}
+use Rattle.link_marks.proofs.StepsGiven.{each_event_is_a_step}
+use Rattle.page_image.specs.Contents.{Contents}
+use Rattle.ring_steps.specs.declared.rule.Shape.{Shape}
+use Rattle.ring_steps.specs.Views.{Reading, reading, reads}
+use Rattle.ring_steps.specs.Shown.{page_word, page_before, AreWords, Homes, AreHomes, IsReading}
+use Rattle.ring_steps.specs.Seats.{Sat, kept_slots, IsSeatOfReader}
+use Rattle.ring_steps.specs.Taking.{IsRead, ReadTold, SeatTold, IsWordInto}
+use Rattle.ring_steps.proofs.Allowing.{IsShownBy, ReaderMoves}
+use Rattle.ring_steps.proofs.ReaderSteps.{reader_within}
+
+-- the reader's part of a state
+abbrev pub part_of : Core → Bool → Reading
+part_of c keeps_spare = record {
+  order = c.order;
+  spare = c.spare;
+  spare_link = c.spare_link;
+  reader = c.reader;
+  wish = c.wish;
+  heard = take c.reader.expected (map as_record (reserved_records c.history));
+  keeps_spare = keeps_spare;
+}
+
+-- the reader goes on, and the link of its page may be set
+abbrev pub gone_on : Core → Reader → Link → Core
+gone_on c reader link = record c { reader = reader; spare_link = link }
+
+-- ---- links of the crate below
+
+abbrev pub mark_from : Mark → own_mark.Mark
+mark_from normal = own_marks.Normal
+mark_from header = own_marks.Header
+mark_from update = own_marks.Update
+
+abbrev pub link_from : Link → own_link.Link
+link_from l = record { mark = mark_from l.mark; page = l.page; fill = l.fill }
+
+mark_is : (mark : Mark) → mark_of (mark_from mark) ≡ mark
+mark_is normal = refl
+mark_is header = refl
+mark_is update = refl
+
+link_is : (l : Link) → link_of (link_from l) ≡ l
+link_is l i = record { mark = mark_is l.mark i; page = l.page; fill = l.fill }
+
+-- a word of a link is one that can be unpacked
+pub unpacked : (l : Link) (word : ℕ) (result : Option own_link.Link) → FitsWord l → word_of l ≡ word → ((own : own_link.Link) → FitsWord (link_of own) → word_of (link_of own) ≡ word → result ≡ Some own) → result ≡ Some (link_from l)
+unpacked l word result fits is back = back (link_from l) (subst FitsWord (sym (link_is l)) fits) (ap word_of (link_is l) ∙ is)
+
+pub never_nothing : (shape : Shape) (before after : Reading) (fill word : ℕ) (result : Option own_link.Link) → IsRead shape before (IsWordInto shape fill word) after
+    → ((own : own_link.Link) → FitsWord (link_of own) → word_of (link_of own) ≡ word → result ≡ Some own) → result ≡ None → ⊥
+never_nothing shape before after fill word result (answer, r) back none = let is = unpacked (link_into shape.pages r.core.links fill) word result r.seen.fits r.seen.word_is back in let both = sym none ∙ is in absurd (cc)
+
+-- ---- what stays
+
+pub words_on : (n : ℕ) (c : Core) (words : List ℕ) (reader : Reader) → AreWords n c words → AreWords n (gone_on c reader c.spare_link) words
+words_on n c words reader a = record {
+  count = a.count;
+  opened = a.opened;
+  done = a.done;
+  wish = a.wish;
+  links = a.links;
+  spare = a.spare;
+}
+
+-- the same pages at home, where the spare's slot is empty unless the reader keeps it
+pub homes_on : (n size : ℕ) (c : Core) (r : Reading) (homes : Homes) (reader : Reader) (link : Link) (b : Bool) → AreHomes n size c r homes → (b ≡ false → get_elem? homes c.spare ≡ some (some None))
+    → AreHomes n size (gone_on c reader link) (part_of (gone_on c reader link) b) homes
+homes_on n size c r homes reader link b h spare = record { count = h.count; closed = h.closed; free = h.free; spare = spare }
+
+-- the spare's slot comes home, or leaves it
+pub homes_set : (n size : ℕ) (c : Core) (r : Reading) (homes : Homes) (reader : Reader) (link : Link) (b : Bool) (x : maybe.Option (Option Contents)) → 1 ≤ n → AreApart n c.order c.spare → AreHomes n size c r homes
+    → (b ≡ false → x ≡ some None)
+    → AreHomes n size (gone_on c reader link) (part_of (gone_on c reader link) b) (slice_set homes c.spare x)
+homes_set n size c r homes reader link b x some_pages a h is =
+    let below = a.spare_below in let count = h.count in record {
+      count = length-set homes c.spare x ∙ h.count;
+      closed = λ f low high. let (body, at, written) = h.closed f low high in (body, set_else homes c.spare (page_at n c.order f) x (a.spare_differs (f % n) (mod-lt f some_pages)) ∙ at, written);
+      free = λ f low high. let (body, at, sized) = h.free f low high in (body, set_else homes c.spare (page_at n c.order f) x (a.spare_differs (f % n) (mod-lt f some_pages)) ∙ at, sized);
+      spare = λ e. set_here homes c.spare x (omega arith) ∙ ap some (is e);
+    }
+
+-- where the reader keeps the spare's slot, it comes home
+homes_given : (n size : ℕ) (c : Core) (r : Reading) (homes : Homes) (reader : Reader) (link : Link) (b : Bool) → 1 ≤ n → AreApart n c.order c.spare → AreHomes n size c r homes
+    → (b ≡ false → get_elem? homes c.spare ≡ some (some None))
+    → AreHomes n size (gone_on c reader link) (part_of (gone_on c reader link) false) (put_back homes (kept_slots b c.spare))
+homes_given n size c r homes reader link true some_pages a h empty = homes_set n size c r homes reader link false (some None) some_pages a h (λ e. refl)
+homes_given n size c r homes reader link false some_pages a h empty = homes_on n size c r homes reader link false h empty
+
+nothing_left : (b : Bool) (spare : ℕ) → ◌≡◌ {A = List (ℕ × Option Contents)} (rest (kept_slots b spare)) []
+nothing_left true spare = refl
+nothing_left false spare = refl
+
+-- the link of the spare is set
+words_set : (n : ℕ) (c : Core) (words : List ℕ) (reader : Reader) (link : Link) → 1 ≤ n → AreApart n c.order c.spare → AreWords n c words → AreWords n (gone_on c reader link) (slice_set words (page_word c.spare) (word_of link))
+words_set n c words reader link some_pages a w =
+    let below = a.spare_below in let count = w.count in let word : ℕ = page_word c.spare in record {
+      count = length-set words word (word_of link) ∙ w.count;
+      opened = get_or-set_other words word 0 (word_of link) 0 (λ e. omega arith) ∙ w.opened;
+      done = get_or-set_other words word 1 (word_of link) 0 (λ e. omega arith) ∙ w.done;
+      wish = get_or-set_other words word 2 (word_of link) 0 (λ e. omega arith) ∙ w.wish;
+      links = λ f. get_or-set_other words word (page_word (page_before n c.order f)) (word_of link) 0
+          (λ e. a.spare_differs ((f + n - 1) % n) (mod-lt (f + n - 1) some_pages) (let same : page_before n c.order f ≡ c.spare = omega arith in same))
+          ∙ w.links f;
+      spare = get_or-set_same words word (word_of link) 0 (omega arith);
+    }
+
+-- ---- what a load is
+
+reads_of : (n size : ℕ) (c : Core) (answer : model.Answer) (next : Core) → model.Step n size c model.reads answer next → model.ReadStep n c c.reader.phase answer next
+reads_of n size c answer next (push_step moment len e few short early a is) = absurd (subst IsOfReader e tt)
+reads_of n size c answer next (push_refused moment len why e refused a is) = absurd (subst IsOfReader e tt)
+reads_of n size c answer next (close_step e few a is) = absurd (subst IsOfReader e tt)
+reads_of n size c answer next (close_refused e many a is) = absurd (subst IsOfReader e tt)
+reads_of n size c answer next (frame_step frame below e top step) = absurd (subst IsOfReader e tt)
+reads_of n size c answer next (frame_lacks e none a is) = absurd (subst IsOfReader e tt)
+reads_of n size c answer next (end_step payload frame below number moment len e top at kind slot a is) = absurd (subst IsOfReader e tt)
+reads_of n size c answer next (end_lacks payload e none a is) = absurd (subst IsOfReader e tt)
+reads_of n size c answer next (end_early payload frame below e top none a is) = absurd (subst IsOfReader e tt)
+reads_of n size c answer next (read_step e step) = step
+reads_of n size c answer next (wish_step e a is) = absurd (cc)
+
+load_on : (n : ℕ) (c : Core) (answer : model.Answer) (next : Core) → model.LoadStep n c answer next → (reader : Reader) × (next ≡ gone_on c reader c.spare_link)
+load_on n c answer next (loads_header page fill at a is) = (record c.reader { phase = loading_done page fill; hint = fill }, is)
+load_on n c answer next (loads_update page lost at a is) = (record c.reader { phase = loading_link; hint = suc lost }, is)
+load_on n c answer next (loads_owed page at a is) = (record c.reader { phase = loading_link; hint = c.reader.hint }, is)
+load_on n c answer next (loads_passed page fill least at more sum a is) = (record c.reader { phase = loading_link; hint = least }, is)
+
+pub link_fits : (n size start : ℕ) (c : Core) (f : ℕ) → n ≤ MAX_PAGES → IsRingKept n size start c → FitsWord (link_into n c.links f)
+link_fits n size start c f few k =
+    let some_pages = k.links.some_pages in let wide = k.links.positions in
+    All-get_or FitsWord c.links (f % n) (normal_link 0 0) (let low : f % n < n = mod-lt f (omega arith) in omega arith) (links_fit_words n size start c k (omega arith)).0
+
+-- ---- one step
+
+module _ (shape : Shape) (me : Sat) (c : Core) (ws : List ℕ) (homes : Homes) (s : IsShownBy shape c (reading me.0) ws homes) where
+  pub kept : IsRingKept shape.pages shape.size shape.start c
+  kept = reached_kept shape.pages shape.size shape.start c s.reached
+
+  pub some_position : 1 ≤ shape.pages
+  some_position = let two = kept.links.some_pages in omega arith
+
+  -- the phase that the state is in
+  pub phase_in : (phase : ReaderPhase) → (reading me.0).reader.phase ≡ phase → phase ≡ c.reader.phase
+  phase_in phase at = sym at ∙ ap (λ (x : Reader). x.phase) s.is_reading.reader_is
+
+  pub step_in : (phase : ReaderPhase) (answer : model.Answer) (next : Core) → (reading me.0).reader.phase ≡ phase → model.ReadStep shape.pages c phase answer next → model.Step shape.pages shape.size c model.reads answer next
+  step_in phase answer next at step = model.read_step refl (subst (λ (p : ReaderPhase). model.ReadStep shape.pages c p answer next) (phase_in phase at) step)
+
+  pub word_into : (page fill : ℕ) → page ≡ page_before shape.pages (reading me.0).order fill → slice_index ws (page + 3) ≡ word_of (link_into shape.pages c.links fill)
+  word_into page fill is = ap (λ (p : ℕ). get_or ws (p + 3) 0) (is ∙ ap (λ (order : List ℕ). page_before shape.pages order fill) s.is_reading.order_is) ∙ s.are_words.links fill
+
+module _ (shape : Shape) (me : Sat) (c : Core) (ws : List ℕ) (homes : Homes) (s : IsShownBy shape c (reading me.0) ws homes) where
+  pub reads_on : (i : ℕ) (f : ℕ → ℕ) (tells : ℕ → Sat → Type 0) (sees : Core → Type 0) (b : Bool) (answer : model.Answer) (next : Core) (act : Act (Option Contents))
+      → model.Step shape.pages shape.size c model.reads answer next
+      → sees c
+      → Valid homes me.1 act
+      → AreWords shape.pages next (slice_set ws i (f (slice_index ws i)))
+      → AreHomes shape.pages shape.size next (part_of next b) (homes_after homes me.1 act)
+      → (ReadTold shape sees b me (reads (part_of next b), carried_after me.1 act) → tells (slice_index ws i) (reads (part_of next b), carried_after me.1 act))
+      → ReaderMoves shape c me ws homes i f tells
+  reads_on i f tells sees b answer next act step seen valid words at_home tell =
+      let reached = reached_further shape.pages shape.size shape.start c model.reads answer next s.reached step in
+      let stays = reader_leaves_writer shape.pages shape.size c model.reads answer next tt step in
+      let is_reading : IsReading next (part_of next b) = record { order_is = refl; spare_is = refl; spare_link_is = refl; reader_is = refl; wish_is = refl; heard_is = refl } in record {
+        next = next;
+        after = part_of next b;
+        act = act;
+        valid = valid;
+        shown = record { pages_fit = s.pages_fit; reached = reached; are_words = words; are_homes = at_home; is_reading = is_reading };
+        writer_is = λ k. record { frames = stays.frames k; open_pages = stays.open_pages k; history = stays.history k; done = stays.done k; opened = stays.opened k };
+        told = tell record {
+          view = refl;
+          within = reader_within shape next (part_of next b) (reached_kept shape.pages shape.size shape.start next reached) is_reading;
+          keeps_is = refl;
+          step = (answer, record { core = c; next = next; reached = s.reached; before_is = s.is_reading; seen = seen; of_reader = tt; step = step; after_is = is_reading });
+        };
+      }
+
+module _ (shape : Shape) (me : Sat) (is : IsSeatOfReader me) (c : Core) (ws : List ℕ) (homes : Homes) (s : IsShownBy shape c (reading me.0) ws homes) where
+  -- a load, and nothing else
+  loads_on : (i : ℕ) (sees : ℕ → Core → Type 0) (answer : model.Answer) (reader : Reader)
+      → model.Step shape.pages shape.size c model.reads answer (gone_on c reader c.spare_link)
+      → sees (slice_index ws i) c
+      → ReaderMoves shape c me ws homes i (λ k. k) (λ found after. SeatTold shape (sees found) (reading me.0).keeps_spare me after)
+  loads_on i sees answer reader step seen =
+      let same = set-get_or ws i 0 in
+      let b : Bool = (reading me.0).keeps_spare in
+      reads_on shape me c ws homes s i (λ k. k) (λ found after. SeatTold shape (sees found) b me after) (sees (slice_index ws i)) b answer (gone_on c reader c.spare_link) keeps step seen tt
+      (subst (AreWords shape.pages (gone_on c reader c.spare_link)) (sym same) (words_on shape.pages c ws reader s.are_words))
+      (homes_on shape.pages shape.size c (reading me.0) homes reader c.spare_link b s.are_homes s.are_homes.spare)
+      (λ told. (record { view = refl; hand = is.hand ∙ ap (kept_slots b) s.is_reading.spare_is }, told))
+
+  -- the number of closed fills is loaded
+  pub load_done_moves : (page fill : ℕ) → (reading me.0).reader.phase ≡ loading_done page fill
+      → ReaderMoves shape c me ws homes 1 (λ k. k) (λ found after. SeatTold shape (λ core. core.done ≡ found) (reading me.0).keeps_spare me after)
+  load_done_moves page fill at = let seen = sym s.are_words.done in
+      dite (dec_le c.done fill)
+      (λ le. loads_on 1 (λ found core. core.done ≡ found) (model.empty c.done) (record c.reader { phase = loading_link; seen = c.done })
+      (step_in shape me c ws homes s (loading_done page fill) (model.empty c.done) (model.reader_saw c loading_link) at (model.finds_none le refl refl)) seen)
+      (λ not. loads_on 1 (λ found core. core.done ≡ found) model.reading (record c.reader { phase = storing_link page fill; seen = c.done })
+      (step_in shape me c ws homes s (loading_done page fill) model.reading (model.reader_saw c (storing_link page fill)) at (model.finds_closed (lt_of_not-le not) refl refl)) seen)
+
+  -- the link into the position of the hint is loaded, and the spare's slot comes home
+  pub load_link_moves : (page : ℕ) → (reading me.0).reader.phase ≡ loading_link → page ≡ page_before shape.pages (reading me.0).order (reading me.0).reader.hint
+      → ReaderMoves shape c me ws homes (page + 3) (λ k. k) (λ found after. SeatTold shape (IsWordInto shape (reading me.0).reader.hint found) false me after)
+  load_link_moves page at page_is =
+      let k = kept shape me c ws homes s in let some_pages = some_position shape me c ws homes s in
+      let hint : ℕ = (reading me.0).reader.hint in
+      let b : Bool = (reading me.0).keeps_spare in
+      let hand : me.1 ≡ kept_slots b c.spare = is.hand ∙ ap (kept_slots b) s.is_reading.spare_is in
+      let (answer, behind, made) = each_event_is_a_step shape.pages shape.size shape.start c model.reads k tt in
+      let load = subst (λ (p : ReaderPhase). model.ReadStep shape.pages c p answer behind) (sym (phase_in shape me c ws homes s loading_link at)) (reads_of shape.pages shape.size c answer behind made) in
+      let (reader, on) = load_on shape.pages c answer behind load in
+      let next : Core = gone_on c reader c.spare_link in
+      let step : model.Step shape.pages shape.size c model.reads answer next = subst (λ (d : Core). model.Step shape.pages shape.size c model.reads answer d) on made in
+      reads_on shape me c ws homes s (page + 3) (λ k. k) (λ found after. SeatTold shape (IsWordInto shape hint found) false me after) (IsWordInto shape hint (slice_index ws (page + 3))) false answer next gives step
+      record { word_is = sym (word_into shape me c ws homes s page hint page_is); fits = link_fits shape.pages shape.size shape.start c hint s.pages_fit k }
+      tt
+      (subst (AreWords shape.pages next) (sym (set-get_or ws (page + 3) 0)) (words_on shape.pages c ws reader s.are_words))
+      (subst (λ (l : List (ℕ × Option Contents)). AreHomes shape.pages shape.size next (part_of next false) (put_back homes l)) (sym hand)
+      (homes_given shape.pages shape.size c (reading me.0) homes reader c.spare_link b some_pages k.links.apart s.are_homes s.are_homes.spare))
+      (λ told. (record { view = refl; hand = ap rest hand ∙ nothing_left b c.spare }, told))
+
+  -- the spare's link is stored, and its slot taken
+  pub store_moves : (page fill spare new : ℕ) (link : Link) → (reading me.0).reader.phase ≡ storing_link page fill → spare ≡ (reading me.0).spare → (reading me.0).keeps_spare ≡ false
+      → new ≡ word_of link
+      → link ≡ header_link (page_at shape.pages (reading me.0).order (fill + 1)) (fill + 1)
+      → ReaderMoves shape c me ws homes (spare + 3) (λ _. new) (λ _ after. SeatTold shape (λ _. ⊤) true me after)
+  store_moves page fill spare new link at spare_is empty new_is link_is =
+      let k = kept shape me c ws homes s in let some_pages = some_position shape me c ws homes s in
+      let behind : Link = model.next_header shape.pages c fill in
+      let on : suc fill ≡ fill + 1 = omega arith in
+      let header : link ≡ behind = link_is ∙ (λ i. header_link (page_at shape.pages (s.is_reading.order_is i) (sym on i)) (sym on i)) in
+      let reader : Reader = record c.reader { phase = swapping page fill; hint = c.reader.hint } in
+      let next : Core = gone_on c reader behind in
+      let here : c.spare ≡ spare = sym (spare_is ∙ s.is_reading.spare_is) in
+      let none : me.1 ≡ [] = is.hand ∙ ap (λ (b : Bool). kept_slots b (reading me.0).spare) empty in
+      reads_on shape me c ws homes s (spare + 3) (λ _. new) (λ _ after. SeatTold shape (λ _. ⊤) true me after) (λ _. ⊤) true model.reading next (takes c.spare None)
+      (step_in shape me c ws homes s (storing_link page fill) model.reading next at record { answer_is = refl; after_is = refl })
+      tt
+      (s.are_homes.spare empty)
+      (subst (λ (w : ℕ). AreWords shape.pages next (slice_set ws (spare + 3) w)) (ap word_of (sym header) ∙ sym new_is)
+      (subst (λ (p : ℕ). AreWords shape.pages next (slice_set ws (p + 3) (word_of behind))) here (words_set shape.pages c ws reader behind some_pages k.links.apart s.are_words)))
+      (homes_set shape.pages shape.size c (reading me.0) homes reader behind true maybe.none some_pages k.links.apart s.are_homes (λ e. absurd (cc)))
+      (λ told. (record { view = refl; hand = ap (λ (l : List (ℕ × Option Contents)). (c.spare, None) ∷ l) none }, told))

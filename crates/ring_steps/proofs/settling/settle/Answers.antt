@@ -1,0 +1,14 @@
+use Rattle.std.proofs.Common.{rules, Bool, ap, ◌∙◌}
+use Rattle.ring_steps.specs.Views.{reading}
+use Rattle.ring_steps.specs.Seats.{kept_slots}
+use Rattle.ring_steps.proofs.Joins.{joins}
+use Rattle.ring_steps.proofs.settling.settle.Goals as goal
+
+pub join_seat-requires : goal.join_seat-requires
+join_seat-requires c = (
+  search rules,
+  search rules,
+  c.args.reader.is_reading.hand ∙ ap (λ (kept : Bool). kept_slots kept (reading c.args.reader.seat.me.0).spare) c.requires.no_slot,
+  search rules,
+  joins _ _ _ _ _ _ _ c.args.writer.is_writing.view c.args.reader.is_reading.view,
+)

@@ -1,0 +1,55 @@
+-- What the writer's steps ask and tell that load and set links.
+use Rattle.std.specs.Prelude.{◌≡◌, ℕ, ◌+◌, ◌-◌, List, [], ◌∷◌, length, Option, Some, None, slice_index_or}
+use Rattle.trace_model.specs.Links.{word_of}
+use Rattle.trace_model.specs.Frames.{Role, looking_next, marking, Frame, noted_fill}
+use Rattle.trace_model.specs.Ring.{link_into}
+use Rattle.trace_model.specs.Steps.{GoesOn, going, Answer}
+use Rattle.ring_steps.specs.declared.rule.Shape.{Shape}
+use Rattle.ring_steps.specs.Views.{Writing, writing}
+use Rattle.ring_steps.specs.Seats.{Sat, IsWriting, IsWriterStep, WriterTold}
+use Rattle.ring_steps.specs.Paging.{IsTopIn}
+
+-- the tail page, in which the link into the position of the fill to open stands
+abbrev pub tail_in : Writing → ℕ
+tail_in w = slice_index_or w.open_pages (length w.open_pages - 1) 0
+
+-- The frame on top looks at the link behind this page, which is into the position of this fill: the head was moved on
+-- to it.
+pub record LooksBehind (n : ℕ) (w : Writing) (page behind : ℕ) : Type 0 where
+  pub role : Role
+  pub noted : ℕ
+  pub phase : IsTopIn w.frames (looking_next role noted page)
+  pub goes_on : GoesOn role noted w.opened
+  pub behind_is : behind + n ≡ noted + 1
+
+-- and it is about to set the HEADER there
+pub record MarksBehind (n : ℕ) (w : Writing) (page next behind : ℕ) : Type 0 where
+  pub role : Role
+  pub noted : ℕ
+  pub phase : IsTopIn w.frames (marking role noted page next)
+  pub goes_on : GoesOn role noted w.opened
+  pub behind_is : behind + n ≡ noted + 1
+
+abbrev pub number_or_zero : Option ℕ → ℕ
+number_or_zero None = 0
+number_or_zero (Some number) = number
+
+-- the fill that the frame on top is about to open
+abbrev pub noted_on_top : List Frame → ℕ
+noted_on_top [] = 0
+noted_on_top (frame ∷ below) = number_or_zero (noted_fill frame.phase)
+
+-- the fill behind the one that is lost for it
+abbrev pub behind_in : ℕ → Writing → ℕ
+behind_in n w = noted_on_top w.frames + 1 - n
+
+-- What a step on the word of the link into the position of a fill tells: what was found there is the link's word.
+abbrev pub LinkTold : Shape → Writing → (fill found : ℕ) → Sat → Type 0
+LinkTold shape now fill found after =
+    WriterTold shape now (λ core. word_of (link_into shape.pages core.links fill) ≡ found) going after
+
+-- what a load of the reader's wish tells
+pub record WishTold (shape : Shape) (now : Writing) (found : ℕ) (after : Sat) : Type 0 where
+  pub seat : IsWriting after
+  pub answer : Answer
+  pub step : IsWriterStep shape now (λ core. core.wish ≡ found) answer (writing after.0)

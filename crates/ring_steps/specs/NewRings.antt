@@ -1,0 +1,90 @@
+-- A new ring's table: its words and slots, and what its two ends know at first.
+use Rattle.std.specs.Prelude.{◌≡◌, ◌≢◌, ℕ, zero, suc, ◌+◌, ◌%◌, ◌<◌, ◌≤◌, List, [], ◌∷◌, length, Option, Some, None, false}
+use Rattle.trace_model.specs.declared.limits.TheConstants.{MIN_PAGES, MAX_PAGES, MIN_SIZE, MAX_SIZE, LINK_FILLS}
+use Rattle.trace_model.specs.Links.{Link, word_of, normal_link}
+use Rattle.trace_model.specs.Ring.{first_reader}
+use Rattle.link_marks.specs.FirstLinks.{EachAt, IsFirstLink}
+use Rattle.page_image.specs.Contents.{Contents}
+use Rattle.ring_steps.specs.declared.rule.Shape.{Shape}
+use Rattle.ring_steps.specs.declared.writer.WriterSeat.{WriterSeat}
+use Rattle.ring_steps.specs.declared.reader.ReaderSeat.{ReaderSeat}
+use Rattle.ring_steps.specs.Views.{Writing, Reading, whole, writing, reading}
+use Rattle.ring_steps.specs.Seats.{Sat}
+
+-- a ring may have this shape
+pub record IsShape (shape : Shape) : Type 0 where
+  pub some_pages : MIN_PAGES ≤ shape.pages
+  pub most_pages : shape.pages ≤ MAX_PAGES
+  pub small : MIN_SIZE ≤ shape.size
+  pub large : shape.size ≤ MAX_SIZE
+  pub words : shape.size % 4 ≡ 0
+  pub numbers_left : shape.start + shape.pages < LINK_FILLS
+
+-- so many numbers, from one on
+abbrev pub counted : (from count : ℕ) → List ℕ
+counted from zero = []
+counted from (suc count) = from ∷ counted (suc from) count
+
+-- no frame stands, and the first fill is begun, on the page of its position
+abbrev pub first_writing : Shape → Writing
+first_writing shape = record {
+  frames = [];
+  open_pages = (shape.start % shape.pages) ∷ [];
+  history = [];
+  done = shape.start;
+  opened = shape.start + 1;
+}
+
+-- each position has the page of its number, and the spare is the last page
+abbrev pub first_reading : Shape → Reading
+first_reading shape = record {
+  order = counted 0 shape.pages;
+  spare = shape.pages;
+  spare_link = normal_link 0 0;
+  reader = first_reader shape.start;
+  wish = 0;
+  heard = [];
+  keeps_spare = false;
+}
+
+-- the word of a page's link in a new ring: it leads into the position behind the page's own
+abbrev pub IsFirstLinkWord : Shape → (page word : ℕ) → Type 0
+IsFirstLinkWord shape page word =
+    (link : Link) × (word ≡ word_of link) × IsFirstLink shape.pages shape.start ((page + 1) % shape.pages) link
+
+-- A word of a new ring: its counts, for each page of it the link into the position behind, and 0 for the spare.
+pub record IsFirstWord (shape : Shape) (i word : ℕ) : Type 0 where
+  pub opened : i ≡ 0 → word ≡ shape.start + 1
+  pub done : i ≡ 1 → word ≡ shape.start
+  pub wish : i ≡ 2 → word ≡ 0
+  pub link : (page : ℕ) → page < shape.pages → i ≡ page + 3 → IsFirstLinkWord shape page word
+  pub spare : i ≡ shape.pages + 3 → word ≡ 0
+
+abbrev pub AreFirstWords : Shape → List ℕ → Type 0
+AreFirstWords shape words = (length words ≡ shape.pages + 4) × EachAt (IsFirstWord shape) words
+
+-- A slot of a new ring: an empty page for each position but that of the first fill, whose page the writer keeps; none for
+-- the spare.
+pub record IsFirstSlot (shape : Shape) (page : ℕ) (slot : Option Contents) : Type 0 where
+  pub others : page < shape.pages
+      → page ≢ shape.start % shape.pages
+      → (body : Contents) × (slot ≡ Some body) × (body.size ≡ shape.size)
+  pub tail : page ≡ shape.start % shape.pages → slot ≡ None
+  pub spare : page ≡ shape.pages → slot ≡ None
+
+abbrev pub AreFirstSlots : Shape → List (Option Contents) → Type 0
+AreFirstSlots shape slots = (length slots ≡ shape.pages + 1) × EachAt (IsFirstSlot shape) slots
+
+-- the first seat, once it has the tail's slot
+abbrev pub IsWholeSeat : Shape → Sat → Type 0
+IsWholeSeat shape me =
+    (me.0 ≡ whole (first_writing shape) (first_reading shape))
+    × (me.1 ≡ (shape.start % shape.pages, None) ∷ [])
+
+-- the two seats of a new ring: one table's, and each with its part of the model's new ring
+pub record AreNewSeats (shape : Shape) (seats : WriterSeat × ReaderSeat) : Type 0 where
+  pub one_table : seats.1.seat.table_id ≡ seats.0.seat.table_id
+  pub writer_shape : seats.0.shape ≡ shape
+  pub reader_shape : seats.1.shape ≡ shape
+  pub writing_is : writing seats.0.seat.me.0 ≡ first_writing shape
+  pub reading_is : reading seats.1.seat.me.0 ≡ first_reading shape

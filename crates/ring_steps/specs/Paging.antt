@@ -1,0 +1,37 @@
+-- What the writer's steps ask and tell that begin a fill and close one: a page comes into its hands, or goes home.
+use Rattle.std.specs.Prelude.{◌≡◌, ⊤, ℕ, List, [], ◌∷◌, ◌++◌, Some}
+use Rattle.trace_model.specs.Frames.{Phase, opening, Frame, no_frame}
+use Rattle.trace_model.specs.Ring.{Core}
+use Rattle.trace_model.specs.Steps.{Answer, refused, begin_answer}
+use Rattle.link_marks.specs.Reached.{IsReached}
+use Rattle.page_image.specs.Contents.{Contents}
+use Rattle.ring_steps.specs.declared.rule.Shape.{Shape}
+use Rattle.ring_steps.specs.Views.{Writing, writing_of, writes, writing}
+use Rattle.ring_steps.specs.Seats.{Sat, emptied, IsWriterStep}
+
+-- the writer's part is that of a state which steps reach
+pub record IsWriterReached (shape : Shape) (w : Writing) : Type 0 where
+  pub core : Core
+  pub reached : IsReached shape.pages shape.size shape.start core
+  pub is : writing_of core ≡ w
+
+-- a frame stands, and the one on top is in this phase
+abbrev pub IsTopIn : List Frame → Phase → Type 0
+IsTopIn [] phase = ⊥
+IsTopIn (frame ∷ below) phase = frame.phase ≡ phase
+
+-- what the frame on top answers once a fill is begun
+abbrev pub begun_answer : List Frame → Answer
+begun_answer [] = refused no_frame
+begun_answer (frame ∷ below) = begin_answer frame.kind frame.state below
+
+-- What the store that begins a fill tells: the page at its position, of the ring's size, is in the writer's hands.
+pub record OpenTold (shape : Shape) (now : Writing) (after : Sat) : Type 0 where
+  pub view : after.0 ≡ writes (writing after.0)
+  pub page : ℕ
+  pub position : IsTopIn now.frames (opening now.opened page)
+  pub body : Contents
+  pub size_is : body.size ≡ shape.size
+  pub hand : after.1 ≡ (page, Some body) ∷ emptied now.open_pages
+  pub open_pages_are : (writing after.0).open_pages ≡ now.open_pages ++ page ∷ []
+  pub step : IsWriterStep shape now (λ _. ⊤) (begun_answer now.frames) (writing after.0)

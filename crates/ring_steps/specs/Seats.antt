@@ -1,0 +1,115 @@
+-- What ties a seat to its ring's table, and what a step of either end tells.
+use Rattle.std.specs.Prelude.{◌≡◌, ℕ, ◌+◌, ◌<◌, ◌≤◌, List, [], ◌∷◌, map, Option, None, Bool, true, false}
+use Rattle.atomic_table.specs.Table.{Me}
+use Rattle.atomic_table.specs.Seated.{TableId}
+use Rattle.trace_model.specs.declared.limits.TheConstants.{MIN_PAGES, MAX_PAGES, LINK_FILLS}
+use Rattle.trace_model.specs.Ring.{storing_link, swapping, Core, AreApart}
+use Rattle.trace_model.specs.Steps.{Event, steps, Answer, Exchange, Step}
+use Rattle.link_marks.specs.Reached.{IsReached}
+use Rattle.link_marks.specs.Seats.{IsOfReader, PrivateRun}
+use Rattle.page_image.specs.Contents.{Contents}
+use Rattle.ring_steps.specs.declared.rule.Shape.{Shape}
+use Rattle.ring_steps.specs.Views.{Writing, writing_of, Reading, SeatView, writes, reads, writing, reading}
+use Rattle.ring_steps.specs.Shown.{IsReading}
+
+-- a seat's view, and the slots that are out with it
+abbrev pub Sat : Type 0
+Sat = Me (Option Contents) SeatView
+
+-- ---- the table
+
+-- a ring of this shape has such a table: three counts and a link for each page, and a slot for each page
+pub record IsTableOf (shape : Shape) (table : TableId) : Type 0 where
+  pub pages_fit : shape.pages ≤ MAX_PAGES
+  pub words : table.words ≡ shape.pages + 4
+  pub slots : table.slots ≡ shape.pages + 1
+
+-- ---- the seats
+
+-- the empty slots of these pages
+abbrev pub emptied : List ℕ → List (ℕ × Option Contents)
+emptied pages = map (λ page. (page, None)) pages
+
+-- the writer's seat has the slots of the open pages, the oldest first, whose pages it keeps elsewhere
+pub record IsWriting (me : Sat) : Type 0 where
+  pub view : me.0 ≡ writes (writing me.0)
+  pub hand : me.1 ≡ emptied (writing me.0).open_pages
+
+-- the slots that the reader has: that of the spare, while it keeps it
+abbrev pub kept_slots : Bool → ℕ → List (ℕ × Option Contents)
+kept_slots true spare = (spare, None) ∷ []
+kept_slots false spare = []
+
+pub record IsSeatOfReader (me : Sat) : Type 0 where
+  pub view : me.0 ≡ reads (reading me.0)
+  pub hand : me.1 ≡ kept_slots (reading me.0).keeps_spare (reading me.0).spare
+
+-- ---- steps
+
+-- The numbers that the reader goes by have room in a word: pages of the ring, and fills that have a number.
+pub record IsReaderWithin (shape : Shape) (r : Reading) : Type 0 where
+  pub some_pages : MIN_PAGES ≤ shape.pages
+  pub apart : AreApart shape.pages r.order r.spare
+  pub hint : r.reader.hint + shape.pages ≤ LINK_FILLS
+  pub seen : r.reader.seen + shape.pages < LINK_FILLS
+  pub storing : (page fill : ℕ) → r.reader.phase ≡ storing_link page fill → fill + shape.pages < LINK_FILLS
+  pub swaps : (page fill : ℕ) → r.reader.phase ≡ swapping page fill → fill + shape.pages < LINK_FILLS
+
+-- A step of the reader: from a state in which its part is the first, and of which this holds, to one in which it is the
+-- second.
+pub record IsReaderStep (shape : Shape) (before : Reading) (sees : Core → Type 0) (event : Event) (answer : Answer)
+    (after : Reading)
+    : Type 0 where
+  pub core : Core
+  pub next : Core
+  pub reached : IsReached shape.pages shape.size shape.start core
+  pub before_is : IsReading core before
+  pub seen : sees core
+  pub of_reader : IsOfReader event
+  pub step : Step shape.pages shape.size core event answer next
+  pub after_is : IsReading next after
+
+-- what each step of the reader tells of its seat
+pub record ReaderTold (shape : Shape) (sees : Core → Type 0) (event : Event) (answer : Answer) (before after : Sat)
+    : Type 0 where
+  pub seat : IsSeatOfReader after
+  pub within : IsReaderWithin shape (reading after.0)
+  pub step : IsReaderStep shape (reading before.0) sees event answer (reading after.0)
+  pub keeps : (reading after.0).keeps_spare ≡ (reading before.0).keeps_spare
+
+-- In each state in which the writer's part is this, private steps lead to one in which it is that.
+abbrev pub Leads : Shape → (before now : Writing) → Type 0
+Leads shape before now = (c : Core)
+    → IsReached shape.pages shape.size shape.start c
+    → writing_of c ≡ before
+    → (exchanges : List Exchange)
+    × (aside : Core)
+    × PrivateRun shape.pages shape.size c exchanges aside
+    × (writing_of aside ≡ now)
+
+-- A step of the frame on top: from a state in which the writer's part is the first, and of which this holds, to one in
+-- which it is the second.
+pub record IsWriterStep (shape : Shape) (before : Writing) (sees : Core → Type 0) (answer : Answer) (after : Writing)
+    : Type 0 where
+  pub core : Core
+  pub next : Core
+  pub reached : IsReached shape.pages shape.size shape.start core
+  pub before_is : writing_of core ≡ before
+  pub seen : sees core
+  pub step : Step shape.pages shape.size core steps answer next
+  pub after_is : writing_of next ≡ after
+
+-- what each step of the writer tells of its seat; by now its part is this
+pub record WriterTold (shape : Shape) (now : Writing) (sees : Core → Type 0) (answer : Answer) (after : Sat)
+    : Type 0 where
+  pub seat : IsWriting after
+  pub step : IsWriterStep shape now sees answer (writing after.0)
+
+-- ---- the end
+
+-- There is a state that steps reach, of which these are the writer's part and the reader's.
+pub record AreParts (shape : Shape) (w : Writing) (r : Reading) : Type 0 where
+  pub core : Core
+  pub reached : IsReached shape.pages shape.size shape.start core
+  pub writing_is : writing_of core ≡ w
+  pub reading_is : IsReading core r

@@ -1,0 +1,88 @@
+-- What the two ends of a running ring know, each of its own part.
+-- docs/MODEL.md, "The running ring".
+use Rattle.std.specs.Prelude.{ℕ, List, [], ◌∷◌, Bool, false}
+use Rattle.trace_model.specs.Record.{Record}
+use Rattle.trace_model.specs.History.{Action}
+use Rattle.trace_model.specs.Links.{Link, normal_link}
+use Rattle.trace_model.specs.Frames.{Frame}
+use Rattle.trace_model.specs.Ring.{Core, Reader, first_reader}
+
+-- The writer's part of a ring: its frames, the pages of the fills that are begun and not closed, the oldest first, what
+-- the frames did, and the two counts that it alone stores.
+pub record Writing : Type 0 where
+  pub frames : List Frame
+  pub open_pages : List ℕ
+  pub history : List Action
+  pub done : ℕ
+  pub opened : ℕ
+
+abbrev pub writing_of : Core → Writing
+writing_of c = record {
+  frames = c.frames;
+  open_pages = c.open_pages;
+  history = c.history;
+  done = c.done;
+  opened = c.opened;
+}
+
+-- The reader's part: the page at each position, the page outside the ring and its link, how far its take has come and
+-- what it took, and the wish, which it alone stores. heard: the committed records up to the last one that it took, those
+-- that were lost in front among them. keeps_spare: the spare's slot is out with it.
+pub record Reading : Type 0 where
+  pub order : List ℕ
+  pub spare : ℕ
+  pub spare_link : Link
+  pub reader : Reader
+  pub wish : ℕ
+  pub heard : List Record
+  pub keeps_spare : Bool
+
+-- What a seat knows. laid: the first one, before it has the tail's slot; whole: and then, before it is split. joined: the
+-- one that both became, and spent is what it left.
+pub data SeatView : Type 0 where
+  laid : Writing → Reading → SeatView
+  whole : Writing → Reading → SeatView
+  writes : Writing → SeatView
+  reads : Reading → SeatView
+  joined : Writing → Reading → SeatView
+  spent : SeatView
+
+abbrev pub no_writing : Writing
+no_writing = record { frames = []; open_pages = []; history = []; done = 0; opened = 0 }
+
+abbrev pub no_reading : Reading
+no_reading = record {
+  order = [];
+  spare = 0;
+  spare_link = normal_link 0 0;
+  reader = first_reader 0;
+  wish = 0;
+  heard = [];
+  keeps_spare = false;
+}
+
+-- the writer's part of what a seat knows, where it has one
+abbrev pub writing : SeatView → Writing
+writing (laid w r) = w
+writing (whole w r) = w
+writing (writes w) = w
+writing (reads r) = no_writing
+writing (joined w r) = w
+writing spent = no_writing
+
+-- the reader's part of it
+abbrev pub reading : SeatView → Reading
+reading (laid w r) = r
+reading (whole w r) = r
+reading (writes w) = no_reading
+reading (reads r) = r
+reading (joined w r) = r
+reading spent = no_reading
+
+-- The views of a ring's seats: at first one knows both parts; then the writer's is the first and the reader's the second;
+-- at the end both are one again.
+pub data ArePlaced (w : Writing) (r : Reading) : List SeatView → Type 0 where
+  begun : ArePlaced w r (laid w r ∷ [])
+  made : ArePlaced w r (whole w r ∷ [])
+  running : ArePlaced w r (writes w ∷ reads r ∷ [])
+  settled : ArePlaced w r (joined w r ∷ spent ∷ [])

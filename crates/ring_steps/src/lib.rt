@@ -1,0 +1,26 @@
+//! The steps of a running ring, each on one word that two threads share.
+//!
+//! The words and the page slots of a ring lie in one table with two seats, the writer's and the reader's. Its rule says
+//! that they show a state of the ring's model with what the two ends know (`docs/MODEL.md`, "The running ring"); each
+//! call here is one step of that model.
+#![tactic(auto)]
+
+mod laying;
+mod links;
+mod making;
+mod plays;
+mod reader;
+mod rule;
+mod settling;
+mod views;
+mod writer;
+
+pub use making::{seats, seats_at};
+pub use reader::ReaderSeat;
+pub use rule::Shape;
+pub use settling::settle;
+pub use views::View;
+pub use writer::{Present, WriterSeat};
+
+#[cfg(test)]
+mod tests;

@@ -1,0 +1,96 @@
+//! Steps on a word, each with what its caller wants it to tell.
+ghost use Rattle.std.specs.Prelude.{◌≡◌, ℕ, ◌<◌, ◌==◌};
+ghost use prog.Atomic.{either};
+ghost use Rattle.atomic_table.specs.Table.{Allows};
+ghost use Rattle.ring_steps.specs.Shown.{Shows};
+
+use crate::rule::{Board, Shape};
+use crate::views::View;
+use atomic_table::{Play, Seat};
+use page_image::Page;
+use std::marker::{Brand, PhantomData};
+
+/// A seat at a ring's table.
+pub(crate) type Place = Seat<Option<Page>, View>;
+
+/// What a step tells: of its seat before, of what it found (or stored), and of its seat after.
+pub(crate) trait Telling {
+    ghost use Rattle.std.specs.Prelude.{ℕ};
+    ghost use Rattle.ring_steps.specs.Seats.{Sat};
+
+    ghost tells: { Sat → ℕ → Sat → Type 0 };
+}
+
+impl Telling for Brand {
+    ghost tells = { λ _ _ _. Unit {0} };
+}
+
+/// A step that tells this.
+struct Told<J> {
+    of: PhantomData<J>,
+}
+
+impl<J: Telling> Play<Option<Page>, View> for Told<J> {
+    ghost then = { λ _ before found after. J.tells before found after };
+}
+
+/// Loads a word.
+#[inline(always)]
+pub(crate) fn load<J: Telling>(board: &Board, shape: Shape, seat: &mut Place, word: usize) -> u64
+    requires shape { board.now.shared.key ≡ shape }
+    requires seated { seat.old.table_id ≡ board.now.shared.table_id }
+    requires word { word < board.now.shared.table_id.words }
+    requires allowed { Allows (Shows shape.pages shape.size shape.start)
+        board.now.shared.table_id.slots seat.old.id seat.old.me word (λ n. n) (J.tells seat.old.me) }
+    ensures seated { (seat.new.table_id ≡ seat.old.table_id) × (seat.new.id ≡ seat.old.id) }
+    ensures told { J.tells seat.old.me result seat.new.me }
+{
+    let _shape = shape;
+    board.shared.load::<Told<J>>(seat, word)
+}
+
+/// Stores a word.
+#[inline(always)]
+pub(crate) fn store<J: Telling>(
+    board: &Board,
+    shape: Shape,
+    seat: &mut Place,
+    word: usize,
+    new: u64,
+)
+    requires shape { board.now.shared.key ≡ shape }
+    requires seated { seat.old.table_id ≡ board.now.shared.table_id }
+    requires word { word < board.now.shared.table_id.words }
+    requires allowed { Allows (Shows shape.pages shape.size shape.start)
+        board.now.shared.table_id.slots seat.old.id seat.old.me word (λ _. new) (λ _. J.tells seat.old.me new) }
+    ensures seated { (seat.new.table_id ≡ seat.old.table_id) × (seat.new.id ≡ seat.old.id) }
+    ensures told { J.tells seat.old.me new seat.new.me }
+{
+    let _shape = shape;
+    board.shared.store::<Told<J>>(seat, word, new);
+}
+
+/// Makes a word `to` where it is `from`, and answers what it was.
+#[inline(always)]
+pub(crate) fn exchange<J: Telling>(
+    board: &Board,
+    shape: Shape,
+    seat: &mut Place,
+    word: usize,
+    from: u64,
+    to: u64,
+) -> u64
+    requires shape { board.now.shared.key ≡ shape }
+    requires seated { seat.old.table_id ≡ board.now.shared.table_id }
+    requires word { word < board.now.shared.table_id.words }
+    requires allowed { Allows (Shows shape.pages shape.size shape.start)
+        board.now.shared.table_id.slots seat.old.id seat.old.me word (λ n. either (n == from) to n)
+        (J.tells seat.old.me) }
+    ensures seated { (seat.new.table_id ≡ seat.old.table_id) × (seat.new.id ≡ seat.old.id) }
+    ensures told { J.tells seat.old.me result seat.new.me }
+{
+    let _shape = shape;
+    board
+        .shared
+        .compare_exchange::<Told<J>>(seat, word, from, to)
+}

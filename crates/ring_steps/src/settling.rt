@@ -1,0 +1,55 @@
+//! The two seats of a ring, joined at its end.
+ghost use Rattle.std.specs.Prelude.{◌≡◌, false};
+ghost use Rattle.std.specs.Arc.{arc_value};
+ghost use Rattle.ring_steps.specs.Views.{writing, reading, writes, joined};
+ghost use Rattle.ring_steps.specs.Seats.{Sat, IsTableOf, AreParts};
+
+use crate::plays::{Place, load};
+use crate::reader::ReaderSeat;
+use crate::rule::{Board, Shape};
+use crate::views::View;
+use crate::writer::WriterSeat;
+use atomic_table::Join;
+use std::marker::Brand;
+
+/// The word of the number of closed fills.
+const DONE: usize = 1;
+
+/// Both parts in one view.
+struct Both;
+
+impl Join<View> for Both {
+    ghost use Rattle.ring_steps.specs.Views.{writing, reading, joined, spent};
+
+    ghost both = { λ left right. joined (writing left) (reading right) };
+
+    ghost spent = { spent };
+}
+
+/// A load of the number of closed fills by both seats in one, which shows what they know.
+fn look(board: &Board, shape: Shape, seat: &mut Place)
+    requires key { board.now.shared.key ≡ shape }
+    requires table { IsTableOf shape board.now.shared.table_id }
+    requires seated { seat.old.table_id ≡ board.now.shared.table_id }
+    requires seat { seat.old.me.0 ≡ joined (writing seat.old.me.0) (reading seat.old.me.0) }
+    ensures { AreParts shape (writing seat.old.me.0) (reading seat.old.me.0) }
+{
+    load::<Brand>(board, shape, seat, DONE);
+}
+
+/// Joins the two seats of a ring, and loads once how many fills are closed. So what both know are the parts of one state
+/// that the ring reached. The reader has no slot then: it has made no step since its last take began, or but loads.
+pub fn settle(writer: WriterSeat, reader: ReaderSeat)
+    requires one_table { reader.seat.table_id ≡ writer.seat.table_id }
+    requires no_slot { (reading reader.seat.me.0).keeps_spare ≡ false }
+    ensures { AreParts writer.shape (writing writer.seat.me.0) (reading reader.seat.me.0) }
+{
+    let WriterSeat {
+        board,
+        mut seat,
+        shape,
+    } = writer;
+    let ReaderSeat { seat: other, .. } = reader;
+    board.shared.join_seat::<Both>(&mut seat, other);
+    look(&board, shape, &mut seat);
+}

@@ -1,0 +1,13 @@
+//! What a seat at a ring's table knows.
+use std::marker::Model;
+
+/// What an end of a ring knows of its own part. No value of it is made: contracts and proofs alone speak of it.
+pub struct View;
+
+impl Model for View {
+    ghost use Rattle.ring_steps.specs.Views.{SeatView, spent};
+
+    ghost Value = { SeatView };
+
+    ghost view = { λ _. spent };
+}
