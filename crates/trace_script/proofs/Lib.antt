@@ -4,5 +4,5 @@ pub mod ValueLemmas
 pub mod PayloadLemmas
 pub mod KeptLemmas
 pub mod OrderLemmas
-pub mod RecordLemmas
+pub mod UsualLemmas
 pub mod ScriptLemmas

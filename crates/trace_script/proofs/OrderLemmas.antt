@@ -24,22 +24,26 @@ use Rattle.trace_script.specs.ScriptFields.{fields_seen, AreFields, IsWhole}
 use Rattle.trace_script.proofs.TextParts.{parts_behind, one_part}
 use Rattle.trace_script.proofs.ValueLemmas.{decimal_parts}
 
--- ---- a field with a byte in it, and no space
+-- ---- a field with a byte in it, and no space or line feed
 pub record IsSolid (field : List ℕ) : Type 0 where
   pub some : 0 < length field
   pub solid : All (λ b. (b == 32) ≡ false) field
+  pub no_feed : All (λ b. (b == 10) ≡ false) field
 
-one_byte : (b : ℕ) → (b == 32) ≡ false → IsSolid (b ∷ [])
-one_byte b other = record { some = omega arith; solid = All-cons (λ b. (b == 32) ≡ false) b [] other (All-nil (λ b. (b == 32) ≡ false)) }
+one_is_no : (c b : ℕ) → (b == c) ≡ false → All (λ b. (b == c) ≡ false) (b ∷ [])
+one_is_no c b other = All-cons (λ b. (b == c) ≡ false) b [] other (All-nil (λ b. (b == c) ≡ false))
 
--- what passes a test that no space does is solid
-pub all_solid : (p : ℕ → Bool) (text : List ℕ) → p 32 ≡ false → list_all p text ≡ true → All (λ b. (b == 32) ≡ false) text
-all_solid p text other h = All-from_recursion (λ b. (b == 32) ≡ false) text (each text h)
+one_byte : (b : ℕ) → (b == 32) ≡ false → (b == 10) ≡ false → IsSolid (b ∷ [])
+one_byte b no_space no_feed = record { some = omega arith; solid = one_is_no 32 b no_space; no_feed = one_is_no 10 b no_feed }
+
+-- what passes a test that this byte doesn't is without it
+pub all_solid : (c : ℕ) (p : ℕ → Bool) (text : List ℕ) → p c ≡ false → list_all p text ≡ true → All (λ b. (b == c) ≡ false) text
+all_solid c p text other h = All-from_recursion (λ b. (b == c) ≡ false) text (each text h)
   where
-    one : (b : ℕ) → p b ≡ true → (b == 32) ≡ false
-    one b is = false_from_ne_true (b == 32) (λ same. both_ways (p b) (ap p (eqb-true b 32 same) ∙ other) is)
+    one : (b : ℕ) → p b ≡ true → (b == c) ≡ false
+    one b is = false_from_ne_true (b == c) (λ same. both_ways (p b) (ap p (eqb-true b c same) ∙ other) is)
 
-    each : (text : List ℕ) → list_all p text ≡ true → AllByRecursion (λ b. (b == 32) ≡ false) text
+    each : (text : List ℕ) → list_all p text ≡ true → AllByRecursion (λ b. (b == c) ≡ false) text
     each [] h = tt
     each (b ∷ text) h = let parts = and_parts _ _ h in (one b parts.0, each text parts.1)
 
@@ -52,7 +56,8 @@ unfolding decimal_in
 decimal_solid field n h =
     chosen (is_decimal field) _ _ n (λ is _.
     let parts = decimal_parts field is in
-    record { some = parts.0; solid = all_solid is_ascii_digit field refl (digits_are field parts.2) })
+    let digits = digits_are field parts.2 in
+    record { some = parts.0; solid = all_solid 32 is_ascii_digit field refl digits; no_feed = all_solid 10 is_ascii_digit field refl digits })
     (λ other. absurd (ok_is_no_err n bad_number (sym other))) h
 
 below_solid : (limit : ℕ) (field : List ℕ) (n : ℕ) → number_below limit field ≡ Ok n → IsSolid field
@@ -75,7 +80,8 @@ named_solid (letter ∷ digits) h =
     let is : letter ≡ 99 = eqb-true letter 99 b.0 in
     record {
       some = omega arith;
-      solid = All-cons (λ b. (b == 32) ≡ false) letter digits (ne_eqb letter 32 (λ same. omega arith)) (all_solid is_ascii_digit digits refl (digits_are digits a.1));
+      solid = All-cons (λ b. (b == 32) ≡ false) letter digits (ne_eqb letter 32 (λ same. omega arith)) (all_solid 32 is_ascii_digit digits refl (digits_are digits a.1));
+      no_feed = All-cons (λ b. (b == 10) ≡ false) letter digits (ne_eqb letter 10 (λ same. omega arith)) (all_solid 10 is_ascii_digit digits refl (digits_are digits a.1));
     }
 
 cpu_solid : (cpus : ℕ) (field : List ℕ) (cpu : ℕ) → cpu_in cpus field ≡ Ok cpu → IsSolid field
@@ -86,8 +92,8 @@ cpu_solid cpus field cpu h =
 hex_solid : (field : List ℕ) → is_hex field ≡ true → IsSolid field
 unfolding is_hex
 hex_solid field h = elim (or_cases _ _ h) [
-  | inl is ↦ let same : field ≡ 45 ∷ [] = (bytes_eq-Decides field (codes "-")).0 is in subst IsSolid (sym same) (one_byte 45 refl)
-  | inr is ↦ let a = and_parts _ _ is in let b = and_parts _ _ a.0 in record { some = ltb-true _ _ b.0; solid = all_solid (λ c. is_digit c 16) field refl a.1 }
+  | inl is ↦ let same : field ≡ 45 ∷ [] = (bytes_eq-Decides field (codes "-")).0 is in subst IsSolid (sym same) (one_byte 45 refl refl)
+  | inr is ↦ let a = and_parts _ _ is in let b = and_parts _ _ a.0 in record { some = ltb-true _ _ b.0; solid = all_solid 32 (λ c. is_digit c 16) field refl a.1; no_feed = all_solid 10 (λ c. is_digit c 16) field refl a.1 }
 ]
 
 payload_solid : (field payload : List ℕ) → payload_in field ≡ Ok payload → IsSolid field
@@ -96,36 +102,36 @@ payload_solid field payload h =
     chosen (is_hex field) _ _ payload (λ is _. hex_solid field is) (λ other. absurd (ok_is_no_err payload bad_hex (sym other))) h
 
 -- ---- the fields of a command
-abbrev AreSolid : List (List ℕ) → Type 0
+abbrev pub AreSolid : List (List ℕ) → Type 0
 AreSolid [] = ⊤
 AreSolid (field ∷ fields) = IsSolid field × AreSolid fields
 
-spelled_solid : (cpus collectors : ℕ) (command : Command) (fields : List (List ℕ)) → SpellsCommand cpus collectors command fields → AreSolid fields
+pub spelled_solid : (cpus collectors : ℕ) (command : Command) (fields : List (List ℕ)) → SpellsCommand cpus collectors command fields → AreSolid fields
 spelled_solid cpus collectors (begin_frame cpu moment payload) fields h =
-    subst AreSolid (sym h.3) (cpu_solid cpus h.0 cpu h.4, (one_byte 98 refl, (decimal_solid h.1 moment h.5, (payload_solid h.2 payload h.6, tt))))
+    subst AreSolid (sym h.3) (cpu_solid cpus h.0 cpu h.4, (one_byte 98 refl refl, (decimal_solid h.1 moment h.5, (payload_solid h.2 payload h.6, tt))))
 spelled_solid cpus collectors (step_frame cpu count) fields h =
-    subst AreSolid (sym h.2) (cpu_solid cpus h.0 cpu h.3, (one_byte 115 refl, (count_solid h.1 count h.4, tt)))
+    subst AreSolid (sym h.2) (cpu_solid cpus h.0 cpu h.3, (one_byte 115 refl refl, (count_solid h.1 count h.4, tt)))
 spelled_solid cpus collectors (finish_frame cpu) fields h =
-    subst AreSolid (sym h.1) (cpu_solid cpus h.0 cpu h.2, (one_byte 102 refl, tt))
+    subst AreSolid (sym h.1) (cpu_solid cpus h.0 cpu h.2, (one_byte 102 refl refl, tt))
 spelled_solid cpus collectors (write cpu moment payload) fields h =
-    subst AreSolid (sym h.3) (cpu_solid cpus h.0 cpu h.4, (one_byte 119 refl, (decimal_solid h.1 moment h.5, (payload_solid h.2 payload h.6, tt))))
+    subst AreSolid (sym h.3) (cpu_solid cpus h.0 cpu h.4, (one_byte 119 refl refl, (decimal_solid h.1 moment h.5, (payload_solid h.2 payload h.6, tt))))
 spelled_solid cpus collectors (close cpu) fields h =
-    subst AreSolid (sym h.1) (cpu_solid cpus h.0 cpu h.2, (one_byte 99 refl, tt))
+    subst AreSolid (sym h.1) (cpu_solid cpus h.0 cpu h.2, (one_byte 99 refl refl, tt))
 spelled_solid cpus collectors (step_reader cpu count) fields h =
-    subst AreSolid (sym h.2) (cpu_solid cpus h.0 cpu h.3, (one_byte 114 refl, (count_solid h.1 count h.4, tt)))
+    subst AreSolid (sym h.2) (cpu_solid cpus h.0 cpu h.3, (one_byte 114 refl refl, (count_solid h.1 count h.4, tt)))
 spelled_solid cpus collectors (take_page cpu) fields h =
-    subst AreSolid (sym h.1) (cpu_solid cpus h.0 cpu h.2, (one_byte 116 refl, tt))
+    subst AreSolid (sym h.1) (cpu_solid cpus h.0 cpu h.2, (one_byte 116 refl refl, tt))
 spelled_solid cpus collectors (wish cpu) fields h =
-    subst AreSolid (sym h.1) (cpu_solid cpus h.0 cpu h.2, (one_byte 97 refl, tt))
+    subst AreSolid (sym h.1) (cpu_solid cpus h.0 cpu h.2, (one_byte 97 refl refl, tt))
 spelled_solid cpus collectors (deliver collector cpu fill) fields h =
-    subst AreSolid (sym h.3) (one_byte 100 refl, (below_solid collectors h.0 collector h.4, (cpu_solid cpus h.1 cpu h.5, (decimal_solid h.2 fill h.6, tt))))
+    subst AreSolid (sym h.3) (one_byte 100 refl refl, (below_solid collectors h.0 collector h.4, (cpu_solid cpus h.1 cpu h.5, (decimal_solid h.2 fill h.6, tt))))
 
-solid_spaced : (fields : List (List ℕ)) → AreSolid fields → is_well_spaced fields ≡ true
+pub solid_spaced : (fields : List (List ℕ)) → AreSolid fields → is_well_spaced fields ≡ true
 solid_spaced [] h = refl
 solid_spaced (field ∷ fields) h = and_from _ _ (lt-ltb 0 (length field) h.0.some) (solid_spaced fields h.1)
 
 -- ---- the form of a line
-command_in_form : (cpus collectors : ℕ) (text : List ℕ) (fields : List (List ℕ)) → fields_of text ≡ fields → is_well_spaced fields ≡ true → command_in cpus collectors text ≡ command_of cpus collectors fields
+pub command_in_form : (cpus collectors : ℕ) (text : List ℕ) (fields : List (List ℕ)) → fields_of text ≡ fields → is_well_spaced fields ≡ true → command_in cpus collectors text ≡ command_of cpus collectors fields
 unfolding command_in
 command_in_form cpus collectors text fields is spaced =
     cond-true (is_well_spaced (fields_of text)) _ _ (ap is_well_spaced is ∙ spaced) ∙ ap (command_of cpus collectors) is

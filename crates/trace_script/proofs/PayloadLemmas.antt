@@ -1,17 +1,18 @@
 -- What pairs of hexadecimal digits spell, digit by digit.
-use Rattle.std.proofs.Common.{◌≡◌, ◌≢◌, ℕ, suc, zero, ◌+◌, ◌*◌, ◌%◌, ◌<◌, ◌≤◌, ◌⊎◌, Bool, true, false, ◌==◌, cond, List, [], ◌∷◌, ◌++◌, length, get_or, get_or-set_other, get_or-set_same, below_more, set, length-set, take, drop, codes, Ok, Err, refl, ◌∙◌, ap, inl, inr, subst, arith, length-drop}
+use Rattle.std.proofs.Common.{◌≡◌, ◌≢◌, ℕ, suc, zero, ◌+◌, ◌-◌, ◌*◌, ◌%◌, ◌<◌, ◌≤◌, ◌⊎◌, true, false, ◌==◌, List, [], ◌∷◌, ◌++◌, length, get_or, take, drop, codes, Ok, Err, refl, sym, ◌∙◌, ap, inl, inr, subst, arith, append_assoc, length-append}
 use Rattle.std.specs.Char.{digit_value, is_digit}
 use Rattle.std.specs.List.{list_all, enumerate_from}
 use Rattle.std.specs.Str.{bytes_eq}
-use Rattle.std.proofs.lemmas.Bool.{ltb-true, lt-ltb, eqb-true, eqb-false, eq-eqb, and_from, and_parts, or_right, or_cases, both_ways, cases_Bool, cond-true, cond-false, false_from_ne_true}
-use Rattle.std.proofs.Math.Seq.{take-append_seam}
-use Rattle.std.proofs.lemmas.List.{append-nil, take_all, drop_all}
-use Rattle.std.proofs.lemmas.List.Folds.{list_all_more, list_all_at}
+use Rattle.std.proofs.lemmas.Bool.{ltb-true, lt-ltb, ne_eqb, eqb-true, eqb-false, eq-eqb, and_from, and_parts, or_right, or_cases, both_ways, cases_Bool, cond-true, cond-false, false_from_ne_true}
+use Rattle.std.proofs.lemmas.List.{append-nil, take_rest}
+use Rattle.std.proofs.lemmas.List.Folds.{list_all-append}
 use Rattle.std.proofs.lemmas.Slice.Eq.{bytes_eq-Decides}
 use Rattle.text_model.specs.Text.{is_hex, bytes_of_pairs}
 use Rattle.text_model.specs.Script.{bad_hex, payload_in}
 use Rattle.trace_script.specs.declared.payload.TheConstants.{HIGH_VALUES, LOW_VALUES}
-use Rattle.trace_script.specs.Decoding.{high_value, low_value, pair_at, pair_value, AreDecoded}
+use Rattle.trace_script.specs.Decoding.{high_value, low_value, pair_value, ArePut}
+use Rattle.trace_script.specs.UsualLines.{IsPayloadCut}
+use Rattle.trace_script.proofs.ValueLemmas.{two_and_rest}
 
 -- ---- the tables
 value_in_table : (f : ℕ → ℕ) (values : List ℕ) (n i : ℕ) → list_all (λ (entry : ℕ × ℕ). entry.1 == f entry.0) (enumerate_from n values) ≡ true → i < length values → get_or values i 0 ≡ f (n + i)
@@ -41,118 +42,93 @@ pub low_in_table : (byte : ℕ) → byte < 256 → get_or LOW_VALUES byte 0 ≡ 
 low_in_table byte small = let here : 0 + byte ≡ byte = omega arith in value_in_table low_value LOW_VALUES 0 byte lows_are (omega (arith, lows_length)) ∙ ap low_value here
 
 -- what a digit is worth, and what another byte
-high_of : (c : ℕ) → ((is_digit c 16 ≡ true) × (high_value c ≡ 16 * digit_value c) × (digit_value c < 16)) ⊎ ((is_digit c 16 ≡ false) × (high_value c ≡ 256))
+high_of : (c : ℕ) → ((is_digit c 16 ≡ true) × (high_value c ≡ 16 * digit_value c) × (digit_value c < 16)) ⊎ ((is_digit c 16 ≡ false) × (high_value c ≡ 4096))
 high_of c = elim (cases_Bool (is_digit c 16)) [
   | inl is ↦ inl (is, cond-true (is_digit c 16) _ _ is, ltb-true _ _ is)
   | inr other ↦ inr (other, cond-false (is_digit c 16) _ _ other)
 ]
 
-low_of : (c : ℕ) → ((is_digit c 16 ≡ true) × (low_value c ≡ digit_value c) × (digit_value c < 16)) ⊎ ((is_digit c 16 ≡ false) × (low_value c ≡ 256))
+low_of : (c : ℕ) → ((is_digit c 16 ≡ true) × (low_value c ≡ digit_value c) × (digit_value c < 16)) ⊎ ((is_digit c 16 ≡ false) × (low_value c ≡ 4096))
 low_of c = elim (cases_Bool (is_digit c 16)) [
   | inl is ↦ inl (is, cond-true (is_digit c 16) _ _ is, ltb-true _ _ is)
   | inr other ↦ inr (other, cond-false (is_digit c 16) _ _ other)
 ]
 
+-- the digits of a pair that is worth less than no digit
+pub pair_of : (high low : ℕ) → pair_value high low < 4096
+    → (is_digit high 16 ≡ true) × (is_digit low 16 ≡ true) × (pair_value high low ≡ 16 * digit_value high + digit_value low) × (pair_value high low < 256)
+pair_of high low small = elim (high_of high) [
+  | inr other ↦ absurd (omega (arith, other.1, small))
+  | inl first ↦ elim (low_of low) [
+    | inr other ↦ absurd (omega (arith, other.1, small))
+    | inl second ↦ (first.0, second.0, omega (arith, first.1, second.1), omega (arith, first.1, first.2, second.1, second.2))
+  ]
+]
+
 -- ---- the bytes
-pair_later : (a b : ℕ) (digits : List ℕ) (k : ℕ) → pair_at (a ∷ b ∷ digits) (suc k) ≡ pair_at digits k
-pair_later a b digits k =
-    let first : get_or (a ∷ b ∷ digits) (2 * suc k) 0 ≡ get_or digits (2 * k) 0 = ap (λ (n : ℕ). get_or (a ∷ b ∷ digits) n 0) (twice k) in
-    let second : get_or (a ∷ b ∷ digits) (2 * suc k + 1) 0 ≡ get_or digits (2 * k + 1) 0 = ap (λ (n : ℕ). get_or (a ∷ b ∷ digits) n 0) (twice_more k) in
-    omega (arith, ap digit_value first, ap digit_value second)
-  where
-    twice : (k : ℕ) → 2 * suc k ≡ suc (suc (2 * k))
-    twice k = omega arith
-
-    twice_more : (k : ℕ) → 2 * suc k + 1 ≡ suc (suc (2 * k + 1))
-    twice_more k = omega arith
-
--- bytes that are those of the pairs, one by one
-pub bytes_are : (digits bytes : List ℕ) → length digits ≡ 2 * length bytes → ((k : ℕ) → k < length bytes → get_or bytes k 0 ≡ pair_at digits k) → bytes ≡ bytes_of_pairs digits
-bytes_are [] [] len each = refl
-bytes_are [] (byte ∷ bytes) len each = absurd (omega (arith, len))
-bytes_are (a ∷ []) [] len each = absurd (omega (arith, len))
-bytes_are (a ∷ []) (byte ∷ bytes) len each = absurd (omega (arith, len))
-bytes_are (a ∷ b ∷ digits) [] len each = absurd (omega (arith, len))
-bytes_are (a ∷ b ∷ digits) (byte ∷ bytes) len each =
-    let first : byte ≡ 16 * digit_value a + digit_value b = each 0 (omega arith) in
-    let later = bytes_are digits bytes (omega (arith, len)) (λ k l. each (suc k) (omega arith) ∙ pair_later a b digits k) in
-    ap (λ (n : ℕ). n ∷ bytes) first ∙ ap (λ (bs : List ℕ). (16 * digit_value a + digit_value b) ∷ bs) later
-
--- ---- the digits
-digits_turn : (digits : List ℕ) (at : ℕ) → 2 * at + 1 < length digits → is_digit (get_or digits (2 * at) 0) 16 ≡ true → is_digit (get_or digits (2 * at + 1) 0) 16 ≡ true
-    → list_all (λ c. is_digit c 16) (take (2 * at) digits) ≡ true → list_all (λ c. is_digit c 16) (take (2 * (at + 1)) digits) ≡ true
-digits_turn digits at below high low front =
-    let first = list_all_more (λ c. is_digit c 16) digits (2 * at) 0 (omega arith) in
-    let second = list_all_more (λ c. is_digit c 16) digits (2 * at + 1) 0 below in
-    let up : 2 * (at + 1) ≡ 2 * at + 1 + 1 = omega arith in
-    let one : list_all (λ c. is_digit c 16) (take (2 * at + 1) digits) ≡ true = first ∙ and_from _ _ front high in
-    ap (λ (n : ℕ). list_all (λ c. is_digit c 16) (take n digits)) up ∙ (second ∙ and_from _ _ one low)
-
 -- a pair more
-pub pair_turn : (digits bytes : List ℕ) (at value : ℕ) → length digits ≡ 2 * length bytes → at < length bytes → value ≡ pair_value digits at → value ≤ 255 → AreDecoded digits bytes at → AreDecoded digits (set bytes at value) (at + 1)
-pair_turn digits bytes at value len there is small so_far = elim (high_of (get_or digits (2 * at) 0)) [
-  | inr other ↦ absurd (omega (arith, is, other.1, small))
-  | inl first ↦ elim (low_of (get_or digits (2 * at + 1) 0)) [
-    | inr other ↦ absurd (omega (arith, is, other.1, small))
-    | inl second ↦
-        record {
-          are_digits = digits_turn digits at (omega (arith, len)) first.0 second.0 so_far.are_digits;
-          written = below_more _ _
-              (λ k h. let ne : k ≢ at = omega arith in rw get_or-set_other (so_far.written k h))
-              (let same : value ≡ pair_at digits at = omega (arith, is, first.1, second.1) in rw get_or-set_same same);
-        }
-  ]
+pairs_push : (digits : List ℕ) (high low : ℕ) → length digits % 2 ≡ 0 → bytes_of_pairs (digits ++ high ∷ low ∷ []) ≡ bytes_of_pairs digits ++ (16 * digit_value high + digit_value low) ∷ []
+pairs_push [] high low even = refl
+pairs_push (a ∷ []) high low even = absurd (omega (arith, even))
+pairs_push (a ∷ b ∷ digits) high low even = ap (λ (bs : List ℕ). (16 * digit_value a + digit_value b) ∷ bs) (pairs_push digits high low (omega (arith, even)))
+
+pub pair_put : (text left old new after : List ℕ) (high low value : ℕ) → ArePut text (high ∷ low ∷ left) old new → value ≡ pair_value high low → value < 4096 → after ≡ new ++ value ∷ [] → ArePut text left old after
+pair_put text left old new after high low value so_far is small more =
+    let pair = pair_of high low (omega (arith, is)) in
+    let digits = so_far.digits in
+    let byte : value ≡ 16 * digit_value high + digit_value low = is ∙ pair.2 in
+    record {
+      digits = digits ++ high ∷ low ∷ [];
+      cut = so_far.cut ∙ sym (append_assoc digits (high ∷ low ∷ []) left);
+      even = (let len = length-append digits (high ∷ low ∷ []) in omega (arith, len, so_far.even));
+      are_digits = list_all-append (λ c. is_digit c 16) digits (high ∷ low ∷ []) ∙ and_from _ _ so_far.are_digits (and_from _ _ pair.0 (and_from _ _ pair.1 refl));
+      put = more
+          ∙ ap (λ (bs : List ℕ). bs ++ value ∷ []) so_far.put
+          ∙ append_assoc old (bytes_of_pairs digits) (value ∷ [])
+          ∙ ap (λ (n : ℕ). old ++ (bytes_of_pairs digits ++ n ∷ [])) byte
+          ∙ ap (λ (bs : List ℕ). old ++ bs) (sym (pairs_push digits high low so_far.even));
+    }
+
+pub pair_fits : (high low : ℕ) → pair_value high low ≤ 8192
+pair_fits high low = elim (high_of high) [
+  | inr other ↦ elim (low_of low) [ inr same ↦ omega (arith, other.1, same.1) | inl second ↦ omega (arith, other.1, second.1, second.2) ]
+  | inl first ↦ elim (low_of low) [ inr other ↦ omega (arith, first.1, first.2, other.1) | inl second ↦ omega (arith, first.1, first.2, second.1, second.2) ]
 ]
 
--- a pair that isn't of digits
-pub pair_fails : (digits : List ℕ) (at value : ℕ) → 2 * at + 1 < length digits → value ≡ pair_value digits at → 255 < value → list_all (λ c. is_digit c 16) digits ≡ false
-pair_fails digits at value below is large = elim (high_of (get_or digits (2 * at) 0)) [
-  | inr other ↦ list_all_at (λ c. is_digit c 16) digits (2 * at) 0 (omega arith) other.0
-  | inl first ↦ elim (low_of (get_or digits (2 * at + 1) 0)) [
-    | inr other ↦ list_all_at (λ c. is_digit c 16) digits (2 * at + 1) 0 below other.0
-    | inl second ↦ absurd (omega (arith, is, first.1, first.2, second.1, second.2, large))
-  ]
-]
+pub pair_is_byte : (high low value : ℕ) → value ≡ pair_value high low → value < 4096 → value < 256
+pair_is_byte high low value is small = let pair = pair_of high low (omega (arith, is)) in omega (arith, is, pair.3)
 
-so_many : (digits bytes : List ℕ) (m n : ℕ) → m ≡ n → AreDecoded digits bytes m → AreDecoded digits bytes n
-so_many digits bytes m n same h = subst (λ (k : ℕ). AreDecoded digits bytes k) same h
+-- eight bytes of a text, and what stands behind them, in the code's words
+pub eight_and_rest : (left : List ℕ) → 8 ≤ length left
+    → left ≡ get_or left 0 0 ∷ get_or left 1 0 ∷ get_or left 2 0 ∷ get_or left 3 0 ∷ get_or left 4 0 ∷ get_or left 5 0 ∷ get_or left 6 0 ∷ get_or left 7 0 ∷ take (length left - 8) (drop 8 left)
+eight_and_rest [] some = absurd (omega arith)
+eight_and_rest (a ∷ []) some = absurd (omega arith)
+eight_and_rest (a ∷ b ∷ []) some = absurd (omega arith)
+eight_and_rest (a ∷ b ∷ c ∷ []) some = absurd (omega arith)
+eight_and_rest (a ∷ b ∷ c ∷ d ∷ []) some = absurd (omega arith)
+eight_and_rest (a ∷ b ∷ c ∷ d ∷ e ∷ []) some = absurd (omega arith)
+eight_and_rest (a ∷ b ∷ c ∷ d ∷ e ∷ f ∷ []) some = absurd (omega arith)
+eight_and_rest (a ∷ b ∷ c ∷ d ∷ e ∷ f ∷ g ∷ []) some = absurd (omega arith)
+eight_and_rest (a ∷ b ∷ c ∷ d ∷ e ∷ f ∷ g ∷ h ∷ left) some = ap (λ (bs : List ℕ). a ∷ b ∷ c ∷ d ∷ e ∷ f ∷ g ∷ h ∷ bs) (sym (take_rest (a ∷ b ∷ c ∷ d ∷ e ∷ f ∷ g ∷ h ∷ left) 8))
+
+-- the same of the next bytes of a text
+pub pair_turn : (text left old new after : List ℕ) (value : ℕ) → ArePut text left old new → 2 ≤ length left
+    → value ≡ pair_value (get_or left 0 0) (get_or left 1 0) → value < 4096 → after ≡ new ++ value ∷ [] → ArePut text (take (length left - 2) (drop 2 left)) old after
+pair_turn text left old new after value so_far some is small more =
+    pair_put text (take (length left - 2) (drop 2 left)) old new after _ _ value (subst (λ (l : List ℕ). ArePut text l old new) (two_and_rest left some) so_far) is small more
 
 -- four pairs more
-pub four_turn : (digits bytes : List ℕ) (at first second third fourth : ℕ) → length digits ≡ 2 * length bytes → at + 4 ≤ length bytes
-    → first ≡ pair_value digits at → second ≡ pair_value digits (at + 1) → third ≡ pair_value digits (at + 2) → fourth ≡ pair_value digits (at + 3)
-    → first ≤ 255 → second ≤ 255 → third ≤ 255 → fourth ≤ 255 → AreDecoded digits bytes at
-    → AreDecoded digits (set (set (set (set bytes at first) (at + 1) second) (at + 2) third) (at + 3) fourth) (at + 4)
-four_turn digits bytes at first second third fourth len there is1 is2 is3 is4 small1 small2 small3 small4 so_far =
-    let b1 = set bytes at first in
-    let b2 = set (set bytes at first) (at + 1) second in
-    let b3 = set (set (set bytes at first) (at + 1) second) (at + 2) third in
-    let l1 : length (set bytes at first) ≡ length bytes = length-set bytes at first in
-    let l2 : length (set (set bytes at first) (at + 1) second) ≡ length bytes = length-set b1 (at + 1) second ∙ l1 in
-    let l3 : length (set (set (set bytes at first) (at + 1) second) (at + 2) third) ≡ length bytes = length-set b2 (at + 2) third ∙ l2 in
-    let s1 = pair_turn digits bytes at first len (omega arith) is1 small1 so_far in
-    let s2 = pair_turn digits b1 (at + 1) second (omega (arith, len, l1)) (omega (arith, l1)) is2 small2 s1 in
-    let s3 = pair_turn digits b2 (at + 2) third (omega (arith, len, l2)) (omega (arith, l2)) is3 small3 (so_many digits b2 (at + 1 + 1) (at + 2) (omega arith) s2) in
-    let s4 = pair_turn digits b3 (at + 3) fourth (omega (arith, len, l3)) (omega (arith, l3)) is4 small4 (so_many digits b3 (at + 2 + 1) (at + 3) (omega arith) s3) in
-    so_many digits (set b3 (at + 3) fourth) (at + 3 + 1) (at + 4) (omega arith) s4
-
--- all pairs
-pub all_decoded : (digits bytes : List ℕ) (count : ℕ) → length digits ≡ 2 * length bytes → length bytes ≤ count → AreDecoded digits bytes count
-    → (list_all (λ c. is_digit c 16) digits ≡ true) × (bytes ≡ bytes_of_pairs digits)
-all_decoded digits bytes count len all so_far = (
-  subst (λ (ds : List ℕ). list_all (λ c. is_digit c 16) ds ≡ true) (take_all (2 * count) digits (omega (arith, len))) so_far.are_digits,
-  bytes_are digits bytes len (λ k h. so_far.written k (omega arith)),
-)
-
--- what is written over all that stands behind the first bytes
-pub over_all : (bytes new : List ℕ) (start k : ℕ) → length bytes ≤ start + k → take start bytes ++ (new ++ drop k (drop start bytes)) ≡ take start bytes ++ new
-over_all bytes new start k all =
-    let none : drop k (drop start bytes) ≡ [] = drop_all k (drop start bytes) (omega (arith, length-drop start bytes)) in
-    ap (λ (bs : List ℕ). take start bytes ++ (new ++ bs)) none ∙ ap (λ (bs : List ℕ). take start bytes ++ bs) (append-nil new)
-
--- what is put behind the first bytes, or not, leaves them there
-pub front_kept : (old more bytes : List ℕ) (start : ℕ) (put : Bool) → bytes ≡ cond put (old ++ more) old → start ≡ length old → take start bytes ≡ old
-front_kept old more bytes start true is at = ap (take start) is ∙ ap (λ (n : ℕ). take n (old ++ more)) at ∙ take-append_seam old more
-front_kept old more bytes start false is at = ap (take start) is ∙ take_all start old (omega (arith, at))
+pub four_turn : (text left old new one two three after : List ℕ) (first second third fourth : ℕ) → ArePut text left old new → 8 ≤ length left
+    → first ≡ pair_value (get_or left 0 0) (get_or left 1 0) → second ≡ pair_value (get_or left 2 0) (get_or left 3 0)
+    → third ≡ pair_value (get_or left 4 0) (get_or left 5 0) → fourth ≡ pair_value (get_or left 6 0) (get_or left 7 0)
+    → first + second + third + fourth < 4096 → one ≡ new ++ first ∷ [] → two ≡ one ++ second ∷ [] → three ≡ two ++ third ∷ [] → after ≡ three ++ fourth ∷ []
+    → ArePut text (take (length left - 8) (drop 8 left)) old after
+four_turn text left old new one two three after first second third fourth so_far some is1 is2 is3 is4 small put1 put2 put3 put4 =
+    let there = subst (λ (l : List ℕ). ArePut text l old new) (eight_and_rest left some) so_far in
+    let done1 = pair_put text _ old new one _ _ first there is1 (omega arith) put1 in
+    let done2 = pair_put text _ old one two _ _ second done1 is2 (omega arith) put2 in
+    let done3 = pair_put text _ old two three _ _ third done2 is3 (omega arith) put3 in
+    pair_put text _ old three after _ _ fourth done3 is4 (omega arith) put4
 
 -- ---- a payload
 pub payload_read : (text : List ℕ) → (length text == 0) ≡ false → length text % 2 ≡ 0 → list_all (λ c. is_digit c 16) text ≡ true → payload_in text ≡ Ok (bytes_of_pairs text)
@@ -187,3 +163,29 @@ unfolding payload_in is_hex
 dash_payload text h =
     let is : text ≡ codes "-" = (bytes_eq-Decides text (codes "-")).0 h in
     ap payload_in is
+
+-- ---- a payload up to the line feed
+pub payload_there : (text left rest old new : List ℕ) → ArePut text left old new → left ≡ 10 ∷ rest → length old < length new → IsPayloadCut text rest old new
+payload_there text left rest old new put feed more =
+    let digits = put.digits in
+    let len = length-append old (bytes_of_pairs digits) in
+    let longer = ap (λ (bs : List ℕ). length bs) put.put in
+    record {
+      field = digits;
+      payload = bytes_of_pairs digits;
+      are = put.cut ∙ ap (λ (bs : List ℕ). digits ++ bs) feed;
+      spells = payload_read digits (some_digits digits (omega (arith, len, longer, more))) put.even put.are_digits;
+      put = put.put;
+    }
+  where
+    some_digits : (digits : List ℕ) → 0 < length (bytes_of_pairs digits) → (length digits == 0) ≡ false
+    some_digits [] some = absurd (omega (arith, some))
+    some_digits (a ∷ digits) some = ne_eqb (length (a ∷ digits)) 0 (omega arith)
+
+pub dash_there : (text rest old : List ℕ) → text ≡ 45 ∷ 10 ∷ rest → IsPayloadCut text rest old old
+dash_there text rest old is = record { field = codes "-"; payload = []; are = is; spells = dash_payload (codes "-") refl; put = sym (append-nil old) }
+
+-- ---- a whole field
+pub all_put : (field left old new : List ℕ) → ArePut field left old new → (length left == 0) ≡ true → new ≡ old ++ bytes_of_pairs field
+all_put field [] old new put none = put.put ∙ ap (λ (ds : List ℕ). old ++ bytes_of_pairs ds) (sym (put.cut ∙ append-nil put.digits))
+all_put field (b ∷ left) old new put none = let no = eqb-true (length (b ∷ left)) 0 none in absurd (omega arith)

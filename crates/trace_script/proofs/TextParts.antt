@@ -79,7 +79,7 @@ some_part p (b ∷ bytes) =
       | inr not_there ↦ (b ∷ rest.0, rest.1, slice_split-cons_no p b bytes not_there ∙ ap (onto_first b) rest.2)
     ]
 
-first_line : (text line rest : List ℕ) → slice_split (λ b. b == 10) text ≡ line ∷ slice_split (λ b. b == 10) rest → lines_of text ≡ line ∷ lines_of rest
+pub first_line : (text line rest : List ℕ) → slice_split (λ b. b == 10) text ≡ line ∷ slice_split (λ b. b == 10) rest → lines_of text ≡ line ∷ lines_of rest
 first_line text line rest h =
     let next = some_part (λ b. b == 10) rest in
     ap without_empty_end h

@@ -1,20 +1,19 @@
 -- What a field spells, from the front.
-use Rattle.std.proofs.Common.{◌≡◌, ◌≢◌, ◌==◌, ℕ, ◌+◌, ◌-◌, ◌*◌, ◌^◌, ◌<◌, ◌≤◌, ◌⊎◌, true, false, List, ◌∷◌, length, get_or, take, drop, Some, None, ltb, Result, Ok, Err, refl, sym, ◌∙◌, ap, subst, inl, inr, arith}
+use Rattle.std.proofs.Common.{◌≡◌, ◌≢◌, ◌==◌, ℕ, ◌+◌, ◌-◌, ◌*◌, ◌%◌, ◌^◌, ◌<◌, ◌≤◌, ◌⊎◌, true, false, List, [], ◌∷◌, ◌++◌, suc, length, get_or, take, drop, Result, Ok, Err, refl, sym, ◌∙◌, ap, subst, inl, inr, arith}
 use Rattle.std.specs.Char.{digit_value}
 use Rattle.std.specs.Int.{IsInRange}
-use Rattle.std.specs.List.{position, position_or_len}
 use Rattle.std.specs.Str.{all_ascii_digits}
 use Rattle.std.specs.Str.Parse.{digits_value}
-use Rattle.std.proofs.lemmas.Bool.{ltb-true, leb-true, lt-ltb, le-leb, and_from, and_parts, cond-true, cond-false, eqb-false, eq-eqb, ne_eqb, false_from_ne_true}
+use Rattle.std.proofs.lemmas.Bool.{ltb-true, leb-true, lt-ltb, le-leb, and_from, and_parts, cond-true, cond-false, eqb-false, false_from_ne_true}
 use Rattle.std.proofs.lemmas.Int.Digits.{digits_value_more, digits_more}
-use Rattle.std.proofs.lemmas.List.{take_all, get_or-take, length-take, length-take-le}
-use Rattle.std.proofs.lemmas.List.Sums.{position_or_len_is}
+use Rattle.std.proofs.lemmas.List.{take_all, length-take, length-take-le, take_rest}
+use Rattle.std.proofs.Math.Seq.{split_at}
 use Rattle.std.proofs.lemmas.Str.{digit_value_digit}
 use Rattle.std.proofs.lemmas.Str.Parse.{digit_at, digits_value-take-le, digits_value_short}
-use Rattle.text_model.specs.Text.{fields_of, is_decimal}
-use Rattle.text_model.specs.Script.{LineFault, bad_number, decimal_in}
+use Rattle.text_model.specs.Text.{is_decimal}
+use Rattle.text_model.specs.Script.{LineFault, bad_number, decimal_in, number_below, names_cpu, cpu_in}
 use Rattle.text_model.proofs.TextLemmas.{numerals}
-use Rattle.trace_script.proofs.TextParts.{parts_behind}
+use Rattle.script_model.proofs.Readings.{ok_is_no_err, chosen}
 
 -- ---- numbers
 no_number : (field : List ℕ) → is_decimal field ≡ false → decimal_in field ≡ Err bad_number
@@ -94,21 +93,13 @@ short_value line at number short digits value =
     let small = digits_value_short numerals (take at line) 18 digits few in
     omega (arith, small)
 
--- digits up to a space are the first field
-pub fields_cut : (line : List ℕ) (at : ℕ) → at < length line → all_ascii_digits (take at line) ≡ true → get_or line at 0 ≡ 32
-    → fields_of line ≡ take at line ∷ fields_of (take (length line - (at + 1)) (drop (at + 1) line))
-fields_cut line at below digits space = parts_behind (λ b. b == 32) line at place
-  where
-    no_space : (k : ℕ) → k < at → (get_or line k 0 == 32) ≡ false
-    no_space k l =
-        let range : IsInRange 48 57 (get_or line k 0) = subst (λ (c : ℕ). IsInRange 48 57 c) (get_or-take at line k 0 l) (digit_there (take at line) k digits (omega (arith, length-take-le at line (omega arith)))) in
-        ne_eqb (get_or line k 0) 32 (λ same. omega (arith, range.0, same))
-
-    first : position_or_len (λ b. b == 32) line ≡ at
-    first = position_or_len_is (λ b. b == 32) line at 0 (omega arith) no_space (λ l. eq-eqb (get_or line at 0) 32 space)
-
-    place : Some at ≡ position (λ b. b == 32) line
-    place = sym (cond-true (ltb (position_or_len (λ b. b == 32) line) (length line)) (Some (position_or_len (λ b. b == 32) line)) None (lt-ltb _ _ (omega (arith, first))) ∙ ap (λ (n : ℕ). Some n) first)
+-- a list round one of its places, in the code's words
+pub around : (line : List ℕ) (at : ℕ) → at < length line → line ≡ take at line ++ get_or line at 0 ∷ take (length line - (at + 1)) (drop (at + 1) line)
+around line at below =
+    let next : suc at ≡ at + 1 = omega arith in
+    split_at line at 0 below
+    ∙ ap (λ (n : ℕ). take at line ++ get_or line at 0 ∷ drop n line) next
+    ∙ ap (λ (bs : List ℕ). take at line ++ get_or line at 0 ∷ bs) (sym (take_rest line (at + 1)))
 
 pub short_decimal : (line : List ℕ) (at number : ℕ) → at < length line → at < 19 → 0 < at → all_ascii_digits (take at line) ≡ true → number ≡ digits_value 10 (take at line) → decimal_in (take at line) ≡ Ok number
 short_decimal line at number below short some digits value =
@@ -116,8 +107,40 @@ short_decimal line at number below short some digits value =
     let len = length-take-le at line (omega arith) in
     number_whole (take at line) number (omega (arith, len)) (omega (arith, len)) digits value (omega (arith, small))
 
--- the first bytes are as many as they are
-pub front_again : (line : List ℕ) (at : ℕ) → at < length line → (length (take at line) < length line) × (take (length (take at line)) line ≡ take at line)
-front_again line at below =
-    let len = length-take-le at line (omega arith) in
-    (omega (arith, len), ap (λ (n : ℕ). take n line) len)
+-- ---- a CPU's name at the front of a line
+named_cpu : (digits : List ℕ) (n : ℕ) → decimal_in digits ≡ Ok n → names_cpu (99 ∷ digits) ≡ true
+unfolding decimal_in
+named_cpu digits n h =
+    chosen (is_decimal digits) _ _ n (λ is _.
+    let parts = decimal_parts digits is in
+    and_from _ _ (and_from _ _ refl (lt-ltb 0 (length digits) parts.0)) parts.2)
+    (λ other. absurd (ok_is_no_err n bad_number (sym other))) h
+
+pub below_limit : (limit : ℕ) (field : List ℕ) (n : ℕ) → decimal_in field ≡ Ok n → n < limit → number_below limit field ≡ Ok n
+unfolding number_below
+below_limit limit field n h small = rw h (cond-true _ _ _ (lt-ltb n limit small))
+
+pub cpu_read : (cpus : ℕ) (digits : List ℕ) (cpu : ℕ) → decimal_in digits ≡ Ok cpu → cpu < cpus → cpu_in cpus (99 ∷ digits) ≡ Ok cpu
+unfolding cpu_in
+cpu_read cpus digits cpu h small = cond-true (names_cpu (99 ∷ digits)) _ _ (named_cpu digits cpu h) ∙ below_limit cpus digits cpu h small
+
+-- a text with its first byte, in the code's words
+pub first_and_rest : (text : List ℕ) (byte : ℕ) → 1 ≤ length text → get_or text 0 0 ≡ byte → text ≡ byte ∷ take (length text - 1) (drop 1 text)
+first_and_rest [] byte some is = absurd (omega arith)
+first_and_rest (b ∷ text) byte some is = ap (λ (n : ℕ). n ∷ text) is ∙ ap (λ (bs : List ℕ). byte ∷ bs) (sym (take_rest (b ∷ text) 1))
+
+-- a text with its first two bytes
+pub two_and_rest : (text : List ℕ) → 2 ≤ length text → text ≡ get_or text 0 0 ∷ get_or text 1 0 ∷ take (length text - 2) (drop 2 text)
+two_and_rest [] some = absurd (omega arith)
+two_and_rest (a ∷ []) some = absurd (omega arith)
+two_and_rest (a ∷ b ∷ text) some = ap (λ (bs : List ℕ). a ∷ b ∷ bs) (sym (take_rest (a ∷ b ∷ text) 2))
+
+pub two_with : (text : List ℕ) (second : ℕ) → 2 ≤ length text → get_or text 1 0 ≡ second → text ≡ get_or text 0 0 ∷ second ∷ take (length text - 2) (drop 2 text)
+two_with text second some is = two_and_rest text some ∙ ap (λ (n : ℕ). get_or text 0 0 ∷ n ∷ take (length text - 2) (drop 2 text)) is
+
+pub both_with : (text : List ℕ) (first second : ℕ) → 2 ≤ length text → get_or text 0 0 ≡ first → get_or text 1 0 ≡ second → text ≡ first ∷ second ∷ take (length text - 2) (drop 2 text)
+both_with text first second some is also = two_with text second some also ∙ ap (λ (n : ℕ). n ∷ second ∷ take (length text - 2) (drop 2 text)) is
+
+-- a byte less 48 that is below ten, if it wraps or not
+pub wrapped_digit : (byte : ℕ) → byte < 256 → (byte + 208) % 256 ≤ 9 → (48 ≤ byte) × (byte ≤ 57) × ((byte + 208) % 256 ≡ byte - 48)
+wrapped_digit byte small low = (omega arith, omega arith, omega arith)

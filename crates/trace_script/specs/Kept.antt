@@ -1,8 +1,10 @@
 -- The commands of a script as they are kept: an order each, and the payloads one behind the other.
-use Rattle.std.specs.Prelude.{◌≡◌, ℕ, zero, suc, ◌-◌, ◌≤◌, List, [], ◌∷◌, ◌++◌, take, drop, Result, Ok, Err}
+use Rattle.std.specs.Prelude.{◌≡◌, ℕ, zero, suc, ◌-◌, ◌<◌, ◌≤◌, ⊤, List, [], ◌∷◌, ◌++◌, take, drop, Option, Some, None, Result, Ok, Err}
 use Rattle.text_model.specs.Script as text
+use Rattle.text_model.specs.Script.{NumberedLine}
+use Rattle.text_model.specs.ScriptReading.{numbered_reading}
 use Rattle.script_model.specs.Script as model
-use Rattle.script_model.specs.Script.{begin_frame, step_frame, finish_frame, write, close, step_reader, take_page, wish, deliver}
+use Rattle.script_model.specs.Script.{command_in, begin_frame, step_frame, finish_frame, write, close, step_reader, take_page, wish, deliver}
 use Rattle.trace_script.specs.declared.fault.LineFault.{LineFault}
 use Rattle.trace_script.specs.declared.order.Order.{Order}
 use Rattle.trace_script.specs.declared.order.Order.TheVariants.{Begin, Step, Finish, Write, Close, StepReader, Take, Wish, Deliver}
@@ -60,3 +62,19 @@ abbrev pub PutsCommandAt : Result Order ScriptFault → List ℕ → List ℕ
 PutsCommandAt (Ok order) old new read =
     (payload : List ℕ) × (new ≡ old ++ payload) × (read ≡ Ok (shown_order payload order))
 PutsCommandAt (Err fault) old new read = FailsAt fault read
+
+-- the same of the first of these lines, if there is one, with its number and the lines behind it
+abbrev pub PutsNext : ℕ → ℕ → Result (Option Order) ScriptFault → List ℕ → List ℕ
+    → List NumberedLine → ℕ → List NumberedLine → Type 0
+PutsNext cpus collectors (Ok None) old new lines number behind = (lines ≡ []) × (new ≡ old)
+PutsNext cpus collectors (Ok (Some order)) old new lines number behind = (line : List ℕ)
+    × (lines ≡ (number, line) ∷ behind)
+    × PutsCommandAt (Ok order) old new (numbered_reading number (command_in cpus collectors line))
+PutsNext cpus collectors (Err fault) old new lines number behind = (line : List ℕ)
+    × (lines ≡ (number, line) ∷ behind)
+    × PutsCommandAt (Err fault) old new (numbered_reading number (command_in cpus collectors line))
+
+-- a command that was read leaves less than there was
+abbrev pub GoesOn : Result (Option Order) ScriptFault → ℕ → ℕ → Type 0
+GoesOn (Ok (Some order)) old new = new < old
+GoesOn _ old new = ⊤

@@ -1,6 +1,6 @@
 pub mod Decoding
 pub mod Kept
-pub mod RecordFronts
 pub mod ScriptFaults
 pub mod ScriptFields
 pub mod ScriptTypes
+pub mod UsualLines

@@ -16,6 +16,7 @@ mod orders;
 mod payload;
 mod read;
 mod script;
+mod usual;
 mod values;
 
 pub use command::{Command, ScriptLine};

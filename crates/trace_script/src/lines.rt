@@ -110,6 +110,17 @@ impl<'a> Lines<'a> {
         })
     }
 
+    /// Goes on with what stands behind the next line.
+    #[inline(always)]
+    pub fn pass_to(&mut self, rest: &'a [u8])
+        requires { length rest.now < length self.old.rest.now }
+        ensures rest { self.new.rest.now ≡ rest.now }
+        ensures passed { self.new.passed ≡ self.old.passed + 1 }
+    {
+        self.rest = rest;
+        self.passed += 1;
+    }
+
     /// The next significant line.
     pub fn next_significant(&mut self) -> Option<NumberedLine<'a>>
         ensures left { MatchOption result
@@ -118,6 +129,7 @@ impl<'a> Lines<'a> {
             ≡ (line.number, line.text.now) ∷ significant_lines_after self.new.passed self.new.rest.now) }
         ensures end { end_line_after self.new.passed self.new.rest.now
             ≡ end_line_after self.old.passed self.old.rest.now }
+        ensures number { MatchOption result ⊤ (λ line. line.number ≡ self.new.passed) }
         ensures passed { MatchOption result
             (end_line_after self.new.passed self.new.rest.now ≡ self.new.passed + 1) (λ line. ⊤) }
         ensures shorter { MatchOption result ⊤ (λ line.

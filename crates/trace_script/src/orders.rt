@@ -1,17 +1,16 @@
 //! The command that a line spells.
-ghost use Rattle.std.specs.Prelude.{◌≡◌, ◌≢◌, ℕ, [], ◌∷◌, IfSome};
+ghost use Rattle.std.specs.Prelude.{◌≡◌, ◌≢◌, ℕ, [], ◌∷◌};
 ghost use Rattle.text_model.specs.Text.{fields_of};
 ghost use Rattle.script_model.specs.Script.{begin_frame, write, record_in, deliver_in, command_of, command_in};
 ghost use Rattle.trace_script.specs.Kept.{shown_order, PutsCommand};
 ghost use Rattle.trace_script.specs.ScriptFaults.{Fails, Gives};
-ghost use Rattle.trace_script.specs.RecordFronts.{IsRecordOrder, IsRecordFront};
 ghost use Rattle.trace_script.specs.ScriptFields.{AreFields, fields_seen};
 
 use crate::fault::LineFault;
 use crate::fields::{Fields, fields_of, is_letter, is_well_spaced, is_whole};
 use crate::order::Order;
 use crate::payload::put_payload;
-use crate::values::{count_of, cpu_of, number_below, number_cut, number_of};
+use crate::values::{count_of, cpu_of, number_below, number_of};
 use trace_model::{CpuId, FillNo, Moment};
 
 /// `d K cX F`
@@ -195,74 +194,10 @@ fn fault_of(line: &[u8], fields: Fields, fault: LineFault) -> LineFault
     fault
 }
 
-/// No line that pushes a record frame is shorter, in bytes.
-const MIN_RECORD_LINE: usize = 8;
-
-/// The front of a line that pushes a record frame, and what stands behind it.
-#[derive(Clone, Copy)]
-pub struct RecordFront<'a> {
-    /// The line's fields.
-    pub fields: Fields<'a>,
-    pub order: Order,
-    /// What stands behind the third field.
-    pub payload: &'a [u8],
-}
-
-/// The order of a record frame by its word, if it is one.
-#[inline(always)]
-fn record_order(word: u8, cpu: CpuId, moment: Moment) -> Option<Order>
-    ensures { IfSome result (λ order. IsRecordOrder word cpu moment order) }
-{
-    match word {
-        b'w' => Some(Order::Write { cpu, moment }),
-        b'b' => Some(Order::Begin { cpu, moment }),
-        _ => None,
-    }
-}
-
-/// The front of a line of the form `cX b T HEX` or `cX w T HEX`, if its numbers are short. None says nothing of the
-/// line.
-#[inline(always)]
-fn record_front(cpus: u32, line: &[u8]) -> Option<RecordFront<'_>>
-    ensures { IfSome result (λ front. (collectors : ℕ) → IsRecordFront cpus collectors line.now front) }
-{
-    if line.len() < MIN_RECORD_LINE {
-        return None;
-    }
-    let [letter, named @ ..] = line else {
-        return None;
-    };
-    if *letter != b'c' {
-        return None;
-    }
-    let cpu = number_cut(named)?;
-    if cpu.number >= u64::from(cpus) {
-        return None;
-    }
-    let [word, space, timed @ ..] = cpu.rest else {
-        return None;
-    };
-    if *space != b' ' {
-        return None;
-    }
-    if *word != b'w' && *word != b'b' {
-        return None;
-    }
-    let moment = number_cut(timed)?;
-    let order = record_order(*word, CpuId(cpu.number as u32), Moment(moment.number))?;
-    let first = &line[..cpu.digits.len() + 1];
-    let second = &cpu.rest[..1];
-    Some(RecordFront {
-        fields: Fields::More(first, second, moment.digits, moment.rest),
-        order,
-        payload: moment.rest,
-    })
-}
-
-/// The command that a line's fields spell. Its payload is put behind those that are there.
+/// The command that a line spells, for so many CPUs and collectors. Its payload is put behind those that are there.
 ///
 /// A line whose fields spell a command is of the right form, so that the form is looked at only where they don't.
-fn order_by_fields(
+pub fn order_in(
     cpus: u32,
     collectors: u16,
     line: &[u8],
@@ -276,25 +211,4 @@ fn order_by_fields(
         Ok(order) => Ok(order),
         Err(fault) => Err(fault_of(line, fields, fault)),
     }
-}
-
-/// The command that a line spells, for so many CPUs and collectors. Its payload is put behind those that are there.
-///
-/// Nearly all lines of a long script push a record, of short numbers: these are read from the front.
-pub fn order_in(
-    cpus: u32,
-    collectors: u16,
-    line: &[u8],
-    payloads: &mut Vec<u8>,
-) -> Result<Order, LineFault>
-    ensures { PutsCommand result payloads.old.items payloads.new.items
-        (command_in cpus collectors line.now) }
-{
-    if let Some(front) = record_front(cpus, line) {
-        return match put_payload(payloads, front.payload) {
-            Ok(()) => Ok(front.order),
-            Err(fault) => Err(fault_of(line, front.fields, fault)),
-        };
-    }
-    order_by_fields(cpus, collectors, line, payloads)
 }

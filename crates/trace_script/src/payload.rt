@@ -1,49 +1,56 @@
 //! The payload that a field spells.
-ghost use Rattle.std.specs.Prelude.{◌≡◌, ◌+◌, ◌*◌, ◌-◌, ◌<◌, ◌≤◌, ◌++◌, IsTrue, false, length, take};
+ghost use Rattle.std.specs.Prelude.{◌≡◌, ◌<◌, ◌≤◌, MatchOption};
 ghost use Rattle.std.specs.Char.{is_digit};
 ghost use Rattle.std.specs.List.{list_all};
-ghost use Rattle.text_model.specs.Text.{bytes_of_pairs};
 ghost use Rattle.text_model.specs.Script.{payload_in};
-ghost use Rattle.trace_script.specs.Decoding.{high_value, low_value, pair_value, AreDecoded};
+ghost use Rattle.trace_script.specs.Decoding.{high_value, low_value, pair_value, ArePut};
 ghost use Rattle.trace_script.specs.Kept.{PutsPayload};
+ghost use Rattle.trace_script.specs.UsualLines.{IsPayloadCut};
 
 use crate::fault::LineFault;
 use crate::fields::is_letter;
 
-/// What each byte is worth as the first hexadecimal digit of a pair, and 256 where it is none.
+/// More than eight digits are worth together, and so more than any byte: what is no digit is worth so much.
+const NO_DIGIT: u16 = 4096;
+
+/// What each byte is worth as the first hexadecimal digit of a pair, and `NO_DIGIT` where it is none.
 static HIGH_VALUES: [u16; 256] = [
-    256, 256, 256, 256, 256, 256, 256, 256, 256, 256, 256, 256, 256, 256, 256, 256, 256, 256, 256,
-    256, 256, 256, 256, 256, 256, 256, 256, 256, 256, 256, 256, 256, 256, 256, 256, 256, 256, 256,
-    256, 256, 256, 256, 256, 256, 256, 256, 256, 256, 0, 16, 32, 48, 64, 80, 96, 112, 128, 144,
-    256, 256, 256, 256, 256, 256, 256, 160, 176, 192, 208, 224, 240, 256, 256, 256, 256, 256, 256,
-    256, 256, 256, 256, 256, 256, 256, 256, 256, 256, 256, 256, 256, 256, 256, 256, 256, 256, 256,
-    256, 160, 176, 192, 208, 224, 240, 256, 256, 256, 256, 256, 256, 256, 256, 256, 256, 256, 256,
-    256, 256, 256, 256, 256, 256, 256, 256, 256, 256, 256, 256, 256, 256, 256, 256, 256, 256, 256,
-    256, 256, 256, 256, 256, 256, 256, 256, 256, 256, 256, 256, 256, 256, 256, 256, 256, 256, 256,
-    256, 256, 256, 256, 256, 256, 256, 256, 256, 256, 256, 256, 256, 256, 256, 256, 256, 256, 256,
-    256, 256, 256, 256, 256, 256, 256, 256, 256, 256, 256, 256, 256, 256, 256, 256, 256, 256, 256,
-    256, 256, 256, 256, 256, 256, 256, 256, 256, 256, 256, 256, 256, 256, 256, 256, 256, 256, 256,
-    256, 256, 256, 256, 256, 256, 256, 256, 256, 256, 256, 256, 256, 256, 256, 256, 256, 256, 256,
-    256, 256, 256, 256, 256, 256, 256, 256, 256, 256, 256, 256, 256, 256, 256, 256, 256, 256, 256,
-    256, 256, 256, 256, 256, 256, 256, 256,
+    4096, 4096, 4096, 4096, 4096, 4096, 4096, 4096, 4096, 4096, 4096, 4096, 4096, 4096, 4096, 4096,
+    4096, 4096, 4096, 4096, 4096, 4096, 4096, 4096, 4096, 4096, 4096, 4096, 4096, 4096, 4096, 4096,
+    4096, 4096, 4096, 4096, 4096, 4096, 4096, 4096, 4096, 4096, 4096, 4096, 4096, 4096, 4096, 4096,
+    0, 16, 32, 48, 64, 80, 96, 112, 128, 144, 4096, 4096, 4096, 4096, 4096, 4096, 4096, 160, 176,
+    192, 208, 224, 240, 4096, 4096, 4096, 4096, 4096, 4096, 4096, 4096, 4096, 4096, 4096, 4096,
+    4096, 4096, 4096, 4096, 4096, 4096, 4096, 4096, 4096, 4096, 4096, 4096, 4096, 4096, 160, 176,
+    192, 208, 224, 240, 4096, 4096, 4096, 4096, 4096, 4096, 4096, 4096, 4096, 4096, 4096, 4096,
+    4096, 4096, 4096, 4096, 4096, 4096, 4096, 4096, 4096, 4096, 4096, 4096, 4096, 4096, 4096, 4096,
+    4096, 4096, 4096, 4096, 4096, 4096, 4096, 4096, 4096, 4096, 4096, 4096, 4096, 4096, 4096, 4096,
+    4096, 4096, 4096, 4096, 4096, 4096, 4096, 4096, 4096, 4096, 4096, 4096, 4096, 4096, 4096, 4096,
+    4096, 4096, 4096, 4096, 4096, 4096, 4096, 4096, 4096, 4096, 4096, 4096, 4096, 4096, 4096, 4096,
+    4096, 4096, 4096, 4096, 4096, 4096, 4096, 4096, 4096, 4096, 4096, 4096, 4096, 4096, 4096, 4096,
+    4096, 4096, 4096, 4096, 4096, 4096, 4096, 4096, 4096, 4096, 4096, 4096, 4096, 4096, 4096, 4096,
+    4096, 4096, 4096, 4096, 4096, 4096, 4096, 4096, 4096, 4096, 4096, 4096, 4096, 4096, 4096, 4096,
+    4096, 4096, 4096, 4096, 4096, 4096, 4096, 4096, 4096, 4096, 4096, 4096, 4096, 4096, 4096, 4096,
+    4096, 4096, 4096, 4096, 4096, 4096, 4096, 4096, 4096, 4096, 4096, 4096, 4096,
 ];
 
-/// What each byte is worth as the second hexadecimal digit of a pair, and 256 where it is none.
+/// What each byte is worth as the second hexadecimal digit of a pair, and `NO_DIGIT` where it is none.
 static LOW_VALUES: [u16; 256] = [
-    256, 256, 256, 256, 256, 256, 256, 256, 256, 256, 256, 256, 256, 256, 256, 256, 256, 256, 256,
-    256, 256, 256, 256, 256, 256, 256, 256, 256, 256, 256, 256, 256, 256, 256, 256, 256, 256, 256,
-    256, 256, 256, 256, 256, 256, 256, 256, 256, 256, 0, 1, 2, 3, 4, 5, 6, 7, 8, 9, 256, 256, 256,
-    256, 256, 256, 256, 10, 11, 12, 13, 14, 15, 256, 256, 256, 256, 256, 256, 256, 256, 256, 256,
-    256, 256, 256, 256, 256, 256, 256, 256, 256, 256, 256, 256, 256, 256, 256, 256, 10, 11, 12, 13,
-    14, 15, 256, 256, 256, 256, 256, 256, 256, 256, 256, 256, 256, 256, 256, 256, 256, 256, 256,
-    256, 256, 256, 256, 256, 256, 256, 256, 256, 256, 256, 256, 256, 256, 256, 256, 256, 256, 256,
-    256, 256, 256, 256, 256, 256, 256, 256, 256, 256, 256, 256, 256, 256, 256, 256, 256, 256, 256,
-    256, 256, 256, 256, 256, 256, 256, 256, 256, 256, 256, 256, 256, 256, 256, 256, 256, 256, 256,
-    256, 256, 256, 256, 256, 256, 256, 256, 256, 256, 256, 256, 256, 256, 256, 256, 256, 256, 256,
-    256, 256, 256, 256, 256, 256, 256, 256, 256, 256, 256, 256, 256, 256, 256, 256, 256, 256, 256,
-    256, 256, 256, 256, 256, 256, 256, 256, 256, 256, 256, 256, 256, 256, 256, 256, 256, 256, 256,
-    256, 256, 256, 256, 256, 256, 256, 256, 256, 256, 256, 256, 256, 256, 256, 256, 256, 256, 256,
-    256, 256, 256,
+    4096, 4096, 4096, 4096, 4096, 4096, 4096, 4096, 4096, 4096, 4096, 4096, 4096, 4096, 4096, 4096,
+    4096, 4096, 4096, 4096, 4096, 4096, 4096, 4096, 4096, 4096, 4096, 4096, 4096, 4096, 4096, 4096,
+    4096, 4096, 4096, 4096, 4096, 4096, 4096, 4096, 4096, 4096, 4096, 4096, 4096, 4096, 4096, 4096,
+    0, 1, 2, 3, 4, 5, 6, 7, 8, 9, 4096, 4096, 4096, 4096, 4096, 4096, 4096, 10, 11, 12, 13, 14, 15,
+    4096, 4096, 4096, 4096, 4096, 4096, 4096, 4096, 4096, 4096, 4096, 4096, 4096, 4096, 4096, 4096,
+    4096, 4096, 4096, 4096, 4096, 4096, 4096, 4096, 4096, 4096, 10, 11, 12, 13, 14, 15, 4096, 4096,
+    4096, 4096, 4096, 4096, 4096, 4096, 4096, 4096, 4096, 4096, 4096, 4096, 4096, 4096, 4096, 4096,
+    4096, 4096, 4096, 4096, 4096, 4096, 4096, 4096, 4096, 4096, 4096, 4096, 4096, 4096, 4096, 4096,
+    4096, 4096, 4096, 4096, 4096, 4096, 4096, 4096, 4096, 4096, 4096, 4096, 4096, 4096, 4096, 4096,
+    4096, 4096, 4096, 4096, 4096, 4096, 4096, 4096, 4096, 4096, 4096, 4096, 4096, 4096, 4096, 4096,
+    4096, 4096, 4096, 4096, 4096, 4096, 4096, 4096, 4096, 4096, 4096, 4096, 4096, 4096, 4096, 4096,
+    4096, 4096, 4096, 4096, 4096, 4096, 4096, 4096, 4096, 4096, 4096, 4096, 4096, 4096, 4096, 4096,
+    4096, 4096, 4096, 4096, 4096, 4096, 4096, 4096, 4096, 4096, 4096, 4096, 4096, 4096, 4096, 4096,
+    4096, 4096, 4096, 4096, 4096, 4096, 4096, 4096, 4096, 4096, 4096, 4096, 4096, 4096, 4096, 4096,
+    4096, 4096, 4096, 4096, 4096, 4096, 4096, 4096, 4096, 4096, 4096, 4096, 4096, 4096, 4096, 4096,
+    4096, 4096, 4096, 4096, 4096, 4096, 4096,
 ];
 
 /// What a byte is worth as the first digit of a pair.
@@ -62,120 +69,102 @@ fn low_value(byte: u8) -> u16
     LOW_VALUES[byte as usize]
 }
 
-/// The byte that a pair of hexadecimal digits spells, and a larger number where one of them is none.
+/// The byte that a pair of hexadecimal digits spells, and `NO_DIGIT` or more where one of them is none.
 #[inline(always)]
-fn pair_value(digits: &[u8], at: usize) -> u16
-    requires { 2 * at + 1 < length digits.now }
-    ensures { result ≡ pair_value digits.now at }
+fn pair_value(high: u8, low: u8) -> u16
+    ensures value { result ≡ pair_value high low }
+    ensures small { result ≤ 8192 }
+    ensures byte { result < 4096 → result < 256 }
 {
-    high_value(digits[2 * at]) + low_value(digits[2 * at + 1])
+    high_value(high) + low_value(low)
 }
 
-/// Writes the byte that a pair spells, and answers whether both are digits.
-#[inline(always)]
-fn decode_pair(digits: &[u8], bytes: &mut [u8], at: usize) -> bool
-    requires len { length digits.now ≡ 2 * length bytes.old }
-    requires at { at < length bytes.old }
-    requires so_far { AreDecoded digits.now bytes.old at }
-    ensures len { length bytes.new ≡ length bytes.old }
-    ensures decoded { IsTrue result → AreDecoded digits.now bytes.new (at + 1) }
-    ensures refused { result ≡ false → list_all (λ c. is_digit c 16) digits.now ≡ false }
-{
-    let byte = pair_value(digits, at);
-    if byte > 255 {
-        return false;
-    }
-    bytes[at] = byte as u8;
-    true
-}
-
-/// The same of four pairs, which are looked at before any byte is written.
-#[inline(always)]
-fn decode_four(digits: &[u8], bytes: &mut [u8], at: usize) -> bool
-    requires len { length digits.now ≡ 2 * length bytes.old }
-    requires at { at + 4 ≤ length bytes.old }
-    requires so_far { AreDecoded digits.now bytes.old at }
-    ensures len { length bytes.new ≡ length bytes.old }
-    ensures decoded { IsTrue result → AreDecoded digits.now bytes.new (at + 4) }
-    ensures refused { result ≡ false → list_all (λ c. is_digit c 16) digits.now ≡ false }
-{
-    let first = pair_value(digits, at);
-    let second = pair_value(digits, at + 1);
-    let third = pair_value(digits, at + 2);
-    let fourth = pair_value(digits, at + 3);
-    if first > 255 {
-        return false;
-    }
-    if second > 255 {
-        return false;
-    }
-    if third > 255 {
-        return false;
-    }
-    if fourth > 255 {
-        return false;
-    }
-    bytes[at] = first as u8;
-    bytes[at + 1] = second as u8;
-    bytes[at + 2] = third as u8;
-    bytes[at + 3] = fourth as u8;
-    true
-}
-
-/// Writes the bytes that pairs of hexadecimal digits spell, and answers whether all of them are digits.
-#[inline(always)]
-fn decode(digits: &[u8], bytes: &mut [u8]) -> bool
-    requires { length digits.now ≡ 2 * length bytes.old }
-    ensures digits { result ≡ list_all (λ c. is_digit c 16) digits.now }
-    ensures bytes { IsTrue result → bytes.new ≡ bytes_of_pairs digits.now }
-{
-    let mut at = 0;
-    while bytes.len() - at >= 4 {
-        if !decode_four(digits, bytes, at) {
-            return false;
-        }
-        at += 4;
-    }
-    while at < bytes.len() {
-        if !decode_pair(digits, bytes, at) {
-            return false;
-        }
-        at += 1;
-    }
-    true
-}
-
-/// The same over all bytes from a place on.
-fn decode_behind(digits: &[u8], bytes: &mut [u8], start: usize) -> bool
-    requires within { start ≤ length bytes.old }
-    requires room { length digits.now ≡ 2 * (length bytes.old - start) }
-    ensures digits { result ≡ list_all (λ c. is_digit c 16) digits.now }
-    ensures bytes { IsTrue result → bytes.new ≡ take start bytes.old ++ bytes_of_pairs digits.now }
-{
-    decode(digits, &mut bytes[start..])
-}
-
-/// Puts the bytes that a field spells behind those that are there. On an error it may leave some there.
+/// Puts the bytes that the pairs of hexadecimal digits at the front of a text spell behind those that are there, and
+/// answers what stands behind these pairs, or behind those for whose bytes there is memory.
 #[inline(never)]
+fn put_pairs<'a>(payloads: &mut Vec<u8>, text: &'a [u8]) -> &'a [u8]
+    ensures { ArePut text.now result.now payloads.old.items payloads.new.items }
+{
+    let mut left = text;
+    while let [a, b, c, d, e, f, g, h, rest @ ..] = left {
+        if *a == b'\n' {
+            break;
+        }
+        let first = pair_value(*a, *b);
+        let second = pair_value(*c, *d);
+        let third = pair_value(*e, *f);
+        let fourth = pair_value(*g, *h);
+        if first + second + third + fourth >= NO_DIGIT {
+            break;
+        }
+        let Ok(()) = payloads.reserve(4) else {
+            break;
+        };
+        payloads.push_reserved(first as u8);
+        payloads.push_reserved(second as u8);
+        payloads.push_reserved(third as u8);
+        payloads.push_reserved(fourth as u8);
+        left = rest;
+    }
+    while let [high, low, rest @ ..] = left {
+        if *high == b'\n' {
+            break;
+        }
+        let byte = pair_value(*high, *low);
+        if byte >= NO_DIGIT {
+            break;
+        }
+        let Ok(()) = payloads.push(byte as u8) else {
+            break;
+        };
+        left = rest;
+    }
+    left
+}
+
+/// The payload at the front of a text, up to the line feed that ends it: its bytes are put behind those that are there,
+/// and what stands behind the line feed is answered. None, and nothing put, where there is no payload of this form,
+/// or no memory.
+#[inline(always)]
+pub fn payload_cut<'a>(payloads: &mut Vec<u8>, text: &'a [u8]) -> Option<&'a [u8]>
+    ensures { MatchOption result (payloads.new.items ≡ payloads.old.items) (λ rest.
+        IsPayloadCut text.now rest.now payloads.old.items payloads.new.items) }
+{
+    if let [dash, end, rest @ ..] = text {
+        if *dash == b'-' && *end == b'\n' {
+            return Some(rest);
+        }
+    }
+    let start = payloads.len();
+    let left = put_pairs(payloads, text);
+    if let [end, rest @ ..] = left {
+        if *end == b'\n' && payloads.len() > start {
+            return Some(rest);
+        }
+    }
+    payloads.truncate(start);
+    None
+}
+
+/// Whether each byte is a hexadecimal digit.
+fn are_hex_digits(bytes: &[u8]) -> bool
+    ensures { result ≡ list_all (λ c. is_digit c 16) bytes.now }
+{
+    bytes.iter().all(|b| char::from(*b).is_digit(16))
+}
+
+/// Puts the bytes that a field spells behind those that are there.
 pub fn put_payload(payloads: &mut Vec<u8>, field: &[u8]) -> Result<(), LineFault>
     ensures { PutsPayload result payloads.old.items payloads.new.items (payload_in field.now) }
 {
     if is_letter(field, b'-') {
         return Ok(());
     }
-    if field.is_empty() {
+    if field.is_empty() || field.len() % 2 != 0 || !are_hex_digits(field) {
         return Err(LineFault::BadHex);
     }
-    if field.len() % 2 != 0 {
-        return Err(LineFault::BadHex);
-    }
-    let start = payloads.len();
-    // As many digits as there are bytes make the room: to copy them takes less than to put zeros.
-    let Ok(()) = payloads.extend_from_slice(&field[..field.len() / 2]) else {
+    if !put_pairs(payloads, field).is_empty() {
         return Err(LineFault::NoMemory);
-    };
-    if !decode_behind(field, payloads.as_mut_slice(), start) {
-        return Err(LineFault::BadHex);
     }
     Ok(())
 }

@@ -1,9 +1,9 @@
 //! The reader of a script's text: line by line, in one pass.
-ghost use Rattle.std.specs.Prelude.{◌≡◌, IfOk, IfErr};
+ghost use Rattle.std.specs.Prelude.{◌≡◌, length, IfOk, IfErr};
 ghost use Rattle.text_model.specs.ScriptReading.{numbered_reading, significant_lines_after};
 ghost use Rattle.script_model.specs.Script.{ParsesScript, command_in};
 ghost use Rattle.script_model.specs.ScriptReading.{commands_from, script_in};
-ghost use Rattle.trace_script.specs.Kept.{PutsCommandAt};
+ghost use Rattle.trace_script.specs.Kept.{PutsCommandAt, PutsNext, GoesOn};
 ghost use Rattle.trace_script.specs.ScriptFaults.{GivesAt, HasScriptHeader, TellsFirstFault};
 
 use crate::commands::Commands;
@@ -14,6 +14,7 @@ use crate::lines::{Lines, NumberedLine};
 use crate::order::Order;
 use crate::orders::order_in;
 use crate::script::Script;
+use crate::usual::usual_line;
 use std::alloc::Global;
 use trace_model::FillNo;
 
@@ -31,6 +32,46 @@ fn order_at(
     reading_at(line.number, order)
 }
 
+/// The command of the next significant line, if there is one, whatever its form.
+#[inline(never)]
+fn next_of_any_form(
+    cpus: u32,
+    collectors: u16,
+    lines: &mut Lines,
+    payloads: &mut Vec<u8>,
+) -> Result<Option<Order>, ScriptFault>
+    ensures next { PutsNext cpus collectors result payloads.old.items payloads.new.items
+        (significant_lines_after lines.old.passed lines.old.rest.now) lines.new.passed
+        (significant_lines_after lines.new.passed lines.new.rest.now) }
+    ensures shorter { GoesOn result (length lines.old.rest.now) (length lines.new.rest.now) }
+{
+    let Some(line) = lines.next_significant() else {
+        return Ok(None);
+    };
+    let order = order_at(cpus, collectors, line, payloads)?;
+    Ok(Some(order))
+}
+
+/// The same, where nearly all lines are of a usual form.
+#[inline(always)]
+fn next_order(
+    cpus: u32,
+    collectors: u16,
+    lines: &mut Lines,
+    payloads: &mut Vec<u8>,
+) -> Result<Option<Order>, ScriptFault>
+    ensures next { PutsNext cpus collectors result payloads.old.items payloads.new.items
+        (significant_lines_after lines.old.passed lines.old.rest.now) lines.new.passed
+        (significant_lines_after lines.new.passed lines.new.rest.now) }
+    ensures shorter { GoesOn result (length lines.old.rest.now) (length lines.new.rest.now) }
+{
+    if let Some(line) = usual_line(cpus, collectors, lines.rest, payloads) {
+        lines.pass_to(line.rest);
+        return Ok(Some(line.order));
+    }
+    next_of_any_form(cpus, collectors, lines, payloads)
+}
+
 /// The commands of the lines that are left.
 fn read_commands(
     alloc: Global,
@@ -43,10 +84,9 @@ fn read_commands(
 {
     let mut kept = Vec::new(alloc);
     let mut payloads = Vec::new(alloc);
-    while let Some(line) = lines.next_significant() {
-        let order = order_at(cpus, collectors, line, &mut payloads)?;
+    while let Some(order) = next_order(cpus, collectors, lines, &mut payloads)? {
         kept.push(KeptLine {
-            number: line.number,
+            number: lines.passed,
             end: payloads.len(),
             order,
         })?;

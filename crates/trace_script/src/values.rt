@@ -3,10 +3,10 @@ ghost use Rattle.std.specs.Prelude.{◌≡◌, ◌≢◌, ◌+◌, ◌-◌, ◌*
 ghost use Rattle.std.specs.Int.{IsInRange};
 ghost use Rattle.std.specs.Char.{is_ascii_digit};
 ghost use Rattle.std.specs.List.{list_all};
-ghost use Rattle.text_model.specs.Text.{fields_of};
 ghost use Rattle.text_model.specs.Script.{decimal_in, number_below, names_cpu, cpu_in};
 ghost use Rattle.script_model.specs.Script.{count_in};
 ghost use Rattle.trace_script.specs.ScriptFaults.{Gives};
+ghost use Rattle.trace_script.specs.UsualLines.{IsNumberCut, IsCpuCut};
 
 use crate::fault::LineFault;
 use script_model::{MAX_LINE_STEPS, MIN_LINE_STEPS};
@@ -46,41 +46,51 @@ pub fn number_of(field: &[u8]) -> Result<u64, LineFault>
 /// Numbers of fewer digits than these fit 64 bits.
 const SHORT_DIGITS: usize = 19;
 
-/// A number at the front of a line, and what stands behind it.
+/// A number at the front of a text, and what stands behind the byte that ends it.
 #[derive(Clone, Copy)]
 pub struct NumberCut<'a> {
     pub number: u64,
-    /// The field that spells it.
-    pub digits: &'a [u8],
-    /// What stands behind the space that ends the field.
     pub rest: &'a [u8],
 }
 
-/// The number that the first field of a line spells, if it is a short one, and another field is behind it. None says
-/// nothing of the line.
+/// The number at the front of a text, if it is a short one and this byte ends it. None says nothing of the text.
 #[inline(always)]
-pub fn number_cut(line: &[u8]) -> Option<NumberCut<'_>>
-    ensures fields { IfSome result (λ cut. fields_of line.now ≡ cut.digits.now ∷ fields_of cut.rest.now) }
-    ensures number { IfSome result (λ cut. decimal_in cut.digits.now ≡ Ok cut.number) }
-    ensures front { IfSome result (λ cut. (length cut.digits.now < length line.now)
-        × (take (length cut.digits.now) line.now ≡ cut.digits.now)) }
+pub fn number_cut(text: &[u8], end: u8) -> Option<NumberCut<'_>>
+    ensures { IfSome result (λ cut. IsNumberCut text.now end cut) }
 {
     let mut number = 0;
-    for at in 0..line.len().min(SHORT_DIGITS) {
-        let byte = line[at];
-        if byte < b'0' || b'9' < byte {
-            if byte != b' ' || at == 0 {
+    for at in 0..text.len().min(SHORT_DIGITS) {
+        let digit = text[at].wrapping_sub(b'0');
+        if digit > 9 {
+            if text[at] != end || at == 0 {
                 return None;
             }
             return Some(NumberCut {
                 number,
-                digits: &line[..at],
-                rest: &line[at + 1..],
+                rest: &text[at + 1..],
             });
         }
-        number = 10 * number + u64::from(byte - b'0');
+        number = 10 * number + u64::from(digit);
     }
     None
+}
+
+/// The CPU, of so many, that the front of a text names, if a space ends the name. None says nothing of the text.
+#[inline(always)]
+pub fn cpu_cut(cpus: u32, text: &[u8]) -> Option<NumberCut<'_>>
+    ensures { IfSome result (λ cut. IsCpuCut cpus text.now cut) }
+{
+    let [letter, named @ ..] = text else {
+        return None;
+    };
+    if *letter != b'c' {
+        return None;
+    }
+    let cpu = number_cut(named, b' ')?;
+    if cpu.number >= u64::from(cpus) {
+        return None;
+    }
+    Some(cpu)
 }
 
 /// The number that a field spells, which is to be below the limit.

@@ -1,28 +1,24 @@
-use Rattle.std.proofs.Common.{ℕ, List, [], ◌++◌, take, sym, ◌∙◌, ap, inl, inr, arith}
-use Rattle.std.proofs.lemmas.List.{append-nil, with_items_is}
+use Rattle.std.proofs.Common.{[], sym, ◌∙◌, inl, inr, arith}
+use Rattle.std.proofs.lemmas.List.{append-nil}
 use Rattle.text_model.specs.Text.{bytes_of_pairs}
-use Rattle.trace_script.proofs.PayloadLemmas.{front_kept, payload_read, payload_refused, dash_payload}
+use Rattle.trace_script.proofs.PayloadLemmas.{payload_read, payload_refused, dash_payload, all_put}
 use Rattle.trace_script.proofs.payload.put_payload.Goals as goal
+use Rattle.trace_script.proofs.payload.put_payload.Goals.{then-is_empty-via-then-is_empty, then-is_empty-via-else-is_empty+then-field-ne0, then-is_empty-via-else-is_empty+else-field-ne0+then-not-are_hex_digits}
 
 pub returns-then-is_letter : goal.returns-then-is_letter
 returns-then-is_letter c = ([], sym (append-nil _), dash_payload c.args.field.now (sym c.is_letter.ensures ∙ c.if-is_letter.true))
 
 pub returns-then-is_empty : goal.returns-then-is_empty
-returns-then-is_empty c = payload_refused c.args.field.now (sym c.is_letter.ensures ∙ c.if-is_letter.false) (inl (sym c.is_empty.ensures ∙ c.if-is_empty.true))
-
-pub returns-then-field-ne0 : goal.returns-then-field-ne0
-returns-then-field-ne0 c = payload_refused c.args.field.now (sym c.is_letter.ensures ∙ c.if-is_letter.false) (inr (inl c.if-field-ne0.true))
-
-pub returns-then-not-decode_behind : goal.returns-then-not-decode_behind
-returns-then-not-decode_behind c = payload_refused c.args.field.now (sym c.is_letter.ensures ∙ c.if-is_letter.false) (inr (inr (sym c.decode_behind.ensures.digits ∙ c.if-not-decode_behind.true)))
+returns-then-is_empty c = elim c.then-is_empty.branch [
+  | then-is_empty-via-then-is_empty w ↦ payload_refused c.args.field.now (sym c.is_letter.ensures ∙ c.if-is_letter.false) (inl (sym c.is_empty.ensures ∙ w.if-is_empty.true))
+  | then-is_empty-via-else-is_empty+then-field-ne0 w ↦ payload_refused c.args.field.now (sym c.is_letter.ensures ∙ c.if-is_letter.false) (inr (inl w.if-field-ne0.true))
+  | then-is_empty-via-else-is_empty+else-field-ne0+then-not-are_hex_digits w ↦
+      payload_refused c.args.field.now (sym c.is_letter.ensures ∙ c.if-is_letter.false) (inr (inr (sym w.are_hex_digits.ensures ∙ w.if-not-are_hex_digits.true)))
+]
 
 pub returns : goal.returns
-returns c =
-    let front = front_kept c.args.payloads.now.items _ c.extend_from_slice.new.self.items c.len-start.result _ c.extend_from_slice.ensures.items (c.len-start.ensures ∙ c.args.payloads.now.ok.0) in (
-      bytes_of_pairs c.args.field.now,
-      with_items_is c.extend_from_slice.new.self c.decode_behind.new.bytes (omega (arith, c.as_mut_slice.ensures.len))
-          ∙ c.decode_behind.ensures.bytes c.if-not-decode_behind.false
-          ∙ ap (λ (bs : List ℕ). take c.len-start.result bs ++ bytes_of_pairs c.args.field.now) c.as_mut_slice.ensures.value
-          ∙ ap (λ (bs : List ℕ). bs ++ bytes_of_pairs c.args.field.now) front,
-      payload_read c.args.field.now (sym c.is_empty.ensures ∙ c.if-is_empty.false) (omega arith) (sym c.decode_behind.ensures.digits ∙ c.if-not-decode_behind.false),
-    )
+returns c = (
+  bytes_of_pairs c.args.field.now,
+  all_put c.args.field.now c.put_pairs.result.now c.args.payloads.now.items c.put_pairs.new.payloads.items c.put_pairs.ensures (sym c.is_empty-2.ensures ∙ c.if-not-is_empty.false),
+  payload_read c.args.field.now (sym c.is_empty.ensures ∙ c.if-is_empty.false) (omega arith) (sym c.are_hex_digits.ensures ∙ c.if-not-are_hex_digits.false),
+)

@@ -5,12 +5,12 @@ use Rattle.script_model.specs.ScriptReading.{commands_from}
 use Rattle.trace_script.specs.Kept.{commands_kept, AreKept}
 use Rattle.trace_script.proofs.read.read_commands.Given as goal
 
-abbrev pub invariant-loop-line : goal.invariant-loop-line
-invariant-loop-line l = record {
+abbrev pub invariant-loop-payloads : goal.invariant-loop-payloads
+invariant-loop-payloads l = record {
   so_far : commands_from l.cpus l.collectors (significant_lines_after l.initial.lines.passed l.initial.lines.rest.now)
       ≡ (commands_from l.cpus l.collectors (significant_lines_after l.lines.passed l.lines.rest.now) >>= λ commands. Ok (commands_kept l.payloads.items 0 l.kept.items ++ commands));
   kept : AreKept 0 (length l.payloads.items) l.kept.items;
 }
 
-abbrev pub decreases-loop-line : goal.decreases-loop-line
-decreases-loop-line l = length l.lines.rest.now
+abbrev pub decreases-loop-payloads : goal.decreases-loop-payloads
+decreases-loop-payloads l = length l.lines.rest.now

@@ -5,6 +5,6 @@ use Rattle.trace_script.proofs.values.number_cut.Given as goal
 
 abbrev pub invariant-loop-at : goal.invariant-loop-at
 invariant-loop-at l = record {
-  digits : all_ascii_digits (take l.at l.line) ≡ true;
-  value : l.number ≡ digits_value 10 (take l.at l.line);
+  digits : all_ascii_digits (take l.at l.text) ≡ true;
+  value : l.number ≡ digits_value 10 (take l.at l.text);
 }

@@ -1,0 +1,165 @@
+//! Lines as nearly all of a long script are, each read from its front to its line feed in one pass. Whatever isn't of
+//! the right form, with numbers of few digits within their limits, is left to the reader of any line.
+ghost use Rattle.std.specs.Prelude.{◌≡◌, ℕ, List, [], ◌∷◌, ◌++◌, Ok, IfSome, MatchOption};
+ghost use Rattle.text_model.specs.Script.{decimal_in, payload_in, cpu_in};
+ghost use Rattle.script_model.specs.Script.{count_in, SpellsCommand};
+ghost use Rattle.trace_script.specs.Kept.{shown_order};
+ghost use Rattle.trace_script.specs.UsualLines.{BeginsWith, BeginsBehindCpu, IsUsual, IsUsualBehindCpu};
+
+use crate::order::Order;
+use crate::payload::payload_cut;
+use crate::values::{cpu_cut, number_cut};
+use script_model::{MAX_LINE_STEPS, MIN_LINE_STEPS};
+use trace_model::{CpuId, FillNo, Moment};
+
+/// What a line asks for, its payload aside, and what stands behind the line.
+#[derive(Clone, Copy)]
+pub struct UsualLine<'a> {
+    pub order: Order,
+    pub rest: &'a [u8],
+}
+
+/// The order of a word that stands with a CPU alone.
+#[inline(always)]
+fn order_alone(word: u8, cpu: CpuId) -> Option<Order>
+    ensures { IfSome result (λ order. (cpus collectors : ℕ) (x : List ℕ) → cpu_in cpus x ≡ Ok cpu.0
+        → SpellsCommand cpus collectors (shown_order [] order) (x ∷ (word ∷ []) ∷ [])) }
+{
+    match word {
+        b'f' => Some(Order::Finish { cpu }),
+        b'c' => Some(Order::Close { cpu }),
+        b't' => Some(Order::Take { cpu }),
+        b'a' => Some(Order::Wish { cpu }),
+        _ => None,
+    }
+}
+
+/// The order of a word that stands with a CPU and a number of steps.
+#[inline(always)]
+fn steps_order(word: u8, cpu: CpuId, count: u64) -> Option<Order>
+    ensures { IfSome result (λ order. (cpus collectors : ℕ) (x k : List ℕ) → cpu_in cpus x ≡ Ok cpu.0
+        → count_in k ≡ Ok count
+        → SpellsCommand cpus collectors (shown_order [] order) (x ∷ (word ∷ []) ∷ k ∷ [])) }
+{
+    match word {
+        b's' => Some(Order::Step { cpu, count }),
+        b'r' => Some(Order::StepReader { cpu, count }),
+        _ => None,
+    }
+}
+
+/// The order of a word that stands with a CPU, a moment and a payload.
+#[inline(always)]
+fn record_order(word: u8, cpu: CpuId, moment: Moment) -> Option<Order>
+    ensures { IfSome result (λ order. (cpus collectors : ℕ) (x t hex payload : List ℕ) → cpu_in cpus x ≡ Ok cpu.0
+        → decimal_in t ≡ Ok moment.0
+        → payload_in hex ≡ Ok payload
+        → SpellsCommand cpus collectors (shown_order payload order) (x ∷ (word ∷ []) ∷ t ∷ hex ∷ [])) }
+{
+    match word {
+        b'w' => Some(Order::Write { cpu, moment }),
+        b'b' => Some(Order::Begin { cpu, moment }),
+        _ => None,
+    }
+}
+
+/// What stands behind `cX s ` or `cX r `.
+#[inline(always)]
+fn steps_line(word: u8, cpu: CpuId, text: &[u8]) -> Option<UsualLine<'_>>
+    ensures { IfSome result (λ line. (cpus collectors : ℕ)
+        → BeginsBehindCpu cpus collectors cpu.0 (word ∷ 32 ∷ text.now) line.rest.now (shown_order [] line.order)) }
+{
+    let count = number_cut(text, b'\n')?;
+    if count.number < MIN_LINE_STEPS || count.number > MAX_LINE_STEPS {
+        return None;
+    }
+    let order = steps_order(word, cpu, count.number)?;
+    Some(UsualLine {
+        order,
+        rest: count.rest,
+    })
+}
+
+/// What stands behind `cX b ` or `cX w `.
+#[inline(always)]
+fn record_line<'a>(
+    word: u8,
+    cpu: CpuId,
+    text: &'a [u8],
+    payloads: &mut Vec<u8>,
+) -> Option<UsualLine<'a>>
+    ensures { MatchOption result (payloads.new.items ≡ payloads.old.items) (λ line. (cpus collectors : ℕ)
+        → IsUsualBehindCpu cpus collectors cpu.0 (word ∷ 32 ∷ text.now) payloads.old.items payloads.new.items line) }
+{
+    let moment = number_cut(text, b' ')?;
+    let order = record_order(word, cpu, Moment(moment.number))?;
+    let rest = payload_cut(payloads, moment.rest)?;
+    Some(UsualLine { order, rest })
+}
+
+/// What stands behind `cX `.
+#[inline(always)]
+fn line_of_cpu<'a>(cpu: CpuId, text: &'a [u8], payloads: &mut Vec<u8>) -> Option<UsualLine<'a>>
+    ensures { MatchOption result (payloads.new.items ≡ payloads.old.items) (λ line. (cpus collectors : ℕ)
+        → IsUsualBehindCpu cpus collectors cpu.0 text.now payloads.old.items payloads.new.items line) }
+{
+    let [word, end, rest @ ..] = text else {
+        return None;
+    };
+    if *end == b'\n' {
+        let order = order_alone(*word, cpu)?;
+        return Some(UsualLine { order, rest });
+    }
+    if *end != b' ' {
+        return None;
+    }
+    if *word == b's' || *word == b'r' {
+        return steps_line(*word, cpu, rest);
+    }
+    record_line(*word, cpu, rest, payloads)
+}
+
+/// A line of the form `d K cX F`.
+fn delivery_line(cpus: u32, collectors: u16, text: &[u8]) -> Option<UsualLine<'_>>
+    ensures { IfSome result (λ line.
+        BeginsWith cpus collectors text.now line.rest.now (shown_order [] line.order)) }
+{
+    let [word, space, given @ ..] = text else {
+        return None;
+    };
+    if *word != b'd' || *space != b' ' {
+        return None;
+    }
+    let collector = number_cut(given, b' ')?;
+    if collector.number >= u64::from(collectors) {
+        return None;
+    }
+    let cpu = cpu_cut(cpus, collector.rest)?;
+    let fill = number_cut(cpu.rest, b'\n')?;
+    Some(UsualLine {
+        order: Order::Deliver {
+            collector: collector.number as u16,
+            cpu: CpuId(cpu.number as u32),
+            fill: FillNo(fill.number),
+        },
+        rest: fill.rest,
+    })
+}
+
+/// The first line of a text, if it is a usual one: its payload is put behind those that are there. None, and nothing
+/// put, says nothing of the text.
+#[inline(always)]
+pub fn usual_line<'a>(
+    cpus: u32,
+    collectors: u16,
+    text: &'a [u8],
+    payloads: &mut Vec<u8>,
+) -> Option<UsualLine<'a>>
+    ensures { MatchOption result (payloads.new.items ≡ payloads.old.items) (λ line.
+        IsUsual cpus collectors text.now payloads.old.items payloads.new.items line) }
+{
+    if let Some(cpu) = cpu_cut(cpus, text) {
+        return line_of_cpu(CpuId(cpu.number as u32), cpu.rest, payloads);
+    }
+    delivery_line(cpus, collectors, text)
+}
