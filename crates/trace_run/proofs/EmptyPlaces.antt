@@ -10,10 +10,22 @@ module _ {Z : Type 0} where
   pub none_at : (places : List (Option (Box LaneValue Z))) (cpu : ℕ) (x : Option (Box LaneValue Z)) → x ≡ get_or places cpu x → x ≡ None → lane_at places cpu ≡ None
   none_at places cpu x is none = ap in_place (sym (subst (λ (y : Option (Box LaneValue Z)). y ≡ get_or places cpu y) none is))
 
-pub made_from : (script : Script) (place : Option LaneValue) (pages size start : ℕ) (made v : LaneValue) → place ≡ None → pages ≡ script.pages → size ≡ script.size → start ≡ script.start → v ≡ made → IsNewLaneOf pages size start made → IsLaneFrom script place v
-made_from script place pages size start made v none p s t same new =
-    subst (λ (x : Option LaneValue). IsLaneFrom script x v) (sym none)
-    (subst (λ (x : LaneValue). IsNewLaneOf script.pages script.size script.start x) (sym same)
+pub made_from : (script : Script) (place : Option LaneValue) (v : LaneValue)
+    → place ≡ None
+    → IsNewLaneOf script.pages script.size script.start v
+    → IsLaneFrom script place v
+made_from script place v none new = subst (λ (x : Option LaneValue). IsLaneFrom script x v) (sym none) new
+
+-- the ring of a new lane is as the script says
+pub new_in_box : (script : Script) (pages size start : ℕ) (made v : LaneValue)
+    → pages ≡ script.pages
+    → size ≡ script.size
+    → start ≡ script.start
+    → v ≡ made
+    → IsNewLaneOf pages size start made
+    → IsNewLaneOf script.pages script.size script.start v
+new_in_box script pages size start made v p s t same new =
+    subst (λ (x : LaneValue). IsNewLaneOf script.pages script.size script.start x) (sym same)
     (subst (λ (n : ℕ). IsNewLaneOf n script.size script.start made) p
     (subst (λ (n : ℕ). IsNewLaneOf pages n script.start made) s
-    (subst (λ (n : ℕ). IsNewLaneOf pages size n made) t new))))
+    (subst (λ (n : ℕ). IsNewLaneOf pages size n made) t new)))

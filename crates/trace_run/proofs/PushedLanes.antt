@@ -1,5 +1,5 @@
 -- A frame that is pushed stands on top with its payload; one that is refused changes nothing.
-use Rattle.std.proofs.Common.{◌≡◌, ◌≢◌, ℕ, List, [], ◌∷◌, length, map, refl, sym, ap, ◌∙◌, subst}
+use Rattle.std.proofs.Common.{◌≡◌, ◌≢◌, ℕ, List, [], ◌∷◌, ◌++◌, length, map, refl, sym, ap, ◌∙◌, subst, append-nil}
 use Rattle.trace_model.specs.Frames.{Refusal, Frame}
 use Rattle.trace_model.specs.Ring.{Core}
 use Rattle.trace_model.specs.Steps as model
@@ -7,6 +7,7 @@ use Rattle.trace_model.specs.Steps.{pushes, pushes_close, pushed, refused, Step,
 use Rattle.script_model.specs.Script.{begin_frame, finish_frame}
 use Rattle.link_marks.specs.Seats.{IsOfReader}
 use Rattle.world_model.specs.Lanes.{Lane, payloads_with, lane_with, FitsKind, FitFrames, PushesFrame, FinishesPushed, WritesFrame, LineRun}
+use Rattle.world_model.specs.Log.{logged}
 use Rattle.world_model.specs.World.{parcel_of}
 use Rattle.ring_core.specs.declared.event.Event.{Event}
 use Rattle.ring_core.specs.declared.event.Event.TheVariants as event
@@ -230,6 +231,12 @@ begun n size start cpu line moment lane payload a new first log p told =
       is_lane = p.is_lane;
       log = told_one line cpu x (shown_log first) (shown_log log) (told size p.told p.tells);
     }
+
+-- of a push that stands nothing is logged
+pub untold : (line cpu : ℕ) (a : Answer) (log : List LogLine) → a ≡ answer.Pushed → IsTold line cpu a log log
+untold line cpu a log is size told tells =
+    let pushed_is : told ≡ pushed = subst (λ (y : Answer). Tells size y told) is tells in
+    sym (append-nil (shown_log log)) ∙ ap (λ (x : model.Answer). shown_log log ++ logged line cpu x) (sym pushed_is)
 
 -- pushed, and finished
 pub written : (n size start cpu line : ℕ) (lane : Lane) (push : model.Event) (payload : List ℕ) (a : Answer)

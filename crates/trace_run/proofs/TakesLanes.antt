@@ -198,7 +198,7 @@ module _ (line cpu n size start : ℕ) (v : LaneValue) (lane : Lane) (is : IsLan
   keeps_reads (Moving fill back) tells gives (goes, is_new) =
       reads_to (moving fill.0) tells (no_more (moving fill.0) goes) (λ e same. let z : ⊥ = cc in z)
       (record v { core = core; body = Some back }) is_new refl refl (ap length gives ∙ fits) (sym (append-nil v.taken))
-  keeps_reads (Taken contents missed) (t, told_is, whole) gives (goes, is_new) =
+  keeps_reads (Taken contents missed) (t, told_is, whole) gives (goes, (body, body_is, is_new)) =
       let parcel_is : page.parcel_of cpu contents missed ≡ parcel_of cpu t = (λ i. record {
         cpu = cpu;
         fill = whole.written.fill_is i;
@@ -207,8 +207,8 @@ module _ (line cpu n size start : ℕ) (v : LaneValue) (lane : Lane) (is : IsLan
         records = whole.written.records_are i;
       }) in
       reads_to (swapped t) told_is (no_more (swapped t) goes) (λ e same. let z : ⊥ = cc in z)
-      (record v { core = core; body = None; taken = v.taken ++ page.parcel_of cpu contents missed ∷ [] })
-      is_new refl refl tt (ap (λ (p : Parcel). v.taken ++ p ∷ []) parcel_is)
+      (record v { core = core; body = Some body; taken = v.taken ++ page.parcel_of cpu contents missed ∷ [] })
+      is_new refl refl (body_is ∙ whole.written.size_is) (ap (λ (p : Parcel). v.taken ++ p ∷ []) parcel_is)
   keeps_reads (Wished fill) tells gives keeps = absurd gives
 
 pub reads_once : (line cpu : ℕ) (v between new : LaneValue) (body : List ℕ) (result : Answer) (goes_on : Bool)

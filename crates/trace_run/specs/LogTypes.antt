@@ -7,14 +7,14 @@ use Rattle.trace_run.specs.declared.log.LogLine.TheVariants.{Refused, Taken, Emp
 
 -- a line of the log
 abbrev pub shown_log_line : LogLine → model.LogLine
-shown_log_line (Refused line cpu fault) = model.refused line cpu.0 (refusal_of fault)
-shown_log_line (Taken line cpu fill first count missed) = model.taken line cpu.0 fill.0 first.0 count missed
-shown_log_line (Empty line cpu) = model.empty line cpu.0
-shown_log_line (Moving line cpu fill) = model.moving line cpu.0 fill.0
-shown_log_line (Asks line cpu fill) = model.asks line cpu.0 fill.0
-shown_log_line (New line collector cpu fill) = model.new_delivery line collector cpu.0 fill.0
-shown_log_line (Known line collector cpu fill) = model.known_delivery line collector cpu.0 fill.0
-shown_log_line (NotTaken line collector cpu fill) = model.untaken_delivery line collector cpu.0 fill.0
+shown_log_line (Refused fault cpu line) = model.refused line cpu.0 (refusal_of fault)
+shown_log_line (Taken count cpu line fill first missed) = model.taken line cpu.0 fill.0 first.0 count missed
+shown_log_line (Empty cpu line) = model.empty line cpu.0
+shown_log_line (Moving cpu line fill) = model.moving line cpu.0 fill.0
+shown_log_line (Asks cpu line fill) = model.asks line cpu.0 fill.0
+shown_log_line (New cpu line collector fill) = model.new_delivery line collector cpu.0 fill.0
+shown_log_line (Known cpu line collector fill) = model.known_delivery line collector cpu.0 fill.0
+shown_log_line (NotTaken cpu line collector fill) = model.untaken_delivery line collector cpu.0 fill.0
 
 -- what is logged, if anything
 abbrev pub shown_logged : Option LogLine → Option model.LogLine

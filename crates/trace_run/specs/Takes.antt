@@ -5,7 +5,7 @@ use Rattle.trace_model.specs.Ring.{Core}
 use Rattle.trace_model.specs.Steps as model
 use Rattle.trace_model.specs.Steps.{reads, reading, Step, Exchange}
 use Rattle.world_model.specs.Lanes.{Lane, lane_behind, ReaderRun, IsAnswered, IsRead}
-use Rattle.page_image.specs.Contents.{IsPage, records_of_page}
+use Rattle.page_image.specs.Contents.{Contents, IsPage, records_of_page}
 use Rattle.page_numbers.specs.Parcels.{parcel_of}
 use Rattle.ring_core.specs.declared.event.Answer.{Answer}
 use Rattle.ring_core.specs.declared.event.Answer.TheVariants.{Pushed, Going, Reserved, Ended, Gone, Refused, Looking, Empty, Moving, Taken, Wished}
@@ -50,6 +50,13 @@ MayKeep cpu (Taken page missed) =
     IsPage page × (cpu < MAX_CPUS) × (page.first + length (records_of_page page) < 2 ^ 64) × (missed ≤ page.first)
 MayKeep cpu (Wished fill) = ⊥
 
+-- the page is kept as a parcel of this CPU, and a body of its size for the next take
+abbrev pub KeepsPage : (cpu : ℕ) → Contents → (missed : ℕ) → LaneValue → LaneValue → Type 0
+KeepsPage cpu page missed old new =
+    (body : List ℕ)
+    × (length body ≡ page.size)
+    × (new ≡ record old { body = Some body; taken = old.taken ++ parcel_of cpu page missed ∷ [] })
+
 -- it is kept
 abbrev pub Keeps : (cpu : ℕ) → Answer → (goes_on : Bool) → LaneValue → LaneValue → Type 0
 Keeps cpu Pushed goes_on old new = ⊥
@@ -61,6 +68,5 @@ Keeps cpu (Refused fault) goes_on old new = ⊥
 Keeps cpu (Looking body) goes_on old new = (goes_on ≡ true) × (new ≡ record old { body = Some body })
 Keeps cpu (Empty done body) goes_on old new = (goes_on ≡ false) × (new ≡ record old { body = Some body })
 Keeps cpu (Moving fill body) goes_on old new = (goes_on ≡ false) × (new ≡ record old { body = Some body })
-Keeps cpu (Taken page missed) goes_on old new =
-    (goes_on ≡ false) × (new ≡ record old { taken = old.taken ++ parcel_of cpu page missed ∷ [] })
+Keeps cpu (Taken page missed) goes_on old new = (goes_on ≡ false) × KeepsPage cpu page missed old new
 Keeps cpu (Wished fill) goes_on old new = ⊥

@@ -1,8 +1,9 @@
 //! The log of a replay: what the script's lines met, in their order.
-ghost use Rattle.std.specs.Prelude.{◌≡◌, ℕ, ◌++◌, option_to_list, OnOk};
+ghost use Rattle.std.specs.Prelude.{◌≡◌, ℕ, [], ◌∷◌, ◌++◌, option_to_list, OnOk};
 ghost use Rattle.trace_model.specs.Steps as model;
+ghost use Rattle.text_model.specs.Log.{refused};
 ghost use Rattle.world_model.specs.Log.{logged};
-ghost use Rattle.ring_core.specs.Answers.{Tells};
+ghost use Rattle.ring_core.specs.Answers.{Tells, refusal_of};
 ghost use Rattle.trace_run.specs.LogTypes.{shown_log, shown_logged};
 
 use nested_writer::WriteFault;
@@ -17,61 +18,62 @@ pub struct At {
     pub cpu: CpuId,
 }
 
-/// A line of the log, told by the number of the script's line.
+/// A line of the log, told by the number of the script's line. Small fields stand first, so that a line takes no more
+/// than 40 bytes.
 #[derive(Clone, Copy, Debug, PartialEq, Eq)]
 pub enum LogLine {
     /// A writer of this CPU was refused.
     Refused {
-        line: u64,
-        cpu: CpuId,
         fault: WriteFault,
+        cpu: CpuId,
+        line: u64,
     },
     /// A page of this CPU was taken: which fill it was, the number of its first record, how many
     /// records it has, and how many records were missed in front of them.
     Taken {
-        line: u64,
+        count: u16,
         cpu: CpuId,
+        line: u64,
         fill: FillNo,
         first: RecordNo,
-        count: u64,
         missed: u64,
     },
     /// No page of this CPU is closed and unread.
     Empty {
-        line: u64,
         cpu: CpuId,
+        line: u64,
     },
     /// A writer of this CPU moves the head; all fills below this one are taken or lost.
     Moving {
-        line: u64,
         cpu: CpuId,
+        line: u64,
         fill: FillNo,
     },
     /// The reader of this CPU asks for the page of this fill.
     Asks {
-        line: u64,
         cpu: CpuId,
+        line: u64,
         fill: FillNo,
     },
     /// A fill of this CPU was delivered to a collector that hadn't all of its page.
     New {
+        cpu: CpuId,
         line: u64,
         collector: usize,
-        cpu: CpuId,
         fill: FillNo,
     },
     /// A fill of this CPU was delivered to a collector that had its page.
     Known {
+        cpu: CpuId,
         line: u64,
         collector: usize,
-        cpu: CpuId,
         fill: FillNo,
     },
     /// No page of this fill of this CPU was taken so far, so nothing was delivered.
     NotTaken {
+        cpu: CpuId,
         line: u64,
         collector: usize,
-        cpu: CpuId,
         fill: FillNo,
     },
 }
@@ -93,7 +95,7 @@ fn log_line(at: At, answer: &Answer) -> Option<LogLine>
             cpu,
             fill: page.fill(),
             first: page.first(),
-            count: page.count(),
+            count: page.count() as u16,
             missed: *missed,
         }),
         Answer::Empty(_, _) => Some(LogLine::Empty { line, cpu }),
@@ -117,12 +119,42 @@ fn log_line(at: At, answer: &Answer) -> Option<LogLine>
 }
 
 /// Puts what is logged of a ring's answer behind the log.
-pub(crate) fn tell(at: At, answer: &Answer, log: &mut Vec<LogLine>) -> Result<(), NoMemory>
+#[inline(never)]
+pub(crate) fn tell_any(at: At, answer: &Answer, log: &mut Vec<LogLine>) -> Result<(), NoMemory>
     ensures { OnOk result ((size : ℕ) (told : model.Answer) → Tells size answer.now told
         → shown_log log.new.items ≡ shown_log log.old.items ++ logged at.line at.cpu.0 told) }
 {
     if let Some(line) = log_line(at, answer) {
         log.push(line)?;
     }
+    Ok(())
+}
+
+/// The same of an answer that isn't needed any more: nothing is logged of most answers to a writer.
+#[inline(always)]
+pub(crate) fn tell(at: At, answer: Answer, log: &mut Vec<LogLine>) -> Result<(), NoMemory>
+    ensures { OnOk result ((size : ℕ) (told : model.Answer) → Tells size answer told
+        → shown_log log.new.items ≡ shown_log log.old.items ++ logged at.line at.cpu.0 told) }
+{
+    match answer {
+        Answer::Pushed | Answer::Going | Answer::Reserved(_) | Answer::Ended(_) | Answer::Gone =>
+            Ok(()),
+        Answer::Refused(fault) => tell_refusal(at, fault, log),
+        other => tell_any(at, &other, log),
+    }
+}
+
+/// A writer is refused, which is logged.
+#[inline(never)]
+pub(crate) fn tell_refusal(
+    at: At,
+    fault: WriteFault,
+    log: &mut Vec<LogLine>,
+) -> Result<(), NoMemory>
+    ensures { OnOk result (shown_log log.new.items
+        ≡ shown_log log.old.items ++ refused at.line at.cpu.0 (refusal_of fault) ∷ []) }
+{
+    let At { line, cpu } = at;
+    log.push(LogLine::Refused { fault, cpu, line })?;
     Ok(())
 }

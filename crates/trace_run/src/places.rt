@@ -1,5 +1,6 @@
 //! The lanes of a script's CPUs, each in the place of its CPU from when a line first names it.
 ghost use Rattle.std.specs.Prelude.{◌≡◌, ℕ, ◌<◌, length, Some, OnOk, IfOk};
+ghost use Rattle.trace_run.specs.Lanes.{IsNewLaneOf};
 ghost use Rattle.trace_run.specs.Places.{lane_at, AreSameBut, IsLaneFrom};
 
 use crate::lane::Lane;
@@ -8,6 +9,7 @@ use trace_model::{CpuId, NoMemory};
 use trace_script::Script;
 
 /// Makes empty places, up to that of this CPU.
+#[inline(always)]
 fn grow<'a>(places: &mut Vec<Option<Box<Lane<'a>>>>, cpu: usize) -> Result<(), NoMemory>
     ensures room { OnOk result (cpu < length places.new.items) }
     ensures same { OnOk result ((other : ℕ) → lane_at places.new.items other ≡ lane_at places.old.items other) }
@@ -18,7 +20,17 @@ fn grow<'a>(places: &mut Vec<Option<Box<Lane<'a>>>>, cpu: usize) -> Result<(), N
     Ok(())
 }
 
+/// A new lane, whose ring is as the script says.
+#[inline(never)]
+fn new_lane<'a>(alloc: Global, script: &Script) -> Result<Box<Lane<'a>>, NoMemory>
+    ensures { IfOk result (λ lane. IsNewLaneOf script.now.pages script.now.size script.now.start lane.value) }
+{
+    let lane = Lane::new(alloc, script.pages(), script.size(), script.start().0)?;
+    Ok(Box::new(alloc, lane)?)
+}
+
 /// Takes the lane of this CPU out of its place, or makes it.
+#[inline(always)]
 pub(crate) fn take_lane<'a>(
     alloc: Global,
     script: &Script,
@@ -33,14 +45,12 @@ pub(crate) fn take_lane<'a>(
     grow(places, at)?;
     match places[at].take() {
         Some(lane) => Ok(lane),
-        None => {
-            let lane = Lane::new(alloc, script.pages(), script.size(), script.start().0)?;
-            Ok(Box::new(alloc, lane)?)
-        }
+        None => new_lane(alloc, script),
     }
 }
 
 /// Puts a lane to the place of its CPU.
+#[inline(always)]
 pub(crate) fn put_lane<'a>(places: &mut Vec<Option<Box<Lane<'a>>>>, cpu: CpuId, lane: Box<Lane<'a>>)
     requires { cpu.0 < length places.old.items }
     ensures lane { lane_at places.new.items cpu.0 ≡ Some lane.entry.value }

@@ -32,6 +32,7 @@ pub(crate) struct ReplayState<'a> {
 }
 
 /// The CPU that a command names.
+#[inline(always)]
 fn named_cpu(command: Command) -> CpuId
     ensures { result.0 ≡ cpu_of (shown_command command.entry) }
 {
@@ -49,6 +50,7 @@ fn named_cpu(command: Command) -> CpuId
 }
 
 /// A lane does what a command asks for of it; of a delivery nothing.
+#[inline(always)]
 fn run_line<'a>(
     alloc: Global,
     lane: &mut Lane<'a>,
@@ -82,6 +84,7 @@ fn run_line<'a>(
 }
 
 /// A line of a CPU's ring.
+#[inline(always)]
 fn obey_ring<'a>(
     alloc: Global,
     script: &Script,
@@ -124,6 +127,7 @@ fn told_delivery(added: Added, line: u64, collector: usize, cpu: CpuId, fill: Fi
 }
 
 /// A line that delivers a fill of a CPU to a collector.
+#[inline(never)]
 fn deliver(
     state: &mut ReplayState,
     line: u64,
@@ -152,6 +156,7 @@ fn deliver(
 }
 
 /// A line of the script. What it leaves where memory is refused is not used.
+#[inline(always)]
 fn obey<'a>(
     alloc: Global,
     script: &Script,

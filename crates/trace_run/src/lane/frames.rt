@@ -1,11 +1,8 @@
 //! The steps of the frame on top.
-ghost use Rattle.std.specs.Prelude.{◌≡◌, ◌≤◌, ◌-◌, ◌++◌, [], ◌∷◌, length, replicate, OnOk};
-ghost use Rattle.trace_model.specs.Frames.{no_frame};
-ghost use Rattle.text_model.specs.Log.{refused};
-ghost use Rattle.trace_run.specs.LogTypes.{shown_log};
+ghost use Rattle.std.specs.Prelude.{◌≡◌, ◌≤◌, ◌-◌, ◌++◌, length, replicate};
 
 use crate::lane::Lane;
-use crate::log::{At, LogLine, tell};
+use crate::log::{At, LogLine, tell, tell_refusal};
 use nested_writer::WriteFault;
 use nested_writer::frame::Slot;
 use ring_core::{Answer, Event};
@@ -15,6 +12,7 @@ use trace_model::NoMemory;
 pub(crate) const MOST_STEPS: u64 = 8192;
 
 /// Puts the payload to the front of the slot, and zeros behind it.
+#[inline(always)]
 fn put_padded(slot: &mut [u8], payload: &[u8])
     requires { length payload.now ≤ length slot.old }
     ensures { slot.new ≡ payload.now ++ replicate (length slot.old - length payload.now) 0 }
@@ -32,6 +30,7 @@ impl<'a> Lane<'a> {
     ghost use Rattle.trace_run.specs.Frames.{AsksTop, StepsOnce, FollowsFrame};
 
     /// Lets the frame on top make so many steps, if it stands so long.
+    #[inline(never)]
     pub(crate) fn step(
         &mut self,
         at: At,
@@ -43,24 +42,36 @@ impl<'a> Lane<'a> {
             self.old log.old.items self.new log.new.items) }
     {
         if self.core.depth() == 0 {
-            return lack_frame(at, log);
+            return tell_refusal(at, WriteFault::NoFrame, log);
         }
         self.follow(at, count, log)
     }
 
     /// Lets the frame on top make steps until it is gone.
+    #[inline(never)]
     pub(crate) fn finish(&mut self, at: At, log: &mut Vec<LogLine>) -> Result<(), NoMemory>
         requires { IsLaneOf at.cpu.0 self.old }
         ensures { OnOk result (HasLine (finish_frame at.cpu.0) at.line at.cpu.0
             self.old log.old.items self.new log.new.items) }
     {
+        self.finish_top(at, log)
+    }
+
+    /// The same, where it is called from.
+    #[inline(always)]
+    pub(crate) fn finish_top(&mut self, at: At, log: &mut Vec<LogLine>) -> Result<(), NoMemory>
+        requires { IsLaneOf at.cpu.0 self.old }
+        ensures { OnOk result (HasLine (finish_frame at.cpu.0) at.line at.cpu.0
+            self.old log.old.items self.new log.new.items) }
+    {
         if self.core.depth() == 0 {
-            return lack_frame(at, log);
+            return tell_refusal(at, WriteFault::NoFrame, log);
         }
         self.follow(at, MOST_STEPS, log)
     }
 
     /// The frame on top makes steps until so many are made or it is gone.
+    #[inline(always)]
     fn follow(&mut self, at: At, count: u64, log: &mut Vec<LogLine>) -> Result<(), NoMemory>
         requires lane { IsLaneOf at.cpu.0 self.old }
         requires stands { self.old.core.stack.frames ≢ [] }
@@ -71,7 +82,7 @@ impl<'a> Lane<'a> {
         let mut steps = 0;
         while steps < count && self.core.depth() == depth {
             let answer = self.step_once();
-            tell(at, &answer, log)?;
+            tell(at, answer, log)?;
             steps += 1;
         }
         Ok(())
@@ -79,6 +90,7 @@ impl<'a> Lane<'a> {
 
     /// One step of the frame on top, with whose payload its record ends. The payload of a frame that is gone is
     /// dropped.
+    #[inline(always)]
     fn step_once(&mut self) -> Answer
         requires { (cpu : ℕ) × IsLaneOf cpu self.old }
         ensures { StepsOnce self.old result self.new }
@@ -89,6 +101,7 @@ impl<'a> Lane<'a> {
     }
 
     /// One step of the ring's frame on top.
+    #[inline(always)]
     fn ask_top(&mut self) -> Answer
         requires { (cpu : ℕ) × IsLaneOf cpu self.old }
         ensures ring { self.new ≡ record self.old { core = self.new.core } }
@@ -101,6 +114,7 @@ impl<'a> Lane<'a> {
     }
 
     /// The record of the frame on top is written, and ended.
+    #[inline(always)]
     fn end_top(&mut self, slot: Slot) -> Answer
         requires lane { (cpu : ℕ) × IsLaneOf cpu self.old }
         requires slot { IsTopSlot self.old.core.stack.frames slot }
@@ -115,6 +129,7 @@ impl<'a> Lane<'a> {
     }
 
     /// Drops the payloads of frames that are gone.
+    #[inline(always)]
     fn forget_gone(&mut self)
         ensures { self.new ≡ record self.old {
           payloads = drop (length self.old.payloads - length self.old.core.stack.frames) self.old.payloads;
@@ -124,17 +139,4 @@ impl<'a> Lane<'a> {
             self.payloads.pop_front();
         }
     }
-}
-
-/// No frame stands, which is logged.
-fn lack_frame(at: At, log: &mut Vec<LogLine>) -> Result<(), NoMemory>
-    ensures { OnOk result (shown_log log.new.items
-        ≡ shown_log log.old.items ++ refused at.line at.cpu.0 no_frame ∷ []) }
-{
-    log.push(LogLine::Refused {
-        line: at.line,
-        cpu: at.cpu,
-        fault: WriteFault::NoFrame,
-    })?;
-    Ok(())
 }

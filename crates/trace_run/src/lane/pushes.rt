@@ -11,6 +11,7 @@ impl<'a> Lane<'a> {
     ghost use Rattle.trace_run.specs.Frames.{IsPushOf, push_event, Pushes, HasWritten};
 
     /// Pushes a record frame of this moment and payload.
+    #[inline(never)]
     pub(crate) fn begin(
         &mut self,
         at: At,
@@ -24,10 +25,11 @@ impl<'a> Lane<'a> {
     {
         let len = payload.len();
         let answer = self.push(Event::Push { moment, len }, payload)?;
-        tell(at, &answer, log)
+        tell(at, answer, log)
     }
 
     /// Pushes a record frame of this moment and payload, and lets it make steps until it is gone.
+    #[inline(never)]
     pub(crate) fn write(
         &mut self,
         at: At,
@@ -44,6 +46,7 @@ impl<'a> Lane<'a> {
     }
 
     /// Pushes a close frame, and lets it make steps until it is gone.
+    #[inline(never)]
     pub(crate) fn close(&mut self, at: At, log: &mut Vec<LogLine>) -> Result<(), NoMemory>
         requires { IsLaneOf at.cpu.0 self.old }
         ensures { OnOk result (HasLine (close at.cpu.0) at.line at.cpu.0
@@ -53,6 +56,7 @@ impl<'a> Lane<'a> {
     }
 
     /// Pushes a frame with this payload, and lets it make steps until it is gone.
+    #[inline(always)]
     fn push_and_finish(
         &mut self,
         at: At,
@@ -66,14 +70,14 @@ impl<'a> Lane<'a> {
             self.old log.old.items self.new log.new.items) }
     {
         let answer = self.push(event, payload)?;
-        tell(at, &answer, log)?;
         match answer {
-            Answer::Pushed => self.finish(at, log),
-            _ => Ok(()),
+            Answer::Pushed => self.finish_top(at, log),
+            refused => tell(at, refused, log),
         }
     }
 
     /// Pushes a frame, and keeps its payload where it stands.
+    #[inline(always)]
     fn push(&mut self, event: Event, payload: &'a [u8]) -> Result<Answer, NoMemory>
         requires lane { (cpu : ℕ) × IsLaneOf cpu self.old }
         requires push { IsPushOf event payload.now }

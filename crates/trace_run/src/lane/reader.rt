@@ -6,7 +6,7 @@ ghost use Rattle.page_numbers.specs.Parcels.{parcel_of};
 
 use crate::lane::Lane;
 use crate::lane::frames::MOST_STEPS;
-use crate::log::{At, LogLine, tell};
+use crate::log::{At, LogLine, tell, tell_any};
 use page_image::{Body, Page};
 use page_numbers::{Parcel, ParcelFault};
 use ring_core::{Answer, Event};
@@ -29,10 +29,12 @@ fn parcel(alloc: Global, cpu: CpuId, page: Page, missed: u64) -> Result<Parcel, 
 }
 
 impl<'a> Lane<'a> {
-    ghost use Rattle.std.specs.Prelude.{◌≡◌, ℕ, None, IfOk, OnOk, length};
+    ghost use Rattle.std.specs.Prelude.{◌≡◌, ℕ, ◌+◌, ◌^◌, ◌<◌, ◌≤◌, None, IfOk, OnOk, length};
+    ghost use Rattle.trace_model.specs.declared.limits.TheConstants.{MAX_CPUS};
+    ghost use Rattle.page_image.specs.Contents.{IsPage, records_of_page};
     ghost use Rattle.script_model.specs.Script.{step_reader, take_page, wish};
     ghost use Rattle.trace_run.specs.Lanes.{IsLaneOf, Has, HasLine};
-    ghost use Rattle.trace_run.specs.Takes.{ReadsOnce, ReadsOn, Keeps, MayKeep};
+    ghost use Rattle.trace_run.specs.Takes.{ReadsOnce, ReadsOn, Keeps, KeepsPage, MayKeep};
 
     /// Lets the reader make so many steps, if its take lasts so long.
     pub(crate) fn step_reader(
@@ -70,7 +72,7 @@ impl<'a> Lane<'a> {
             self.old log.old.items self.new log.new.items) }
     {
         let answer = self.core.step(Event::Wish);
-        tell(at, &answer, log)
+        tell(at, answer, log)
     }
 
     /// The reader makes steps until so many are made or it answers.
@@ -102,7 +104,7 @@ impl<'a> Lane<'a> {
     {
         let body = self.next_body(alloc)?;
         let answer = self.core.step(Event::Read(body));
-        tell(at, &answer, log)?;
+        tell_any(at, &answer, log)?;
         self.keep(alloc, at.cpu, answer)
     }
 
@@ -133,11 +135,31 @@ impl<'a> Lane<'a> {
                 Ok(false)
             }
             Answer::Taken(page, missed) => {
-                let parcel = parcel(alloc, cpu, page, missed)?;
-                self.taken.push(parcel)?;
+                self.keep_page(alloc, cpu, page, missed)?;
                 Ok(false)
             }
             _ => unreachable!(),
         }
+    }
+
+    /// Keeps the records of a page that was taken as a parcel, in as many bytes as they take; and the page's own body
+    /// for the next take.
+    fn keep_page(
+        &mut self,
+        alloc: Global,
+        cpu: CpuId,
+        page: Page,
+        missed: u64,
+    ) -> Result<(), NoMemory>
+        requires page { IsPage page }
+        requires known { cpu.0 < MAX_CPUS }
+        requires numbers { page.first + length (records_of_page page) < 2 ^ 64 }
+        requires missed { missed ≤ page.first }
+        ensures { OnOk result (KeepsPage cpu.0 page missed self.old self.new) }
+    {
+        let parcel = parcel(alloc, cpu, page.fitted(alloc)?, missed)?;
+        self.taken.push(parcel)?;
+        self.body = Some(page.into_body());
+        Ok(())
     }
 }

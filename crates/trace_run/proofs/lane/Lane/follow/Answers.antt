@@ -20,58 +20,6 @@ step_once-answer-requires c =
     let h = c.loop-steps.invariant.amid n size start lane is in
     (c.args.at.cpu.0, (n, size, start, h.after, h.is_lane))
 
-pub loop-steps-preserved-in_ok-tell : goal.loop-steps-preserved-in_ok-tell
-loop-steps-preserved-in_ok-tell c = record {
-  few = omega arith;
-  amid = amid_turn c.args.at.line c.args.at.cpu.0 c.depth-depth.result c.loop-steps.steps c.args.self.now
-      c.loop-steps.self c.step_once-answer.new.self c.step_once-answer.result c.args.log.now.items
-      c.loop-steps.log.items c.tell.new.log.items
-      c.loop-steps.invariant.amid
-      (ap (λ (v : LaneValue). length v.core.stack.frames) (sym c.self-in-loop-steps.view_is) ∙ sym c.depth.ensures
-      ∙ c.if-depth.true)
-      c.step_once-answer.ensures
-      c.in_ok-tell.ensures;
-}
-
-pub loop-steps-preserved-in_ok-tell-2 : goal.loop-steps-preserved-in_ok-tell-2
-loop-steps-preserved-in_ok-tell-2 c = record {
-  few = omega arith;
-  amid = amid_turn c.args.at.line c.args.at.cpu.0 c.depth-depth.result c.loop-steps.steps c.args.self.now
-      c.loop-steps.self c.step_once-answer.new.self c.step_once-answer.result c.args.log.now.items
-      c.loop-steps.log.items c.tell.new.log.items
-      c.loop-steps.invariant.amid
-      (ap (λ (v : LaneValue). length v.core.stack.frames) (sym c.self-in-loop-steps.view_is) ∙ sym c.depth.ensures
-      ∙ c.if-depth.true)
-      c.step_once-answer.ensures
-      c.in_ok-tell.ensures;
-}
-
-pub loop-steps-preserved-in_ok-tell-3 : goal.loop-steps-preserved-in_ok-tell-3
-loop-steps-preserved-in_ok-tell-3 c = record {
-  few = omega arith;
-  amid = amid_turn c.args.at.line c.args.at.cpu.0 c.depth-depth.result c.loop-steps.steps c.args.self.now
-      c.loop-steps.self c.step_once-answer.new.self c.step_once-answer.result c.args.log.now.items
-      c.loop-steps.log.items c.tell.new.log.items
-      c.loop-steps.invariant.amid
-      (ap (λ (v : LaneValue). length v.core.stack.frames) (sym c.self-in-loop-steps.view_is) ∙ sym c.depth.ensures
-      ∙ c.if-depth.true)
-      c.step_once-answer.ensures
-      c.in_ok-tell.ensures;
-}
-
-pub loop-steps-preserved-in_ok-tell-4 : goal.loop-steps-preserved-in_ok-tell-4
-loop-steps-preserved-in_ok-tell-4 c = record {
-  few = omega arith;
-  amid = amid_turn c.args.at.line c.args.at.cpu.0 c.depth-depth.result c.loop-steps.steps c.args.self.now
-      c.loop-steps.self c.step_once-answer.new.self c.step_once-answer.result c.args.log.now.items
-      c.loop-steps.log.items c.tell.new.log.items
-      c.loop-steps.invariant.amid
-      (ap (λ (v : LaneValue). length v.core.stack.frames) (sym c.self-in-loop-steps.view_is) ∙ sym c.depth.ensures
-      ∙ c.if-depth.true)
-      c.step_once-answer.ensures
-      c.in_ok-tell.ensures;
-}
-
 pub loop-steps-preserved : goal.loop-steps-preserved
 loop-steps-preserved c = record {
   few = omega arith;

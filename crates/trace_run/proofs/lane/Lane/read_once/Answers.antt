@@ -18,12 +18,12 @@ returns c =
     let same = c.self.view_is ∙ c.in_ok-body.ensures.rest in
     IfOk-weaker c.keep.result _ _
     (λ goes_on keeps. reads_once c.args.at.line c.args.at.cpu.0 c.args.self.now _ c.keep.new.self c.in_ok-body.body
-    c.step-answer.result goes_on c.args.log.now.items c.tell.new.log.items
+    c.step-answer.result goes_on c.args.log.now.items c.tell_any.new.log.items
     c.in_ok-body.ensures.size
     (subst (λ (w : LaneValue). Makes w.core reads c.step-answer.result c.step-answer.new.self) same
     c.step-answer.ensures.step)
     (ap (λ (w : LaneValue). record w { core = c.step-answer.new.self }) same)
     c.step-answer.ensures.given_back
-    c.in_ok-tell.ensures
+    c.in_ok-tell_any.ensures
     keeps)
     c.keep.ensures

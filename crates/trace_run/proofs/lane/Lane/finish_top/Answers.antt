@@ -3,18 +3,18 @@ use Rattle.std.proofs.lemmas.Result.{on_ok_weaker}
 use Rattle.nested_writer.specs.declared.frame.Frame.{Frame}
 use Rattle.trace_run.specs.Value.{LaneValue}
 use Rattle.trace_run.proofs.FrameRuns.{finished, lacks_finish}
-use Rattle.trace_run.proofs.lane.Lane.finish.Goals as goal
+use Rattle.trace_run.proofs.lane.Lane.finish_top.Goals as goal
 
 pub returns-then-depth-eq0 : goal.returns-then-depth-eq0
 returns-then-depth-eq0 c =
     let none : length c.args.self.now.core.stack.frames
     ≡ 0 = ap (λ (v : LaneValue). length v.core.stack.frames) (sym c.self.view_is) ∙ sym c.depth.ensures
     ∙ c.if-depth-eq0.true in
-    on_ok_weaker c.lack_frame.result
+    on_ok_weaker c.tell_refusal.result
     (λ told n size start lane is.
     lacks_finish n size start c.args.at.cpu.0 c.args.at.line c.args.self.now lane c.args.log.now.items
-    c.lack_frame.new.log.items is none told)
-    c.lack_frame.ensures
+    c.tell_refusal.new.log.items is none told)
+    c.tell_refusal.ensures
 
 pub returns : goal.returns
 returns c =
