@@ -20,9 +20,9 @@ pub trait Command {
     // Whether these bytes with this exit status may be the output for a text.
     ghost gives: { Self → (text bytes : List ℕ) (status : ℕ) → Type 0 };
 
-    /// The output for a text.
-    fn output(&self, alloc: Global, text: &[u8]) -> Result<Output, NoMemory>
-        ensures { IfOk result (λ output. gives self.now text.now (bytes_of output) (status_of output)) };
+    /// The output for a text. The text is handed over, so that it can be given back before the output is made.
+    fn output(&self, alloc: Global, text: Vec<u8>) -> Result<Output, NoMemory>
+        ensures { IfOk result (λ output. gives self.now text.items (bytes_of output) (status_of output)) };
 }
 
 // The output for all that the reader gives.
@@ -42,7 +42,7 @@ fn output_for<C: Command, R: Source>(
         → TakesAtMost MAX_INPUT (R.remaining reader.old) (R.remaining reader.new) }
 {
     let text = read_all(alloc, reader)?;
-    match command.output(alloc, text.as_slice()) {
+    match command.output(alloc, text) {
         Ok(output) => Ok(output),
         Err(NoMemory) => Err(InputFault::NoMemory),
     }

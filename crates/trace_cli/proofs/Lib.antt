@@ -1,3 +1,4 @@
 pub mod Lines
+pub mod OneOutput
 pub mod Told
 pub mod ImageFaultLemmas

@@ -4,7 +4,6 @@ use Rattle.std.specs.declared.alloc.Global.{Global}
 use Rattle.std.specs.List.{enumerate_from}
 use Rattle.std.proofs.lemmas.List.{get_or-map, length-map, flat_map_more}
 use Rattle.trace_model.specs.Record.{Record}
-use Rattle.page_image.specs.Copies.{copy_of, copies_of}
 
 -- lines that don't tell numbers are those of the records alone
 pub lines_without_numbers : (line : Record → List ℕ) (number : ℕ) (records : List Record) → flat_map (λ (pair : ℕ × Record). line pair.1) (enumerate_from number records) ≡ flat_map line records

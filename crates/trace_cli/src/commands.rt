@@ -1,11 +1,12 @@
 //! The command `replay`: a script in, the printing of its world out.
-ghost use Rattle.std.specs.Prelude.{◌≡◌, ℕ, ◌∷◌, ◌++◌, [], List, false, IfOk};
+ghost use Rattle.std.specs.Prelude.{◌≡◌, ℕ, ◌∷◌, ◌++◌, [], List, false, IfOk, IfErr};
 ghost use Rattle.std.specs.List.{AllZip};
+ghost use Rattle.script_model.specs.Script.{ParsesScript};
 ghost use Rattle.world_model.specs.Printing.{Shown, printed_world};
 ghost use Rattle.collector_text.specs.Tells.{Tells};
 ghost use Rattle.command_io.specs.CommandRun.{IsCommandRun};
 ghost use Rattle.command_io.specs.Output.{bytes_of, status_of};
-ghost use Rattle.trace_script.specs.ScriptFaults.{script_fault_text};
+ghost use Rattle.trace_script.specs.ScriptFaults.{TellsFirstFault, script_fault_text};
 ghost use Rattle.trace_run.specs.LogTypes.{shown_log};
 ghost use Rattle.trace_run.specs.Replay.{IsHeadline};
 ghost use Rattle.trace_cli.specs.Commands.{IsPrinting, ReplayGives};
@@ -29,25 +30,32 @@ fn replayed(alloc: Global, script: &Script) -> Result<World, NoMemory>
     }
 }
 
-/// The printing of a world: the log, if it is asked for, and the collectors.
-fn print_world(alloc: Global, world: &World, log: bool) -> Result<Vec<u8>, NoMemory>
-    ensures { IfOk result (λ text. (shown : List Shown) × AllZip Tells world.now.collectors.items shown
-        × (text.items ≡ printed_world log (shown_log world.now.log.items) shown)) }
+/// The printing of a world: the log, if it is asked for, and the collectors. The log is given back before the collectors
+/// are printed.
+fn print_world(alloc: Global, world: World, log: bool) -> Result<Vec<u8>, NoMemory>
+    ensures { IfOk result (λ text. (shown : List Shown) × AllZip Tells world.collectors.items shown
+        × (text.items ≡ printed_world log (shown_log world.log.items) shown)) }
 {
+    let World {
+        collectors,
+        log: logged,
+    } = world;
     let mut text = Vec::new(alloc);
     if log {
-        put_log(&mut text, world.log.as_slice())?;
+        put_log(&mut text, logged.as_slice())?;
     }
-    put_collectors(alloc, &mut text, world.collectors.as_slice())?;
+    drop(logged);
+    put_collectors(alloc, &mut text, collectors.as_slice())?;
     Ok(text)
 }
 
-/// The printing of a script's world.
-fn print_replay(alloc: Global, script: &Script, log: bool) -> Result<Vec<u8>, NoMemory>
-    ensures { IfOk result (λ text. IsPrinting script.now log text.items) }
+/// The printing of a script's world. The script is given back before the printing begins.
+fn print_replay(alloc: Global, script: Script, log: bool) -> Result<Vec<u8>, NoMemory>
+    ensures { IfOk result (λ text. IsPrinting script log text.items) }
 {
-    let world = replayed(alloc, script)?;
-    let text = print_world(alloc, &world, log)?;
+    let world = replayed(alloc, &script)?;
+    drop(script);
+    let text = print_world(alloc, world, log)?;
     Ok(text)
 }
 
@@ -69,17 +77,25 @@ struct ReplayCommand {
 impl Command for ReplayCommand {
     ghost gives = { λ command. ReplayGives command.log };
 
-    fn output(&self, alloc: Global, text: &[u8]) -> Result<Output, NoMemory> {
+    fn output(&self, alloc: Global, text: Vec<u8>) -> Result<Output, NoMemory> {
         replay_output(alloc, text, self.log)
     }
 }
 
-/// What is printed for a script, with the exit status.
-fn replay_output(alloc: Global, text: &[u8], log: bool) -> Result<Output, NoMemory>
-    ensures { IfOk result (λ output. ReplayGives log text.now (bytes_of output) (status_of output)) }
+/// The script that a text spells, or its first fault. The text is given back.
+fn read_text(alloc: Global, text: Vec<u8>) -> Result<Script, ScriptFault>
+    ensures script { IfOk result (λ script. ParsesScript text.items script) }
+    ensures fault { IfErr result (λ fault. TellsFirstFault text.items fault) }
 {
-    match read_script(alloc, text) {
-        Ok(script) => Ok(Output::Done(print_replay(alloc, &script, log)?)),
+    read_script(alloc, text.as_slice())
+}
+
+/// What is printed for a script, with the exit status.
+fn replay_output(alloc: Global, text: Vec<u8>, log: bool) -> Result<Output, NoMemory>
+    ensures { IfOk result (λ output. ReplayGives log text.items (bytes_of output) (status_of output)) }
+{
+    match read_text(alloc, text) {
+        Ok(script) => Ok(Output::Done(print_replay(alloc, script, log)?)),
         Err(ScriptFault::NoMemory) => Err(NoMemory),
         Err(fault) => Ok(Output::Refused(fault_line(alloc, fault)?)),
     }

@@ -16,8 +16,8 @@ struct DumpCommand;
 impl Command for DumpCommand {
     ghost gives = { λ _. DumpGives };
 
-    fn output(&self, alloc: Global, text: &[u8]) -> Result<Output, NoMemory> {
-        dump_output(alloc, text)
+    fn output(&self, alloc: Global, text: Vec<u8>) -> Result<Output, NoMemory> {
+        dump_output(alloc, text.as_slice())
     }
 }
 

@@ -48,14 +48,14 @@ fn put_taken(
     out: &mut Vec<u8>,
     fill: FillNo,
     first: RecordNo,
-    count: u64,
+    count: u16,
     missed: u64,
 ) -> Result<(), NoMemory>
     ensures { OnOk result (out.new.items ≡ out.old.items ++ page_text fill.0 first.0 count missed) }
 {
     put_named(out, b" taken fill ", fill.0)?;
     put_named(out, b" first ", first.0)?;
-    put_named(out, b" count ", count)?;
+    put_named(out, b" count ", u64::from(count))?;
     put_named(out, b" missed ", missed)?;
     Ok(())
 }

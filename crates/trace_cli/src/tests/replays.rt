@@ -13,7 +13,7 @@ const CPU: CpuId = CpuId(3);
 const FILL: FillNo = FillNo(40);
 
 // A script with each of the commands.
-const EVERY_COMMAND: &str = lines![
+pub(super) const EVERY_COMMAND: &str = lines![
     "pages 2",
     "size 32",
     "cpus 2",
@@ -184,20 +184,69 @@ fn every_command_is_obeyed(rt: HostRuntime) {
     assert_eq!(rt; text.as_slice(), expected.as_bytes());
 }
 
+// Of the lines of EVERY_COMMAND, each cut behind so many of its bytes, from none on: whole ('.'), `BadLine` ('L'),
+// `OutOfRange` ('R') or `BadHex` ('H'). No byte at all is no line, and so none at fault.
+const EACH_CUT: &str = concat!(
+    ".LLLLLL.",
+    ".LLLLLR.",
+    ".LLLLL.",
+    ".LLLLLLLLLLL.",
+    ".LLLLLL.",
+    ".LLLLLLLH.H.H.H.",
+    ".LLLLL.",
+    ".LLLLLLLH.H.H.H.",
+    ".LLL.",
+    ".LLL.",
+    ".LLL.",
+    ".LLLLL.",
+    ".LLL.",
+    ".LLLLLLL.",
+    "."
+);
+
+// What a script that is cut must answer: the fault of its last line, or of the one that its header lacks.
+fn wanted_of_cut(alloc: Global, cut: &[u8], answer: u8) -> Result<String, Fail> {
+    let ends = cut.iter().filter(|byte| **byte == b'\n').count() as u64;
+    let lines = if cut.is_empty() || cut.ends_with(b"\n") {
+        ends
+    } else {
+        ends.saturating_add(1)
+    };
+    let behind = lines.saturating_add(1);
+    let wanted = match answer {
+        b'L' => format!(in alloc; "line {lines}: BadLine\n")?,
+        b'R' => format!(in alloc; "line {lines}: OutOfRange\n")?,
+        b'H' => format!(in alloc; "line {lines}: BadHex\n")?,
+        _ if lines < 4 => format!(in alloc; "line {behind}: BadLine\n")?,
+        _ => format!(in alloc; "collector 0\n")?,
+    };
+    Ok(wanted)
+}
+
 #[test]
-fn a_script_cut_anywhere_is_replayed_or_refused(rt: HostRuntime) {
+fn a_script_cut_anywhere_is_replayed_or_refused(rt: HostRuntime) -> Result<(), Fail> {
     let alloc = rt.alloc();
-    for end in 0..=EVERY_COMMAND.len() {
+    assert_eq!(rt; EACH_CUT.len(), EVERY_COMMAND.len() + 1);
+    for (end, answer) in EACH_CUT.bytes().enumerate() {
+        let (cut, _) = EVERY_COMMAND
+            .as_bytes()
+            .split_at(end.min(EVERY_COMMAND.len()));
+        let wanted = wanted_of_cut(alloc, cut, answer)?;
         let mut text = Vec::new(alloc);
-        let mut reader = Std::new(&EVERY_COMMAND.as_bytes()[..end]);
-        let status = replay_to(alloc, &mut reader, &mut Std::new(&mut text), true);
-        let wanted = if text.as_slice().starts_with(b"line ") {
-            REFUSED
+        let mut reader = Std::new(cut);
+        let status = replay_to(alloc, &mut reader, &mut Std::new(&mut text), false);
+        if wanted.as_str() == "collector 0\n" {
+            assert_eq!(rt; status, DONE, "{end} bytes");
+            assert!(rt;
+                text.as_slice().starts_with(wanted.as_bytes()),
+                "{end} bytes"
+            );
         } else {
-            DONE
-        };
-        assert_eq!(rt; status, wanted, "{end} bytes");
+            assert_eq!(rt; status, REFUSED, "{end} bytes");
+            assert_eq!(rt; text.as_slice(), wanted.as_bytes(), "{end} bytes");
+        }
     }
+    Ok(())
 }
 
 #[test]

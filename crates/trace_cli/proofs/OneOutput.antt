@@ -1,0 +1,94 @@
+-- A text has one output: what a command gives for it are the same bytes, with the same exit status.
+use Rattle.std.proofs.Common.{◌≡◌, ℕ, Bool, List, inl, inr, sym, ap, subst, ◌∙◌}
+use Rattle.std.specs.List.{AllZip}
+use Rattle.trace_model.proofs.Images.{DecodesImage-FirstImageFault, DecodesImage-unique, FirstImageFault-unique}
+use Rattle.text_model.specs.Script.{LineFault}
+use Rattle.text_model.specs.Printing.{printed_fault, printed_image, printed_image_fault}
+use Rattle.script_model.specs.Script.{Script}
+use Rattle.script_model.specs.ScriptLimits.{IsWithinLimits}
+use Rattle.script_model.proofs.ParsedLimits.{ParsesScript-within}
+use Rattle.script_model.proofs.Readings.{same_ok, same_err, ok_is_no_err}
+use Rattle.script_model.proofs.ScriptReads.{script_reads, fault_reads}
+use Rattle.world_model.specs.World.{World}
+use Rattle.world_model.specs.Printing.{printed_world}
+use Rattle.world_model.proofs.OneWorld.{one_world}
+use Rattle.collector_text.specs.Tells.{Tells}
+use Rattle.collector_text.proofs.OneText.{one_world_text}
+use Rattle.trace_cli.specs.Commands.{IsPrinting, PrintsReplay, PrintsFault, ReplayGives, PrintsImage, PrintsImageFault, DumpGives}
+
+-- a script has one world, whose collectors have one text
+one_printing : (script : Script) (asked : Bool) (bytes others : List ℕ) → IsWithinLimits script
+    → IsPrinting script asked bytes → IsPrinting script asked others → bytes ≡ others
+one_printing script asked bytes others limits a b =
+    let same : a.world ≡ b.world =
+    one_world script script.commands a.world b.world limits a.of_script b.of_script in
+    let also : AllZip Tells a.world.delivered b.shown =
+    subst (λ (w : World). AllZip Tells w.delivered b.shown) (sym same) b.told in
+    a.printed
+    ∙ one_world_text a.world.delivered a.shown b.shown asked a.world.log a.told also
+    ∙ ap (λ (w : World). printed_world asked w.log b.shown) same
+    ∙ sym b.printed
+
+same_replays : (asked : Bool) (text bytes others : List ℕ) (status other : ℕ) → PrintsReplay asked text bytes status
+    → PrintsReplay asked text others other → (bytes ≡ others) × (status ≡ other)
+same_replays asked text bytes others status other a b =
+    let same : a.script ≡ b.script =
+    same_ok a.script b.script
+    (sym ((script_reads text a.script).0 a.spelled) ∙ (script_reads text b.script).0 b.spelled) in
+    let printing = subst (λ (s : Script). IsPrinting s asked bytes) same a.printing in (
+      one_printing b.script asked bytes others (ParsesScript-within text b.script b.spelled) printing b.printing,
+      a.done ∙ sym b.done,
+    )
+
+same_faults : (text bytes others : List ℕ) (status other : ℕ) → PrintsFault text bytes status
+    → PrintsFault text others other → (bytes ≡ others) × (status ≡ other)
+same_faults text bytes others status other a b =
+    let same : (a.number, a.fault) ≡ (b.number, b.fault) =
+    same_err (a.number, a.fault) (b.number, b.fault)
+    (sym ((fault_reads text a.number a.fault).0 a.first) ∙ (fault_reads text b.number b.fault).0 b.first) in
+    (a.printed ∙ ap (λ (e : ℕ × LineFault). printed_fault e.0 e.1) same ∙ sym b.printed, a.refused ∙ sym b.refused)
+
+-- a text that spells a script has no fault
+not_both : (asked : Bool) (text bytes others : List ℕ) (status other : ℕ) → PrintsReplay asked text bytes status
+    → PrintsFault text others other → ⊥
+not_both asked text bytes others status other a b =
+    ok_is_no_err a.script (b.number, b.fault)
+    (sym ((script_reads text a.script).0 a.spelled) ∙ (fault_reads text b.number b.fault).0 b.first)
+
+pub one_replay : (asked : Bool) (text bytes others : List ℕ) (status other : ℕ) → ReplayGives asked text bytes status
+    → ReplayGives asked text others other → (bytes ≡ others) × (status ≡ other)
+one_replay asked text bytes others status other (inl a) (inl b) = same_replays asked text bytes others status other a b
+one_replay asked text bytes others status other (inl a) (inr b) =
+    absurd (not_both asked text bytes others status other a b)
+one_replay asked text bytes others status other (inr a) (inl b) =
+    absurd (not_both asked text others bytes other status b a)
+one_replay asked text bytes others status other (inr a) (inr b) = same_faults text bytes others status other a b
+
+same_images : (text bytes others : List ℕ) (status other : ℕ) → PrintsImage text bytes status
+    → PrintsImage text others other → (bytes ≡ others) × (status ≡ other)
+same_images text bytes others status other a b =
+    let same =
+    DecodesImage-unique text a.time b.time a.size b.size a.missed b.missed a.records b.records a.reads b.reads in (
+      a.printed
+          ∙ (λ i. printed_image (same.0 i) (same.1 i) (same.2 i) (same.3 i))
+          ∙ sym b.printed,
+      a.done ∙ sym b.done,
+    )
+
+same_image_faults : (text bytes others : List ℕ) (status other : ℕ) → PrintsImageFault text bytes status
+    → PrintsImageFault text others other → (bytes ≡ others) × (status ≡ other)
+same_image_faults text bytes others status other a b = (
+  a.printed
+      ∙ ap printed_image_fault (FirstImageFault-unique text a.cause b.cause a.first b.first)
+      ∙ sym b.printed,
+  a.refused ∙ sym b.refused,
+)
+
+pub one_dump : (text bytes others : List ℕ) (status other : ℕ) → DumpGives text bytes status
+    → DumpGives text others other → (bytes ≡ others) × (status ≡ other)
+one_dump text bytes others status other (inl a) (inl b) = same_images text bytes others status other a b
+one_dump text bytes others status other (inl a) (inr b) =
+    absurd (DecodesImage-FirstImageFault text a.time a.size a.missed a.records b.cause a.reads b.first)
+one_dump text bytes others status other (inr a) (inl b) =
+    absurd (DecodesImage-FirstImageFault text b.time b.size b.missed b.records a.cause b.reads a.first)
+one_dump text bytes others status other (inr a) (inr b) = same_image_faults text bytes others status other a b
