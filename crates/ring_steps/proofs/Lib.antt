@@ -4,6 +4,7 @@ pub mod Private
 pub mod Allowing
 pub mod Words
 pub mod LinkWords
+pub mod Notes
 pub mod ReaderSteps
 pub mod FirstParts
 pub mod Starts
@@ -14,3 +15,6 @@ pub mod Paging
 pub mod Linking
 pub mod LinkBounds
 pub mod Taking
+pub mod HeardMore
+pub mod SwapWords
+pub mod Swaps

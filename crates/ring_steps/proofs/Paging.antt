@@ -314,11 +314,11 @@ one_opening : (frames : List Frame) (a b p q : ℕ) → IsTopIn frames (opening 
 one_opening [] a b p q top again = absurd top
 one_opening (frame ∷ below) a b p q top again = same_page a b p q (sym top ∙ again)
 
-abbrev body_of : List (ℕ × Option Contents) → Option Contents
+abbrev pub body_of : List (ℕ × Option Contents) → Option Contents
 body_of [] = None
 body_of (slot ∷ slots) = slot.1
 
-same_body : (a b : Contents) → Some a ≡ Some b → a ≡ b
+pub same_body : (a b : Contents) → Some a ≡ Some b → a ≡ b
 same_body a b e = cc
 
 module _ (shape : Shape) (now : Writing) (mid : Sat) (told : OpenTold shape now mid) (number fill : ℕ) (phase : IsTopIn now.frames (opening fill number)) where

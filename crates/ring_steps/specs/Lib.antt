@@ -1,7 +1,9 @@
 pub mod Views
 pub mod Shown
 pub mod Seats
+pub mod Ends
 pub mod NewRings
 pub mod Paging
 pub mod Linking
 pub mod Taking
+pub mod Swapping

@@ -6,10 +6,11 @@ use Rattle.trace_model.specs.Ring.{first_reader}
 use Rattle.link_marks.specs.FirstLinks.{EachAt, IsFirstLink}
 use Rattle.page_image.specs.Contents.{Contents}
 use Rattle.ring_steps.specs.declared.rule.Shape.{Shape}
-use Rattle.ring_steps.specs.declared.writer.WriterSeat.{WriterSeat}
-use Rattle.ring_steps.specs.declared.reader.ReaderSeat.{ReaderSeat}
-use Rattle.ring_steps.specs.Views.{Writing, Reading, whole, writing, reading}
+use Rattle.ring_steps.specs.declared.ends.WriterSeat.{WriterSeat}
+use Rattle.ring_steps.specs.declared.ends.ReaderSeat.{ReaderSeat}
+use Rattle.ring_steps.specs.Views.{Writing, Reading, whole}
 use Rattle.ring_steps.specs.Seats.{Sat}
+use Rattle.ring_steps.specs.Ends.{writing_in, reading_in, writer_table, reader_table}
 
 -- a ring may have this shape
 pub record IsShape (shape : Shape) : Type 0 where
@@ -63,8 +64,8 @@ pub record IsFirstWord (shape : Shape) (i word : ℕ) : Type 0 where
 abbrev pub AreFirstWords : Shape → List ℕ → Type 0
 AreFirstWords shape words = (length words ≡ shape.pages + 4) × EachAt (IsFirstWord shape) words
 
--- A slot of a new ring: an empty page for each position but that of the first fill, whose page the writer keeps; none for
--- the spare.
+-- A slot of a new ring: an empty page for each position but that of the first fill, whose page the writer keeps; none
+-- for the spare.
 pub record IsFirstSlot (shape : Shape) (page : ℕ) (slot : Option Contents) : Type 0 where
   pub others : page < shape.pages
       → page ≢ shape.start % shape.pages
@@ -83,8 +84,8 @@ IsWholeSeat shape me =
 
 -- the two seats of a new ring: one table's, and each with its part of the model's new ring
 pub record AreNewSeats (shape : Shape) (seats : WriterSeat × ReaderSeat) : Type 0 where
-  pub one_table : seats.1.seat.table_id ≡ seats.0.seat.table_id
+  pub one_table : reader_table seats.1 ≡ writer_table seats.0
   pub writer_shape : seats.0.shape ≡ shape
   pub reader_shape : seats.1.shape ≡ shape
-  pub writing_is : writing seats.0.seat.me.0 ≡ first_writing shape
-  pub reading_is : reading seats.1.seat.me.0 ≡ first_reading shape
+  pub writing_is : writing_in seats.0 ≡ first_writing shape
+  pub reading_is : reading_in seats.1 ≡ first_reading shape

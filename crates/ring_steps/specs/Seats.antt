@@ -105,6 +105,11 @@ pub record WriterTold (shape : Shape) (now : Writing) (sees : Core → Type 0) (
   pub seat : IsWriting after
   pub step : IsWriterStep shape now sees answer (writing after.0)
 
+-- what a load tells by which the writer's part comes to be this: nothing of a word
+pub record NoteTold (now : Writing) (after : Sat) : Type 0 where
+  pub seat : IsWriting after
+  pub noted : writing after.0 ≡ now
+
 -- ---- the end
 
 -- There is a state that steps reach, of which these are the writer's part and the reader's.

@@ -5,6 +5,7 @@
 //! call here is one step of that model.
 #![tactic(auto)]
 
+mod ends;
 mod laying;
 mod links;
 mod making;
@@ -12,15 +13,16 @@ mod plays;
 mod reader;
 mod rule;
 mod settling;
+mod swapping;
 mod views;
 mod writer;
 
+pub use ends::{ReaderSeat, WriterSeat};
 pub use making::{seats, seats_at};
-pub use reader::ReaderSeat;
 pub use rule::Shape;
 pub use settling::settle;
 pub use views::View;
-pub use writer::{Present, WriterSeat};
+pub use writer::Present;
 
 #[cfg(test)]
 mod tests;

@@ -5,12 +5,11 @@ ghost use Rattle.ring_steps.specs.Seats.{Sat, IsTableOf};
 ghost use Rattle.ring_steps.specs.NewRings.{IsShape, AreNewSeats, IsWholeSeat, first_writing, first_reading};
 ghost use Rattle.ring_steps.specs.Views.{laid};
 
+use crate::ends::{ReaderSeat, WriterSeat};
 use crate::laying::{first_slots, first_words};
 use crate::plays::{Place, load};
-use crate::reader::ReaderSeat;
 use crate::rule::{Board, Shape};
 use crate::views::View;
-use crate::writer::WriterSeat;
 use atomic_table::{Split, Table};
 use std::alloc::Global;
 use std::marker::Brand;

@@ -1,8 +1,20 @@
-//! The table of a ring, and its rule.
+//! The table of a ring, its words, and its rule.
 use crate::views::View;
 use atomic_table::{Table, TableRule};
 use page_image::Page;
 use std::alloc::Global;
+
+/// How many fills are begun.
+pub(crate) const OPENED: usize = 0;
+
+/// How many fills are closed.
+pub(crate) const DONE: usize = 1;
+
+/// The reader's wish.
+pub(crate) const WISH: usize = 2;
+
+/// The link of the first page; those of the others follow.
+pub(crate) const LINKS: usize = 3;
 
 /// The number of a ring's pages, their data size in bytes, and the number of its first fill.
 #[derive(Clone, Copy, Debug)]

@@ -3,17 +3,14 @@ ghost use Rattle.std.specs.Prelude.{◌≡◌, false};
 ghost use Rattle.std.specs.Arc.{arc_value};
 ghost use Rattle.ring_steps.specs.Views.{writing, reading, writes, joined};
 ghost use Rattle.ring_steps.specs.Seats.{Sat, IsTableOf, AreParts};
+ghost use Rattle.ring_steps.specs.Ends.{writing_in, reading_in, writer_table, reader_table};
 
+use crate::ends::{ReaderSeat, WriterSeat};
 use crate::plays::{Place, load};
-use crate::reader::ReaderSeat;
-use crate::rule::{Board, Shape};
+use crate::rule::{Board, DONE, Shape};
 use crate::views::View;
-use crate::writer::WriterSeat;
 use atomic_table::Join;
 use std::marker::Brand;
-
-/// The word of the number of closed fills.
-const DONE: usize = 1;
 
 /// Both parts in one view.
 struct Both;
@@ -40,9 +37,9 @@ fn look(board: &Board, shape: Shape, seat: &mut Place)
 /// Joins the two seats of a ring, and loads once how many fills are closed. So what both know are the parts of one state
 /// that the ring reached. The reader has no slot then: it has made no step since its last take began, or but loads.
 pub fn settle(writer: WriterSeat, reader: ReaderSeat)
-    requires one_table { reader.seat.table_id ≡ writer.seat.table_id }
-    requires no_slot { (reading reader.seat.me.0).keeps_spare ≡ false }
-    ensures { AreParts writer.shape (writing writer.seat.me.0) (reading reader.seat.me.0) }
+    requires one_table { reader_table reader ≡ writer_table writer }
+    requires no_slot { (reading_in reader).keeps_spare ≡ false }
+    ensures { AreParts writer.shape (writing_in writer) (reading_in reader) }
 {
     let WriterSeat {
         board,

@@ -3,12 +3,13 @@ use crate::{seats, seats_at, settle};
 use std::test::Fail;
 use trace_model::FillNo;
 
-/// Both seats of a new ring are joined.
+/// Both seats of a new ring are joined, behind a step of the reader.
 #[test]
 fn a_new_ring_is_settled(rt: HostRuntime) -> Result<(), Fail> {
-    let (writer, reader) = seats_at(rt.alloc(), 2, 32, 5)?;
+    let (writer, mut reader) = seats_at(rt.alloc(), 2, 32, 5)?;
     assert_eq!(rt; (writer.shape.start, reader.shape.start), (5, 5));
     assert_eq!(rt; (writer.shape.pages, writer.shape.size), (2, 32));
+    reader.store_wish(FillNo(5));
     settle(writer, reader);
     Ok(())
 }

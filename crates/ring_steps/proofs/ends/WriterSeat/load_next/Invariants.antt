@@ -1,0 +1,5 @@
+use Rattle.ring_steps.specs.Linking.{LinkTold, behind_in}
+use Rattle.ring_steps.proofs.ends.WriterSeat.load_next.Given as goal
+
+abbrev pub ghosts-load : goal.ghosts-load
+ghosts-load g a = record { tells = λ _ found after. LinkTold a.shape g.J.Present.now (behind_in a.shape.pages g.J.Present.now) found after }

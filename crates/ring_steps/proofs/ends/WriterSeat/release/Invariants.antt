@@ -1,0 +1,7 @@
+use Rattle.std.specs.Prelude.{⊤}
+use Rattle.trace_model.specs.Steps.{going}
+use Rattle.ring_steps.specs.Seats.{WriterTold}
+use Rattle.ring_steps.proofs.ends.WriterSeat.release.Given as goal
+
+abbrev pub ghosts-store : goal.ghosts-store
+ghosts-store g a = record { tells = λ _ _ after. WriterTold a.shape g.J.Present.now (λ _. ⊤) going after }

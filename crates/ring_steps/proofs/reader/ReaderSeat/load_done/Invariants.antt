@@ -1,7 +1,0 @@
-use Rattle.std.proofs.Common.{◌≡◌}
-use Rattle.ring_steps.specs.Views.{reading}
-use Rattle.ring_steps.specs.Taking.{SeatTold}
-use Rattle.ring_steps.proofs.reader.ReaderSeat.load_done.Given as goal
-
-abbrev pub ghosts-load : goal.ghosts-load
-ghosts-load a = record { tells = λ before found after. SeatTold a.shape (λ core. core.done ≡ found) (reading before.0).keeps_spare before after }

@@ -1,0 +1,20 @@
+-- What contracts see of the two seats: the part of the ring that each knows, and the table at which both sit.
+use Rattle.atomic_table.specs.Seated.{TableId}
+use Rattle.ring_steps.specs.declared.ends.WriterSeat.{WriterSeat}
+use Rattle.ring_steps.specs.declared.ends.ReaderSeat.{ReaderSeat}
+use Rattle.ring_steps.specs.Views.{Writing, Reading, writing, reading}
+
+-- the writer's part, as of its last step on a word
+abbrev pub writing_in : WriterSeat → Writing
+writing_in writer = writing writer.seat.me.0
+
+-- the reader's part
+abbrev pub reading_in : ReaderSeat → Reading
+reading_in reader = reading reader.seat.me.0
+
+-- the table of a ring; seats that were made together have the same one, and no others do
+abbrev pub writer_table : WriterSeat → TableId
+writer_table writer = writer.seat.table_id
+
+abbrev pub reader_table : ReaderSeat → TableId
+reader_table reader = reader.seat.table_id

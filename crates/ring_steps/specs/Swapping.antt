@@ -1,0 +1,67 @@
+-- What the reader's swap tells.
+use Rattle.std.specs.Prelude.{◌≡◌, ◌≢◌, ⊤, ℕ, ◌+◌, ◌-◌, ◌*◌, ◌%◌, ◌≤◌, true, List, [], ◌∷◌, ◌++◌, length, Some, slice_set}
+use Rattle.trace_model.specs.declared.limits.TheConstants.{LINK_FILLS}
+use Rattle.trace_model.specs.Record.{Record}
+use Rattle.trace_model.specs.Links.{word_of, header_link}
+use Rattle.trace_model.specs.Ring.{ReaderPhase, loading_link, loading_done, storing_link, swapping, Taken, link_into}
+use Rattle.trace_model.specs.Steps as model
+use Rattle.link_marks.specs.KeptLinks.{Spot, spot}
+use Rattle.page_image.specs.Contents.{Contents, records_of_page}
+use Rattle.nested_writer.specs.Released.{IsWrittenPage}
+use Rattle.ring_steps.specs.declared.rule.Shape.{Shape}
+use Rattle.ring_steps.specs.Views.{Reading, reading}
+use Rattle.ring_steps.specs.Seats.{Sat, IsReaderStep}
+use Rattle.ring_steps.specs.Taking.{ReadTold}
+
+-- The swap was done: this page as this fill was the head, and what lay in its slot is the fill with all that it holds,
+-- as the model's answer tells. The reader heard of just the records that were lost in front of the page, and of the
+-- page's; and it has the head's page for its own. Each record takes 8 bytes of a page, so the numbers fit a word.
+pub record HeadTaken (shape : Shape) (before : Reading) (page fill : ℕ) (taken : Contents) (after : Reading)
+    : Type 0 where
+  pub told : Taken
+  pub fill_is : told.fill ≡ fill
+  pub written : IsWrittenPage shape.size fill told.held taken
+  pub step : IsReaderStep shape before (λ core. link_into shape.pages core.links fill ≡ header_link page fill)
+      model.reads (model.swapped told) after
+  pub behind : before.reader.expected ≤ taken.first
+  pub skipped_is : told.skipped ≡ taken.first - before.reader.expected
+  pub lost : List Record
+  pub lost_are : length lost ≡ told.skipped
+  pub heard_is : after.heard ≡ before.heard ++ lost ++ records_of_page taken
+  pub numbers_fit : 8 * (taken.first + taken.count) ≤ shape.size * LINK_FILLS
+  pub reader_is : after.reader
+      ≡ record {
+        phase = loading_link;
+        hint = fill + 1;
+        seen = before.reader.seen;
+        expected = taken.first + taken.count;
+        taken = before.reader.taken ++ told ∷ [];
+      }
+  pub order_is : after.order ≡ slice_set before.order (fill % shape.pages) before.spare
+  pub spare_is : after.spare ≡ page
+  pub wish_is : after.wish ≡ before.wish
+
+-- The swap was not done: this page as this fill wasn't the head any more, and the reader looks for it behind that fill.
+pub record HeadMissed (shape : Shape) (before : Reading) (page fill : ℕ) (after : Reading) : Type 0 where
+  pub step : IsReaderStep shape before (λ core. link_into shape.pages core.links fill ≢ header_link page fill)
+      model.reads model.reading after
+  pub after_is : after
+      ≡ record before { reader = record before.reader { phase = loading_link; hint = fill + 1 } }
+
+-- the fill that the reader is about to take, and its page
+abbrev pub head_to_take : ReaderPhase → Spot
+head_to_take loading_link = spot 0 0
+head_to_take (loading_done page fill) = spot 0 0
+head_to_take (storing_link page fill) = spot 0 0
+head_to_take (swapping page fill) = spot fill page
+
+-- What the compare and exchange tells of the seat, by the word that was found: where that was the head's, the head's
+-- page lies in the slot that the seat has.
+pub record SwapTold (shape : Shape) (before : Sat) (head : Spot) (found : ℕ) (after : Sat) : Type 0 where
+  pub read : ReadTold shape (λ _. ⊤) true before after
+  pub took : found ≡ word_of (header_link head.page head.fill)
+      → (taken : Contents)
+      × (after.1 ≡ (head.page, Some taken) ∷ [])
+      × HeadTaken shape (reading before.0) head.page head.fill taken (reading after.0)
+  pub missed : found ≢ word_of (header_link head.page head.fill)
+      → (after.1 ≡ before.1) × HeadMissed shape (reading before.0) head.page head.fill (reading after.0)

@@ -1,0 +1,36 @@
+//! The two seats of a ring.
+ghost use Rattle.std.specs.Prelude.{◌≡◌};
+ghost use Rattle.std.specs.Arc.{arc_value};
+ghost use Rattle.ring_steps.specs.Views.{writing, reading};
+ghost use Rattle.ring_steps.specs.Seats.{IsTableOf, IsWriting, IsSeatOfReader, IsReaderWithin};
+ghost use Rattle.ring_steps.specs.Paging.{IsWriterReached};
+
+use crate::plays::Place;
+use crate::rule::{Board, Shape};
+use std::sync::Arc;
+
+/// The writer's seat.
+#[derive(Drop)]
+pub struct WriterSeat {
+    pub(crate) board: Arc<Board>,
+    pub(crate) seat: Place,
+    pub shape: Shape,
+    ghost key_is: { (arc_value board).shared.key ≡ shape },
+    ghost table: { IsTableOf shape (arc_value board).shared.table_id },
+    ghost seated: { seat.table_id ≡ (arc_value board).shared.table_id },
+    ghost is_writing: { IsWriting seat.me },
+    ghost reached: { ∥ IsWriterReached shape (writing seat.me.0) ∥₁ },
+}
+
+/// The reader's seat.
+#[derive(Drop)]
+pub struct ReaderSeat {
+    pub(crate) board: Arc<Board>,
+    pub(crate) seat: Place,
+    pub shape: Shape,
+    ghost key_is: { (arc_value board).shared.key ≡ shape },
+    ghost table: { IsTableOf shape (arc_value board).shared.table_id },
+    ghost seated: { seat.table_id ≡ (arc_value board).shared.table_id },
+    ghost is_reading: { IsSeatOfReader seat.me },
+    ghost within: { IsReaderWithin shape (reading seat.me.0) },
+}
