@@ -26,7 +26,7 @@ use Rattle.nested_writer.specs.Released.{IsWrittenPage}
 use Rattle.ring_steps.specs.declared.rule.Shape.{Shape}
 use Rattle.ring_steps.specs.Views.{Reading, reading}
 use Rattle.ring_steps.specs.Shown.{page_before, AreWords, Homes, AreHomes, Shows}
-use Rattle.ring_steps.specs.Seats.{Sat, kept_slots, IsSeatOfReader, IsReaderWithin, IsReaderStep}
+use Rattle.ring_steps.specs.Seats.{Sat, kept_slots, IsSeatOfReader, IsReaderStep}
 use Rattle.ring_steps.specs.Swapping.{HeadTaken, HeadMissed, head_to_take, SwapTold}
 use Rattle.ring_steps.proofs.Allowing.{IsShownBy, ReaderMoves, reader_allows}
 use Rattle.ring_steps.proofs.Heard.{first_records}
@@ -249,9 +249,6 @@ module _ (shape : Shape) (me after end : Sat) (page fill found : ℕ) (blank : C
     view = t.read.view;
     hand = (λ i. (is i, None) ∷ alone i) ∙ ap (λ (b : Bool). kept_slots b (reading after.0).spare) (sym t.read.keeps_is);
   }
-
-  pub end_within : (number : ℕ) → end ≡ (after.0, (number, None) ∷ rest after.1) → IsReaderWithin shape (reading end.0)
-  end_within number end_is = subst (λ (m : Sat). IsReaderWithin shape (reading m.0)) (sym end_is) t.read.within
 
   module _ (met : found ≡ word_of (header_link page fill)) where
     pub taken_slot : (body : Contents) × (after.1 ≡ (page, Some body) ∷ rest after.1)

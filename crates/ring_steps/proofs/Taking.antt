@@ -1,5 +1,5 @@
 -- The steps of the reader's take: what the words, the pages at home and its part show behind each of them.
-use Rattle.std.proofs.Common.{◌≡◌, ℕ, suc, ◌+◌, ◌-◌, ◌%◌, ◌<◌, ◌≤◌, List, [], ◌∷◌, get_or, map, take, Option, Some, None, Bool, true, false, refl, sym, ap, ◌∙◌, subst, mod-lt, lt_of_not-le, arith, length-set}
+use Rattle.std.proofs.Common.{◌≡◌, ℕ, suc, ◌+◌, ◌-◌, ◌%◌, ◌<◌, ◌≤◌, List, [], ◌∷◌, get_or, map, take, Option, None, Bool, true, false, refl, sym, ap, ◌∙◌, subst, mod-lt, lt_of_not-le, arith, length-set}
 use Rattle.std.specs.Prelude.{⊤, slice_set}
 use Rattle.std.specs.List.{slice_index}
 use Rattle.std.proofs.lemmas.List.{get_or-set_same, get_or-set_other, set-get_or}
@@ -13,14 +13,10 @@ use Rattle.atomic_table.specs.Table.{Act, keeps, takes, gives, Valid, put_back, 
 use Rattle.atomic_table.proofs.Lists.{set_here, set_else}
 use Rattle.trace_model.specs.declared.limits.TheConstants.{MAX_PAGES}
 use Rattle.trace_model.specs.History.{as_record, reserved_records}
-use Rattle.trace_model.specs.Links.{Mark, normal, header, update, Link, word_of, normal_link, header_link, FitsWord}
+use Rattle.trace_model.specs.Links.{Link, word_of, normal_link, header_link, FitsWord}
 use Rattle.trace_model.specs.Ring.{Core, ReaderPhase, loading_link, loading_done, storing_link, swapping, Reader, AreApart, link_into, page_at}
 use Rattle.trace_model.specs.Steps as model
 use Rattle.trace_model.specs.Steps.{loads_header, loads_update, loads_owed, loads_passed, push_step, push_refused, close_step, close_refused, frame_step, frame_lacks, end_step, end_lacks, end_early, read_step, wish_step}
-use Rattle.link_marks.specs.declared.link.Mark as own_mark
-use Rattle.link_marks.specs.declared.link.Mark.TheVariants as own_marks
-use Rattle.link_marks.specs.declared.link.Link as own_link
-use Rattle.link_marks.specs.ModelLinks.{mark_of, link_of}
 use Rattle.link_marks.specs.RingKept.{IsRingKept}
 use Rattle.link_marks.specs.Seats.{IsOfReader}
 use Rattle.link_marks.proofs.LinksFit.{links_fit_words}
@@ -32,7 +28,7 @@ use Rattle.ring_steps.specs.declared.rule.Shape.{Shape}
 use Rattle.ring_steps.specs.Views.{Reading, reading, reads}
 use Rattle.ring_steps.specs.Shown.{page_word, page_before, AreWords, Homes, AreHomes, IsReading}
 use Rattle.ring_steps.specs.Seats.{Sat, kept_slots, IsSeatOfReader}
-use Rattle.ring_steps.specs.Taking.{IsRead, ReadTold, SeatTold, IsWordInto}
+use Rattle.ring_steps.specs.Taking.{ReadTold, SeatTold, IsWordInto}
 use Rattle.ring_steps.proofs.Allowing.{IsShownBy, ReaderMoves}
 use Rattle.ring_steps.proofs.ReaderSteps.{reader_within}
 
@@ -51,32 +47,6 @@ part_of c keeps_spare = record {
 -- the reader goes on, and the link of its page may be set
 abbrev pub gone_on : Core → Reader → Link → Core
 gone_on c reader link = record c { reader = reader; spare_link = link }
-
--- ---- links of the crate below
-
-abbrev pub mark_from : Mark → own_mark.Mark
-mark_from normal = own_marks.Normal
-mark_from header = own_marks.Header
-mark_from update = own_marks.Update
-
-abbrev pub link_from : Link → own_link.Link
-link_from l = record { mark = mark_from l.mark; page = l.page; fill = l.fill }
-
-mark_is : (mark : Mark) → mark_of (mark_from mark) ≡ mark
-mark_is normal = refl
-mark_is header = refl
-mark_is update = refl
-
-link_is : (l : Link) → link_of (link_from l) ≡ l
-link_is l i = record { mark = mark_is l.mark i; page = l.page; fill = l.fill }
-
--- a word of a link is one that can be unpacked
-pub unpacked : (l : Link) (word : ℕ) (result : Option own_link.Link) → FitsWord l → word_of l ≡ word → ((own : own_link.Link) → FitsWord (link_of own) → word_of (link_of own) ≡ word → result ≡ Some own) → result ≡ Some (link_from l)
-unpacked l word result fits is back = back (link_from l) (subst FitsWord (sym (link_is l)) fits) (ap word_of (link_is l) ∙ is)
-
-pub never_nothing : (shape : Shape) (before after : Reading) (fill word : ℕ) (result : Option own_link.Link) → IsRead shape before (IsWordInto shape fill word) after
-    → ((own : own_link.Link) → FitsWord (link_of own) → word_of (link_of own) ≡ word → result ≡ Some own) → result ≡ None → ⊥
-never_nothing shape before after fill word result (answer, r) back none = let is = unpacked (link_into shape.pages r.core.links fill) word result r.seen.fits r.seen.word_is back in let both = sym none ∙ is in absurd (cc)
 
 -- ---- what stays
 
