@@ -1,10 +1,10 @@
 -- What pairs of hexadecimal digits spell, digit by digit.
-use Rattle.std.proofs.Common.{◌≡◌, ◌≢◌, ℕ, suc, zero, ◌+◌, ◌-◌, ◌*◌, ◌%◌, ◌<◌, ◌≤◌, ◌⊎◌, true, false, ◌==◌, List, [], ◌∷◌, ◌++◌, length, get_or, take, drop, codes, Ok, Err, refl, sym, ◌∙◌, ap, inl, inr, subst, arith, append_assoc, length-append}
+use Rattle.std.proofs.Common.{◌≡◌, ◌≢◌, ℕ, suc, zero, ◌+◌, ◌-◌, ◌*◌, ◌%◌, ◌<◌, ◌≤◌, ◌⊎◌, true, false, ◌==◌, List, [], ◌∷◌, ◌++◌, length, get_or, take, drop, codes, Ok, Err, refl, sym, ◌∙◌, ap, inl, inr, subst, arith, append_assoc, length-append, length-drop}
 use Rattle.std.specs.Char.{digit_value, is_digit}
 use Rattle.std.specs.List.{list_all, enumerate_from}
 use Rattle.std.specs.Str.{bytes_eq}
 use Rattle.std.proofs.lemmas.Bool.{ltb-true, lt-ltb, ne_eqb, eqb-true, eqb-false, eq-eqb, and_from, and_parts, or_right, or_cases, both_ways, cases_Bool, cond-true, cond-false, false_from_ne_true}
-use Rattle.std.proofs.lemmas.List.{append-nil, take_rest}
+use Rattle.std.proofs.lemmas.List.{append-nil, take_rest, drop-drop, get_or-drop}
 use Rattle.std.proofs.lemmas.List.Folds.{list_all-append}
 use Rattle.std.proofs.lemmas.Slice.Eq.{bytes_eq-Decides}
 use Rattle.text_model.specs.Text.{is_hex, bytes_of_pairs}
@@ -89,6 +89,26 @@ pair_put text left old new after high low value so_far is small more =
           ∙ ap (λ (bs : List ℕ). old ++ bs) (sym (pairs_push digits high low so_far.even));
     }
 
+-- those of one part behind those of another
+pairs_append : (front back : List ℕ) → length front % 2 ≡ 0 → bytes_of_pairs (front ++ back) ≡ bytes_of_pairs front ++ bytes_of_pairs back
+pairs_append [] back even = refl
+pairs_append (a ∷ []) back even = absurd (omega (arith, even))
+pairs_append (a ∷ b ∷ front) back even = ap (λ (bs : List ℕ). (16 * digit_value a + digit_value b) ∷ bs) (pairs_append front back (omega (arith, even)))
+
+-- pairs are put, and then more
+pub put_then : (text middle left old between new : List ℕ) → ArePut text middle old between → ArePut middle left between new → ArePut text left old new
+put_then text middle left old between new first second =
+    record {
+      digits = first.digits ++ second.digits;
+      cut = first.cut ∙ ap (λ (ds : List ℕ). first.digits ++ ds) second.cut ∙ sym (append_assoc first.digits second.digits left);
+      even = (let len = length-append first.digits second.digits in omega (arith, len, first.even, second.even));
+      are_digits = list_all-append (λ c. is_digit c 16) first.digits second.digits ∙ and_from _ _ first.are_digits second.are_digits;
+      put = second.put
+          ∙ ap (λ (bs : List ℕ). bs ++ bytes_of_pairs second.digits) first.put
+          ∙ append_assoc old (bytes_of_pairs first.digits) (bytes_of_pairs second.digits)
+          ∙ ap (λ (bs : List ℕ). old ++ bs) (sym (pairs_append first.digits second.digits first.even));
+    }
+
 pub pair_fits : (high low : ℕ) → pair_value high low ≤ 8192
 pair_fits high low = elim (high_of high) [
   | inr other ↦ elim (low_of low) [ inr same ↦ omega (arith, other.1, same.1) | inl second ↦ omega (arith, other.1, second.1, second.2) ]
@@ -129,6 +149,27 @@ four_turn text left old new one two three after first second third fourth so_far
     let done2 = pair_put text _ old one two _ _ second done1 is2 (omega arith) put2 in
     let done3 = pair_put text _ old two three _ _ third done2 is3 (omega arith) put3 in
     pair_put text _ old three after _ _ fourth done3 is4 (omega arith) put4
+
+-- eight pairs more
+pub eight_turn : (text left old new one two three four five six seven after : List ℕ) (first second third fourth fifth sixth seventh eighth : ℕ) → ArePut text left old new → 16 ≤ length left
+    → first ≡ pair_value (get_or left 0 0) (get_or left 1 0) → second ≡ pair_value (get_or left 2 0) (get_or left 3 0)
+    → third ≡ pair_value (get_or left 4 0) (get_or left 5 0) → fourth ≡ pair_value (get_or left 6 0) (get_or left 7 0)
+    → fifth ≡ pair_value (get_or left 8 0) (get_or left 9 0) → sixth ≡ pair_value (get_or left 10 0) (get_or left 11 0)
+    → seventh ≡ pair_value (get_or left 12 0) (get_or left 13 0) → eighth ≡ pair_value (get_or left 14 0) (get_or left 15 0)
+    → first + second + third + fourth < 4096 → fifth + sixth + seventh + eighth < 4096
+    → one ≡ new ++ first ∷ [] → two ≡ one ++ second ∷ [] → three ≡ two ++ third ∷ [] → four ≡ three ++ fourth ∷ []
+    → five ≡ four ++ fifth ∷ [] → six ≡ five ++ sixth ∷ [] → seven ≡ six ++ seventh ∷ [] → after ≡ seven ++ eighth ∷ []
+    → ArePut text (take (length left - 16) (drop 16 left)) old after
+eight_turn text left old new one two three four five six seven after first second third fourth fifth sixth seventh eighth so_far some is1 is2 is3 is4 is5 is6 is7 is8 small more_small put1 put2 put3 put4 put5 put6 put7 put8 =
+    let half = four_turn text left old new one two three four first second third fourth so_far (omega arith) is1 is2 is3 is4 small put1 put2 put3 put4 in
+    let there = subst (λ (l : List ℕ). ArePut text l old four) (take_rest left 8) half in
+    let len = length-drop 8 left in
+    let done = four_turn text (drop 8 left) old four five six seven after fifth sixth seventh eighth there (omega (arith, len))
+    (is5 ∙ behind 0 1) (is6 ∙ behind 2 3) (is7 ∙ behind 4 5) (is8 ∙ behind 6 7) more_small put5 put6 put7 put8 in
+    subst (λ (l : List ℕ). ArePut text l old after) (take_rest (drop 8 left) 8 ∙ drop-drop 8 8 left ∙ sym (take_rest left 16)) done
+  where
+    behind : (i j : ℕ) → pair_value (get_or left (8 + i) 0) (get_or left (8 + j) 0) ≡ pair_value (get_or (drop 8 left) i 0) (get_or (drop 8 left) j 0)
+    behind i j = rw (get_or-drop 8 left i 0, get_or-drop 8 left j 0) refl
 
 -- ---- a payload
 pub payload_read : (text : List ℕ) → (length text == 0) ≡ false → length text % 2 ≡ 0 → list_all (λ c. is_digit c 16) text ≡ true → payload_in text ≡ Ok (bytes_of_pairs text)

@@ -79,10 +79,49 @@ fn pair_value(high: u8, low: u8) -> u16
     high_value(high) + low_value(low)
 }
 
-/// Puts the bytes that the pairs of hexadecimal digits at the front of a text spell behind those that are there, and
-/// answers what stands behind these pairs, or behind those for whose bytes there is memory.
-#[inline(never)]
-fn put_pairs<'a>(payloads: &mut Vec<u8>, text: &'a [u8]) -> &'a [u8]
+/// Puts the bytes of the pairs of digits at the front of a text, eight at a time, and answers what stands behind them.
+#[inline(always)]
+fn put_eights<'a>(payloads: &mut Vec<u8>, text: &'a [u8]) -> &'a [u8]
+    ensures { ArePut text.now result.now payloads.old.items payloads.new.items }
+{
+    let mut left = text;
+    while let [a, b, c, d, e, f, g, h, i, j, k, l, m, n, o, p, rest @ ..] = left {
+        if *a == b'\n' {
+            break;
+        }
+        let first = pair_value(*a, *b);
+        let second = pair_value(*c, *d);
+        let third = pair_value(*e, *f);
+        let fourth = pair_value(*g, *h);
+        if first + second + third + fourth >= NO_DIGIT {
+            break;
+        }
+        let fifth = pair_value(*i, *j);
+        let sixth = pair_value(*k, *l);
+        let seventh = pair_value(*m, *n);
+        let eighth = pair_value(*o, *p);
+        if fifth + sixth + seventh + eighth >= NO_DIGIT {
+            break;
+        }
+        let Ok(()) = payloads.reserve(8) else {
+            break;
+        };
+        payloads.push_reserved(first as u8);
+        payloads.push_reserved(second as u8);
+        payloads.push_reserved(third as u8);
+        payloads.push_reserved(fourth as u8);
+        payloads.push_reserved(fifth as u8);
+        payloads.push_reserved(sixth as u8);
+        payloads.push_reserved(seventh as u8);
+        payloads.push_reserved(eighth as u8);
+        left = rest;
+    }
+    left
+}
+
+/// The same, four at a time.
+#[inline(always)]
+fn put_fours<'a>(payloads: &mut Vec<u8>, text: &'a [u8]) -> &'a [u8]
     ensures { ArePut text.now result.now payloads.old.items payloads.new.items }
 {
     let mut left = text;
@@ -106,6 +145,15 @@ fn put_pairs<'a>(payloads: &mut Vec<u8>, text: &'a [u8]) -> &'a [u8]
         payloads.push_reserved(fourth as u8);
         left = rest;
     }
+    left
+}
+
+/// The same, one by one.
+#[inline(always)]
+fn put_each<'a>(payloads: &mut Vec<u8>, text: &'a [u8]) -> &'a [u8]
+    ensures { ArePut text.now result.now payloads.old.items payloads.new.items }
+{
+    let mut left = text;
     while let [high, low, rest @ ..] = left {
         if *high == b'\n' {
             break;
@@ -120,6 +168,17 @@ fn put_pairs<'a>(payloads: &mut Vec<u8>, text: &'a [u8]) -> &'a [u8]
         left = rest;
     }
     left
+}
+
+/// Puts the bytes that the pairs of hexadecimal digits at the front of a text spell behind those that are there, and
+/// answers what stands behind these pairs, or behind those for whose bytes there is memory.
+#[inline(never)]
+fn put_pairs<'a>(payloads: &mut Vec<u8>, text: &'a [u8]) -> &'a [u8]
+    ensures { ArePut text.now result.now payloads.old.items payloads.new.items }
+{
+    let behind_eights = put_eights(payloads, text);
+    let behind_fours = put_fours(payloads, behind_eights);
+    put_each(payloads, behind_fours)
 }
 
 /// The payload at the front of a text, up to the line feed that ends it: its bytes are put behind those that are there,
