@@ -1,71 +1,77 @@
--- Hexadecimal digits, as the kit's crate has them and as printed text does.
-use Rattle.std.proofs.Common.{◌≡◌, ℕ, zero, suc, ◌/◌, ◌%◌, ◌<◌, ◌==◌, Bool, true, false, ◌&&◌, inl, inr, List, [], ◌∷◌, ◌++◌, flat_map, length, slice_index, take, drop, append_assoc, take-append-drop, append-nil, refl, sym, ap, ◌∙◌, arith}
-use Rattle.std.proofs.lemmas.Bool.{and_parts, cases_lt, eqb-true}
-use Rattle.std.specs.Char.{digit_char}
+-- Hexadecimal digits: the table of them, and bytes in parts.
+use Rattle.std.proofs.Common.{◌≡◌, ℕ, zero, suc, ◌+◌, ◌-◌, ◌<◌, ◌≤◌, ◌==◌, true, false, List, [], ◌∷◌, ◌++◌, length, get_or, take, drop, append_assoc, refl, sym, ap, ◌∙◌, arith}
+use Rattle.std.specs.List.{list_all, enumerate_from}
+use Rattle.std.specs.Str.{bytes_eq}
+use Rattle.std.proofs.lemmas.Bool.{and_parts}
+use Rattle.std.proofs.lemmas.List.{take_rest}
+use Rattle.std.proofs.lemmas.Slice.Eq.{bytes_eq-Decides}
 use Rattle.text_model.specs.Text.{hex_text}
-use Rattle.hex.specs.Hex.{IsBytes, lower_digits, encode_lower, encode_with}
+use Rattle.collector_text.specs.Digits.{pair_of, pairs_of}
+use Rattle.collector_text.specs.declared.values.TheConstants.{PAIRS}
 
--- the two digits of a byte
-abbrev pub digits_of : ℕ → List ℕ
-digits_of byte = digit_char (byte / 16) ∷ digit_char (byte % 16) ∷ []
+-- ---- the table
+row_in_table : (rows : List (List ℕ)) (none : List ℕ) (n i : ℕ) → list_all (λ (entry : ℕ × List ℕ). bytes_eq entry.1 (pair_of entry.0)) (enumerate_from n rows) ≡ true → i < length rows → get_or rows i none ≡ pair_of (n + i)
+row_in_table [] none n i h below = absurd (omega arith)
+row_in_table (row ∷ rows) none n zero h below = let here : n ≡ n + 0 = omega arith in (bytes_eq-Decides row (pair_of n)).0 (and_parts _ _ h).0 ∙ ap pair_of here
+row_in_table (row ∷ rows) none n (suc i) h below = row_in_table rows none (n + 1) i (and_parts _ _ h).1 (omega arith) ∙ ap pair_of (later n i)
+  where
+    later : (n i : ℕ) → n + 1 + i ≡ n + suc i
+    later n i = omega arith
 
--- the digits below this one are the same
-abbrev are_same : ℕ → Bool
-are_same zero = true
-are_same (suc d) = (slice_index lower_digits d == digit_char d) && are_same d
+rows_are : list_all (λ (entry : ℕ × List ℕ). bytes_eq entry.1 (pair_of entry.0)) (enumerate_from 0 PAIRS) ≡ true
+rows_are = refl
 
-same_below : (n d : ℕ) → are_same n ≡ true → d < n → slice_index lower_digits d ≡ digit_char d
-same_below zero d same below = absurd (omega arith)
-same_below (suc n) d same below =
-    let parts = and_parts (slice_index lower_digits n == digit_char n) (are_same n) same in
-    elim (cases_lt d n) [
-      | inl less ↦ same_below n d parts.1 less
-      | inr not_less ↦
-          let e : d ≡ n = omega arith in
-          rw e (eqb-true (slice_index lower_digits n) (digit_char n) parts.0)
-    ]
+rows_length : length PAIRS ≡ 256
+rows_length = refl
 
--- a digit below sixteen
-same_digit : (d : ℕ) → d < 16 → slice_index lower_digits d ≡ digit_char d
-same_digit d below = same_below 16 d refl below
+pub pair_in_table : (byte : ℕ) (none : List ℕ) → byte < 256 → get_or PAIRS byte none ≡ pair_of byte
+pair_in_table byte none small = let here : 0 + byte ≡ byte = omega arith in row_in_table PAIRS none 0 byte rows_are (omega (arith, rows_length)) ∙ ap pair_of here
 
--- bytes as two digits each
-pub encode_lower_is : (bytes : List ℕ) → IsBytes bytes → encode_lower bytes ≡ flat_map digits_of bytes
-unfolding encode_with
-encode_lower_is [] each = refl
-encode_lower_is (b ∷ bytes) each =
-    let fits : b < 256 = each 0 in
-    let high = same_digit (b / 16) (omega arith) in
-    let low = same_digit (b % 16) (omega arith) in
-    let rest = encode_lower_is bytes (λ k. each (suc k)) in
-    rw (high, low, rest) refl
+-- the digits of eight bytes are those of both halves
+pub eight_digits : (bytes front back : List ℕ) → length bytes ≡ 8
+    → front ≡ pairs_of (get_or bytes 0 0 ∷ get_or bytes 1 0 ∷ get_or bytes 2 0 ∷ get_or bytes 3 0 ∷ [])
+    → back ≡ pairs_of (get_or bytes 4 0 ∷ get_or bytes 5 0 ∷ get_or bytes 6 0 ∷ get_or bytes 7 0 ∷ [])
+    → get_or front 0 0 ∷ get_or front 1 0 ∷ get_or front 2 0 ∷ get_or front 3 0 ∷ get_or front 4 0 ∷ get_or front 5 0 ∷ get_or front 6 0 ∷ get_or front 7 0
+    ∷ get_or back 0 0 ∷ get_or back 1 0 ∷ get_or back 2 0 ∷ get_or back 3 0 ∷ get_or back 4 0 ∷ get_or back 5 0 ∷ get_or back 6 0 ∷ get_or back 7 0 ∷ []
+    ≡ pairs_of bytes
+eight_digits [] front back eight is1 is2 = absurd (omega arith)
+eight_digits (a ∷ []) front back eight is1 is2 = absurd (omega arith)
+eight_digits (a ∷ b ∷ []) front back eight is1 is2 = absurd (omega arith)
+eight_digits (a ∷ b ∷ c ∷ []) front back eight is1 is2 = absurd (omega arith)
+eight_digits (a ∷ b ∷ c ∷ d ∷ []) front back eight is1 is2 = absurd (omega arith)
+eight_digits (a ∷ b ∷ c ∷ d ∷ e ∷ []) front back eight is1 is2 = absurd (omega arith)
+eight_digits (a ∷ b ∷ c ∷ d ∷ e ∷ f ∷ []) front back eight is1 is2 = absurd (omega arith)
+eight_digits (a ∷ b ∷ c ∷ d ∷ e ∷ f ∷ g ∷ []) front back eight is1 is2 = absurd (omega arith)
+eight_digits (a ∷ b ∷ c ∷ d ∷ e ∷ f ∷ g ∷ h ∷ i ∷ bytes) front back eight is1 is2 = absurd (omega arith)
+eight_digits (a ∷ b ∷ c ∷ d ∷ e ∷ f ∷ g ∷ h ∷ []) front back eight is1 is2 = rw (is1, is2) refl
 
--- those of a payload that isn't empty
-pub payload_digits : (bytes : List ℕ) → IsBytes bytes → false ≡ (length bytes == 0)
-    → encode_lower bytes ≡ hex_text bytes
-payload_digits [] each some = cc some
-payload_digits (b ∷ bytes) each some = encode_lower_is (b ∷ bytes) each
+-- ---- a payload
+-- the digits of one that isn't empty
+pub payload_digits : (bytes : List ℕ) → false ≡ (length bytes == 0) → pairs_of bytes ≡ hex_text bytes
+payload_digits [] some = cc some
+payload_digits (b ∷ bytes) some = refl
 
 -- ---- in parts
-
 -- the digits of one part behind those of another
-encode_lower_append : (front back : List ℕ) → encode_lower (front ++ back) ≡ encode_lower front ++ encode_lower back
-unfolding encode_with
-encode_lower_append [] back = refl
-encode_lower_append (b ∷ front) back = let rest = encode_lower_append front back in rw rest refl
+pub pairs_append : (front back : List ℕ) → pairs_of (front ++ back) ≡ pairs_of front ++ pairs_of back
+pairs_append [] back = refl
+pairs_append (b ∷ front) back = let rest = pairs_append front back in rw rest refl
 
 -- a part is put, and the rest of what is left behind it
-pub part_more : (n : ℕ) (rest part behind text so_far out : List ℕ) → part ≡ take n rest → behind ≡ drop n rest
-    → so_far ++ encode_lower rest ≡ text → out ≡ so_far ++ encode_lower part → out ++ encode_lower behind ≡ text
-part_more n rest part behind text so_far out front back before put =
-    let whole : encode_lower rest ≡ encode_lower part ++ encode_lower behind =
-    sym (ap encode_lower (take-append-drop n rest)) ∙ encode_lower_append (take n rest) (drop n rest)
-    ∙ rw (front, back) refl in
+pub part_more : (left part behind text so_far out : List ℕ) → left ≡ part ++ behind → so_far ++ pairs_of left ≡ text → out ≡ so_far ++ pairs_of part → out ++ pairs_of behind ≡ text
+part_more left part behind text so_far out cut before put =
+    let whole : pairs_of left ≡ pairs_of part ++ pairs_of behind = ap pairs_of cut ∙ pairs_append part behind in
     rw put (rw append_assoc (sym (ap (λ (ds : List ℕ). so_far ++ ds) whole) ∙ before))
 
--- nothing is left
-pub all_put : (rest text out : List ℕ) → (length rest == 0) ≡ true → out ++ encode_lower rest ≡ text → out ≡ text
-unfolding encode_with
-all_put [] text out none before = sym (append-nil out) ∙ before
-all_put (b ∷ rest) text out none before =
-    let e : length (b ∷ rest) ≡ 0 = eqb-true (length (b ∷ rest)) 0 none in absurd (omega arith)
+-- eight bytes, and what stands behind them, in the code's words
+pub eight_and_rest : (left : List ℕ) → 8 ≤ length left
+    → left ≡ (get_or left 0 0 ∷ get_or left 1 0 ∷ get_or left 2 0 ∷ get_or left 3 0 ∷ get_or left 4 0 ∷ get_or left 5 0 ∷ get_or left 6 0 ∷ get_or left 7 0 ∷ []) ++ take (length left - 8) (drop 8 left)
+eight_and_rest [] some = absurd (omega arith)
+eight_and_rest (a ∷ []) some = absurd (omega arith)
+eight_and_rest (a ∷ b ∷ []) some = absurd (omega arith)
+eight_and_rest (a ∷ b ∷ c ∷ []) some = absurd (omega arith)
+eight_and_rest (a ∷ b ∷ c ∷ d ∷ []) some = absurd (omega arith)
+eight_and_rest (a ∷ b ∷ c ∷ d ∷ e ∷ []) some = absurd (omega arith)
+eight_and_rest (a ∷ b ∷ c ∷ d ∷ e ∷ f ∷ []) some = absurd (omega arith)
+eight_and_rest (a ∷ b ∷ c ∷ d ∷ e ∷ f ∷ g ∷ []) some = absurd (omega arith)
+eight_and_rest (a ∷ b ∷ c ∷ d ∷ e ∷ f ∷ g ∷ h ∷ left) some = ap (λ (bs : List ℕ). a ∷ b ∷ c ∷ d ∷ e ∷ f ∷ g ∷ h ∷ bs) (sym (take_rest (a ∷ b ∷ c ∷ d ∷ e ∷ f ∷ g ∷ h ∷ left) 8))

@@ -1,15 +1,11 @@
-use Rattle.std.proofs.Common.{◌++◌, ◌∙◌, sym}
-use Rattle.hex.specs.Hex.{encode_lower}
-use Rattle.collector_text.proofs.Hexadecimal.{part_more, all_put}
+use Rattle.std.proofs.Common.{◌++◌, ◌-◌, [], ◌∷◌, length, get_or, take, drop, ◌∙◌, List, ℕ, ap}
+use Rattle.collector_text.specs.Digits.{pairs_of}
+use Rattle.collector_text.proofs.Hexadecimal.{eight_and_rest, part_more}
 use Rattle.collector_text.proofs.values.put_hex.Goals as goal
 
-pub loop-rest-preserved : goal.loop-rest-preserved
-loop-rest-preserved c =
-    part_more _ c.loop-rest.rest.now c.split_at.result.0.now c.split_at.result.1.now
-    (c.args.out.now.items ++ encode_lower c.args.bytes.now) c.loop-rest.out.items c.put_part.new.out.items
-    c.split_at.ensures.front c.split_at.ensures.back c.loop-rest.invariant c.in_ok-put_part.ensures
-
-pub returns : goal.returns
-returns c =
-    all_put c.loop-rest.rest.now (c.args.out.now.items ++ encode_lower c.args.bytes.now) c.loop-rest.out.items
-    (sym c.is_empty.ensures ∙ c.loop-rest-test.false) c.loop-rest.invariant
+pub loop-left-preserved : goal.loop-left-preserved
+loop-left-preserved c =
+    let left = c.loop-left.left.now in
+    part_more left (get_or left 0 0 ∷ get_or left 1 0 ∷ get_or left 2 0 ∷ get_or left 3 0 ∷ get_or left 4 0 ∷ get_or left 5 0 ∷ get_or left 6 0 ∷ get_or left 7 0 ∷ []) (take (length left - 8) (drop 8 left)) (c.args.out.now.items ++ pairs_of c.args.bytes.now) c.loop-left.out.items c.extend_from_slice.new.self.items
+    (eight_and_rest c.loop-left.left.now c.in-len8-up.len_at_least) c.loop-left.invariant
+    (c.in_ok-extend_from_slice.ensures.items ∙ ap (λ (ds : List ℕ). c.loop-left.out.items ++ ds) c.eight_pairs.ensures)

@@ -1,9 +1,9 @@
 use Rattle.std.proofs.Common.{◌≡◌, ◌++◌, length}
-use Rattle.hex.specs.Hex.{encode_lower}
+use Rattle.collector_text.specs.Digits.{pairs_of}
 use Rattle.collector_text.proofs.values.put_hex.Given as goal
 
-abbrev pub invariant-loop-rest : goal.invariant-loop-rest
-invariant-loop-rest l = l.out.items ++ encode_lower l.rest ≡ l.initial.out.items ++ encode_lower l.bytes
+abbrev pub invariant-loop-left : goal.invariant-loop-left
+invariant-loop-left l = l.out.items ++ pairs_of l.left ≡ l.initial.out.items ++ pairs_of l.bytes
 
-abbrev pub decreases-loop-rest : goal.decreases-loop-rest
-decreases-loop-rest l = length l.rest
+abbrev pub decreases-loop-left : goal.decreases-loop-left
+decreases-loop-left l = length l.left

@@ -1,0 +1,11 @@
+-- The hexadecimal digits of bytes, as `hex_text` has them.
+use Rattle.std.specs.Prelude.{ℕ, ◌/◌, ◌%◌, List, [], ◌∷◌, flat_map}
+use Rattle.std.specs.Char.{digit_char}
+
+-- the two digits of a byte, in lower case
+abbrev pub pair_of : ℕ → List ℕ
+pair_of byte = digit_char (byte / 16) ∷ digit_char (byte % 16) ∷ []
+
+-- those of bytes, one behind the other
+abbrev pub pairs_of : List ℕ → List ℕ
+pairs_of bytes = flat_map pair_of bytes
