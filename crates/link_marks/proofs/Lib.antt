@@ -22,6 +22,7 @@ pub mod PartitionSteps
 pub mod NewRing
 pub mod RingsKept
 pub mod UnreadRest
+pub mod SettledRest
 -- the stack of frames
 pub mod StackSteps
 -- runs of the window, answers, links that stand once, packed histories
@@ -53,6 +54,7 @@ pub mod WishedPages
 -- the two seats, the writer's and the reader's
 pub mod SeatSteps
 pub mod PrivateSteps
+pub mod PrivateAlike
 pub mod SeatPages
 pub mod PrivateCommutes
 pub mod FrameEnds

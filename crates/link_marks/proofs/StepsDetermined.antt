@@ -237,7 +237,7 @@ early_is c frame below payload waiting e = refl
 early_is c frame below payload (reserved number) e = absurd (none_some (sym e))
 early_is c frame below payload left e = refl
 
-step_is : (n size : ℕ) (c : Core) (event : Event) (answer : Answer) (after : Core) → Step n size c event answer after → Is (step_of n size c event) answer after
+pub step_is : (n size : ℕ) (c : Core) (event : Event) (answer : Answer) (after : Core) → Step n size c event answer after → Is (step_of n size c event) answer after
 step_is n size c event answer after (push_step moment len e few short early a is) =
     ap (step_of n size c) e ∙ if_yes (nat_lt (length c.frames) MAX_FRAMES) _ _ (lt-ltb (length c.frames) MAX_FRAMES few) ∙ if_no (too_long_for size len) _ _ (too_long_no size len short)
     ∙ if_yes (nat_lt moment MOMENT_LIMIT) _ _ (lt-ltb moment MOMENT_LIMIT early) ∙ here _ answer _ after a is

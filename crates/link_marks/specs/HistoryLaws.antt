@@ -4,7 +4,7 @@ use Rattle.std.specs.Prelude.{◌≡◌, ◌≢◌, ℕ, ◌+◌, ◌-◌, ◌*�
 use Rattle.trace_model.specs.declared.limits.TheConstants.{MAX_SIZE}
 use Rattle.trace_model.specs.Record.{Record}
 use Rattle.trace_model.specs.History.{Action, IsHistory, Reservation, reserved_records, as_record, committed_records}
-use Rattle.trace_model.specs.Packing.{fills_of, IsPacked}
+use Rattle.trace_model.specs.Packing.{fills_of, tail_of, IsPacked}
 use Rattle.trace_model.specs.Partition.{IsPartition}
 use Rattle.trace_model.specs.Ring.{Taken, Core, first_of_fill, AreFillsOf}
 use Rattle.link_marks.specs.KeptPartition.{pieces_of, HaveFirsts}
@@ -77,3 +77,12 @@ abbrev pub RestIsUnread : Type 0
 RestIsUnread = (n size start : ℕ) (c : Core)
     → IsRingKept n size start c
     → (lost rest : List Record) × IsRest start c lost rest
+
+-- With no frame standing, and no closed fill unread, the rest is what stands in the tail, and nothing is skipped in
+-- front of it.
+abbrev pub TailIsTheRest : Type 0
+TailIsTheRest = (n size start : ℕ) (c : Core)
+    → IsRingKept n size start c
+    → c.frames ≡ []
+    → c.head ≡ c.done
+    → IsPartition (committed_records c.history) (pieces_of c.reader.taken) (map as_record (tail_of c.history))

@@ -1,5 +1,5 @@
 //! Laws of what a ring's frames did, and of the partition of its records.
-ghost use Rattle.link_marks.specs.HistoryLaws.{RecordNumbersFit, RecordsAreFew, RestIsUnread, RunsAreHistories, RunsArePacked, TakenAreFills, TakenHoldRecords, TakenPartitionCommitted};
+ghost use Rattle.link_marks.specs.HistoryLaws.{RecordNumbersFit, RecordsAreFew, RestIsUnread, RunsAreHistories, RunsArePacked, TailIsTheRest, TakenAreFills, TakenHoldRecords, TakenPartitionCommitted};
 
 /// What the frames did is a history: each action is one that the stack allowed.
 pub fn runs_are_histories()
@@ -27,4 +27,5 @@ pub fn taken_fills_partition_committed()
     ensures partition { TakenPartitionCommitted }
     ensures fills { TakenAreFills }
     ensures rest { RestIsUnread }
+    ensures tail { TailIsTheRest }
 {}

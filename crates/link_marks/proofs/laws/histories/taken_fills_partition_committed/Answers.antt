@@ -1,5 +1,6 @@
 use Rattle.link_marks.proofs.RingsKept.{taken_partition}
 use Rattle.link_marks.proofs.UnreadRest.{rest_is_unread}
+use Rattle.link_marks.proofs.SettledRest.{tail_is_the_rest}
 use Rattle.link_marks.proofs.laws.histories.taken_fills_partition_committed.Goals as goal
 
 pub returns : goal.returns
@@ -7,4 +8,5 @@ returns c = record {
   partition = λ n size start core r. (taken_partition n size start core r, r.partition.firsts);
   fills = λ n size start core r. r.partition.fills;
   rest = rest_is_unread;
+  tail = tail_is_the_rest;
 }
