@@ -1,38 +1,68 @@
 -- The next fill is begun, on a page that comes from its home.
-use Rattle.std.proofs.Common.{◌≡◌, ◌≢◌, ℕ, ◌+◌, ◌<◌, ◌≤◌, List, [], ◌∷◌, length, get_or, Option, Some, None, refl, sym, ap, ◌∙◌, subst, arith, length-append}
-use Rattle.std.specs.Prelude.{slice_set}
+use Rattle.std.proofs.Common.{◌≡◌, ◌≢◌, ℕ, ◌+◌, ◌<◌, ◌≤◌, List, [], ◌∷◌, length, get_or, map, Option, Some, None, refl, sym, ap, ◌∙◌, subst, arith}
+use Rattle.std.specs.Prelude.{◌-◌, slice_set, nat_lt}
+use Rattle.std.proofs.lemmas.Bool.{cond_both}
 use Rattle.std.specs.List.{slice_get}
 use Rattle.std.proofs.lemmas.List.{get_or-set_other}
 use Rattle.std.proofs.lemmas.Option.{slice_get_within, get_or_from_slice_get}
-use Rattle.trace_model.specs.declared.limits.TheConstants.{LINK_FILLS}
-use Rattle.trace_model.specs.History.{open_fill}
-use Rattle.trace_model.specs.Frames.{opening}
+use Rattle.trace_model.specs.History.{Reservation, records_with_payload}
+use Rattle.trace_model.specs.Frames.{Kind, for_record, for_close, FrameState, waiting, reserved, left, Phase as ModelPhase, idle, opening, Frame}
 use Rattle.trace_model.specs.Ring.{Core, Held, page_at, empty_page}
 use Rattle.trace_model.specs.Steps as model
 use Rattle.link_marks.specs.KeptLinks.{PhaseKept}
 use Rattle.link_marks.specs.RingKept.{IsRingKept}
 use Rattle.link_marks.proofs.FrameChanges.{top_kept}
 use Rattle.link_marks.proofs.PageChanges.{pages_differ}
+use Rattle.link_marks.proofs.PrivateSteps.{private_state, PrivateResult, goes_on, leaves, changes_privately}
 use Rattle.page_image.specs.Contents.{Contents}
-use Rattle.nested_writer.specs.declared.frame.Frame as stack
-use Rattle.nested_writer.specs.Stack.{Stack, opened, blank_page}
-use Rattle.nested_writer.specs.Calls.{with_tail}
-use Rattle.nested_writer.specs.Allotted.{HasActed}
+use Rattle.nested_writer.specs.Stack.{opened}
 use Rattle.nested_writer.specs.Released.{IsWrittenPage}
-use Rattle.ring_core.specs.declared.phase.Phase.TheVariants.{Opening}
-use Rattle.ring_core.specs.Value.{CoreValue, phase_of}
-use Rattle.ring_core.specs.IsCore.{ring_frames, AreBelow, AreNotedAlike, IsHome, HasBody, Shows, IsCore}
-use Rattle.ring_core.proofs.Stepped.{kept_of}
+use Rattle.ring_frames.specs.declared.phase.Phase.TheVariants.{Opening}
+use Rattle.ring_frames.specs.Value.{phase_of}
+use Rattle.ring_frames.specs.declared.answer.Answer.{Answer}
+use Rattle.ring_frames.specs.Value.{FramesValue}
+use Rattle.ring_frames.specs.AreFrames.{AreFrames}
+use Rattle.ring_frames.specs.Fills.{OpensFill}
+use Rattle.ring_core.specs.Value.{CoreValue, frames_of, with_frames}
+use Rattle.ring_core.specs.Steps.{IsStep}
+use Rattle.ring_core.specs.IsCore.{IsHome, HasBody, Shows, IsCore}
+use Rattle.ring_frames.proofs.Tops.{topped}
+use Rattle.ring_core.proofs.Stepped.{kept_of, stepped}
 use Rattle.ring_core.proofs.Homes.{get_set_other}
-use Rattle.ring_core.proofs.Tops.{topped}
+
+-- ---- a frame that begins anew
+
+begin_result : (c : Core) (kind : Kind) (state : FrameState) (frame : Frame) (below : List Frame) → c.frames ≡ frame ∷ below → PrivateResult c (model.after_begin kind state c frame below)
+begin_result c (for_record moment len) waiting frame below top = goes_on frame below idle refl
+begin_result c for_close waiting frame below top = leaves frame below None top refl
+begin_result c kind (reserved number) frame below top = goes_on frame below idle refl
+begin_result c kind left frame below top = goes_on frame below (model.closing_phase c) refl
+
+-- one that leaves without a record writes nothing
+none_written : (number : Option ℕ) (h : Held) → model.held_with_payload number None h ≡ h
+none_written None h = refl
+none_written (Some k) h = ap (λ (rs : List Reservation). let g : Held = record { first = h.first; records = rs } in g)
+    (cond_both (nat_lt k h.first) h.records (records_with_payload (Some (k - h.first)) None h.records) (λ (rs : List Reservation). ◌≡◌ {A = List Reservation} rs h.records) (λ _. refl) (λ _. refl))
+
+all_stay : (number : Option ℕ) (held : List Held) → map (model.held_with_payload number None) held ≡ held
+all_stay number [] = refl
+all_stay number (h ∷ held) = λ i. none_written number h i ∷ all_stay number held i
+
+begin_holds : (c : Core) (kind : Kind) (state : FrameState) (frame : Frame) (below : List Frame) → (model.after_begin kind state c frame below).held ≡ c.held
+begin_holds c (for_record moment len) waiting frame below = refl
+begin_holds c for_close waiting frame below = all_stay (model.own_number frame.kind frame.state) c.held
+begin_holds c kind (reserved number) frame below = refl
+begin_holds c kind left frame below = refl
+
+-- ---- the ring
 
 module _ (n size start : ℕ) (v : CoreValue) (c : Core) (core : IsCore n size start v c) (some : v.stack.frames ≢ []) (page : ℕ) (is : v.phase ≡ Opening (opened v.stack) page) where
   kept : IsRingKept n size start c
   kept = kept_of n size start v c core
 
   opens : PhaseKept n c.links c.order c.head c.done c.opened (opening c.opened page)
-  opens = let s = core.shows in let top = topped n size start v c s some in
-      subst (PhaseKept n c.links c.order c.head c.done c.opened) (top.phase_is ∙ ap phase_of is ∙ ap (λ (o : ℕ). opening o page) (sym s.opened_is))
+  opens = let s = core.shows in let top = topped n size start (frames_of v) c s.frames some in
+      subst (PhaseKept n c.links c.order c.head c.done c.opened) (top.phase_is ∙ ap phase_of is ∙ ap (λ (o : ℕ). opening o page) (sym s.frames.opened_is))
       (top_kept n c top.frame top.below kept.links top.is_top)
 
   page_is : page ≡ page_at n c.order c.opened
@@ -44,15 +74,9 @@ module _ (n size start : ℕ) (v : CoreValue) (c : Core) (core : IsCore n size s
   below_done : c.opened < c.done + n
   below_done = (opens.noted c.opened refl).2
 
-  pub room : length v.stack.older + 1 < v.stack.pages
-  room = let s = core.shows in let done = s.done_is in let begun = s.opened_is in let pages = s.pages_is in let low = below_done in omega arith
-
-  pub fills : opened v.stack + v.stack.pages < LINK_FILLS
-  fills = let s = core.shows in let begun = s.opened_is in let pages = s.pages_is in let low = (opens.noted c.opened refl).3 in omega arith
-
   home : (body : Contents) × (slice_get v.homes page ≡ Some (Some body)) × (body.size ≡ v.stack.size)
   home = let s = core.shows in let low = below_done in let (body, there, wide) = s.free c.opened (omega arith) low in
-      (body, ap (slice_get v.homes) page_is ∙ there, wide ∙ sym s.size_is)
+      (body, ap (slice_get v.homes) page_is ∙ there, wide ∙ sym s.frames.size_is)
 
   others : (f : ℕ) → page_at n c.order f ≢ page_at n c.order c.opened → slice_get (slice_set v.homes page None) (page_at n c.order f) ≡ slice_get v.homes (page_at n c.order f)
   others f ne = get_set_other v.homes page None (page_at n c.order f) (λ e. ne (e ∙ page_is))
@@ -72,22 +96,22 @@ module _ (n size start : ℕ) (v : CoreValue) (c : Core) (core : IsCore n size s
       let (body, there, wide) = core.shows.free f (omega arith) high in
       (body, others f ne ∙ there, wide)
 
-  pub begun : (later : Stack) (first : ℕ) → later ≡ with_tail v.stack (blank_page v.stack.size first (opened v.stack)) → HasActed v.stack (open_fill ∷ []) later
-      → Shows n size start (record v { stack = later; homes = slice_set v.homes page None }) (model.with_new_tail c page)
-  begun later first added acted = let s = core.shows in
-      let same_done : later.done ≡ v.stack.done = ap (λ (x : Stack). x.done) added in
-      let long : length later.older ≡ length v.stack.older + 1 = ap (λ (x : Stack). length x.older) added ∙ length-append v.stack.older (v.stack.tail ∷ []) in
-      let same_frames : later.frames ≡ v.stack.frames = ap (λ (x : Stack). x.frames) added in
-      let was_done = s.done_is in let was_opened = s.opened_is in record {
-        pages_is = ap (λ (x : Stack). x.pages) added ∙ s.pages_is;
-        size_is = ap (λ (x : Stack). x.size) added ∙ s.size_is;
+  -- what is left of the step is that the frame on top begins anew
+  pub begun : (result : Answer) (new : FramesValue) → OpensFill (frames_of v) result new → IsStep n size start c model.steps result (record (with_frames v new) { homes = slice_set v.homes page None })
+  begun result new fill = let s = core.shows in let top = topped n size start (frames_of v) c s.frames some in
+      let tail : Core = model.with_new_tail c page in
+      let answer : model.Answer = model.begin_answer top.frame.kind top.frame.state top.below in
+      let after : Core = model.after_begin top.frame.kind top.frame.state tail top.frame top.below in
+      let value : CoreValue = record (with_frames v new) { homes = slice_set v.homes page None } in
+      let (tells, are) = fill n size start page c top.frame top.below s.frames top.is_top in
+      let same : after ≡ private_state tail after.frames after.history after.held = changes_privately tail after (begin_result tail top.frame.kind top.frame.state top.frame top.below top.is_top) in
+      let held : after.held ≡ tail.held = begin_holds tail top.frame.kind top.frame.state top.frame top.below in
+      stepped n size start v value c model.steps result answer after core
+      (model.frame_step top.frame top.below refl top.is_top (subst (λ (p : ModelPhase). model.FrameStep n size c top.frame top.below p answer after) (sym (top.phase_is ∙ ap phase_of is)) (model.opens (sym s.frames.opened_is) refl refl)))
+      tells
+      (subst (Shows n size start value) (sym same) record {
+        frames = subst (AreFrames n size start new) same are;
         positions = s.positions;
-        stack_is = acted start c.history s.stack_is;
-        done_is = omega arith;
-        opened_is = omega arith;
-        frames_are = s.frames_are ∙ ap (λ (fs : List stack.Frame). ring_frames fs (v.phase ∷ v.below)) (sym same_frames);
-        below_are = subst (λ (fs : List stack.Frame). AreBelow fs v.below) (sym same_frames) s.below_are;
-        noted = subst (λ (fs : List stack.Frame). AreNotedAlike fs (v.phase ∷ v.below)) (sym same_frames) s.noted;
         links_are = s.links_are;
         spare_link_is = s.spare_link_is;
         order_is = s.order_is;
@@ -97,9 +121,9 @@ module _ (n size start : ℕ) (v : CoreValue) (c : Core) (core : IsCore n size s
         hint_is = s.hint_is;
         seen_is = s.seen_is;
         expected_is = s.expected_is;
-        closed = closed;
+        closed = λ f low high. subst (λ (pages : List Held). IsHome (slice_set v.homes page None) size (page_at n c.order f) f (model.contents_of (private_state tail after.frames after.history pages) (page_at n c.order f))) (sym held) (closed f low high);
         free = free;
-      }
+      })
 
   -- what was taken from the page's home is that page
   pub comes_out : (out : Option Contents) → out ≡ get_or v.homes page out → (body : Contents) × (out ≡ Some body) × (body.size ≡ v.stack.size)

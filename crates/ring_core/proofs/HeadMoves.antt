@@ -14,22 +14,27 @@ use Rattle.link_marks.specs.ModelLinks.{mark_of}
 use Rattle.link_marks.specs.KeptLinks.{PhaseKept, LinksKept}
 use Rattle.link_marks.specs.KeptProgress.{FramesAdvance, PhaseAdvances, ProgressKept}
 use Rattle.link_marks.specs.RingKept.{IsRingKept}
+use Rattle.link_marks.specs.Seats.{PhaseIsPrivate}
 use Rattle.link_marks.proofs.Positions.{link_turn}
 use Rattle.link_marks.proofs.LinkFills.{normal_tells, header_tells, update_tells, owned_by}
 use Rattle.link_marks.proofs.FrameChanges.{top_kept}
 use Rattle.nested_writer.specs.Stack.{opened}
-use Rattle.ring_core.specs.declared.event.Answer as code
-use Rattle.ring_core.specs.declared.event.Answer.TheVariants.{Going}
-use Rattle.ring_core.specs.declared.phase.Role.{Role}
-use Rattle.ring_core.specs.declared.phase.Role.TheVariants.{Owner, Helper}
-use Rattle.ring_core.specs.declared.phase.Phase.{Phase}
-use Rattle.ring_core.specs.declared.phase.Phase.TheVariants.{Looking, Claiming, LookingNext, Marking, Clearing, Opening}
-use Rattle.ring_core.specs.Value.{CoreValue, phase_of, role_of}
+use Rattle.ring_frames.specs.declared.answer.Answer.TheVariants.{Going}
+use Rattle.ring_frames.specs.declared.phase.Role.{Role}
+use Rattle.ring_frames.specs.declared.phase.Role.TheVariants.{Owner, Helper}
+use Rattle.ring_frames.specs.declared.phase.Phase.{Phase}
+use Rattle.ring_frames.specs.declared.phase.Phase.TheVariants.{Looking, Claiming, LookingNext, Marking, Clearing, Opening}
+use Rattle.ring_frames.specs.Value.{phase_of, role_of}
+use Rattle.ring_frames.specs.declared.phase.Turned.{Turned}
+use Rattle.ring_frames.specs.declared.phase.Turned.TheVariants.{Going as TheGoing}
+use Rattle.ring_frames.specs.Phases.{told}
+use Rattle.ring_core.specs.Value.{CoreValue, frames_of}
 use Rattle.ring_core.specs.IsCore.{Shows, IsCore}
 use Rattle.ring_core.specs.Heads.{HasHeader, ClaimsHead}
-use Rattle.ring_core.specs.Steps.{IsStep, BeginsAnew}
+use Rattle.ring_core.specs.Steps.{IsStep, IsLate}
 use Rattle.ring_core.proofs.Stepped.{kept_of}
-use Rattle.ring_core.proofs.PhaseMoves.{top_frame, shows_moved, shows_phase, top_steps}
+use Rattle.ring_frames.proofs.Tops.{topped}
+use Rattle.ring_core.proofs.PhaseMoves.{shows_moved, shows_phase, top_steps}
 
 -- ---- the fill that a link tells, at the position of the fill to open
 
@@ -72,26 +77,14 @@ links_shown : (n size start : ℕ) (v : CoreValue) (c : Core) (f : ℕ) (l : Lin
 links_shown n size start v c f l s = λ i. links_with (sym s.positions i) (s.links_are i) f l
 
 module _ (n size start : ℕ) (v : CoreValue) (c : Core) (core : IsCore n size start v c) (some : v.stack.frames ≢ []) where
-  -- A fill was begun since the frame on top noted what to open.
-  late : (phase : model.Phase) (noted : ℕ) (result : code.Answer) (new : CoreValue) → phase_of v.phase ≡ phase → noted ≢ opened v.stack
-      → ((frame : Frame) (below : List Frame) (answer : model_steps.Answer) (after : Core) → model_steps.BeginsAnew c frame below noted answer after → model_steps.FrameStep n size c frame below phase answer after)
-      → BeginsAnew v result new
-      → IsStep n size start c model_steps.steps result new
-  late phase noted result new at passed from begins =
-      let (frame, below, t) = top_frame n size start v c core.shows some in
-      let (tells, shows) = begins n size start c frame below core.shows t.frames_are in
-      top_steps n size start v new c frame below phase result (model_steps.begin_answer frame.kind frame.state below) (model_steps.after_begin frame.kind frame.state c frame below) core t.frames_are (t.phase_is ∙ at)
-      (from frame below (model_steps.begin_answer frame.kind frame.state below) (model_steps.after_begin frame.kind frame.state c frame below) record { passed = λ e. passed (e ∙ core.shows.opened_is); answer_is = refl; after_is = refl })
-      tells shows
-
   -- It goes on in another phase, for the same fill.
   goes : (phase : model.Phase) (to : Phase) (o : ℕ) → phase_of v.phase ≡ phase → noted_fill phase ≡ Some o → noted_fill (phase_of to) ≡ Some o
       → ((frame : Frame) (below : List Frame) → model_steps.FrameStep n size c frame below phase model_steps.going (model_steps.in_phase c frame below (phase_of to)))
       → IsStep n size start c model_steps.steps Going (record v { phase = to })
   goes phase to o at was is step =
-      let (frame, below, t) = top_frame n size start v c core.shows some in
-      top_steps n size start v (record v { phase = to }) c frame below phase Going model_steps.going (model_steps.in_phase c frame below (phase_of to)) core t.frames_are (t.phase_is ∙ at) (step frame below) refl
-      (shows_phase n size start v c frame below to o core.shows t.frames_are (ap noted_fill at ∙ was) is)
+      let t = topped n size start (frames_of v) c core.shows.frames some in let frame : Frame = t.frame in let below : List Frame = t.below in
+      top_steps n size start v (record v { phase = to }) c frame below phase Going model_steps.going (model_steps.in_phase c frame below (phase_of to)) core t.is_top (t.phase_is ∙ at) (step frame below) refl
+      (shows_phase n size start v c frame below to o core.shows t.is_top (ap noted_fill at ∙ was) is)
 
   -- It sets a link, and goes on in another phase.
   sets : (phase : model.Phase) (to : Phase) (o f head : ℕ) (l : Link) → phase_of v.phase ≡ phase → noted_fill phase ≡ Some o → noted_fill (phase_of to) ≡ Some o → c.head ≤ head
@@ -99,22 +92,19 @@ module _ (n size start : ℕ) (v : CoreValue) (c : Core) (core : IsCore n size s
       → IsStep n size start c model_steps.steps Going (record v { phase = to; links = links_with (length v.links) v.links f l })
   sets phase to o f head l at was is later step =
       let s = core.shows in
-      let (frame, below, t) = top_frame n size start v c s some in
+      let t = topped n size start (frames_of v) c s.frames some in let frame : Frame = t.frame in let below : List Frame = t.below in
       let after : Core = record c { frames = record frame { phase = phase_of to } ∷ below; links = links_with n c.links f l; head = head } in
-      top_steps n size start v (record v { phase = to; links = links_with (length v.links) v.links f l }) c frame below phase Going model_steps.going after core t.frames_are (t.phase_is ∙ at) (step frame below) refl
-      (shows_moved n size start v c frame below to (links_with n c.links f l) (links_with (length v.links) v.links f l) head o s t.frames_are (ap noted_fill at ∙ was) is
+      top_steps n size start v (record v { phase = to; links = links_with (length v.links) v.links f l }) c frame below phase Going model_steps.going after core t.is_top (t.phase_is ∙ at) (step frame below) refl
+      (shows_moved n size start v c frame below to (links_with n c.links f l) (links_with (length v.links) v.links f l) head o s t.is_top (ap noted_fill at ∙ was) is
       (links_shown n size start v c f l s) (length-set v.links (f % length v.links) l ∙ s.positions) later)
 
   is_opened : (noted : ℕ) → noted ≡ opened v.stack → noted ≡ c.opened
-  is_opened noted now = now ∙ sym core.shows.opened_is
+  is_opened noted now = now ∙ sym core.shows.frames.opened_is
 
   kept : IsRingKept n size start c
   kept = kept_of n size start v c core
 
   -- ---- the link into the position of the fill to open
-
-  pub looks_late : (noted : ℕ) (result : code.Answer) (new : CoreValue) → v.phase ≡ Looking noted → noted ≢ opened v.stack → BeginsAnew v result new → IsStep n size start c model_steps.steps result new
-  looks_late noted result new at passed begins = late (model.looking noted) noted result new (ap phase_of at) passed (λ frame below answer after b. model_steps.look_late b) begins
 
   pub looks_normal : (noted page fill : ℕ) → v.phase ≡ Looking noted → noted ≡ opened v.stack → link_into (length v.links) v.links noted ≡ normal_link page fill → IsStep n size start c model_steps.steps Going (record v { phase = Opening noted page })
   looks_normal noted page fill at now link =
@@ -138,9 +128,6 @@ module _ (n size start : ℕ) (v : CoreValue) (c : Core) (core : IsCore n size s
       goes (model.looking noted) (LookingNext Helper noted page) noted (ap phase_of at) refl refl (λ frame below. model_steps.sees_update page fill it tells here refl refl)
 
   -- ---- the head is lost
-
-  pub claims_late : (noted page : ℕ) (result : code.Answer) (new : CoreValue) → v.phase ≡ Claiming noted page → noted ≢ opened v.stack → BeginsAnew v result new → IsStep n size start c model_steps.steps result new
-  claims_late noted page result new at passed begins = late (model.claiming noted page) noted result new (ap phase_of at) passed (λ frame below answer after b. model_steps.claim_late b) begins
 
   pub claims_head : (noted page lost : ℕ) (new : CoreValue) → v.phase ≡ Claiming noted page → noted ≡ opened v.stack → ClaimsHead v noted page lost new
       → IsStep n size start c model_steps.steps Going (record new { phase = LookingNext Owner noted page })
@@ -170,8 +157,8 @@ module _ (n size start : ℕ) (v : CoreValue) (c : Core) (core : IsCore n size s
 
   advances : (phase : model.Phase) → phase_of v.phase ≡ phase → PhaseAdvances n c.links c.head phase
   advances phase at =
-      let (frame, below, t) = top_frame n size start v c core.shows some in
-      subst (PhaseAdvances n c.links c.head) (t.phase_is ∙ at) (subst (FramesAdvance n c.links c.head) t.frames_are kept.progress.advance).0
+      let t = topped n size start (frames_of v) c core.shows.frames some in let frame : Frame = t.frame in let below : List Frame = t.below in
+      subst (PhaseAdvances n c.links c.head) (t.phase_is ∙ at) (subst (FramesAdvance n c.links c.head) t.is_top kept.progress.advance).0
 
   -- behind the head there is a whole round of fills
   pub round_next : (role : Role) (noted page : ℕ) → v.phase ≡ LookingNext role noted page → length v.links ≤ noted
@@ -179,9 +166,6 @@ module _ (n size start : ℕ) (v : CoreValue) (c : Core) (core : IsCore n size s
 
   pub round_mark : (role : Role) (noted page next : ℕ) → v.phase ≡ Marking role noted page next → length v.links ≤ noted
   round_mark role noted page next at = let wide = core.shows.positions in let turn : n ≤ noted = advances (model.marking (role_of role) noted page next) (ap phase_of at) in omega arith
-
-  pub next_late : (role : Role) (noted page : ℕ) (result : code.Answer) (new : CoreValue) → v.phase ≡ LookingNext role noted page → role ≡ Helper → noted ≢ opened v.stack → BeginsAnew v result new → IsStep n size start c model_steps.steps result new
-  next_late role noted page result new at helps passed begins = late (model.looking_next (role_of role) noted page) noted result new (ap phase_of at) passed (λ frame below answer after b. model_steps.next_late (ap role_of helps) b) begins
 
   pub next_waits : (role : Role) (noted page next lost : ℕ) → v.phase ≡ LookingNext role noted page → GoesOn (role_of role) noted (opened v.stack) → lost + length v.links ≡ noted → link_into (length v.links) v.links (suc lost) ≡ normal_link next (suc lost)
       → IsStep n size start c model_steps.steps Going (record v { phase = Marking role noted page next })
@@ -205,9 +189,6 @@ module _ (n size start : ℕ) (v : CoreValue) (c : Core) (core : IsCore n size s
       let wide = core.shows.positions in
       goes (model.looking_next (role_of role) noted page) to noted (ap phase_of at) refl (ap noted_fill to_is ∙ noted_after role noted page)
       (λ frame below. model_steps.sees_other lost (goes_on role noted now) (omega arith) (λ next e. differ next (sym same ∙ e)) refl (ap (model_steps.in_phase c frame below) to_is))
-
-  pub mark_late : (role : Role) (noted page next : ℕ) (result : code.Answer) (new : CoreValue) → v.phase ≡ Marking role noted page next → role ≡ Helper → noted ≢ opened v.stack → BeginsAnew v result new → IsStep n size start c model_steps.steps result new
-  mark_late role noted page next result new at helps passed begins = late (model.marking (role_of role) noted page next) noted result new (ap phase_of at) passed (λ frame below answer after b. model_steps.mark_late (ap role_of helps) b) begins
 
   marks : (role : Role) (noted page next lost : ℕ) (to : Phase) → v.phase ≡ Marking role noted page next → GoesOn (role_of role) noted (opened v.stack) → lost + length v.links ≡ noted
       → phase_of to ≡ model_steps.after_next (role_of role) noted page
@@ -245,9 +226,19 @@ module _ (n size start : ℕ) (v : CoreValue) (c : Core) (core : IsCore n size s
   pub clears_update : (noted page : ℕ) → v.phase ≡ Clearing noted page
       → IsStep n size start c model_steps.steps Going (record v { phase = Opening noted page; links = links_with (length v.links) v.links noted (normal_link page noted) })
   clears_update noted page at =
-      let (frame, below, t) = top_frame n size start v c core.shows some in
-      let knows = subst (PhaseKept n c.links c.order c.head c.done c.opened) (t.phase_is ∙ ap phase_of at) (top_kept n c frame below kept.links t.frames_are) in
+      let t = topped n size start (frames_of v) c core.shows.frames some in let frame : Frame = t.frame in let below : List Frame = t.below in
+      let knows = subst (PhaseKept n c.links c.order c.head c.done c.opened) (t.phase_is ∙ ap phase_of at) (top_kept n c frame below kept.links t.is_top) in
       let (lost, sum, low, open_yet, there) = knows.moves noted refl in
       let page_is = (knows.passed noted page refl).2 in
       sets (model.clearing noted page) (Opening noted page) noted noted c.head (normal_link page noted) (ap phase_of at) refl refl (omega arith)
       (λ frame below. model_steps.clears lost sum (there ∙ ap (λ (p : ℕ). update_link p lost) (sym page_is)) refl refl)
+
+-- ---- another frame has begun the fill
+
+pub is_late : (v : CoreValue) (phase : Phase) (noted : ℕ) → v.phase ≡ phase → noted_fill (phase_of phase) ≡ Some noted → (noted ≢ opened v.stack → PhaseIsPrivate (phase_of phase) (opened v.stack)) → noted ≢ opened v.stack → IsLate v
+is_late v phase noted at is own passed = (noted, ap (λ (p : Phase). noted_fill (phase_of p)) at ∙ is, passed, subst (λ (p : Phase). PhaseIsPrivate (phase_of p) (opened v.stack)) (sym at) (own passed))
+
+-- ---- the frame on top goes on
+
+pub gone_on : (n size start : ℕ) (c : Core) (between new : CoreValue) (phase : Phase) (result : Turned) → result ≡ TheGoing → new ≡ record between { phase = phase } → IsStep n size start c model_steps.steps Going (record between { phase = phase }) → IsStep n size start c model_steps.steps (told result) new
+gone_on n size start c between new phase result answer is step = subst (λ (r : Turned). IsStep n size start c model_steps.steps (told r) new) (sym answer) (subst (IsStep n size start c model_steps.steps Going) (sym is) step)

@@ -10,22 +10,18 @@ use Rattle.link_marks.specs.declared.link.Link as code
 use Rattle.link_marks.specs.declared.link.Mark.TheVariants.{Normal}
 use Rattle.link_marks.specs.ModelLinks.{link_of}
 use Rattle.link_marks.proofs.Positions.{apart}
-use Rattle.nested_writer.specs.declared.frame.Frame as stack
-use Rattle.nested_writer.specs.Stack.{Stack, opened, new_stack}
-use Rattle.nested_writer.specs.IsStack.{IsStack}
 use Rattle.ring_core.specs.declared.phase.Reader.{Reader}
 use Rattle.ring_core.specs.declared.phase.ReaderPhase.TheVariants.{LoadingLink}
-use Rattle.ring_core.specs.Value.{CoreValue, reader_phase_of}
-use Rattle.ring_core.specs.IsCore.{ring_frames, AreBelow, AreNotedAlike, HasBody, Shows}
+use Rattle.ring_frames.specs.Steps.{AreNew}
+use Rattle.ring_core.specs.Value.{CoreValue, frames_of, reader_phase_of}
+use Rattle.ring_core.specs.IsCore.{HasBody, Shows}
 use Rattle.ring_core.specs.Steps.{IsNewRing}
 use Rattle.link_marks.specs.FirstLinks.{IsFirstLink}
 use Rattle.ring_core.specs.NewRing.{AreFirstLinks, AreFirstPages, AreFirstHomes}
 
 -- the parts of a new ring
 pub record HasFirstParts (n size start : ℕ) (laid : List code.Link) (v : CoreValue) : Type 0 where
-  pub stack : v.stack ≡ new_stack n size start
-  pub stack_is : IsStack start [] v.stack
-  pub below : v.below ≡ []
+  pub frames : AreNew n size start (frames_of v)
   pub links_are : v.links ≡ map link_of laid
   pub positions : length laid ≡ n
   pub links : AreFirstLinks n start laid
@@ -97,16 +93,9 @@ module _ (n size start : ℕ) (laid : List code.Link) (v : CoreValue) (some : MI
       subst (HasBody v.homes size) (sym (page_is (f % n) below)) (body, there ∙ ap Some home, sized)
 
   first_shown : Shows n size start v first_core
-  first_shown = let none : v.stack.frames ≡ [] = ap (λ (s : Stack). s.frames) p.stack in record {
-    pages_is = ap (λ (s : Stack). s.pages) p.stack;
-    size_is = ap (λ (s : Stack). s.size) p.stack;
+  first_shown = record {
+    frames = p.frames first_core starts;
     positions = starts.positions;
-    stack_is = p.stack_is;
-    done_is = sym (ap (λ (s : Stack). s.done) p.stack);
-    opened_is = (let e : start + 1 ≡ start + 0 + 1 = omega arith in e) ∙ sym (ap opened p.stack);
-    frames_are = ap (λ (fs : List stack.Frame). ring_frames fs (v.phase ∷ v.below)) (sym none);
-    below_are = subst (λ (fs : List stack.Frame). AreBelow fs v.below) (sym none) p.below;
-    noted = subst (λ (fs : List stack.Frame). AreNotedAlike fs (v.phase ∷ v.below)) (sym none) tt;
     links_are = refl;
     spare_link_is = refl;
     order_is = refl;

@@ -7,13 +7,14 @@ use Rattle.trace_model.specs.Steps as model
 use Rattle.link_marks.specs.KeptLinks.{ReaderKept, LinkKept, is_normal, is_header, is_update, LinksKept}
 use Rattle.link_marks.proofs.LinkFills.{fill_at, normal_tells}
 use Rattle.link_marks.proofs.Positions.{at_position}
-use Rattle.ring_core.specs.declared.event.Answer.{Answer}
-use Rattle.ring_core.specs.declared.event.Answer.TheVariants.{Looking, Empty, Moving, Wished}
+use Rattle.ring_frames.specs.declared.answer.Answer.{Answer}
+use Rattle.ring_frames.specs.declared.answer.Answer.TheVariants.{Looking, Empty, Moving, Wished}
 use Rattle.ring_core.specs.declared.phase.Reader.{Reader}
 use Rattle.ring_core.specs.declared.phase.ReaderPhase.TheVariants.{LoadingLink, LoadingDone, StoringLink, Swapping}
-use Rattle.ring_core.specs.Value.{CoreValue, reader_phase_of}
+use Rattle.ring_frames.proofs.Same.{same_frames}
+use Rattle.ring_core.specs.Value.{CoreValue, frames_of, reader_phase_of}
 use Rattle.ring_core.specs.IsCore.{Shows, IsCore}
-use Rattle.ring_core.specs.Answers.{Tells}
+use Rattle.ring_frames.specs.Answers.{Tells}
 use Rattle.ring_core.specs.Steps.{IsStep, IsRing}
 use Rattle.ring_core.proofs.Stepped.{kept_of, stepped}
 
@@ -22,15 +23,8 @@ reader_shown : (n size start : ℕ) (v : CoreValue) (c : ring.Core) (spare_link 
     → of_link ≡ spare_link → of_wish ≡ wish → of.phase ≡ reader_phase_of reader.phase → of.hint ≡ reader.hint → of.seen ≡ reader.seen → of.expected ≡ reader.expected
     → Shows n size start (record v { spare_link = spare_link; wish = wish; reader = reader }) (record c { spare_link = of_link; wish = of_wish; reader = of })
 reader_shown n size start v c spare_link of_link wish of_wish reader of s link_is wish_is phase hint seen expected = record {
-  pages_is = s.pages_is;
-  size_is = s.size_is;
+  frames = same_frames n size start (frames_of v) c (record c { spare_link = of_link; wish = of_wish; reader = of }) s.frames refl refl refl refl;
   positions = s.positions;
-  stack_is = s.stack_is;
-  done_is = s.done_is;
-  opened_is = s.opened_is;
-  frames_are = s.frames_are;
-  below_are = s.below_are;
-  noted = s.noted;
   links_are = s.links_are;
   spare_link_is = link_is;
   order_is = s.order_is;
@@ -119,13 +113,13 @@ module _ (n size start : ℕ) (v : CoreValue) (c : ring.Core) (core : IsCore n s
 
   pub finds_none : (page fill done : ℕ) (body : List ℕ) → v.reader.phase ≡ LoadingDone page fill → done ≡ v.stack.done → done ≤ fill
       → IsStep n size start c model.reads (Empty done body) (record v { reader = record v.reader { phase = LoadingLink; seen = done } })
-  finds_none page fill done body at is le = let s = core.shows in let done_is : c.done ≡ done = s.done_is ∙ sym is in
+  finds_none page fill done body at is le = let s = core.shows in let done_is : c.done ≡ done = s.frames.done_is ∙ sym is in
       reads (ring.loading_done page fill) (model.empty c.done) (Empty done body) v.spare_link c.spare_link (record v.reader { phase = LoadingLink; seen = done }) (record c.reader { phase = ring.loading_link; seen = c.done })
       (ap reader_phase_of at) (model.finds_none (omega arith) refl refl) (ap model.empty done_is) s.spare_link_is refl s.hint_is done_is s.expected_is
 
   pub finds_closed : (page fill done : ℕ) (body : List ℕ) → v.reader.phase ≡ LoadingDone page fill → done ≡ v.stack.done → fill < done
       → IsStep n size start c model.reads (Looking body) (record v { reader = record v.reader { phase = StoringLink page fill; seen = done } })
-  finds_closed page fill done body at is less = let s = core.shows in let done_is : c.done ≡ done = s.done_is ∙ sym is in
+  finds_closed page fill done body at is less = let s = core.shows in let done_is : c.done ≡ done = s.frames.done_is ∙ sym is in
       reads (ring.loading_done page fill) model.reading (Looking body) v.spare_link c.spare_link (record v.reader { phase = StoringLink page fill; seen = done }) (record c.reader { phase = ring.storing_link page fill; seen = c.done })
       (ap reader_phase_of at) (model.finds_closed (omega arith) refl refl) refl s.spare_link_is refl s.hint_is done_is s.expected_is
 

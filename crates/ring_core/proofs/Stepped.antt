@@ -4,11 +4,12 @@ use Rattle.trace_model.specs.Ring.{Core}
 use Rattle.trace_model.specs.Steps as model
 use Rattle.link_marks.specs.RingKept.{IsRingKept}
 use Rattle.link_marks.proofs.RingsKept.{reached_further, reached_kept}
-use Rattle.ring_core.specs.declared.event.Answer.{Answer}
-use Rattle.ring_core.specs.declared.event.Answer.TheVariants.{Pushed, Going, Reserved, Ended, Gone, Refused, Looking, Empty, Moving, Taken, Wished}
+use Rattle.ring_frames.specs.declared.answer.Answer.{Answer}
+use Rattle.ring_frames.specs.declared.answer.Answer.TheVariants.{Pushed, Going, Reserved, Ended, Gone, Refused, Looking, Empty, Moving, Taken, Wished}
 use Rattle.ring_core.specs.Value.{CoreValue}
 use Rattle.ring_core.specs.IsCore.{Shows, IsCore}
-use Rattle.ring_core.specs.Answers.{Tells, IsWhole}
+use Rattle.ring_frames.specs.Answers.{Tells}
+use Rattle.ring_core.specs.Answers.{IsWhole}
 use Rattle.ring_core.specs.Steps.{IsStep, Makes, IsRing}
 
 -- what every step keeps holds of a ring's state
@@ -33,7 +34,7 @@ ring_behind old new event result (n, size, start, c, core) makes =
 
 pub size_behind : (old new : CoreValue) (event : model.Event) (result : Answer) → IsRing old → Makes old event result new → new.stack.size ≡ old.stack.size
 size_behind old new event result (n, size, start, c, core) makes =
-    (makes n size start c core).is_core.shows.size_is ∙ sym core.shows.size_is
+    (makes n size start c core).is_core.shows.frames.size_is ∙ sym core.shows.frames.size_is
 
 told_whole : (size : ℕ) (result : Answer) (told : model.Answer) → Tells size result told → IsWhole size result
 told_whole size Pushed told t = tt
@@ -51,4 +52,4 @@ told_whole size (Wished fill) told t = tt
 pub whole_page : (old new : CoreValue) (event : model.Event) (result : Answer) → IsRing old → Makes old event result new → IsWhole old.stack.size result
 whole_page old new event result (n, size, start, c, core) makes =
     let s = makes n size start c core in
-    subst (λ (bytes : ℕ). IsWhole bytes result) (sym core.shows.size_is) (told_whole size result s.answer s.tells)
+    subst (λ (bytes : ℕ). IsWhole bytes result) (sym core.shows.frames.size_is) (told_whole size result s.answer s.tells)

@@ -21,9 +21,10 @@ use Rattle.link_marks.proofs.SeatPages.{IsHeadTaken, head_taken, open_not_head}
 use Rattle.page_image.specs.Contents.{Contents}
 use Rattle.nested_writer.specs.Stack.{blank_page}
 use Rattle.nested_writer.specs.Released.{IsWrittenPage}
-use Rattle.ring_core.specs.declared.event.Answer.TheVariants.{Looking, Taken as IsTaken}
+use Rattle.ring_frames.specs.declared.answer.Answer.TheVariants.{Looking, Taken as IsTaken}
 use Rattle.ring_core.specs.declared.phase.ReaderPhase.TheVariants.{LoadingLink, Swapping}
-use Rattle.ring_core.specs.Value.{CoreValue, reader_phase_of}
+use Rattle.ring_frames.proofs.Same.{same_frames}
+use Rattle.ring_core.specs.Value.{CoreValue, frames_of, reader_phase_of}
 use Rattle.ring_core.specs.IsCore.{IsHome, HasBody, Shows, IsCore}
 use Rattle.ring_core.specs.Steps.{IsStep}
 use Rattle.ring_core.specs.Taking.{with_spare_home, with_head_taken}
@@ -134,7 +135,7 @@ module _ (n size start : ℕ) (v : CoreValue) (c : ring.Core) (core : IsCore n s
       let front = kept.other_pages page (λ i low e. open_not_head n c kept.links kept.open_pages i low head.closed (e ∙ head.page_is)) in
       let (rest, split) = settled_records_prefix c.history in
       let whole = ap length split ∙ length-append (reserved_records (settled_prefix c.history)) rest in
-      let large = core.shows.stack_is.holds.large in let size_is = core.shows.size_is in
+      let large = core.shows.frames.stack_is.holds.large in let size_is = core.shows.frames.size_is in
       let few = numbers_fit n size start c kept (omega arith) in
       let first = w.first_is in let count = count_is taken w in omega arith
 
@@ -197,7 +198,7 @@ module _ (n size start : ℕ) (v : CoreValue) (c : ring.Core) (core : IsCore n s
           blank_page body_size 0 0,
           get_set_other (set v.homes v.spare (Some (blank_page body_size 0 0))) page v.spare None (Some (blank_page body_size 0 0)) (λ e'. not_spare (sym e' ∙ sym core.shows.spare_is))
               (get_set_same v.homes v.spare (Some (blank_page body_size 0 0)) (let spare_below = spare_low in omega arith)),
-          sized ∙ core.shows.size_is,
+          sized ∙ core.shows.frames.size_is,
         ))
         (λ ne.
         let apart_from : f % n ≢ fill % n = λ e. apart c.done n f (fill + n) (omega arith) high (omega arith) (omega arith) ne (e ∙ sym (add-mod_right fill n)) in
@@ -211,15 +212,8 @@ module _ (n size start : ℕ) (v : CoreValue) (c : ring.Core) (core : IsCore n s
     shown_after : Shows n size start (value_after v behind body_size page fill (taken.first + taken.count)) (model.after_swap n c page fill)
     unfolding once homes_after after
     shown_after = let s = core.shows in record {
-      pages_is = s.pages_is;
-      size_is = s.size_is;
+      frames = same_frames n size start (frames_of v) c (model.after_swap n c page fill) s.frames refl refl refl refl;
       positions = length-set once ((fill + 1) % length once) v.spare_link ∙ once_wide;
-      stack_is = s.stack_is;
-      done_is = s.done_is;
-      opened_is = s.opened_is;
-      frames_are = s.frames_are;
-      below_are = s.below_are;
-      noted = s.noted;
       links_are = λ i. ring.links_with (sym once_wide i) (once_is i) (next i) (s.spare_link_is i);
       spare_link_is = led_on;
       order_is = λ i. set (s.order_is i) (fill % sym once_wide i) (s.spare_is i);

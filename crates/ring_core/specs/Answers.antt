@@ -1,45 +1,15 @@
--- What an event of a ring, and what its answer, mean in the model.
-use Rattle.std.specs.Prelude.{◌≡◌, ℕ, ◌-◌, if◌then◌else◌, ◌==◌, List, [], ◌∷◌, slice_index_or}
-use Rattle.trace_model.specs.Frames.{Refusal, too_deep, too_long, late_moment, crowded, worn, no_frame, not_reserved}
-use Rattle.trace_model.specs.Overwriting.{bytes_at}
-use Rattle.trace_model.specs.Ring.{Taken}
+-- What an event of a ring means in the model, and what comes with its answer.
+use Rattle.std.specs.Prelude.{◌≡◌, ℕ, List}
 use Rattle.trace_model.specs.Steps as model
-use Rattle.page_image.specs.Contents.{Contents, IsPage}
-use Rattle.nested_writer.specs.declared.fault.WriteFault.{WriteFault}
-use Rattle.nested_writer.specs.declared.fault.WriteFault.TheVariants.{TooDeep, TooLong, LateMoment, Crowded, Worn, NoFrame, NotReserved}
-use Rattle.nested_writer.specs.declared.stack.leave.Ended.TheVariants.{Pending, Full}
-use Rattle.nested_writer.specs.declared.frame.Slot.{Slot}
-use Rattle.nested_writer.specs.declared.frame.Progress.{Progress}
-use Rattle.nested_writer.specs.declared.frame.Progress.TheVariants.{Waiting, Through, Reserved as HasReserved, Left}
-use Rattle.nested_writer.specs.declared.frame.Frame.{Frame}
-use Rattle.nested_writer.specs.Stack.{Stack}
-use Rattle.nested_writer.specs.Released.{IsWrittenPage}
+use Rattle.page_image.specs.Contents.{IsPage}
 use Rattle.ring_core.specs.declared.event.Event.{Event}
 use Rattle.ring_core.specs.declared.event.Event.TheVariants.{Push, PushClose, Step, End, Read, Wish}
-use Rattle.ring_core.specs.declared.event.Answer.{Answer}
-use Rattle.ring_core.specs.declared.event.Answer.TheVariants.{Pushed, Going, Reserved, Ended, Gone, Refused, Looking, Empty, Moving, Taken as IsTaken, Wished}
+use Rattle.ring_frames.specs.declared.answer.Answer.{Answer}
+use Rattle.ring_frames.specs.declared.answer.Answer.TheVariants.{Pushed, Going, Reserved, Ended, Gone, Refused, Looking, Empty, Moving, Taken as IsTaken, Wished}
+use Rattle.ring_frames.specs.Answers.{top_bytes}
 use Rattle.ring_core.specs.Value.{CoreValue}
 
 -- ---- events
-
--- the page that a stack has of an open fill
-abbrev pub open_page : Stack → ℕ → Contents
-open_page s fill = if fill == s.tail.fill then s.tail else slice_index_or s.older (fill - s.done) s.tail
-
--- the bytes that stand in a slot
-abbrev pub bytes_in : Stack → Slot → List ℕ
-bytes_in s slot = bytes_at slot.place.start slot.place.len (open_page s slot.fill).bytes
-
-abbrev pub bytes_of_progress : Stack → Progress → List ℕ
-bytes_of_progress s (Waiting noted) = []
-bytes_of_progress s (Through noted) = []
-bytes_of_progress s (HasReserved slot) = bytes_in s slot
-bytes_of_progress s (Left noted) = []
-
--- the bytes in the slot of the frame on top, where it has reserved one
-abbrev pub top_bytes : Stack → List Frame → List ℕ
-top_bytes s [] = []
-top_bytes s (top ∷ below) = bytes_of_progress s top.progress
 
 -- the event of the model: the end of a frame is one with the payload that stands in its slot
 abbrev pub event_of : CoreValue → Event → model.Event
@@ -51,36 +21,6 @@ event_of v (Read body) = model.reads
 event_of v Wish = model.wishes
 
 -- ---- answers
-
-abbrev pub refusal_of : WriteFault → Refusal
-refusal_of TooDeep = too_deep
-refusal_of TooLong = too_long
-refusal_of LateMoment = late_moment
-refusal_of Crowded = crowded
-refusal_of Worn = worn
-refusal_of NoFrame = no_frame
-refusal_of NotReserved = not_reserved
-
--- The page is that of a fill which the reader took, with its number, its first record's number, and all its records;
--- and so many records were lost in front of it.
-pub record IsTakenPage (size : ℕ) (page : Contents) (missed : ℕ) (t : Taken) : Type 0 where
-  pub written : IsWrittenPage size t.fill t.held page
-  pub missed_is : missed ≡ t.skipped
-
--- the answer tells that of the model
-abbrev pub Tells : (size : ℕ) → Answer → model.Answer → Type 0
-Tells size Pushed told = told ≡ model.pushed
-Tells size Going told = told ≡ model.going
-Tells size (Reserved number) told = told ≡ model.reserved_as number.0
-Tells size (Ended Pending) told = told ≡ model.pending
-Tells size (Ended Full) told = told ≡ model.full
-Tells size Gone told = told ≡ model.gone
-Tells size (Refused fault) told = told ≡ model.refused (refusal_of fault)
-Tells size (Looking body) told = told ≡ model.reading
-Tells size (Empty done body) told = told ≡ model.empty done
-Tells size (Moving fill body) told = told ≡ model.moving fill.0
-Tells size (IsTaken page missed) told = (t : Taken) × (told ≡ model.swapped t) × IsTakenPage size page missed t
-Tells size (Wished fill) told = told ≡ model.wished_for fill.0
 
 -- a step of the reader gives its body back, but where a page is taken for it
 abbrev pub GivesBack : List ℕ → Answer → Type 0

@@ -12,7 +12,7 @@ use Rattle.nested_writer.specs.Stack.{Stack}
 use Rattle.nested_writer.specs.Lending.{with_slot}
 use Rattle.ring_core.specs.Value.{CoreValue}
 use Rattle.ring_core.specs.IsCore.{IsCore}
-use Rattle.ring_core.specs.Answers.{top_bytes}
+use Rattle.ring_frames.specs.Answers.{top_bytes}
 use Rattle.ring_core.specs.contracts.ring.Core.{the_row}
 
 -- the stack with these bytes in the slot that the frame has reserved

@@ -2,7 +2,6 @@ pub mod Value
 pub mod Inside
 pub mod IsCore
 pub mod Answers
-pub mod Phases
 pub mod Steps
 pub mod Heads
 pub mod Taking

@@ -3,10 +3,11 @@ use Rattle.std.specs.Prelude.{◌≡◌, ℕ, List, [], ◌∷◌}
 use Rattle.trace_model.specs.Ring.{IsStart, Core}
 use Rattle.trace_model.specs.Steps as model
 use Rattle.ring_core.specs.declared.event.Event.{Event}
-use Rattle.ring_core.specs.declared.event.Answer.{Answer}
+use Rattle.ring_frames.specs.declared.answer.Answer.{Answer}
 use Rattle.ring_core.specs.Value.{CoreValue}
 use Rattle.ring_core.specs.IsCore.{IsCore}
-use Rattle.ring_core.specs.Answers.{event_of, Tells}
+use Rattle.ring_frames.specs.Answers.{Tells}
+use Rattle.ring_core.specs.Answers.{event_of}
 use Rattle.ring_core.specs.Steps.{Makes, IsNewRing}
 
 -- What happens to a ring: an event, with its answer; or a payload is written into its slot, which is no event. And the

@@ -1,17 +1,18 @@
 -- What an event makes of a ring as a value: the step of the model.
-use Rattle.std.specs.Prelude.{◌≡◌, ℕ, List, ◌∷◌, length, Some, None}
-use Rattle.trace_model.specs.Frames.{Frame}
+use Rattle.std.specs.Prelude.{◌≡◌, ◌≢◌, ℕ, length, Some}
+use Rattle.trace_model.specs.Frames.{noted_fill}
 use Rattle.trace_model.specs.Ring.{IsStart, Core}
 use Rattle.trace_model.specs.Steps as model
-use Rattle.nested_writer.specs.declared.frame.Purpose.TheVariants.{Close}
-use Rattle.nested_writer.specs.declared.frame.Progress.TheVariants.{Waiting}
-use Rattle.nested_writer.specs.declared.frame.Frame as stack
+use Rattle.link_marks.specs.Seats.{PhaseIsPrivate}
+use Rattle.nested_writer.specs.Stack.{opened}
+use Rattle.ring_frames.specs.Value.{phase_of}
+use Rattle.ring_frames.specs.Answers.{Tells}
 use Rattle.ring_core.specs.declared.event.Event.{Event}
 use Rattle.ring_core.specs.declared.event.Event.TheVariants.{Push, PushClose, Step, End, Read, Wish}
-use Rattle.ring_core.specs.declared.event.Answer.{Answer}
+use Rattle.ring_frames.specs.declared.answer.Answer.{Answer}
 use Rattle.ring_core.specs.Value.{CoreValue}
-use Rattle.ring_core.specs.IsCore.{Shows, IsCore}
-use Rattle.ring_core.specs.Answers.{Tells, GivesBack}
+use Rattle.ring_core.specs.IsCore.{IsCore}
+use Rattle.ring_core.specs.Answers.{GivesBack}
 
 -- In this state the event has an answer and a state after it, by a step of the model, which the value's answer tells
 -- and the value after it shows.
@@ -36,40 +37,12 @@ IsRing v = (n size start : ℕ) × (c : Core) × IsCore n size start v c
 abbrev pub IsNewRing : (n size start : ℕ) → CoreValue → Type 0
 IsNewRing n size start v = (c : Core) × IsStart n start c × IsCore n size start v c
 
--- the value shows some state, between two steps or amid one
-abbrev pub IsShown : CoreValue → Type 0
-IsShown v = (n size start : ℕ) × (c : Core) × Shows n size start v c
-
--- the frame on top begins anew, in any state that the value shows, and answers so
-abbrev pub BeginsAnew : CoreValue → Answer → CoreValue → Type 0
-BeginsAnew old result new = (n size start : ℕ) (c : Core) (frame : Frame) (below : List Frame)
-    → Shows n size start old c
-    → c.frames ≡ frame ∷ below
-    → Tells size result (model.begin_answer frame.kind frame.state below)
-    × Shows n size start new (model.after_begin frame.kind frame.state c frame below)
-
--- the next fill is begun on this page, and what is left of the step is that the frame on top begins anew
-abbrev pub BeginsFill : CoreValue → ℕ → CoreValue → Type 0
-BeginsFill old page new = (n size start : ℕ) (c : Core)
-    → IsCore n size start old c
-    → Shows n size start new (model.with_new_tail c page)
-
--- the frame on top, which has no record, leaves, and answers so
-abbrev pub LeavesWithout : CoreValue → Answer → CoreValue → Type 0
-LeavesWithout old result new = (n size start : ℕ) (c : Core) (frame : Frame) (below : List Frame)
-    → Shows n size start old c
-    → c.frames ≡ frame ∷ below
-    → Tells size result (model.leave_answer below)
-    × Shows n size start new (model.after_leave c frame below None)
-
--- a close frame is on top that noted so many begun fills
-abbrev pub IsCloseTop : CoreValue → ℕ → Type 0
-IsCloseTop v noted = (below : List stack.Frame)
-    × (v.stack.frames ≡ record { purpose = Close; progress = Waiting (Some noted) } ∷ below)
-
--- the reader's wish isn't granted, in any state that the value is the ring in
-abbrev pub GrantsNone : CoreValue → Type 0
-GrantsNone v = (n size start : ℕ) (c : Core) → IsCore n size start v c → model.IsGranted n c → ⊥
+-- another frame has begun a fill since the one on top noted what to open, and that one has no UPDATE to clear
+abbrev pub IsLate : CoreValue → Type 0
+IsLate v = (noted : ℕ)
+    × (noted_fill (phase_of v.phase) ≡ Some noted)
+    × (noted ≢ opened v.stack)
+    × PhaseIsPrivate (phase_of v.phase) (opened v.stack)
 
 -- the body that comes with a step of the reader has the ring's data size
 abbrev pub HasItsSize : CoreValue → Event → Type 0

@@ -1,7 +1,6 @@
-//! What happens to a ring, and what it answers.
-use nested_writer::{Ended, WriteFault};
-use page_image::{Body, Page};
-use trace_model::{FillNo, RecordNo};
+//! What happens to a ring; what it answers is told by `ring_frames`.
+use page_image::Body;
+pub use ring_frames::Answer;
 
 /// What happens to a ring.
 #[derive(Debug, Drop)]
@@ -24,31 +23,4 @@ pub enum Event {
     Read(Body),
     /// The reader wishes for the tail page.
     Wish,
-}
-
-/// What a ring answers.
-#[derive(Debug, Drop)]
-pub enum Answer {
-    /// The frame stands on top.
-    Pushed,
-    /// The frame stands, and has reserved nothing, or has left and has more to do.
-    Going,
-    /// Its record is reserved, under this number.
-    Reserved(RecordNo),
-    /// It was ended.
-    Ended(Ended),
-    /// It has left the stack, other than by its end or a refusal.
-    Gone,
-    /// The event is refused. `Crowded` and `Worn` end their frame without a record; any other refusal changes nothing.
-    Refused(WriteFault),
-    /// The take goes on.
-    Looking(Body),
-    /// No closed fill is unread: so many are closed.
-    Empty(u64, Body),
-    /// A move of the head stands in the way; each fill below this one is taken or lost.
-    Moving(FillNo, Body),
-    /// The page that is taken, and how many numbers are missing in front of its first record since the last page taken.
-    Taken(Page, u64),
-    /// The reader wished for this fill to be closed.
-    Wished(FillNo),
 }

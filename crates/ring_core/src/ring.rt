@@ -1,4 +1,4 @@
-//! The ring: its links and counts, the stack of its writers, the pages at home, and its reader.
+//! The ring: its links and counts, the frames of its writers, the pages at home, and its reader.
 mod frames;
 mod head;
 mod links;
@@ -6,14 +6,12 @@ mod new;
 mod pages;
 mod reader;
 mod step;
-mod tail;
 mod top;
 
-use crate::phase::{Phase, Reader};
+use crate::phase::Reader;
 use link_marks::Link;
-use nested_writer::WriterStack;
 use page_image::Page;
-use std::collections::VecDeque;
+use ring_frames::Frames;
 use std::marker::Model;
 
 /// A ring of N pages and a spare, the writer's frames and the reader. The page of a fill that is begun and not closed
@@ -21,11 +19,7 @@ use std::marker::Model;
 #[derive(Drop)]
 pub struct Core {
     /// The writer's frames, the pages that they write, and how many fills are begun and closed.
-    stack: WriterStack,
-    /// How far the frame on top has come. Where none stands it says nothing.
-    phase: Phase,
-    /// How far those below it have come, the upper ones first.
-    below: VecDeque<Phase>,
+    frames: Frames,
     /// The link into each position.
     links: Vec<Link>,
     /// The link of the reader's page.
@@ -60,7 +54,7 @@ impl Core {
     pub fn depth(&self) -> usize
         ensures { result ≡ length self.now.stack.frames }
     {
-        self.stack.depth()
+        self.frames.depth()
     }
 
     /// How many bytes of data a page has.
@@ -68,6 +62,6 @@ impl Core {
     pub fn size(&self) -> usize
         ensures { result ≡ self.now.stack.size }
     {
-        self.stack.size()
+        self.frames.size()
     }
 }

@@ -1,17 +1,17 @@
-//! Frames that come and go.
+//! Frames that come and go, and the steps that they make in private.
 use crate::event::Answer;
-use crate::phase::{Phase, Turned};
+use crate::phase::Phase;
 use crate::ring::Core;
+use ring_frames::Turned;
 
 impl Core {
-    ghost use Rattle.std.specs.Prelude.{◌≡◌, ◌≢◌, ◌+◌, ◌==◌, ◌<◌, ℕ, [], ◌∷◌, List, length, if◌then◌else◌};
-    ghost use Rattle.trace_model.specs.declared.limits.TheConstants.{MAX_FRAMES};
+    ghost use Rattle.std.specs.Prelude.{◌≡◌, ◌≢◌, []};
     ghost use Rattle.trace_model.specs.Steps as model;
-    ghost use Rattle.nested_writer.specs.Stack.{opened};
-    ghost use Rattle.ring_core.specs.declared.phase.Phase.TheVariants.{Idle, Releasing, Wishing};
-    ghost use Rattle.ring_core.specs.Answers.{top_bytes};
-    ghost use Rattle.ring_core.specs.Steps.{Makes, IsRing};
-    ghost use Rattle.ring_core.specs.Phases.{with_pushed_phase, with_left_phase, left_answer, told, closing_phase};
+    ghost use Rattle.ring_frames.specs.declared.phase.Phase.TheVariants.{Idle};
+    ghost use Rattle.ring_frames.specs.declared.phase.Turned.TheVariants.{Going};
+    ghost use Rattle.ring_frames.specs.Answers.{top_bytes};
+    ghost use Rattle.ring_frames.specs.Phases.{told};
+    ghost use Rattle.ring_core.specs.Steps.{Makes, IsRing, IsLate};
 
     /// A frame is pushed for a record of this moment and of a payload of `len` bytes.
     #[inline(always)]
@@ -19,10 +19,7 @@ impl Core {
         requires ring { IsRing self.old }
         ensures { Makes self.old (model.pushes moment len) result self.new }
     {
-        match self.stack.begin(moment, len) {
-            Ok(()) => self.push_phase(),
-            Err(fault) => Answer::Refused(fault),
-        }
+        self.frames.push(moment, len)
     }
 
     /// A frame is pushed that leaves the tail page.
@@ -30,24 +27,7 @@ impl Core {
         requires ring { IsRing self.old }
         ensures { Makes self.old model.pushes_close result self.new }
     {
-        match self.stack.begin_close() {
-            Ok(()) => self.push_phase(),
-            Err(fault) => Answer::Refused(fault),
-        }
-    }
-
-    /// The frame that was pushed has noted nothing.
-    #[inline(always)]
-    fn push_phase(&mut self) -> Answer
-        requires room { length self.old.below < MAX_FRAMES }
-        ensures pushed { result ≡ Answer.Pushed }
-        ensures phase { self.new ≡ with_pushed_phase self.old }
-    {
-        if self.stack.depth() > 1 {
-            self.below.push_front_reserved(self.phase);
-        }
-        self.phase = Phase::Idle;
-        Answer::Pushed
+        self.frames.push_close()
     }
 
     /// The frame on top ends with the payload that stands in its slot.
@@ -56,52 +36,38 @@ impl Core {
         requires ring { IsRing self.old }
         ensures { Makes self.old (model.ends (top_bytes self.old.stack self.old.stack.frames)) result self.new }
     {
-        match self.stack.end() {
-            Ok(ended) => {
-                self.pop_phase();
-                Answer::Ended(ended)
-            }
-            Err(fault) => Answer::Refused(fault),
-        }
+        self.frames.end()
     }
 
-    /// The frame on top has left the stack: one with a frame below it is gone, and the bottom one stays.
+    /// The record of the frame on top is reserved in the tail page, or there is nothing to close; or a page is needed,
+    /// and refused or noted.
     #[inline(always)]
-    pub(crate) fn pop_phase(&mut self) -> Turned
-        ensures answer { told result ≡ left_answer self.old.below }
-        ensures phase { self.new ≡ with_left_phase self.old }
+    pub(crate) fn reserve(&mut self) -> Answer
+        requires ring { IsRing self.old }
+        requires top { self.old.stack.frames ≢ [] }
+        requires phase { self.old.phase ≡ Idle }
+        ensures { Makes self.old model.steps result self.new }
     {
-        if self.below.is_empty() {
-            self.phase = self.closing_phase();
-            Turned::Going
-        } else {
-            self.uncover_phase();
-            Turned::Gone
-        }
+        self.frames.reserve()
     }
 
-    /// The frame below the one on top is on top.
-    #[inline(never)]
-    fn uncover_phase(&mut self)
-        requires below { self.old.below ≢ [] }
-        ensures phase { self.new ≡ with_left_phase self.old }
-    {
-        match self.below.pop_front() {
-            Some(phase) => self.phase = phase,
-            None => unreachable!(),
-        }
-    }
-
-    /// What a frame that has left does: it closes fills, or where none is left to close looks for a wish.
+    /// Another frame has begun a fill since the frame on top noted what to open.
     #[inline(always)]
-    pub(crate) fn closing_phase(&self) -> Phase
-        ensures { result ≡ closing_phase self.now.stack }
+    pub(crate) fn begin_anew(&mut self) -> Turned
+        requires ring { IsRing self.old }
+        requires top { self.old.stack.frames ≢ [] }
+        requires late { IsLate self.old }
+        ensures { Makes self.old model.steps (told result) self.new }
     {
-        let opened = self.stack.opened();
-        if self.stack.done() + 1 == opened {
-            Phase::Wishing
-        } else {
-            Phase::Releasing
-        }
+        self.frames.begin_anew()
+    }
+
+    /// The frame on top goes on in this phase.
+    #[inline(always)]
+    pub(crate) fn go_on(&mut self, phase: Phase) -> Turned
+        ensures answer { result ≡ Going }
+        ensures phase { self.new ≡ record self.old { phase = phase } }
+    {
+        self.frames.go_on(phase)
     }
 }

@@ -1,20 +1,21 @@
 //! The steps of a frame that needs a page, up to the fill's beginning: it looks for a free position, and where there
 //! is none moves the head.
-use crate::phase::{Phase, Role, Turned};
+use crate::phase::{Phase, Role};
 use crate::ring::Core;
 use link_marks::{Mark, header, normal, update};
+use ring_frames::Turned;
 
 impl Core {
     ghost use Rattle.std.specs.Prelude.{◌≡◌, ◌≢◌, ℕ, true, false, [], ◌∷◌};
     ghost use Rattle.trace_model.specs.Steps as model;
     ghost use Rattle.trace_model.specs.Steps.{GoesOn};
     ghost use Rattle.nested_writer.specs.Stack.{opened};
-    ghost use Rattle.ring_core.specs.declared.phase.Phase.TheVariants.{Looking, Claiming, LookingNext, Marking, Clearing};
-    ghost use Rattle.ring_core.specs.declared.phase.Role.{Role};
-    ghost use Rattle.ring_core.specs.declared.phase.Role.TheVariants.{Helper};
-    ghost use Rattle.ring_core.specs.Value.{role_of};
+    ghost use Rattle.ring_frames.specs.declared.phase.Phase.TheVariants.{Looking, Claiming, LookingNext, Marking, Clearing};
+    ghost use Rattle.ring_frames.specs.declared.phase.Role.{Role};
+    ghost use Rattle.ring_frames.specs.declared.phase.Role.TheVariants.{Helper};
+    ghost use Rattle.ring_frames.specs.Value.{role_of};
     ghost use Rattle.ring_core.specs.Heads.{HasHeader, ClaimsHead};
-    ghost use Rattle.ring_core.specs.Phases.{told};
+    ghost use Rattle.ring_frames.specs.Phases.{told};
     ghost use Rattle.ring_core.specs.Steps.{Makes, IsRing};
 
     /// A load of the link into the position of the fill to open: it is free, or its page is the head, or a frame below
@@ -26,12 +27,12 @@ impl Core {
         requires phase { self.old.phase ≡ Looking noted }
         ensures { Makes self.old model.steps (told result) self.new }
     {
-        if noted != self.stack.opened() {
+        if noted != self.frames.opened() {
             return self.begin_anew();
         }
         let link = self.link_into(noted);
         let page = link.page;
-        self.phase = match link.mark {
+        let phase = match link.mark {
             Mark::Normal => Phase::Opening { noted, page },
             Mark::Header => Phase::Claiming { noted, page },
             Mark::Update => Phase::LookingNext {
@@ -40,7 +41,7 @@ impl Core {
                 page,
             },
         };
-        Turned::Going
+        self.go_on(phase)
     }
 
     /// A compare and exchange of that link from HEADER to UPDATE, by which the head is lost.
@@ -51,10 +52,10 @@ impl Core {
         requires phase { self.old.phase ≡ Claiming noted page }
         ensures { Makes self.old model.steps (told result) self.new }
     {
-        if noted != self.stack.opened() {
+        if noted != self.frames.opened() {
             return self.begin_anew();
         }
-        self.phase = if self.claim_head(noted, page) {
+        let phase = if self.claim_head(noted, page) {
             Phase::LookingNext {
                 role: Role::Owner,
                 noted,
@@ -63,7 +64,7 @@ impl Core {
         } else {
             Phase::Looking { noted }
         };
-        Turned::Going
+        self.go_on(phase)
     }
 
     /// Sets the UPDATE in place of the HEADER, where that tells that this page is the head, as the fill a round before
@@ -91,7 +92,7 @@ impl Core {
         }
         let behind = noted - self.positions() + 1;
         let link = self.link_into(behind);
-        self.phase = match link.mark {
+        let phase = match link.mark {
             Mark::Normal if link.fill == behind => Phase::Marking {
                 role,
                 noted,
@@ -100,7 +101,7 @@ impl Core {
             },
             _ => after_next(role, noted, page),
         };
-        Turned::Going
+        self.go_on(phase)
     }
 
     /// A compare and exchange of the next link from NORMAL to HEADER.
@@ -116,8 +117,7 @@ impl Core {
         }
         let behind = noted - self.positions() + 1;
         self.exchange(behind, normal(next, behind), header(next, behind));
-        self.phase = after_next(role, noted, page);
-        Turned::Going
+        self.go_on(after_next(role, noted, page))
     }
 
     /// A helper stops where another frame has begun a fill.
@@ -127,7 +127,7 @@ impl Core {
     {
         match role {
             Role::Owner => false,
-            Role::Helper => noted != self.stack.opened(),
+            Role::Helper => noted != self.frames.opened(),
         }
     }
 
@@ -140,8 +140,7 @@ impl Core {
         ensures { Makes self.old model.steps (told result) self.new }
     {
         self.set_link(noted, normal(page, noted));
-        self.phase = Phase::Opening { noted, page };
-        Turned::Going
+        self.go_on(Phase::Opening { noted, page })
     }
 }
 
@@ -157,4 +156,4 @@ fn after_next(role: Role, noted: u64, page: u16) -> Phase
 
 ghost use Rattle.std.specs.Prelude.{◌≡◌};
 ghost use Rattle.trace_model.specs.Steps as model;
-ghost use Rattle.ring_core.specs.Value.{phase_of, role_of};
+ghost use Rattle.ring_frames.specs.Value.{phase_of, role_of};

@@ -1,12 +1,11 @@
 //! A new ring.
-use crate::phase::{Phase, Reader, ReaderPhase};
+use crate::phase::{Reader, ReaderPhase};
 use crate::ring::Core;
 use link_marks::{Link, first_link, normal};
-use nested_writer::WriterStack;
 use page_image::{Body, Page};
+use ring_frames::Frames;
 use std::alloc::Global;
-use std::collections::VecDeque;
-use trace_model::{FillNo, MAX_FRAMES, NoMemory, RecordNo, START_FILL};
+use trace_model::{FillNo, NoMemory, RecordNo, START_FILL};
 
 impl Core {
     ghost use Rattle.std.specs.Prelude.{◌≡◌, ◌+◌, ◌%◌, ◌≤◌, ◌<◌, IfOk};
@@ -24,15 +23,12 @@ impl Core {
         requires start { start + pages < LINK_FILLS }
         ensures { IfOk result (λ core. IsNewRing pages size start core) }
     {
-        let stack = WriterStack::new_at(alloc, pages, size, start)?;
-        let below = VecDeque::with_capacity(alloc, MAX_FRAMES)?;
+        let frames = Frames::new_at(alloc, pages, size, start)?;
         let links = first_links(alloc, pages, start)?;
         let order = first_order(alloc, pages)?;
         let homes = first_homes(alloc, pages, size, (start % pages as u64) as usize)?;
         Ok(Core {
-            stack,
-            phase: Phase::Idle,
-            below,
+            frames,
             links,
             spare_link: normal(0, 0),
             order,

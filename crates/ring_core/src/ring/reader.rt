@@ -11,7 +11,7 @@ impl Core {
     ghost use Rattle.trace_model.specs.declared.limits.TheConstants.{LINK_FILLS};
     ghost use Rattle.trace_model.specs.Steps as model;
     ghost use Rattle.ring_core.specs.declared.phase.ReaderPhase.TheVariants.{LoadingLink, LoadingDone, StoringLink, Swapping};
-    ghost use Rattle.ring_core.specs.declared.event.Answer.TheVariants.{Taken};
+    ghost use Rattle.ring_frames.specs.declared.answer.Answer.TheVariants.{Taken};
     ghost use Rattle.ring_core.specs.Answers.{GivesBack};
     ghost use Rattle.ring_core.specs.Steps.{Makes, IsRing};
     ghost use Rattle.ring_core.specs.Taking.{with_spare_home, with_head_taken};
@@ -79,7 +79,7 @@ impl Core {
         ensures step { Makes self.old model.reads result self.new }
         ensures given_back { GivesBack body result }
     {
-        let done = self.stack.done();
+        let done = self.frames.done();
         self.reader.seen = done;
         if done <= fill {
             self.reader.phase = ReaderPhase::LoadingLink;

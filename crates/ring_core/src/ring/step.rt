@@ -49,10 +49,10 @@ impl Core {
         requires ring { IsRing self.old }
         ensures { Makes self.old model.steps result self.new }
     {
-        if self.stack.top().is_none() {
+        if self.frames.top().is_none() {
             return Answer::Refused(WriteFault::NoFrame);
         }
-        match self.phase {
+        match self.frames.phase() {
             Phase::Idle => self.reserve(),
             Phase::Looking { noted } => self.look(noted).answer(),
             Phase::Claiming { noted, page } => self.claim(noted, page).answer(),

@@ -7,7 +7,7 @@ impl Core {
     ghost use Rattle.std.specs.Prelude.{◌≡◌, ◌↔◌, ℕ, List, [], length, IfOk};
     ghost use Rattle.std.specs.Borrow.{sem};
     ghost use Rattle.nested_writer.specs.Calls.{LacksSlot, IsTopSlot};
-    ghost use Rattle.ring_core.specs.Answers.{top_bytes};
+    ghost use Rattle.ring_frames.specs.Answers.{top_bytes};
     ghost use Rattle.ring_core.specs.Lending.{FitsFrame, LendsSlot, StaysRing, with_slot_payload};
     ghost use Rattle.nested_writer.specs.Lending.{with_slot};
     ghost use Rattle.ring_core.specs.Steps.{IsRing};
@@ -21,7 +21,7 @@ impl Core {
         ensures slot { IfOk result (λ slot. IsTopSlot self.now.stack.frames slot) }
         ensures found { (slot : Slot) → IsTopSlot self.now.stack.frames slot → result ≡ Ok slot }
     {
-        self.stack.top_slot()
+        self.frames.top_slot()
     }
 
     /// The payload in the slot of the frame on top, to be written. All else stays as it is, and the ring is in the same
@@ -39,6 +39,6 @@ impl Core {
         ensures stays { StaysRing self.old }
         ensures ring { (part : List ℕ) → length part ≡ slot.place.len → IsRing (with_slot_payload self.old slot part) }
     {
-        self.stack.payload_mut(slot)
+        self.frames.payload_mut(slot)
     }
 }

@@ -1,18 +1,17 @@
-use Rattle.std.proofs.Common.{◌≡◌, ℕ, suc, ◌+◌, ◌-◌, ◌↔◌, IsTrue, true, length, sym, ap, ◌∙◌, subst, arith}
+use Rattle.std.proofs.Common.{◌≡◌, ℕ, suc, ◌+◌, ◌-◌, ◌↔◌, IsTrue, true, length, refl, sym, ap, ◌∙◌, subst, arith}
 use Rattle.trace_model.specs.Links.{Link, normal_link, header_link}
 use Rattle.trace_model.specs.Ring.{link_into, links_with}
-use Rattle.trace_model.specs.Steps as model
-use Rattle.ring_core.specs.declared.event.Answer.TheVariants.{Going}
+use Rattle.ring_frames.specs.declared.phase.Phase.TheVariants.{Marking}
+use Rattle.ring_frames.specs.declared.phase.Role.{Role}
+use Rattle.ring_frames.specs.declared.phase.Role.TheVariants.{Helper}
 use Rattle.ring_core.specs.Value.{CoreValue}
-use Rattle.ring_core.specs.Steps.{IsStep}
-use Rattle.ring_core.specs.Phases.{told}
-use Rattle.ring_core.proofs.HeadMoves.{round_mark, mark_late, mark_exchanged}
+use Rattle.ring_core.proofs.HeadMoves.{is_late, gone_on, round_mark, mark_exchanged}
 use Rattle.ring_core.proofs.ring.Core.mark.Goals as goal
 
-pub returns-then-stops : goal.returns-then-stops
-returns-then-stops c = λ n size start s old.
+pub begin_anew-requires-clause-late : goal.begin_anew-requires-clause-late
+begin_anew-requires-clause-late c =
     let (helps, passed) = c.stops.ensures.stops c.if-stops.true in
-    mark_late n size start c.args.self.now s old c.requires.top c.args.role c.args.noted c.args.page c.args.next (told c.begin_anew.result) c.begin_anew.new.self c.requires.phase helps passed c.begin_anew.ensures
+    is_late c.args.self.now (Marking Helper c.args.noted c.args.page c.args.next) c.args.noted (c.requires.phase ∙ ap (λ (r : Role). Marking r c.args.noted c.args.page c.args.next) helps) refl (λ own. own) passed
 
 pub overflow_sub-behind : goal.overflow_sub-behind
 overflow_sub-behind c =
@@ -33,9 +32,9 @@ returns c = λ n size start s old.
     let met : IsTrue c.exchange.result ↔ (link_into (length v.links) v.links behind ≡ normal_link c.args.next behind) =
     ((λ yes. c.exchange.ensures.met.0 yes ∙ c.normal.ensures), (λ e. c.exchange.ensures.met.1 (e ∙ sym c.normal.ensures))) in
     let exchanged : c.exchange.result ≡ true → c.exchange.new.self ≡ with_link behind (header_link c.args.next behind) = λ yes. c.exchange.ensures.exchanged yes ∙ ap (with_link behind) c.header.ensures in
-    subst (λ (x : CoreValue). IsStep n size start s model.steps Going (record x { phase = c.after_next-self-inside.result })) (sym c.self.view_is)
-    (mark_exchanged n size start v s old c.requires.top c.args.role c.args.noted c.args.page c.args.next lost c.after_next-self-inside.result c.exchange.result c.exchange.new.self c.requires.phase
-    (c.stops.ensures.goes_on c.if-stops.false) sum c.after_next-self-inside.ensures
+    gone_on n size start s c.exchange.new.self c.go_on.new.self c.after_next.result c.go_on.result c.go_on.ensures.answer c.go_on.ensures.phase
+    (mark_exchanged n size start v s old c.requires.top c.args.role c.args.noted c.args.page c.args.next lost c.after_next.result c.exchange.result c.exchange.new.self c.requires.phase
+    (c.stops.ensures.goes_on c.if-stops.false) sum c.after_next.ensures
     (subst (λ (f : ℕ). IsTrue c.exchange.result ↔ (link_into (length v.links) v.links f ≡ normal_link c.args.next f)) is met)
     (subst (λ (f : ℕ). c.exchange.result ≡ true → c.exchange.new.self ≡ with_link f (header_link c.args.next f)) is exchanged)
     c.exchange.ensures.kept)

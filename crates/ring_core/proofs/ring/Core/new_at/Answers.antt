@@ -4,9 +4,7 @@ use Rattle.ring_core.proofs.ring.Core.new_at.Goals as goal
 
 pub returns : goal.returns
 returns c = new_core c.args.pages c.args.size c.args.start c.in_ok-links.links.items _ c.requires.pages c.requires.start record {
-  stack = c.in_ok-stack.ensures.blank;
-  stack_is = c.in_ok-stack.ensures.stack;
-  below = c.in_ok-below.ensures.items;
+  frames = c.in_ok-frames.ensures;
   links_are = refl;
   positions = c.in_ok-links.ensures.0;
   links = c.in_ok-links.ensures.1;

@@ -1,31 +1,14 @@
-use Rattle.std.proofs.Common.{◌≡◌, true, false, refl, sym, subst}
-use Rattle.std.specs.Prelude.{Result, Err}
-use Rattle.nested_writer.specs.declared.fault.WriteFault.{WriteFault}
+use Rattle.std.proofs.Common.{sym, subst}
+use Rattle.trace_model.specs.Steps.{pushes}
 use Rattle.ring_core.specs.Value.{CoreValue}
 use Rattle.ring_core.specs.Inside.{shown}
-use Rattle.ring_core.specs.IsCore.{IsCore}
-use Rattle.ring_core.proofs.Pushes.{record_pushed, record_refused}
+use Rattle.ring_core.specs.Steps.{IsRing, Makes}
+use Rattle.ring_core.proofs.Privately.{made_privately}
 use Rattle.ring_core.proofs.ring.Core.push.Goals as goal
 
-pub returns-in-Ok : goal.returns-in-Ok
-returns-in-Ok c = λ n size start s now.
-    let core : IsCore n size start (shown c.self.inside) s = subst (λ (x : CoreValue). IsCore n size start x s) (sym c.self.view_is) now in
-    let (few, fits, early) = c.in-Ok.ensures.begun.0 refl in
-    rw (c.push_phase.ensures.pushed, c.push_phase.ensures.phase)
-    (record_pushed n size start (shown c.self.inside) s c.args.moment c.args.len c.begin.new.self core few fits early c.in-Ok.ensures.ok (c.in-Ok.ensures.pushed start s.history core.shows.stack_is))
+pub push-requires : goal.push-requires
+push-requires c = let (n, size, start, m, core) = subst IsRing (sym c.self.view_is) c.requires.ring in record { shown = (n, size, start, m, core.shows.frames) }
 
-pub returns-in-Err : goal.returns-in-Err
-returns-in-Err c = λ n size start s now.
-    let core : IsCore n size start (shown c.self.inside) s = subst (λ (x : CoreValue). IsCore n size start x s) (sym c.self.view_is) now in
-    rw c.in-Err.ensures.err
-    (record_refused n size start (shown c.self.inside) s c.args.moment c.args.len c.in-Err.fault core
-    (λ many. err_is (c.in-Err.ensures.too_deep.1 many))
-    (λ few long. err_is (c.in-Err.ensures.too_long.1 (few, long)))
-    (λ few fits late. err_is (c.in-Err.ensures.late.1 (few, fits, late)))
-    (λ few fits early. not_ok (c.in-Err.ensures.begun.1 (few, fits, early))))
-  where
-    err_is : {A : Type 0} {a b : WriteFault} → ◌≡◌ {A = Result A WriteFault} (Err a) (Err b) → a ≡ b
-    err_is e = cc
-
-    not_ok : false ≡ true → ⊥
-    not_ok e = cc
+pub returns : goal.returns
+returns c = subst (λ (x : CoreValue). Makes x (pushes c.args.moment c.args.len) c.push.result (shown record c.self.inside { frames = c.push.new.self })) c.self.view_is
+    (made_privately (shown c.self.inside) (pushes c.args.moment c.args.len) c.push.result c.push.new.self c.push.ensures)

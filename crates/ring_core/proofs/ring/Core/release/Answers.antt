@@ -1,26 +1,17 @@
-use Rattle.std.proofs.Common.{◌≢◌, [], length, sym, ap, subst, ◌∙◌, arith}
+use Rattle.std.proofs.Common.{length, sym, ap, subst, ◌∙◌, arith}
 use Rattle.trace_model.specs.Ring.{page_at}
 use Rattle.ring_core.specs.Value.{CoreValue}
 use Rattle.ring_core.specs.Inside.{shown}
 use Rattle.ring_core.specs.IsCore.{IsCore}
 use Rattle.ring_core.specs.Steps.{IsRing}
 use Rattle.ring_core.proofs.Homes.{page_has_home, homes_in}
-use Rattle.ring_core.proofs.Releasing.{is_bottom, some_older, released}
+use Rattle.ring_core.proofs.Releasing.{released}
 use Rattle.ring_core.proofs.ring.Core.release.Goals as goal
 
-pub drop_front-requires-clause-more : goal.drop_front-requires-clause-more
-drop_front-requires-clause-more c =
-    let v : CoreValue = shown c.self.inside in
+pub release-requires-clause-frames : goal.release-requires-clause-frames
+release-requires-clause-frames c =
     let (n, size, start, m, core) = subst IsRing (sym c.self.view_is) c.requires.ring in
-    let some = subst (λ (x : CoreValue). x.stack.frames ≢ []) (sym c.self.view_is) c.requires.top in
-    some_older n size start v m core some (ap (λ (x : CoreValue). x.phase) c.self.view_is ∙ c.requires.phase)
-
-pub drop_front-requires-clause-bottom : goal.drop_front-requires-clause-bottom
-drop_front-requires-clause-bottom c =
-    let v : CoreValue = shown c.self.inside in
-    let (n, size, start, m, core) = subst IsRing (sym c.self.view_is) c.requires.ring in
-    let some = subst (λ (x : CoreValue). x.stack.frames ≢ []) (sym c.self.view_is) c.requires.top in
-    is_bottom n size start v m core some (ap (λ (x : CoreValue). x.phase) c.self.view_is ∙ c.requires.phase)
+    (n, size, start, m, record { reached = core.reached; are = core.shows.frames })
 
 pub index_mut-requires : goal.index_mut-requires
 index_mut-requires c =
@@ -34,14 +25,9 @@ pub returns : goal.returns
 returns c = λ n size start m old.
     let v : CoreValue = shown c.self.inside in
     let core : IsCore n size start v m = subst (λ (x : CoreValue). IsCore n size start x m) (sym c.self.view_is) old in
-    let some = subst (λ (x : CoreValue). x.stack.frames ≢ []) (sym c.self.view_is) c.requires.top in
-    released n size start v m core some (ap (λ (x : CoreValue). x.phase) c.self.view_is ∙ c.requires.phase) c.drop_front.new.self c.drop_front.result c.page_at-page.result
+    released n size start v m core c.release.new.self c.release.result c.page_at-page.result
     record {
       homes = homes_in c.self.inside c.self.invariant;
-      oldest = c.drop_front.ensures.oldest;
-      released = c.drop_front.ensures.released;
-      acted = c.drop_front.ensures.stack;
-      written = c.drop_front.ensures.written;
       at_is = c.page_at-page.ensures ∙ (λ i. page_at (length (sym c.self.view_is i).links) (sym c.self.view_is i).order (c.done.ensures i));
     }
-    c.closing_phase-self-inside.result c.closing_phase-self-inside.ensures
+    (c.release.ensures n size start m core.reached core.shows.frames)

@@ -1,95 +1,16 @@
-use Rattle.std.proofs.Common.{◌≡◌, ◌≢◌, ◌⊎◌, ℕ, List, [], ◌∷◌, Option, refl, sym, ap, ◌∙◌, subst, inl, inr}
-use Rattle.std.specs.Prelude.{Ok}
-use Rattle.nested_writer.specs.declared.stack.allot.Allot.{Allot}
-use Rattle.nested_writer.specs.declared.frame.Slot.{Slot}
-use Rattle.nested_writer.specs.declared.frame.Progress.{Progress}
-use Rattle.nested_writer.specs.declared.frame.Progress.TheVariants.{Waiting, Through, Reserved, Left}
-use Rattle.nested_writer.specs.declared.frame.Frame.{Frame}
-use Rattle.nested_writer.specs.Allotted.{IsAllotted}
-use Rattle.nested_writer.specs.Answered.{IsAnswered}
-use Rattle.ring_core.specs.declared.phase.Phase.TheVariants.{Idle}
+use Rattle.std.proofs.Common.{sym, subst}
+use Rattle.trace_model.specs.Steps.{steps}
 use Rattle.ring_core.specs.Value.{CoreValue}
 use Rattle.ring_core.specs.Inside.{shown}
-use Rattle.ring_core.specs.IsCore.{IsCore}
-use Rattle.ring_core.specs.Steps.{IsRing}
-use Rattle.ring_core.proofs.Closing.{through_may_end, acted_none}
-use Rattle.ring_core.proofs.Reserves.{page_noted, refused, fits_slot, fits_close, nothing_found}
+use Rattle.ring_core.specs.Steps.{IsRing, Makes}
+use Rattle.ring_core.proofs.Privately.{made_privately}
 use Rattle.ring_core.proofs.ring.Core.reserve.Goals as goal
 
--- a frame stands, and this one is on top
-some_top : (frames : List Frame) → frames ≢ [] → (top : Frame) × (rest : List Frame) × (frames ≡ top ∷ rest)
-some_top [] none = absurd (none refl)
-some_top (top ∷ rest) none = (top, rest, refl)
+pub reserve-requires-clause-frames : goal.reserve-requires-clause-frames
+reserve-requires-clause-frames c =
+    let (n, size, start, m, core) = subst IsRing (sym c.self.view_is) c.requires.ring in
+    (n, size, start, m, record { reached = core.reached; are = core.shows.frames })
 
--- it has no record
-abbrev HasNone : Progress → Type 0
-HasNone progress = ((noted : Option ℕ) × (progress ≡ Waiting noted)) ⊎ (((noted : ℕ) × (progress ≡ Through noted)) ⊎ ((noted : Option ℕ) × (progress ≡ Left noted)))
-
-has_none : (progress : Progress) → HasNone progress → (slot : Slot) → progress ≡ Reserved slot → ⊥
-has_none progress (inl (noted, is)) slot has = not_both (sym is ∙ has)
-  where
-    not_both : Waiting noted ≡ Reserved slot → ⊥
-    not_both e = cc
-has_none progress (inr (inl (noted, is))) slot has = not_both (sym is ∙ has)
-  where
-    not_both : Through noted ≡ Reserved slot → ⊥
-    not_both e = cc
-has_none progress (inr (inr (noted, is))) slot has = not_both (sym is ∙ has)
-  where
-    not_both : Left noted ≡ Reserved slot → ⊥
-    not_both e = cc
-
-pub returns-in-Reserved : goal.returns-in-Reserved
-returns-in-Reserved c = λ n size start s now.
-    let v : CoreValue = shown c.self.inside in
-    let core : IsCore n size start v s = subst (λ (x : CoreValue). IsCore n size start x s) (sym c.self.view_is) now in
-    let (top, rest, is) = some_top v.stack.frames (λ none. c.requires.top (ap (λ (x : CoreValue). x.stack.frames) (sym c.self.view_is) ∙ none)) in
-    fits_slot n size start v s core (ap (λ (x : CoreValue). x.phase) c.self.view_is ∙ c.requires.phase) top rest is c.in-Ok-Fits.field-0-0 c.allot.new.self c.in-Some.top c.in-Reserved.slot
-    (subst (λ (a : Allot). IsAnswered v.stack s.history v.stack.frames (Ok a)) c.in-Ok-Fits.field-0-is (c.in-Ok-Fits.ensures.answered start s.history core.shows.stack_is))
-    (subst (λ (a : Allot). IsAllotted v.stack v.stack.frames (Ok a) c.allot.new.self) c.in-Ok-Fits.field-0-is c.in-Ok-Fits.ensures.after)
-    c.in-Some.ensures c.in-Reserved.is
-
-pub end_close-requires : goal.end_close-requires
-end_close-requires c =
-    let v : CoreValue = shown c.self.inside in
-    let (n, size, start, s, core) = subst IsRing (sym c.self.view_is) c.requires.ring in
-    let (top, rest, is) = some_top v.stack.frames (λ none. c.requires.top (ap (λ (x : CoreValue). x.stack.frames) (sym c.self.view_is) ∙ none)) in
-    let closing = fits_close n size start v s core (ap (λ (x : CoreValue). x.phase) c.self.view_is ∙ c.requires.phase) top rest is c.in-Ok-Fits.field-0-0 c.allot.new.self c.in-Some.top
-    (subst (λ (a : Allot). IsAnswered v.stack s.history v.stack.frames (Ok a)) c.in-Ok-Fits.field-0-is (c.in-Ok-Fits.ensures.answered start s.history core.shows.stack_is))
-    (subst (λ (a : Allot). IsAllotted v.stack v.stack.frames (Ok a) c.allot.new.self) c.in-Ok-Fits.field-0-is c.in-Ok-Fits.ensures.after)
-    c.in-Some.ensures (has_none c.in-Some.top.progress c.in-Waiting.is) in
-    record {
-      stack = (start, s.history, acted_none start s.history v.stack c.allot.new.self closing.through.1 core.shows.stack_is);
-      through = through_may_end v.stack top rest _ c.allot.new.self closing.through.0;
-    }
-
-pub returns-in-Waiting : goal.returns-in-Waiting
-returns-in-Waiting c = λ n size start s now.
-    let v : CoreValue = shown c.self.inside in
-    let core : IsCore n size start v s = subst (λ (x : CoreValue). IsCore n size start x s) (sym c.self.view_is) now in
-    let resting : v.phase ≡ Idle = ap (λ (x : CoreValue). x.phase) c.self.view_is ∙ c.requires.phase in
-    let (top, rest, is) = some_top v.stack.frames (λ none. c.requires.top (ap (λ (x : CoreValue). x.stack.frames) (sym c.self.view_is) ∙ none)) in
-    let closing = fits_close n size start v s core resting top rest is c.in-Ok-Fits.field-0-0 c.allot.new.self c.in-Some.top
-    (subst (λ (a : Allot). IsAnswered v.stack s.history v.stack.frames (Ok a)) c.in-Ok-Fits.field-0-is (c.in-Ok-Fits.ensures.answered start s.history core.shows.stack_is))
-    (subst (λ (a : Allot). IsAllotted v.stack v.stack.frames (Ok a) c.allot.new.self) c.in-Ok-Fits.field-0-is c.in-Ok-Fits.ensures.after)
-    c.in-Some.ensures (has_none c.in-Some.top.progress c.in-Waiting.is) in
-    rw (c.answer.ensures, c.end_close.ensures.answer, c.end_close.ensures.phase)
-    (nothing_found n size start v s core resting top rest is c.allot.new.self c.end_close.new.self.stack closing c.end_close.ensures.left)
-
-pub returns-in-Ok-NeedsPage : goal.returns-in-Ok-NeedsPage
-returns-in-Ok-NeedsPage c = λ n size start s now.
-    let v : CoreValue = shown c.self.inside in
-    let core : IsCore n size start v s = subst (λ (x : CoreValue). IsCore n size start x s) (sym c.self.view_is) now in
-    let (top, rest, is) = some_top v.stack.frames (λ none. c.requires.top (ap (λ (x : CoreValue). x.stack.frames) (sym c.self.view_is) ∙ none)) in
-    page_noted n size start v s core (ap (λ (x : CoreValue). x.phase) c.self.view_is ∙ c.requires.phase) top rest is c.allot.new.self c.opened.result
-    (subst (λ (a : Allot). IsAnswered v.stack s.history v.stack.frames (Ok a)) c.in-Ok-NeedsPage.field-0-is (c.in-Ok-NeedsPage.ensures.answered start s.history core.shows.stack_is))
-    (subst (λ (a : Allot). IsAllotted v.stack v.stack.frames (Ok a) c.allot.new.self) c.in-Ok-NeedsPage.field-0-is c.in-Ok-NeedsPage.ensures.after)
-    c.opened.ensures.begun
-
-pub returns-in-Err : goal.returns-in-Err
-returns-in-Err c = λ n size start s now.
-    let v : CoreValue = shown c.self.inside in
-    let core : IsCore n size start v s = subst (λ (x : CoreValue). IsCore n size start x s) (sym c.self.view_is) now in
-    let (top, rest, is) = some_top v.stack.frames (λ none. c.requires.top (ap (λ (x : CoreValue). x.stack.frames) (sym c.self.view_is) ∙ none)) in
-    rw c.pop_phase.ensures.phase
-    (refused n size start v s core (ap (λ (x : CoreValue). x.phase) c.self.view_is ∙ c.requires.phase) top rest is c.in-Err.fault c.allot.new.self (c.in-Err.ensures.answered start s.history core.shows.stack_is) c.in-Err.ensures.after)
+pub returns : goal.returns
+returns c = subst (λ (x : CoreValue). Makes x steps c.reserve.result (shown record c.self.inside { frames = c.reserve.new.self })) c.self.view_is
+    (made_privately (shown c.self.inside) steps c.reserve.result c.reserve.new.self c.reserve.ensures)

@@ -6,8 +6,8 @@ use Rattle.std.specs.List.{slice_get}
 use Rattle.std.proofs.lemmas.List.{length-map}
 use Rattle.trace_model.specs.Steps as model
 use Rattle.nested_writer.specs.Stack.{blank_page}
-use Rattle.ring_core.specs.declared.event.Answer.{Answer}
-use Rattle.ring_core.specs.declared.event.Answer.TheVariants.{Taken}
+use Rattle.ring_frames.specs.declared.answer.Answer.{Answer}
+use Rattle.ring_frames.specs.declared.answer.Answer.TheVariants.{Taken}
 use Rattle.ring_core.specs.Value.{CoreValue}
 use Rattle.ring_core.specs.Steps.{IsStep}
 use Rattle.ring_core.specs.Taking.{with_spare_home, with_head_taken}

@@ -1,0 +1,35 @@
+use Rattle.std.proofs.Common.{◌≡◌, ◌≢◌, [], sym, ◌∙◌, subst, arith}
+use Rattle.ring_frames.specs.declared.phase.Phase.TheVariants.{Wishing}
+use Rattle.ring_frames.specs.Value.{FramesValue}
+use Rattle.ring_frames.specs.Inside.{shown}
+use Rattle.ring_frames.specs.AreFrames.{AreFrames}
+use Rattle.ring_frames.specs.Steps.{IsFrames}
+use Rattle.ring_frames.proofs.Wishing.{is_bottom, closes_more, goes_away}
+use Rattle.ring_frames.proofs.frames.Frames.load_wish.Goals as goal
+
+pub returns-then-done-opened : goal.returns-then-done-opened
+returns-then-done-opened c = λ n size start m reached now asks.
+    let v : FramesValue = shown c.self.inside in
+    let (none, stays) = c.grant_wish.ensures.refused c.if-grant_wish.false in
+    let same : c.args.self.now ≡ v = sym (c.self.view_is ∙ stays) in
+    closes_more n size start v m record { reached = reached; are = subst (λ (x : FramesValue). AreFrames n size start x m) same now } (subst (λ (x : FramesValue). x.stack.frames ≢ []) same c.requires.top)
+    (subst (λ (x : FramesValue). x.phase ≡ Wishing) same c.requires.phase) (none n size start m now asks)
+    (let begun = c.opened-opened.ensures.begun in let done = c.done.ensures in let more = c.if-done-opened.true in omega arith)
+
+pub pop_bottom-requires-clause-bottom : goal.pop_bottom-requires-clause-bottom
+pop_bottom-requires-clause-bottom c =
+    let v : FramesValue = shown c.self.inside in
+    let (none, stays) = c.grant_wish.ensures.refused c.if-grant_wish.false in
+    let same : c.args.self.now ≡ v = sym (c.self.view_is ∙ stays) in
+    let (n, size, start, m, core) = subst IsFrames same c.requires.frames in
+    is_bottom n size start v m core (subst (λ (x : FramesValue). x.stack.frames ≢ []) same c.requires.top) (subst (λ (x : FramesValue). x.phase ≡ Wishing) same c.requires.phase)
+
+pub returns : goal.returns
+returns c = λ n size start m reached now asks.
+    let v : FramesValue = shown c.self.inside in
+    let (none, stays) = c.grant_wish.ensures.refused c.if-grant_wish.false in
+    let same : c.args.self.now ≡ v = sym (c.self.view_is ∙ stays) in
+    goes_away n size start v m record { reached = reached; are = subst (λ (x : FramesValue). AreFrames n size start x m) same now } (subst (λ (x : FramesValue). x.stack.frames ≢ []) same c.requires.top)
+    (subst (λ (x : FramesValue). x.phase ≡ Wishing) same c.requires.phase) c.pop_bottom.new.self (none n size start m now asks)
+    (let begun = c.opened-opened.ensures.begun in let done = c.done.ensures in let last = c.if-done-opened.false in omega arith)
+    c.pop_bottom.ensures.popped c.pop_bottom.ensures.stack

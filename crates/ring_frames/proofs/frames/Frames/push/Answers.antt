@@ -1,0 +1,31 @@
+use Rattle.std.proofs.Common.{◌≡◌, true, false, refl, sym, subst}
+use Rattle.std.specs.Prelude.{Result, Err}
+use Rattle.nested_writer.specs.declared.fault.WriteFault.{WriteFault}
+use Rattle.ring_frames.specs.Value.{FramesValue}
+use Rattle.ring_frames.specs.Inside.{shown}
+use Rattle.ring_frames.specs.AreFrames.{AreFrames}
+use Rattle.ring_frames.proofs.Pushes.{record_pushed, record_refused}
+use Rattle.ring_frames.proofs.frames.Frames.push.Goals as goal
+
+pub returns-in-Ok : goal.returns-in-Ok
+returns-in-Ok c = λ n size start s reached now.
+    let are : AreFrames n size start (shown c.self.inside) s = subst (λ (x : FramesValue). AreFrames n size start x s) (sym c.self.view_is) now in
+    let (few, fits, early) = c.in-Ok.ensures.begun.0 refl in
+    rw (c.push_phase.ensures.pushed, c.push_phase.ensures.phase)
+    (record_pushed n size start (shown c.self.inside) s c.args.moment c.args.len c.begin.new.self are few fits early c.in-Ok.ensures.ok (c.in-Ok.ensures.pushed start s.history are.stack_is))
+
+pub returns-in-Err : goal.returns-in-Err
+returns-in-Err c = λ n size start s reached now.
+    let are : AreFrames n size start (shown c.self.inside) s = subst (λ (x : FramesValue). AreFrames n size start x s) (sym c.self.view_is) now in
+    rw c.in-Err.ensures.err
+    (record_refused n size start (shown c.self.inside) s c.args.moment c.args.len c.in-Err.fault are
+    (λ many. err_is (c.in-Err.ensures.too_deep.1 many))
+    (λ few long. err_is (c.in-Err.ensures.too_long.1 (few, long)))
+    (λ few fits late. err_is (c.in-Err.ensures.late.1 (few, fits, late)))
+    (λ few fits early. not_ok (c.in-Err.ensures.begun.1 (few, fits, early))))
+  where
+    err_is : {A : Type 0} {a b : WriteFault} → ◌≡◌ {A = Result A WriteFault} (Err a) (Err b) → a ≡ b
+    err_is e = cc
+
+    not_ok : false ≡ true → ⊥
+    not_ok e = cc

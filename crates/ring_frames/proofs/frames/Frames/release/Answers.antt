@@ -1,0 +1,35 @@
+use Rattle.std.proofs.Common.{◌≢◌, [], sym, ap, ◌∙◌, subst}
+use Rattle.ring_frames.specs.Value.{FramesValue}
+use Rattle.ring_frames.specs.Inside.{shown}
+use Rattle.ring_frames.specs.AreFrames.{AreFrames, HasFrames}
+use Rattle.ring_frames.specs.Steps.{IsFrames}
+use Rattle.ring_frames.proofs.Releasing.{is_bottom, some_older, released}
+use Rattle.ring_frames.proofs.frames.Frames.release.Goals as goal
+
+pub drop_front-page-requires-clause-more : goal.drop_front-page-requires-clause-more
+drop_front-page-requires-clause-more c =
+    let v : FramesValue = shown c.self.inside in
+    let (n, size, start, m, core) = subst IsFrames (sym c.self.view_is) c.requires.frames in
+    let some = subst (λ (x : FramesValue). x.stack.frames ≢ []) (sym c.self.view_is) c.requires.top in
+    some_older n size start v m core some (ap (λ (x : FramesValue). x.phase) c.self.view_is ∙ c.requires.phase)
+
+pub drop_front-page-requires-clause-bottom : goal.drop_front-page-requires-clause-bottom
+drop_front-page-requires-clause-bottom c =
+    let v : FramesValue = shown c.self.inside in
+    let (n, size, start, m, core) = subst IsFrames (sym c.self.view_is) c.requires.frames in
+    let some = subst (λ (x : FramesValue). x.stack.frames ≢ []) (sym c.self.view_is) c.requires.top in
+    is_bottom n size start v m core some (ap (λ (x : FramesValue). x.phase) c.self.view_is ∙ c.requires.phase)
+
+pub returns : goal.returns
+returns c = λ n size start m reached now.
+    let v : FramesValue = shown c.self.inside in
+    let core : HasFrames n size start v m = record { reached = reached; are = subst (λ (x : FramesValue). AreFrames n size start x m) (sym c.self.view_is) now } in
+    let some = subst (λ (x : FramesValue). x.stack.frames ≢ []) (sym c.self.view_is) c.requires.top in
+    released n size start v m core some (ap (λ (x : FramesValue). x.phase) c.self.view_is ∙ c.requires.phase) c.drop_front-page.new.self c.drop_front-page.result
+    record {
+      oldest = c.drop_front-page.ensures.oldest;
+      released = c.drop_front-page.ensures.released;
+      acted = c.drop_front-page.ensures.stack;
+      written = c.drop_front-page.ensures.written;
+    }
+    c.closing_phase-self-inside.result c.closing_phase-self-inside.ensures

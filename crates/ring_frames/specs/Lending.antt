@@ -1,0 +1,34 @@
+-- The payload of the frame on top, which is lent out to be written.
+use Rattle.std.specs.Prelude.{◌≡◌, ℕ, List, ◌∷◌, length}
+use Rattle.std.specs.Borrow.{Lends, MutBor, Fml, Array, u8}
+use Rattle.trace_model.specs.Words.{slot_len}
+use Rattle.trace_model.specs.Frames.{for_record, Frame as ModelFrame}
+use Rattle.trace_model.specs.Ring.{Core}
+use Rattle.nested_writer.specs.declared.frame.Slot.{Slot}
+use Rattle.nested_writer.specs.Lending.{with_slot}
+use Rattle.ring_frames.specs.Value.{FramesValue}
+use Rattle.ring_frames.specs.AreFrames.{AreFrames}
+use Rattle.ring_frames.specs.contracts.frames.Frames.{the_row}
+
+-- the frames with these bytes in a slot
+abbrev pub with_slot_payload : FramesValue → Slot → List ℕ → FramesValue
+with_slot_payload v slot part = record v { stack = with_slot v.stack slot part }
+
+-- the frames end with that slot set to the last bytes behind the result
+abbrev pub LendsSlot : MutBor FramesValue → Slot → MutBor (List ℕ) → Fml
+LendsSlot frames slot result = Lends the_row (Array u8 0) frames result (with_slot_payload frames.now slot)
+
+-- whatever is written there, the frames are those of the same states
+abbrev pub StaysFrames : FramesValue → Slot → Type 0
+StaysFrames v slot = (n size start : ℕ) (c : Core) (part : List ℕ)
+    → AreFrames n size start v c
+    → length part ≡ slot.place.len
+    → AreFrames n size start (with_slot_payload v slot part) c
+
+-- in each of these states the slot has just the room of the record that the frame on top was pushed for
+abbrev pub FitsFrame : FramesValue → Slot → Type 0
+FitsFrame v slot = (n size start : ℕ) (c : Core) (frame : ModelFrame) (below : List ModelFrame) (moment len : ℕ)
+    → AreFrames n size start v c
+    → c.frames ≡ frame ∷ below
+    → frame.kind ≡ for_record moment len
+    → slot.place.len ≡ slot_len len

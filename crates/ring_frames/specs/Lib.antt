@@ -1,0 +1,9 @@
+pub mod Value
+pub mod Inside
+pub mod AreFrames
+pub mod Answers
+pub mod Phases
+pub mod Steps
+pub mod Fills
+pub mod Lending
+pub mod Laws

@@ -1,0 +1,127 @@
+//! The writers' stack, with the phase of each of its frames.
+mod fills;
+mod leave;
+mod push;
+mod tail;
+mod top;
+
+use crate::phase::Phase;
+use nested_writer::WriterStack;
+use nested_writer::frame::Frame;
+use std::alloc::Global;
+use std::collections::VecDeque;
+use std::marker::Model;
+use trace_model::{MAX_FRAMES, NoMemory};
+
+/// The frames of a ring's writers.
+#[derive(Drop)]
+pub struct Frames {
+    /// The frames, the pages that they write, and how many fills are begun and closed.
+    stack: WriterStack,
+    /// How far the frame on top has come. Where none stands it says nothing.
+    phase: Phase,
+    /// How far those below it have come, the upper ones first.
+    below: VecDeque<Phase>,
+}
+
+impl Model for Frames {
+    ghost use Rattle.ring_frames.specs.Value.{FramesValue};
+    ghost use Rattle.ring_frames.specs.Inside.{shown, IsInside};
+
+    ghost Value = { FramesValue };
+
+    ghost view = { shown };
+
+    ghost invariant = { IsInside };
+}
+
+impl Frames {
+    ghost use Rattle.std.specs.Prelude.{◌≡◌, ◌+◌, ◌%◌, ◌≤◌, ◌<◌, length, IfOk};
+    ghost use Rattle.trace_model.specs.declared.limits.TheConstants.{MIN_PAGES, MAX_PAGES, MIN_SIZE, MAX_SIZE, MAX_FRAMES, LINK_FILLS};
+    ghost use Rattle.nested_writer.specs.Stack.{opened};
+    ghost use Rattle.nested_writer.specs.Calls.{top_of};
+    ghost use Rattle.ring_frames.specs.Steps.{AreNew};
+
+    /// No frame, over the empty tail page of a new ring of `pages` pages of `size` bytes of data each, whose first fill
+    /// has the number `start`. All room is made here: no other call takes memory.
+    pub fn new_at(alloc: Global, pages: usize, size: usize, start: u64) -> Result<Frames, NoMemory>
+        requires pages { MIN_PAGES ≤ pages }
+        requires most { pages ≤ MAX_PAGES }
+        requires small { MIN_SIZE ≤ size }
+        requires large { size ≤ MAX_SIZE }
+        requires words { size % 4 ≡ 0 }
+        requires start { start + pages < LINK_FILLS }
+        ensures { IfOk result (λ frames. AreNew pages size start frames) }
+    {
+        let stack = WriterStack::new_at(alloc, pages, size, start)?;
+        let below = VecDeque::with_capacity(alloc, MAX_FRAMES)?;
+        Ok(Frames {
+            stack,
+            phase: Phase::Idle,
+            below,
+        })
+    }
+
+    /// How many frames stand.
+    #[inline(always)]
+    pub fn depth(&self) -> usize
+        ensures frames { result ≡ length self.now.stack.frames }
+        ensures most { result ≤ MAX_FRAMES }
+    {
+        self.stack.depth()
+    }
+
+    /// How many bytes of data a page has.
+    #[inline(always)]
+    pub fn size(&self) -> usize
+        ensures size { result ≡ self.now.stack.size }
+        ensures least { MIN_SIZE ≤ result }
+        ensures most { result ≤ MAX_SIZE }
+    {
+        self.stack.size()
+    }
+
+    /// How many pages the ring has.
+    #[inline(always)]
+    pub fn pages(&self) -> usize
+        ensures pages { result ≡ self.now.stack.pages }
+        ensures least { MIN_PAGES ≤ result }
+        ensures most { result ≤ MAX_PAGES }
+    {
+        self.stack.pages()
+    }
+
+    /// How many fills are closed; that is the number of the oldest open one.
+    #[inline(always)]
+    pub fn done(&self) -> u64
+        ensures { result ≡ self.now.stack.done }
+    {
+        self.stack.done()
+    }
+
+    /// How many fills are begun, those closed counted; that is the number of the next one.
+    #[inline(always)]
+    pub fn opened(&self) -> u64
+        ensures begun { result ≡ opened self.now.stack }
+        ensures open_pages { result ≤ self.now.stack.done + self.now.stack.pages }
+        ensures numbered { result + self.now.stack.pages ≤ LINK_FILLS }
+    {
+        self.stack.opened()
+    }
+
+    /// The frame on top.
+    #[inline(always)]
+    pub fn top(&self) -> Option<Frame>
+        ensures { result ≡ top_of self.now.stack.frames }
+    {
+        self.stack.top()
+    }
+
+    /// How far the frame on top has come. Where none stands it says nothing.
+    #[inline(always)]
+    pub fn phase(&self) -> Phase
+        ensures { result ≡ self.now.phase }
+    {
+        self.phase
+    }
+}

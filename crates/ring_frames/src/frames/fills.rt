@@ -1,0 +1,100 @@
+//! The halves of those steps by which pages come to the writer and go, and of the look for the reader's wish, that
+//! are made in the frames.
+use crate::answer::Answer;
+use crate::frames::Frames;
+use crate::phase::{Phase, Turned};
+use page_image::{Body, Page};
+use trace_model::LINK_FILLS;
+
+impl Frames {
+    ghost use Rattle.std.specs.Prelude.{◌≡◌, ◌≢◌, ℕ, List, [], length, IsTrue, false};
+    ghost use Rattle.trace_model.specs.History.{Action};
+    ghost use Rattle.trace_model.specs.Ring.{fill_of};
+    ghost use Rattle.nested_writer.specs.Stack.{opened};
+    ghost use Rattle.nested_writer.specs.IsStack.{IsStack};
+    ghost use Rattle.nested_writer.specs.Released.{IsWrittenPage};
+    ghost use Rattle.ring_frames.specs.declared.phase.Phase.TheVariants.{Opening, Releasing, Wishing};
+    ghost use Rattle.ring_frames.specs.declared.answer.Answer.TheVariants.{Going};
+    ghost use Rattle.ring_frames.specs.Phases.{told};
+    ghost use Rattle.ring_frames.specs.Steps.{IsFrames};
+    ghost use Rattle.ring_frames.specs.Fills.{OpensFill, Releases, LooksForWish, GrantsNone};
+
+    /// The next fill, which the frame on top noted, is begun in this body, and the frame begins anew.
+    #[inline(always)]
+    pub fn open(&mut self, body: Body) -> Turned
+        requires frames { IsFrames self.old }
+        requires top { self.old.stack.frames ≢ [] }
+        requires phase { (page : ℕ) × (self.old.phase ≡ Opening (opened self.old.stack) page) }
+        requires size { length body ≡ self.old.stack.size }
+        ensures { OpensFill self.old (told result) self.new }
+    {
+        self.stack.add_page(body);
+        self.begin_anew()
+    }
+
+    /// The oldest fill that isn't closed is closed, and its page let go.
+    #[inline(always)]
+    pub fn release(&mut self) -> Page
+        requires frames { IsFrames self.old }
+        requires top { self.old.stack.frames ≢ [] }
+        requires phase { self.old.phase ≡ Releasing }
+        ensures { Releases self.old result self.new }
+    {
+        let page = self.stack.drop_front();
+        self.phase = self.closing_phase();
+        page
+    }
+
+    /// The tail page, of a writer of which no frame stands: all else that it wrote is closed.
+    pub fn into_tail(self) -> Page
+        requires none { self.stack.frames ≡ [] }
+        ensures written { (start : ℕ) (history : List Action)
+            → IsStack start history self.stack
+            → IsWrittenPage self.stack.size self.stack.done (fill_of history start self.stack.done) result }
+    {
+        let Frames { stack, .. } = self;
+        stack.into_tail()
+    }
+
+    /// What is made of the reader's wish: where it is for the tail, and the tail holds a record and isn't the last
+    /// fill, the frame on top notes the next fill; else it closes what was begun meanwhile, or is gone.
+    #[inline(always)]
+    pub fn load_wish(&mut self, wish: u64) -> Answer
+        requires frames { IsFrames self.old }
+        requires top { self.old.stack.frames ≢ [] }
+        requires phase { self.old.phase ≡ Wishing }
+        ensures { LooksForWish self.old wish result self.new }
+    {
+        if self.grant_wish(wish) {
+            return Answer::Going;
+        }
+        let opened = self.stack.opened();
+        if self.stack.done() + 1 < opened {
+            self.phase = Phase::Releasing;
+            return Answer::Going;
+        }
+        self.stack.pop_bottom();
+        Answer::Gone
+    }
+
+    /// Whether the reader's wish is for the tail, which holds a record and isn't the last fill: then the frame notes
+    /// the next fill.
+    #[inline(always)]
+    fn grant_wish(&mut self, wish: u64) -> bool
+        requires frames { IsFrames self.old }
+        requires top { self.old.stack.frames ≢ [] }
+        requires phase { self.old.phase ≡ Wishing }
+        ensures granted { IsTrue result → LooksForWish self.old wish Going self.new }
+        ensures refused { result ≡ false → GrantsNone self.old wish × (self.new ≡ self.old) }
+    {
+        let opened = self.stack.opened();
+        if wish != opened || opened + self.stack.pages() as u64 >= LINK_FILLS {
+            return false;
+        }
+        if !self.stack.ask_close() {
+            return false;
+        }
+        self.phase = Phase::Looking { noted: opened };
+        true
+    }
+}

@@ -1,0 +1,67 @@
+//! Frames that leave.
+use crate::answer::Answer;
+use crate::frames::Frames;
+use crate::phase::{Phase, Turned};
+
+impl Frames {
+    ghost use Rattle.std.specs.Prelude.{◌≡◌, ◌≢◌, []};
+    ghost use Rattle.trace_model.specs.Steps as model;
+    ghost use Rattle.ring_frames.specs.Answers.{top_bytes};
+    ghost use Rattle.ring_frames.specs.Steps.{MakesPrivate, IsShown};
+    ghost use Rattle.ring_frames.specs.Phases.{with_left_phase, left_answer, told, closing_phase};
+
+    /// The frame on top ends with the payload that stands in its slot.
+    #[inline(always)]
+    pub fn end(&mut self) -> Answer
+        requires shown { IsShown self.old }
+        ensures { MakesPrivate self.old (model.ends (top_bytes self.old.stack self.old.stack.frames)) result self.new }
+    {
+        match self.stack.end() {
+            Ok(ended) => {
+                self.pop_phase();
+                Answer::Ended(ended)
+            }
+            Err(fault) => Answer::Refused(fault),
+        }
+    }
+
+    /// The frame on top has left the stack: one with a frame below it is gone, and the bottom one stays.
+    #[inline(always)]
+    pub(crate) fn pop_phase(&mut self) -> Turned
+        ensures answer { told result ≡ left_answer self.old.below }
+        ensures phase { self.new ≡ with_left_phase self.old }
+    {
+        if self.below.is_empty() {
+            self.phase = self.closing_phase();
+            Turned::Going
+        } else {
+            self.uncover_phase();
+            Turned::Gone
+        }
+    }
+
+    /// The frame below the one on top is on top.
+    #[inline(never)]
+    fn uncover_phase(&mut self)
+        requires below { self.old.below ≢ [] }
+        ensures phase { self.new ≡ with_left_phase self.old }
+    {
+        match self.below.pop_front() {
+            Some(phase) => self.phase = phase,
+            None => unreachable!(),
+        }
+    }
+
+    /// What a frame that has left does: it closes fills, or where none is left to close looks for a wish.
+    #[inline(always)]
+    pub(crate) fn closing_phase(&self) -> Phase
+        ensures { result ≡ closing_phase self.now.stack }
+    {
+        let opened = self.stack.opened();
+        if self.stack.done() + 1 == opened {
+            Phase::Wishing
+        } else {
+            Phase::Releasing
+        }
+    }
+}

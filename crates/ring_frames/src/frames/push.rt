@@ -1,0 +1,49 @@
+//! Frames that are pushed.
+use crate::answer::Answer;
+use crate::frames::Frames;
+use crate::phase::Phase;
+
+impl Frames {
+    ghost use Rattle.std.specs.Prelude.{◌≡◌, ◌<◌, length};
+    ghost use Rattle.trace_model.specs.declared.limits.TheConstants.{MAX_FRAMES};
+    ghost use Rattle.trace_model.specs.Steps as model;
+    ghost use Rattle.ring_frames.specs.Steps.{MakesPrivate, IsShown};
+    ghost use Rattle.ring_frames.specs.Phases.{with_pushed_phase};
+
+    /// A frame is pushed for a record of this moment and of a payload of `len` bytes.
+    #[inline(always)]
+    pub fn push(&mut self, moment: u64, len: usize) -> Answer
+        requires shown { IsShown self.old }
+        ensures { MakesPrivate self.old (model.pushes moment len) result self.new }
+    {
+        match self.stack.begin(moment, len) {
+            Ok(()) => self.push_phase(),
+            Err(fault) => Answer::Refused(fault),
+        }
+    }
+
+    /// A frame is pushed that leaves the tail page, where that holds a record.
+    pub fn push_close(&mut self) -> Answer
+        requires shown { IsShown self.old }
+        ensures { MakesPrivate self.old model.pushes_close result self.new }
+    {
+        match self.stack.begin_close() {
+            Ok(()) => self.push_phase(),
+            Err(fault) => Answer::Refused(fault),
+        }
+    }
+
+    /// The frame that was pushed has noted nothing.
+    #[inline(always)]
+    fn push_phase(&mut self) -> Answer
+        requires room { length self.old.below < MAX_FRAMES }
+        ensures pushed { result ≡ Answer.Pushed }
+        ensures phase { self.new ≡ with_pushed_phase self.old }
+    {
+        if self.stack.depth() > 1 {
+            self.below.push_front_reserved(self.phase);
+        }
+        self.phase = Phase::Idle;
+        Answer::Pushed
+    }
+}

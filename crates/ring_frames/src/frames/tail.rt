@@ -1,0 +1,136 @@
+//! The steps of a frame at the tail: it reserves, and tries again once a fill was begun.
+use crate::answer::Answer;
+use crate::frames::Frames;
+use crate::phase::{Phase, Turned};
+use nested_writer::Allot;
+use nested_writer::frame::{Progress, Purpose};
+use trace_model::RecordNo;
+
+impl Frames {
+    ghost use Rattle.std.specs.Prelude.{◌≡◌, ◌≢◌, ℕ, [], ◌∷◌, List, Some};
+    ghost use Rattle.trace_model.specs.Steps as model;
+    ghost use Rattle.trace_model.specs.Frames.{noted_fill};
+    ghost use Rattle.trace_model.specs.History.{Action};
+    ghost use Rattle.link_marks.specs.Seats.{PhaseIsPrivate};
+    ghost use Rattle.nested_writer.specs.Stack.{opened};
+    ghost use Rattle.nested_writer.specs.Ends.{MayEndTop, IsEnd};
+    ghost use Rattle.nested_writer.specs.IsStack.{IsStack};
+    ghost use Rattle.ring_frames.specs.declared.phase.Turned.TheVariants.{Going};
+    ghost use Rattle.ring_frames.specs.declared.phase.Phase.TheVariants.{Idle};
+    ghost use Rattle.ring_frames.specs.Value.{phase_of};
+    ghost use Rattle.ring_frames.specs.Phases.{with_left_phase, left_answer, told};
+    ghost use Rattle.ring_frames.specs.Steps.{MakesPrivate, IsFrames, IsShown, GoesOnIn, IsNotedIn, BeginsAnew, LeavesWithout, IsCloseTop};
+
+    /// The record of the frame on top is reserved in the tail page, or there is nothing to close; or a page is needed,
+    /// and refused or noted. A frame that has reserved gets its number again.
+    #[inline(always)]
+    pub fn reserve(&mut self) -> Answer
+        requires frames { IsFrames self.old }
+        requires top { self.old.stack.frames ≢ [] }
+        requires phase { self.old.phase ≡ Idle }
+        ensures { MakesPrivate self.old model.steps result self.new }
+    {
+        match self.stack.allot() {
+            Ok(Allot::Fits(_)) => {
+                let Some(top) = self.stack.top() else {
+                    unreachable!()
+                };
+                match top.progress {
+                    Progress::Reserved(slot) => Answer::Reserved(RecordNo(slot.number)),
+                    Progress::Waiting(_) | Progress::Through(_) | Progress::Left(_) => {
+                        self.end_close().answer()
+                    }
+                }
+            }
+            Ok(Allot::NeedsPage) => {
+                self.phase = Phase::Looking {
+                    noted: self.stack.opened(),
+                };
+                Answer::Going
+            }
+            Err(fault) => {
+                self.pop_phase();
+                Answer::Refused(fault)
+            }
+        }
+    }
+
+    /// The close frame on top, for which no page is needed, leaves.
+    #[inline(never)]
+    fn end_close(&mut self) -> Turned
+        requires stack { (start : ℕ) × (history : List Action) × IsStack start history self.old.stack }
+        requires through { MayEndTop self.old.stack.frames }
+        ensures answer { told result ≡ left_answer self.old.below }
+        ensures left { IsEnd self.old.stack self.old.stack.frames self.new.stack }
+        ensures phase { self.new ≡ with_left_phase (record self.old { stack = self.new.stack }) }
+    {
+        match self.stack.end() {
+            Ok(_) => self.pop_phase(),
+            Err(_) => unreachable!(),
+        }
+    }
+
+    /// A fill was begun since the frame on top noted what to open: a record frame tries again, a close frame has what
+    /// it wanted and leaves, and one that has left goes on to close fills. Where another frame has begun the fill, that
+    /// is a step by itself.
+    #[inline(never)]
+    pub fn begin_anew(&mut self) -> Turned
+        requires shown { IsShown self.old }
+        requires top { self.old.stack.frames ≢ [] }
+        requires passed { (noted : ℕ) × (noted_fill (phase_of self.old.phase) ≡ Some noted)
+            × (noted ≢ opened self.old.stack) }
+        ensures anew { BeginsAnew self.old (told result) self.new }
+        ensures late { PhaseIsPrivate (phase_of self.old.phase) (opened self.old.stack)
+            → MakesPrivate self.old model.steps (told result) self.new }
+    {
+        self.anew()
+    }
+
+    /// The frame on top begins anew, by what it is.
+    #[inline(always)]
+    fn anew(&mut self) -> Turned
+        requires shown { IsShown self.old }
+        requires top { self.old.stack.frames ≢ [] }
+        requires passed { (noted : ℕ) × (noted_fill (phase_of self.old.phase) ≡ Some noted)
+            × (noted ≢ opened self.old.stack) }
+        ensures { BeginsAnew self.old (told result) self.new }
+    {
+        let Some(top) = self.stack.top() else {
+            unreachable!()
+        };
+        match top.progress {
+            Progress::Waiting(_) => match top.purpose {
+                Purpose::Record { .. } => self.go_on(Phase::Idle),
+                Purpose::Close => self.leave_closed(),
+            },
+            Progress::Left(_) => {
+                let phase = self.closing_phase();
+                self.go_on(phase)
+            }
+            Progress::Through(_) | Progress::Reserved(_) => self.go_on(Phase::Idle),
+        }
+    }
+
+    /// The frame on top goes on in this phase.
+    #[inline(always)]
+    pub fn go_on(&mut self, phase: Phase) -> Turned
+        ensures answer { result ≡ Going }
+        ensures phase { self.new ≡ record self.old { phase = phase } }
+        ensures goes_on { (noted : ℕ) → IsNotedIn self.old.phase phase noted → GoesOnIn self.old phase self.new }
+    {
+        self.phase = phase;
+        Turned::Going
+    }
+
+    /// The close frame on top leaves, since the tail that it was to close is closed.
+    fn leave_closed(&mut self) -> Turned
+        requires shown { IsShown self.old }
+        requires close { (noted : ℕ) × IsCloseTop self.old noted × (noted ≢ opened self.old.stack) }
+        ensures { LeavesWithout self.old (told result) self.new }
+    {
+        match self.stack.allot() {
+            Ok(_) => self.end_close(),
+            Err(_) => unreachable!(),
+        }
+    }
+}

@@ -1,0 +1,17 @@
+//! The frames of a ring's writers: their stack, and how far each frame has come with the ring's words.
+//!
+//! What a frame does in private, as to be pushed, to reserve, to end, or to begin anew once another one has begun a
+//! fill, touches no word of the ring. So it is the same over a ring as a value and over words that threads share.
+#![tactic(auto)]
+
+pub mod answer;
+pub mod frames;
+pub mod laws;
+pub mod phase;
+
+pub use answer::Answer;
+pub use frames::Frames;
+pub use phase::{Phase, Role, Turned};
+
+#[cfg(test)]
+mod tests;

@@ -1,0 +1,80 @@
+//! How far a frame has come with the ring's links.
+use crate::answer::Answer;
+
+/// Who moves the head: the frame that set the UPDATE, or one above it that found it.
+#[derive(Clone, Copy, Debug, PartialEq, Eq)]
+pub enum Role {
+    /// It set the UPDATE, and clears it.
+    Owner,
+    /// It found the UPDATE, and leaves it.
+    Helper,
+}
+
+/// How far a frame has come. `noted` is the number of fills that were begun when it found that it needs a page, so the
+/// number of the fill to open; `page` stands at that fill's position, and `next` behind it.
+#[derive(Clone, Copy, Debug, PartialEq, Eq)]
+pub enum Phase {
+    /// It has noted nothing.
+    Idle,
+    /// It looks at the link into the position of the fill to open.
+    Looking {
+        noted: u64,
+    },
+    /// It sets the UPDATE there, in place of the HEADER.
+    Claiming {
+        noted: u64,
+        page: u16,
+    },
+    /// It looks at the next link.
+    LookingNext {
+        role: Role,
+        noted: u64,
+        page: u16,
+    },
+    /// It sets the HEADER there.
+    Marking {
+        role: Role,
+        noted: u64,
+        page: u16,
+        next: u16,
+    },
+    /// It clears its UPDATE.
+    Clearing {
+        noted: u64,
+        page: u16,
+    },
+    /// It begins the fill on this page.
+    Opening {
+        noted: u64,
+        page: u16,
+    },
+    /// It has left, and closes fills.
+    Releasing,
+    /// It has left, no fill is left to close, and it looks for the reader's wish.
+    Wishing,
+}
+
+/// What a step answers by which a frame opens or closes a page, or has nothing left to do there.
+#[derive(Clone, Copy)]
+pub enum Turned {
+    /// It stands.
+    Going,
+    /// It has left the stack.
+    Gone,
+}
+
+impl Turned {
+    ghost use Rattle.std.specs.Prelude.{◌≡◌};
+    ghost use Rattle.ring_frames.specs.Phases.{told};
+
+    /// As the ring's answer.
+    #[inline(always)]
+    pub fn answer(self) -> Answer
+        ensures { result ≡ told self }
+    {
+        match self {
+            Turned::Going => Answer::Going,
+            Turned::Gone => Answer::Gone,
+        }
+    }
+}

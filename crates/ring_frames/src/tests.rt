@@ -1,0 +1,86 @@
+//! Frames by themselves: what they do in private.
+ghost use Rattle.std.specs.Prelude.{IfOk};
+ghost use Rattle.ring_frames.specs.Steps.{IsFrames};
+
+use crate::{Answer, Frames, Phase};
+use nested_writer::{Ended, WriteFault};
+use std::alloc::Global;
+use std::test::Fail;
+use trace_model::NoMemory;
+
+/// The frames of a new ring of two pages of 32 bytes each.
+fn two_pages(alloc: Global) -> Result<Frames, NoMemory>
+    ensures { IfOk result (λ frames. IsFrames frames) }
+{
+    let frames = Frames::new_at(alloc, 2, 32, 0)?;
+    Ok(frames)
+}
+
+/// A record frame is pushed.
+fn push(frames: &mut Frames, moment: u64, len: usize) -> Answer
+    requires { IsFrames frames.old }
+    ensures { IsFrames frames.new }
+{
+    frames.push(moment, len)
+}
+
+/// The frame on top, which rests, makes its step.
+fn reserve(frames: &mut Frames) -> Answer
+    requires { IsFrames frames.old }
+    ensures { IsFrames frames.new }
+{
+    if frames.top().is_none() {
+        return Answer::Refused(WriteFault::NoFrame);
+    }
+    match frames.phase() {
+        Phase::Idle => frames.reserve(),
+        _ => Answer::Going,
+    }
+}
+
+/// The frame on top ends.
+fn end(frames: &mut Frames) -> Answer
+    requires { IsFrames frames.old }
+    ensures { IsFrames frames.new }
+{
+    frames.end()
+}
+
+/// A frame above another one reserves the next record, and is pending; the outer one is full, and looks for the wish.
+#[test]
+fn nested_frames_reserve_and_end(rt: HostRuntime) -> Result<(), Fail> {
+    let mut frames = two_pages(rt.alloc())?;
+    assert_eq!(rt; (frames.pages(), frames.size(), frames.depth()), (2, 32, 0));
+    assert!(rt; matches!(push(&mut frames, 1, 4), Answer::Pushed));
+    let first = reserve(&mut frames);
+    assert!(rt; matches!(push(&mut frames, 2, 4), Answer::Pushed));
+    let second = reserve(&mut frames);
+    match (first, second) {
+        (Answer::Reserved(first), Answer::Reserved(second)) => {
+            assert_eq!(rt; (first.0, second.0), (0, 1));
+        }
+        (first, second) => assert!(rt; false, "{first:?} {second:?}"),
+    }
+    assert_eq!(rt; frames.depth(), 2);
+    assert!(rt; matches!(end(&mut frames), Answer::Ended(Ended::Pending)));
+    assert_eq!(rt; frames.phase(), Phase::Idle);
+    assert!(rt; matches!(end(&mut frames), Answer::Ended(Ended::Full)));
+    assert_eq!(rt; frames.phase(), Phase::Wishing);
+    assert_eq!(rt; (frames.done(), frames.opened(), frames.depth()), (0, 1, 1));
+    Ok(())
+}
+
+/// A record that doesn't fit behind the other one notes the fill to begin; one that fits no page is refused.
+#[test]
+fn a_full_tail_is_noted(rt: HostRuntime) -> Result<(), Fail> {
+    let mut frames = two_pages(rt.alloc())?;
+    let refused = push(&mut frames, 1, 33);
+    assert!(rt; matches!(refused, Answer::Refused(WriteFault::TooLong)));
+    assert!(rt; matches!(push(&mut frames, 1, 28), Answer::Pushed));
+    assert!(rt; matches!(reserve(&mut frames), Answer::Reserved(_)));
+    assert!(rt; matches!(push(&mut frames, 2, 4), Answer::Pushed));
+    assert!(rt; matches!(reserve(&mut frames), Answer::Going));
+    assert_eq!(rt; frames.phase(), Phase::Looking { noted: 1 });
+    assert!(rt; matches!(end(&mut frames), Answer::Refused(WriteFault::NotReserved)));
+    Ok(())
+}
