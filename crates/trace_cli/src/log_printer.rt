@@ -2,7 +2,7 @@
 ghost use Rattle.std.specs.Prelude.{◌≡◌, ◌++◌, OnOk, flat_map};
 ghost use Rattle.std.specs.Fmt.{decimal};
 ghost use Rattle.text_model.specs.Printing.{delivery_text, line_text, log_line_text, page_text, printed_log_line, refusal_text};
-ghost use Rattle.ring_core.specs.Answers.{refusal_of};
+ghost use Rattle.ring_frames.specs.Answers.{refusal_of};
 ghost use Rattle.trace_run.specs.LogTypes.{shown_log, shown_log_line};
 
 use collector_text::put_number;

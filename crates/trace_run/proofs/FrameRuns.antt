@@ -12,11 +12,10 @@ use Rattle.script_model.specs.Script.{step_frame, finish_frame}
 use Rattle.link_marks.specs.Reached.{IsReached}
 use Rattle.link_marks.specs.Ranks.{frame_limit}
 use Rattle.world_model.specs.Lanes.{Lane, lane_behind, event_on_top, FrameRun, IsGone, LacksFrame, lacks_to_step, steps_on, lacks_to_finish, finishes, LineRun}
-use Rattle.world_model.specs.Log.{logged}
 use Rattle.world_model.proofs.FramesMove.{Moves, stays, changes, pops, step_moves}
 use Rattle.world_model.proofs.LanePayloads.{pushes_none}
 use Rattle.world_model.proofs.LineEnds.{frame_runs_short}
-use Rattle.ring_core.specs.declared.event.Answer.{Answer}
+use Rattle.ring_frames.specs.declared.answer.Answer.{Answer}
 use Rattle.trace_run.specs.declared.log.LogLine.{LogLine}
 use Rattle.trace_run.specs.LogTypes.{shown_log}
 use Rattle.trace_run.specs.Value.{LaneValue}

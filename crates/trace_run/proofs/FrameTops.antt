@@ -1,5 +1,6 @@
 -- What the frame on top is asked for: a step, or the end of its record with the payload that was put into its slot.
-use Rattle.std.proofs.Common.{◌≡◌, ℕ, ◌-◌, ◌≤◌, Bool, true, false, cond, List, [], ◌∷◌, ◌++◌, length, replicate, get_or, map, refl, sym, ap, ◌∙◌, subst, arith}
+use Rattle.std.proofs.Common.{◌≡◌, ℕ, ◌+◌, ◌-◌, ◌≤◌, Bool, true, false, cond, List, [], ◌∷◌, ◌++◌, length, replicate, get_or, map, reverse, refl, sym, ap, ◌∙◌, subst, arith}
+use Rattle.std.proofs.lemmas.List.{length-map, length-reverse, get_or-map, get_or-reverse}
 use Rattle.trace_model.specs.Words.{slot_len, padded}
 use Rattle.trace_model.specs.Frames.{Kind, for_record, for_close, FrameState, reserved, Frame}
 use Rattle.trace_model.specs.Steps as model
@@ -16,11 +17,12 @@ use Rattle.nested_writer.specs.declared.frame.Frame as stack
 use Rattle.nested_writer.specs.Stack.{Stack, state_of}
 use Rattle.nested_writer.specs.Calls.{IsTopSlot}
 use Rattle.nested_writer.specs.Lending.{with_slot}
-use Rattle.ring_core.specs.declared.phase.Phase.{Phase}
-use Rattle.ring_core.specs.declared.event.Answer.{Answer}
+use Rattle.ring_frames.specs.declared.phase.Phase.{Phase}
+use Rattle.ring_frames.specs.declared.answer.Answer.{Answer}
 use Rattle.ring_core.specs.Value.{CoreValue}
-use Rattle.ring_core.specs.IsCore.{ring_frames, Shows, IsCore}
-use Rattle.ring_core.specs.Answers.{top_bytes}
+use Rattle.ring_frames.specs.AreFrames.{ring_frames}
+use Rattle.ring_core.specs.IsCore.{Shows, IsCore}
+use Rattle.ring_frames.specs.Answers.{top_bytes}
 use Rattle.ring_core.specs.Steps.{IsStep, Makes}
 use Rattle.ring_core.specs.Lending.{with_reserved, with_top, with_slot_payload, StaysRing, FitsFrame}
 use Rattle.trace_run.specs.Value.{LaneValue}
@@ -50,7 +52,7 @@ pub asked_step : (old : LaneValue) (answer : Answer) (new : CoreValue)
 asked_step old answer new none makes n size start cpu lane is =
     let k : Shows n size start old.core lane.core = is.is_core.shows in
     let asks : event_on_top lane.core.frames lane.payloads
-    ≡ steps = ap (λ (fs : List Frame). event_on_top fs lane.payloads) k.frames_are
+    ≡ steps = ap (λ (fs : List Frame). event_on_top fs lane.payloads) k.frames.frames_are
     ∙ steps_on_top old.core.stack.frames old.core.phase old.core.below lane.payloads none in
     subst (λ (e : model.Event). IsStep n size start lane.core e answer new) (sym asks)
     (makes n size start lane.core is.is_core)
@@ -98,7 +100,7 @@ has_top_payload n size start cpu old lane slot is top fits =
     let k : Shows n size start old.core lane.core = is.is_core.shows in
     let r : IsRingKept n size start lane.core = reached_kept n size start lane.core is.is_core.reached in
     let (frame, under, shown, state) = shown_top old.core.stack.frames old.core.phase old.core.below slot top in
-    let frames_are : lane.core.frames ≡ frame ∷ under = k.frames_are ∙ shown in
+    let frames_are : lane.core.frames ≡ frame ∷ under = k.frames.frames_are ∙ shown in
     let agree : FramesAgree (frame ∷ under) = subst FramesAgree frames_are r.stack.agree in
     let may : MayBeIn frame.kind (reserved slot.number) frame.phase =
     subst (λ (s : FrameState). MayBeIn frame.kind s frame.phase) state agree.0 in
@@ -137,14 +139,27 @@ frames_stay s slot part = either _ _ _ s.frames refl refl
 abbrev pub IsFirst : List ℕ → List (List ℕ) → Type 0
 IsFirst payload payloads = (first : List ℕ) (rest : List (List ℕ)) → payloads ≡ first ∷ rest → payload ≡ first
 
-pub is_first : {B : Type 0} (f : B → List ℕ) (items : List B) (x : B)
-    → x ≡ get_or items 0 x
-    → IsFirst (f x) (map f items)
-is_first f [] x at first rest is = absurd (let z : ⊥ = cc in z)
-is_first f (y ∷ items) x at first rest is = ap f at ∙ head_is (f y) first (map f items) rest is
-  where
-    head_is : (a b : List ℕ) (xs ys : List (List ℕ)) → ◌≡◌ {A = List (List ℕ)} (a ∷ xs) (b ∷ ys) → a ≡ b
-    head_is a b xs ys e = cc
+-- so many are kept in front of the last one
+pub last_of : {B : Type 0} (f : B → List ℕ) (items : List B) (kept : ℕ) (payload : List ℕ) (rest : List (List ℕ))
+    → reverse (map f items) ≡ payload ∷ rest
+    → kept ≡ length items
+    → kept - 1 + 1 ≡ length items
+last_of f items kept payload rest is same =
+    omega (arith, same, length-map items f, length-reverse (map f items), ap (λ (l : List (List ℕ)). length l) is)
+
+-- the last one that is kept is the first one that is shown
+pub is_first : {B : Type 0} (f : B → List ℕ) (items : List B) (last : ℕ) (x : B)
+    → last + 1 ≡ length items
+    → x ≡ get_or items last x
+    → IsFirst (f x) (reverse (map f items))
+is_first f items last x long at first rest is =
+    let xs : List (List ℕ) = map f items in
+    let as_long : length xs ≡ length items = length-map items f in
+    ap f at
+    ∙ sym (get_or-map f items last x (f x) (omega (arith, long)))
+    ∙ ap (λ (k : ℕ). get_or xs k (f x)) (let e : last ≡ length xs - 1 - 0 = omega (arith, as_long, long) in e)
+    ∙ sym (get_or-reverse xs 0 (f x) (omega (arith, as_long, long)))
+    ∙ ap (λ (l : List (List ℕ)). get_or l 0 (f x)) is
 
 pub asked_end : (old : LaneValue) (slot : Slot) (payload part : List ℕ) (answer : Answer) (new : CoreValue)
     → IsTopSlot old.core.stack.frames slot

@@ -1,19 +1,22 @@
 -- What a lane as a value tells of each lane that it is, and what a step of a ring that pushes no frame makes of it.
 use Rattle.std.proofs.Common.{◌≡◌, ℕ, suc, ◌-◌, List, [], ◌∷◌, length, drop, map, refl, sym, ap, ◌∙◌, arith}
+use Rattle.std.proofs.lemmas.List.{length-map, length-reverse}
 use Rattle.trace_model.specs.Frames.{FrameState, waiting, reserved, left, Frame}
 use Rattle.trace_model.specs.Ring.{Reader, Core}
 use Rattle.trace_model.specs.Steps.{Event, Answer, Step}
 use Rattle.link_marks.specs.Seats.{IsOfReader}
 use Rattle.link_marks.proofs.SeatSteps.{writer_leaves_reader}
-use Rattle.world_model.specs.Lanes.{Lane, lane_behind, event_in, event_on_top}
+use Rattle.world_model.specs.Lanes.{Lane, FitFrames, lane_behind, event_in, event_on_top}
 use Rattle.world_model.specs.World.{parcel_of}
 use Rattle.world_model.proofs.FramesMove.{PushesNone, step_moves}
 use Rattle.world_model.proofs.LanePayloads.{fit_moved, pushes_none}
 use Rattle.nested_writer.specs.declared.frame.Frame as stack
-use Rattle.ring_core.specs.declared.phase.Phase.{Phase}
+use Rattle.ring_frames.specs.declared.phase.Phase.{Phase}
 use Rattle.ring_core.specs.Value.{CoreValue}
-use Rattle.ring_core.specs.IsCore.{ring_frames, AreBelow, Shows, IsCore}
-use Rattle.trace_run.specs.Value.{LaneValue}
+use Rattle.ring_frames.specs.AreFrames.{ring_frames, AreBelow}
+use Rattle.ring_core.specs.IsCore.{Shows, IsCore}
+use Rattle.trace_run.specs.declared.lane.Lane.TheInside.{Inside}
+use Rattle.trace_run.specs.Value.{LaneValue, shown}
 use Rattle.trace_run.specs.Lanes.{IsLane}
 
 -- a ring's value has as many frames as the state that it shows
@@ -35,12 +38,41 @@ pub frames_shown : (n size start : ℕ) (v : CoreValue) (c : Core)
     → length v.stack.frames ≡ length c.frames
 frames_shown n size start v c core =
     let k : Shows n size start v c = core.shows in
-    sym (ap length k.frames_are ∙ as_many_shown v.stack.frames v.phase v.below k.below_are)
+    sym (ap length k.frames.frames_are ∙ as_many_shown v.stack.frames v.phase v.below k.frames.below_are)
 
 pub depth_is : (n size start cpu : ℕ) (v : LaneValue) (lane : Lane)
     → IsLane n size start cpu v lane
     → length v.core.stack.frames ≡ length lane.core.frames
 depth_is n size start cpu v lane is = frames_shown n size start v.core lane.core is.is_core
+
+-- a payload is kept for each frame
+fit_many : (frames : List Frame) (payloads : List (List ℕ))
+    → FitFrames frames payloads
+    → length payloads ≡ length frames
+fit_many [] [] fit = refl
+fit_many [] (payload ∷ payloads) fit = absurd fit
+fit_many (frame ∷ frames) [] fit = absurd fit
+fit_many (frame ∷ frames) (payload ∷ payloads) fit = ap suc (fit_many frames payloads fit.1)
+
+pub as_many : (n size start cpu : ℕ) (v : LaneValue) (lane : Lane)
+    → IsLane n size start cpu v lane
+    → length v.payloads ≡ length v.core.stack.frames
+as_many n size start cpu v lane is =
+    ap (λ (l : List (List ℕ)). length l) is.payloads_are
+    ∙ fit_many lane.core.frames lane.payloads is.fit
+    ∙ sym (depth_is n size start cpu v lane is)
+
+pub kept_many : (n size start cpu : ℕ) (v : LaneValue) (lane : Lane) (inside : Inside) (kept : ℕ)
+    → IsLane n size start cpu v lane
+    → shown inside ≡ v
+    → kept ≡ length inside.payloads.items
+    → kept ≡ length v.core.stack.frames
+kept_many n size start cpu v lane inside kept is view same =
+    same
+    ∙ sym (length-reverse (map (λ payload. payload.now) inside.payloads.items)
+    ∙ length-map inside.payloads.items (λ payload. payload.now))
+    ∙ ap (λ (w : LaneValue). length w.payloads) view
+    ∙ as_many n size start cpu v lane is
 
 -- ---- a step that pushes no frame
 

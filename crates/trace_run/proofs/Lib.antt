@@ -1,11 +1,12 @@
 -- the replay: pages found by their fills; lanes in their places; what a line leads to; what is answered
 pub mod Searches
 pub mod Added
-pub mod EmptyPlaces
+pub mod LanePlaces
 pub mod Placed
 pub mod LinesObeyed
 pub mod Answered
 -- frames and pushes
+pub mod FramePayloads
 pub mod LaneValues
 pub mod FrameRuns
 pub mod FrameTops

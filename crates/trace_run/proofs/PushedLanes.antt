@@ -11,11 +11,12 @@ use Rattle.world_model.specs.Log.{logged}
 use Rattle.world_model.specs.World.{parcel_of}
 use Rattle.ring_core.specs.declared.event.Event.{Event}
 use Rattle.ring_core.specs.declared.event.Event.TheVariants as event
-use Rattle.ring_core.specs.declared.event.Answer.{Answer}
-use Rattle.ring_core.specs.declared.event.Answer.TheVariants as answer
+use Rattle.ring_frames.specs.declared.answer.Answer.{Answer}
+use Rattle.ring_frames.specs.declared.answer.Answer.TheVariants as answer
 use Rattle.nested_writer.specs.declared.stack.leave.Ended.TheVariants.{Pending, Full}
 use Rattle.ring_core.specs.Value.{CoreValue}
-use Rattle.ring_core.specs.Answers.{event_of, Tells}
+use Rattle.ring_frames.specs.Answers.{Tells}
+use Rattle.ring_core.specs.Answers.{event_of}
 use Rattle.ring_core.specs.Steps.{IsStep, Makes}
 use Rattle.trace_run.specs.declared.log.LogLine.{LogLine}
 use Rattle.trace_run.specs.LogTypes.{shown_log}

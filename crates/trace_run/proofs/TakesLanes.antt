@@ -16,11 +16,12 @@ use Rattle.world_model.proofs.FramesMove.{stays}
 use Rattle.world_model.proofs.LanePayloads.{as_many, fit_moved}
 use Rattle.world_model.proofs.TakenPages.{taken_by, run_takes, parcels_of_is}
 use Rattle.page_numbers.specs.Parcels as page
-use Rattle.ring_core.specs.declared.event.Answer.{Answer}
-use Rattle.ring_core.specs.declared.event.Answer.TheVariants.{Pushed, Going, Reserved, Ended, Gone, Refused, Looking, Empty, Moving, Taken, Wished}
+use Rattle.ring_frames.specs.declared.answer.Answer.{Answer}
+use Rattle.ring_frames.specs.declared.answer.Answer.TheVariants.{Pushed, Going, Reserved, Ended, Gone, Refused, Looking, Empty, Moving, Taken, Wished}
 use Rattle.ring_core.specs.Value.{CoreValue}
 use Rattle.ring_core.specs.IsCore.{IsCore}
-use Rattle.ring_core.specs.Answers.{Tells, GivesBack}
+use Rattle.ring_frames.specs.Answers.{Tells}
+use Rattle.ring_core.specs.Answers.{GivesBack}
 use Rattle.ring_core.specs.Steps.{Makes}
 use Rattle.trace_run.specs.declared.log.LogLine.{LogLine}
 use Rattle.trace_run.specs.LogTypes.{shown_log}
@@ -226,7 +227,7 @@ reads_once line cpu v between new body result goes_on old_log new_log body_is ma
     let x : Exchange = record { event = reads; answer = s.answer } in
     let (reads_so, is_lane) =
     keeps_reads line cpu n size start v lane is between.core s.answer s.after s.step s.is_core body
-    (body_is ∙ is.is_core.shows.size_is) goes_on new result s.tells gives
+    (body_is ∙ is.is_core.shows.frames.size_is) goes_on new result s.tells gives
     (subst (λ (w : LaneValue). Keeps cpu result goes_on w new) same keeps) in
     record {
       exchanges = x ∷ [];

@@ -16,9 +16,10 @@ use Rattle.link_marks.proofs.PartitionLemmas.{first_new, covered_total-snoc}
 use Rattle.link_marks.proofs.RecordCounts.{numbers_fit}
 use Rattle.link_marks.proofs.RingsKept.{ring_step}
 use Rattle.page_image.specs.Contents.{records_of_page}
-use Rattle.ring_core.specs.declared.event.Answer.{Answer}
-use Rattle.ring_core.specs.declared.event.Answer.TheVariants.{Pushed, Going, Reserved, Ended, Gone, Refused, Looking, Empty, Moving, Taken as IsTaken, Wished}
-use Rattle.ring_core.specs.Answers.{Tells, GivesBack}
+use Rattle.ring_frames.specs.declared.answer.Answer.{Answer}
+use Rattle.ring_frames.specs.declared.answer.Answer.TheVariants.{Pushed, Going, Reserved, Ended, Gone, Refused, Looking, Empty, Moving, Taken as IsTaken, Wished}
+use Rattle.ring_frames.specs.Answers.{Tells}
+use Rattle.ring_core.specs.Answers.{GivesBack}
 use Rattle.trace_run.specs.Takes.{MayKeep}
 
 -- pieces without a rest cover all records

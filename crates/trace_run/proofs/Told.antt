@@ -2,8 +2,8 @@
 use Rattle.std.proofs.Common.{◌≡◌, ℕ, List, ◌++◌}
 use Rattle.trace_model.specs.Steps as model
 use Rattle.world_model.specs.Log.{logged}
-use Rattle.ring_core.specs.declared.event.Answer.{Answer}
-use Rattle.ring_core.specs.Answers.{Tells}
+use Rattle.ring_frames.specs.declared.answer.Answer.{Answer}
+use Rattle.ring_frames.specs.Answers.{Tells}
 use Rattle.trace_run.specs.declared.log.LogLine.{LogLine}
 use Rattle.trace_run.specs.LogTypes.{shown_log}
 

@@ -6,9 +6,9 @@ use Rattle.trace_model.specs.Steps.{Step, Exchange}
 use Rattle.world_model.specs.Lanes.{Lane, lane_behind, lane_with, event_on_top, FrameRun, IsStepped, WritesFrame}
 use Rattle.ring_core.specs.declared.event.Event.{Event}
 use Rattle.ring_core.specs.declared.event.Event.TheVariants as event
-use Rattle.ring_core.specs.declared.event.Answer.{Answer}
+use Rattle.ring_frames.specs.declared.answer.Answer.{Answer}
 use Rattle.ring_core.specs.Value.{CoreValue}
-use Rattle.ring_core.specs.Answers.{Tells}
+use Rattle.ring_frames.specs.Answers.{Tells}
 use Rattle.ring_core.specs.Steps.{IsStep}
 use Rattle.trace_run.specs.declared.log.LogLine.{LogLine}
 use Rattle.trace_run.specs.Value.{LaneValue}

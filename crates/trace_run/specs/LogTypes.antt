@@ -1,7 +1,7 @@
 -- The log's Rust types, in the words of the models.
 use Rattle.std.specs.Prelude.{List, Option, Some, None, map}
 use Rattle.text_model.specs.Log as model
-use Rattle.ring_core.specs.Answers.{refusal_of}
+use Rattle.ring_frames.specs.Answers.{refusal_of}
 use Rattle.trace_run.specs.declared.log.LogLine.{LogLine}
 use Rattle.trace_run.specs.declared.log.LogLine.TheVariants.{Refused, Taken, Empty, Moving, Asks, New, Known, NotTaken}
 

@@ -24,6 +24,11 @@ abbrev pub IsLaneFrom : Script → Option LaneValue → LaneValue → Type 0
 IsLaneFrom script None v = IsNewLaneOf script.pages script.size script.start v
 IsLaneFrom script (Some before) v = v ≡ before
 
+-- in the place a lane stands now: the one that was made, or a new one
+abbrev pub StandsFrom : Script → (before now : Option LaneValue) → Type 0
+StandsFrom script before None = ⊥
+StandsFrom script before (Some v) = IsLaneFrom script before v
+
 -- the lane of this CPU: it was made and is this one, or is new and wasn't made yet
 abbrev pub IsLaneAt : Script → (cpu : ℕ) → Option LaneValue → Lane → Type 0
 IsLaneAt script cpu None lane = IsNewLane script.pages script.start lane

@@ -7,8 +7,8 @@ use Rattle.trace_model.specs.Steps.{reads, reading, Step, Exchange}
 use Rattle.world_model.specs.Lanes.{Lane, lane_behind, ReaderRun, IsAnswered, IsRead}
 use Rattle.page_image.specs.Contents.{Contents, IsPage, records_of_page}
 use Rattle.page_numbers.specs.Parcels.{parcel_of}
-use Rattle.ring_core.specs.declared.event.Answer.{Answer}
-use Rattle.ring_core.specs.declared.event.Answer.TheVariants.{Pushed, Going, Reserved, Ended, Gone, Refused, Looking, Empty, Moving, Taken, Wished}
+use Rattle.ring_frames.specs.declared.answer.Answer.{Answer}
+use Rattle.ring_frames.specs.declared.answer.Answer.TheVariants.{Pushed, Going, Reserved, Ended, Gone, Refused, Looking, Empty, Moving, Taken, Wished}
 use Rattle.trace_run.specs.Value.{LaneValue}
 
 -- the reader makes one step; does its take go on?

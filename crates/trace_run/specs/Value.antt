@@ -1,5 +1,5 @@
 -- What contracts see of a lane.
-use Rattle.std.specs.Prelude.{ℕ, List, Option, map}
+use Rattle.std.specs.Prelude.{ℕ, List, Option, map, reverse}
 use Rattle.trace_model.specs.Parcel.{Parcel}
 use Rattle.ring_core.specs.Value.{CoreValue}
 use Rattle.trace_run.specs.declared.lane.Lane.TheInside.{Inside}
@@ -15,7 +15,7 @@ pub record LaneValue : Type 0 where
 abbrev pub shown : Inside → LaneValue
 shown w = record {
   core = w.core;
-  payloads = map (λ payload. payload.now) w.payloads.items;
+  payloads = reverse (map (λ payload. payload.now) w.payloads.items);
   body = w.body;
   taken = w.taken.items;
 }

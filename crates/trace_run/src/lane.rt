@@ -7,7 +7,6 @@ use page_image::Body;
 use page_numbers::Parcel;
 use ring_core::Core;
 use std::alloc::Global;
-use std::collections::VecDeque;
 use std::marker::Model;
 use trace_model::{MAX_FRAMES, NoMemory};
 
@@ -15,8 +14,8 @@ use trace_model::{MAX_FRAMES, NoMemory};
 #[derive(Drop)]
 pub struct Lane<'a> {
     core: Core,
-    /// The payload of each frame that stands, the top one's first.
-    payloads: VecDeque<&'a [u8]>,
+    /// The payload of each frame that stands, the top one's last.
+    payloads: Vec<&'a [u8]>,
     /// The body that the reader puts into the ring for the next page, where it isn't yet to be made.
     body: Option<Body>,
     /// The pages that were taken, in order.
@@ -53,7 +52,7 @@ impl<'a> Lane<'a> {
     {
         Ok(Lane {
             core: Core::new_at(alloc, pages, size, start)?,
-            payloads: VecDeque::with_capacity(alloc, MAX_FRAMES)?,
+            payloads: Vec::with_capacity(alloc, MAX_FRAMES)?,
             body: None,
             taken: Vec::new(alloc),
         })

@@ -3,7 +3,7 @@ ghost use Rattle.std.specs.Prelude.{◌≡◌, ℕ, [], ◌∷◌, ◌++◌, opt
 ghost use Rattle.trace_model.specs.Steps as model;
 ghost use Rattle.text_model.specs.Log.{refused};
 ghost use Rattle.world_model.specs.Log.{logged};
-ghost use Rattle.ring_core.specs.Answers.{Tells, refusal_of};
+ghost use Rattle.ring_frames.specs.Answers.{Tells, refusal_of};
 ghost use Rattle.trace_run.specs.LogTypes.{shown_log, shown_logged};
 
 use nested_writer::WriteFault;

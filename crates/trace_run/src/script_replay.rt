@@ -16,7 +16,7 @@ ghost use Rattle.trace_run.specs.declared.world.ReplayFault.TheVariants.{NoMemor
 use crate::delivery::{collect, taken_page};
 use crate::lane::Lane;
 use crate::log::{At, LogLine};
-use crate::places::{put_lane, take_lane};
+use crate::places::make_lane;
 use crate::world::{ReplayFault, World};
 use collector::{Added, Collector};
 use std::alloc::Global;
@@ -29,24 +29,6 @@ pub(crate) struct ReplayState<'a> {
     lanes: Vec<Option<Box<Lane<'a>>>>,
     collectors: Vec<Collector>,
     log: Vec<LogLine>,
-}
-
-/// The CPU that a command names.
-#[inline(always)]
-fn named_cpu(command: Command) -> CpuId
-    ensures { result.0 ≡ cpu_of (shown_command command.entry) }
-{
-    match command {
-        Command::Begin { cpu, .. } => cpu,
-        Command::Step { cpu, .. } => cpu,
-        Command::Finish { cpu } => cpu,
-        Command::Write { cpu, .. } => cpu,
-        Command::Close { cpu } => cpu,
-        Command::StepReader { cpu, .. } => cpu,
-        Command::Take { cpu } => cpu,
-        Command::Wish { cpu } => cpu,
-        Command::Deliver { cpu, .. } => cpu,
-    }
 }
 
 /// A lane does what a command asks for of it; of a delivery nothing.
@@ -89,21 +71,23 @@ fn obey_ring<'a>(
     alloc: Global,
     script: &Script,
     state: &mut ReplayState<'a>,
+    cpu: CpuId,
     line: ScriptLine<'a>,
 ) -> Result<(), NoMemory>
     requires ready { IsReady script.now (shown_command line.command) state.old }
     requires ring { IsOfRing (shown_command line.command) }
+    requires cpu { cpu.0 ≡ cpu_of (shown_command line.command) }
     ensures { OnOk result (LeadsOn script.now (shown_line line.entry) state.old state.new) }
 {
-    let cpu = named_cpu(line.command);
     let at = At {
         line: line.number,
         cpu,
     };
-    let mut lane = take_lane(alloc, script, &mut state.lanes, cpu)?;
-    run_line(alloc, &mut *lane, at, line.command, &mut state.log)?;
-    put_lane(&mut state.lanes, cpu, lane);
-    Ok(())
+    make_lane(alloc, script, &mut state.lanes, cpu)?;
+    match &mut state.lanes[cpu.0 as usize] {
+        Some(lane) => run_line(alloc, &mut **lane, at, line.command, &mut state.log),
+        None => unreachable!(),
+    }
 }
 
 /// What is logged of a page that was delivered.
@@ -155,7 +139,8 @@ fn deliver(
     Ok(())
 }
 
-/// A line of the script. What it leaves where memory is refused is not used.
+/// A line of the script. What it leaves where memory is refused is not used. Each kind of line has a call of its own,
+/// in which the compiler knows the kind.
 #[inline(always)]
 fn obey<'a>(
     alloc: Global,
@@ -172,7 +157,14 @@ fn obey<'a>(
             cpu,
             fill,
         } => deliver(state, line.number, collector, cpu, fill),
-        _ => obey_ring(alloc, script, state, line),
+        Command::Begin { cpu, .. } => obey_ring(alloc, script, state, cpu, line),
+        Command::Step { cpu, .. } => obey_ring(alloc, script, state, cpu, line),
+        Command::Finish { cpu } => obey_ring(alloc, script, state, cpu, line),
+        Command::Write { cpu, .. } => obey_ring(alloc, script, state, cpu, line),
+        Command::Close { cpu } => obey_ring(alloc, script, state, cpu, line),
+        Command::StepReader { cpu, .. } => obey_ring(alloc, script, state, cpu, line),
+        Command::Take { cpu } => obey_ring(alloc, script, state, cpu, line),
+        Command::Wish { cpu } => obey_ring(alloc, script, state, cpu, line),
     }
 }
 

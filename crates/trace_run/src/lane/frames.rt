@@ -54,23 +54,13 @@ impl<'a> Lane<'a> {
         ensures { OnOk result (HasLine (finish_frame at.cpu.0) at.line at.cpu.0
             self.old log.old.items self.new log.new.items) }
     {
-        self.finish_top(at, log)
-    }
-
-    /// The same, where it is called from.
-    #[inline(always)]
-    pub(crate) fn finish_top(&mut self, at: At, log: &mut Vec<LogLine>) -> Result<(), NoMemory>
-        requires { IsLaneOf at.cpu.0 self.old }
-        ensures { OnOk result (HasLine (finish_frame at.cpu.0) at.line at.cpu.0
-            self.old log.old.items self.new log.new.items) }
-    {
         if self.core.depth() == 0 {
             return tell_refusal(at, WriteFault::NoFrame, log);
         }
         self.follow(at, MOST_STEPS, log)
     }
 
-    /// The frame on top makes steps until so many are made or it is gone.
+    /// The frame on top makes steps until so many are made or it is gone, so that fewer payloads are kept.
     #[inline(always)]
     fn follow(&mut self, at: At, count: u64, log: &mut Vec<LogLine>) -> Result<(), NoMemory>
         requires lane { IsLaneOf at.cpu.0 self.old }
@@ -78,9 +68,9 @@ impl<'a> Lane<'a> {
         ensures { OnOk result (Has (FollowsFrame count) at.line at.cpu.0
             self.old log.old.items self.new log.new.items) }
     {
-        let depth = self.core.depth();
+        let depth = self.payloads.len();
         let mut steps = 0;
-        while steps < count && self.core.depth() == depth {
+        while steps < count && self.payloads.len() == depth {
             let answer = self.step_once();
             tell(at, answer, log)?;
             steps += 1;
@@ -121,10 +111,8 @@ impl<'a> Lane<'a> {
         ensures ring { self.new ≡ record self.old { core = self.new.core } }
         ensures step { AsksTop self.old result self.new.core }
     {
-        match self.payloads.front() {
-            Some(payload) => put_padded(self.core.payload_mut(slot), *payload),
-            None => unreachable!(),
-        }
+        let payload = self.payloads[self.payloads.len() - 1];
+        put_padded(self.core.payload_mut(slot), payload);
         self.core.step(Event::End)
     }
 
@@ -135,8 +123,6 @@ impl<'a> Lane<'a> {
           payloads = drop (length self.old.payloads - length self.old.core.stack.frames) self.old.payloads;
         } }
     {
-        while self.payloads.len() > self.core.depth() {
-            self.payloads.pop_front();
-        }
+        self.payloads.truncate(self.core.depth());
     }
 }

@@ -24,8 +24,10 @@ impl<'a> Lane<'a> {
             self.old log.old.items self.new log.new.items) }
     {
         let len = payload.len();
-        let answer = self.push(Event::Push { moment, len }, payload)?;
-        tell(at, answer, log)
+        match self.push(Event::Push { moment, len }, payload)? {
+            Answer::Pushed => Ok(()),
+            refused => tell(at, refused, log),
+        }
     }
 
     /// Pushes a record frame of this moment and payload, and lets it make steps until it is gone.
@@ -71,7 +73,7 @@ impl<'a> Lane<'a> {
     {
         let answer = self.push(event, payload)?;
         match answer {
-            Answer::Pushed => self.finish_top(at, log),
+            Answer::Pushed => self.finish(at, log),
             refused => tell(at, refused, log),
         }
     }
@@ -85,7 +87,7 @@ impl<'a> Lane<'a> {
     {
         let answer = self.core.step(event);
         if let Answer::Pushed = answer {
-            self.payloads.push_front(payload)?;
+            self.payloads.push(payload)?;
         }
         Ok(answer)
     }

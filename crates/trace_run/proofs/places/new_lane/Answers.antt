@@ -1,4 +1,4 @@
-use Rattle.trace_run.proofs.EmptyPlaces.{new_in_box}
+use Rattle.trace_run.proofs.LanePlaces.{new_in_box}
 use Rattle.trace_run.proofs.places.new_lane.Goals as goal
 
 pub returns : goal.returns

@@ -1,28 +1,16 @@
-use Rattle.std.proofs.Common.{◌≡◌, ℕ, suc, ◌-◌, ◌<◌, List, [], ◌∷◌, length, drop, map, sym, ap, ◌∙◌, arith}
-use Rattle.std.proofs.Common.{Bor}
-use Rattle.std.proofs.lemmas.List.{drop-map, length-map}
+use Rattle.std.proofs.Common.{◌≡◌, ◌-◌, List, ℕ, length, drop, map, reverse, ap, ◌∙◌, Bor}
+use Rattle.trace_run.specs.Value.{LaneValue, shown}
+use Rattle.trace_run.proofs.LaneValues.{value_behind}
+use Rattle.trace_run.proofs.FramePayloads.{left_first}
 use Rattle.trace_run.proofs.lane.Lane.forget_gone.Goals as goal
 
--- where more payloads than frames are left, the first one is dropped
-left_more : (payloads less : List (List ℕ)) (depth : ℕ)
-    → less ≡ drop 1 payloads
-    → depth < length payloads
-    → drop (length less - depth) less ≡ drop (length payloads - depth) payloads
-left_more [] less depth is low = absurd (omega arith)
-left_more (payload ∷ payloads) less depth is low =
-    ap (λ (l : List (List ℕ)). drop (length l - depth) l) is
-    ∙ ap (λ (k : ℕ). drop k (payload ∷ payloads))
-    (let e : suc (length payloads - depth) ≡ length (payload ∷ payloads) - depth = omega arith in e)
-
-pub loop-self-preserved : goal.loop-self-preserved
-loop-self-preserved c =
-    let items : List (Bor (List ℕ)) = c.loop-self.self-inside.payloads.items in
-    let now : Bor (List ℕ) → List ℕ = λ b. b.now in
-    record {
-      rest = c.loop-self.invariant.rest;
-      left = left_more (map now items) (map now c.pop_front.new.self.items)
-          (length c.loop-self.self-inside.core.stack.frames)
-          (ap (map now) c.pop_front.ensures.rest ∙ sym (drop-map now 1 items))
-          (omega (arith, length-map items now, c.loop-self-test.true, c.loop-self.self-inside.payloads.ok))
-          ∙ c.loop-self.invariant.left;
-    }
+pub returns : goal.returns
+returns c =
+    let v : LaneValue = shown c.self.inside in
+    let left : reverse (map (λ (b : Bor (List ℕ)). b.now) c.truncate.new.self.items)
+    ≡ drop (length v.payloads - length v.core.stack.frames) v.payloads =
+    ap (λ (l : List (Bor (List ℕ))). reverse (map (λ b. b.now) l)) c.truncate.ensures.items
+    ∙ left_first (λ b. b.now) c.self.inside.payloads.items c.depth.result
+    ∙ ap (λ (k : ℕ). drop (length v.payloads - k) v.payloads) c.depth.ensures in
+    (λ i. record v { payloads = left i })
+    ∙ ap (λ (w : LaneValue). value_behind w w.core) c.self.view_is

@@ -1,4 +1,4 @@
-use Rattle.std.proofs.Common.{map, refl, ap}
+use Rattle.std.proofs.Common.{ℕ, List, map, reverse, refl, ap, Bor}
 use Rattle.trace_run.proofs.TakesNew.{new_lane}
 use Rattle.trace_run.proofs.lane.Lane.new.Goals as goal
 
@@ -6,4 +6,5 @@ pub returns : goal.returns
 returns c =
     new_lane c.args.pages c.args.size c.args.start _ c.requires.most c.requires.small c.requires.large
     c.requires.words c.in_ok-new_at.ensures
-    (ap (map (λ payload. payload.now)) c.in_ok-with_capacity.ensures.items) refl c.new.ensures.items
+    (ap (λ (l : List (Bor (List ℕ))). reverse (map (λ payload. payload.now) l)) c.in_ok-with_capacity.ensures.items)
+    refl c.new.ensures.items

@@ -3,7 +3,7 @@ use Rattle.std.proofs.lemmas.Result.{on_ok_weaker}
 use Rattle.nested_writer.specs.declared.frame.Frame.{Frame}
 use Rattle.trace_run.specs.Value.{LaneValue}
 use Rattle.trace_run.proofs.FrameRuns.{finished, lacks_finish}
-use Rattle.trace_run.proofs.lane.Lane.finish_top.Goals as goal
+use Rattle.trace_run.proofs.lane.Lane.finish.Goals as goal
 
 pub returns-then-depth-eq0 : goal.returns-then-depth-eq0
 returns-then-depth-eq0 c =
