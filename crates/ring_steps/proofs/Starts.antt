@@ -15,6 +15,7 @@ use Rattle.atomic_table.proofs.Lists.{at_map}
 use Rattle.trace_model.specs.Links.{Link, word_of, normal_link}
 use Rattle.trace_model.specs.Ring.{Core, Reader, IsStart, link_into, page_at}
 use Rattle.link_marks.specs.FirstLinks.{IsFirstLink}
+use Rattle.link_marks.specs.Reached.{IsReached}
 use Rattle.link_marks.proofs.Positions.{at_position, apart}
 use Rattle.link_marks.proofs.OneNewRing.{new_ring_is_one}
 use Rattle.page_image.specs.Contents.{Contents}
@@ -138,13 +139,17 @@ module _ (shape : Shape) (is : IsShape shape) (ws : List ℕ) (first_ws : AreFir
         ap (λ (v : Writing). get_elem? (map some slots) (get_or v.open_pages 0 0)) (sym same) ∙ home_at (start % n) None (omega arith) ((slot_at (start % n) (omega arith)).tail refl);
   }
 
--- the writer's first part is that of the new ring
+-- The model's new ring is one that no step is needed to reach, and the writer's first part is its.
+pub first_state : (shape : Shape) → IsShape shape → (c : Core) × IsStart shape.pages shape.start c × IsReached shape.pages shape.size shape.start c × (writing_of c ≡ first_writing shape)
+first_state shape is = let some_pages = is.some_pages in let (c, s, one) = new_ring_is_one shape.pages shape.start (omega arith) in let numbers = is.numbers_left in (
+  c,
+  s,
+  record { from = c; exchanges = []; may_start = record { some_pages = is.some_pages; numbers_left = omega arith }; is_new = s; run = refl },
+  λ i. record { frames = s.frames i; open_pages = s.open_pages i; history = s.history i; done = s.done i; opened = s.opened i },
+)
+
 pub first_reached : (shape : Shape) → IsShape shape → IsWriterReached shape (first_writing shape)
-first_reached shape is = let some_pages = is.some_pages in let (c, s, one) = new_ring_is_one shape.pages shape.start (omega arith) in let numbers = is.numbers_left in record {
-  core = c;
-  reached = record { from = c; exchanges = []; may_start = record { some_pages = is.some_pages; numbers_left = omega arith }; is_new = s; run = refl };
-  is = λ i. record { frames = s.frames i; open_pages = s.open_pages i; history = s.history i; done = s.done i; opened = s.opened i };
-}
+first_reached shape is = let (c, s, reached, part_is) = first_state shape is in record { core = c; reached = reached; is = part_is }
 
 -- and the reader's first part is within bounds
 pub first_within : (shape : Shape) → IsShape shape → IsReaderWithin shape (first_reading shape)

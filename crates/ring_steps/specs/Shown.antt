@@ -61,8 +61,8 @@ IsHome homes size page fill held =
 abbrev pub HasBody : Homes → (size page : ℕ) → Type 0
 HasBody homes size page = (body : Contents) × (get_elem? homes page ≡ some (some (Some body))) × (body.size ≡ size)
 
--- The page of each fill that is closed and unread is at home with what it holds; and so is a page for each fill that may
--- be begun before one more is closed. The spare's slot is empty, where the reader doesn't keep it.
+-- The page of each fill that is closed and unread is at home with what it holds; and so is a page for each fill that
+-- may be begun before one more is closed. The spare's slot is empty, where the reader doesn't keep it.
 pub record AreHomes (n size : ℕ) (c : Core) (r : Reading) (homes : Homes) : Type 0 where
   pub count : length homes ≡ n + 1
   pub closed : (f : ℕ)
@@ -98,4 +98,6 @@ pub record Shows (n size start : ℕ) (s : State (Option Contents) SeatView) : T
   pub reader : Reading
   pub shown : IsShown n size start core reader s.words s.homes
   pub seats : ArePlaced (writing_of core) reader s.views
-  pub tail : (w : Writing) (r : Reading) → s.views ≡ laid w r ∷ [] → get_elem? s.homes (slice_index_or w.open_pages 0 0) ≡ some (some None)
+  pub tail : (w : Writing) (r : Reading)
+      → s.views ≡ laid w r ∷ []
+      → get_elem? s.homes (slice_index_or w.open_pages 0 0) ≡ some (some None)

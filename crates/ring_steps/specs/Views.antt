@@ -26,8 +26,8 @@ writing_of c = record {
 }
 
 -- The reader's part: the page at each position, the page outside the ring and its link, how far its take has come and
--- what it took, and the wish, which it alone stores. heard: the committed records up to the last one that it took, those
--- that were lost in front among them. keeps_spare: the spare's slot is out with it.
+-- what it took, and the wish, which it alone stores. heard: the committed records up to the last one that it took,
+-- those that were lost in front among them. keeps_spare: the spare's slot is out with it.
 pub record Reading : Type 0 where
   pub order : List ℕ
   pub spare : ℕ
@@ -37,8 +37,8 @@ pub record Reading : Type 0 where
   pub heard : List Record
   pub keeps_spare : Bool
 
--- What a seat knows. laid: the first one, before it has the tail's slot; whole: and then, before it is split. joined: the
--- one that both became, and spent is what it left.
+-- What a seat knows. laid: the first one, before it has the tail's slot; whole: and then, before it is split. joined:
+-- the one that both became, and spent is what it left.
 pub data SeatView : Type 0 where
   laid : Writing → Reading → SeatView
   whole : Writing → Reading → SeatView
@@ -79,8 +79,8 @@ reading (reads r) = r
 reading (joined w r) = r
 reading spent = no_reading
 
--- The views of a ring's seats: at first one knows both parts; then the writer's is the first and the reader's the second;
--- at the end both are one again.
+-- The views of a ring's seats: at first one knows both parts; then the writer's is the first and the reader's the
+-- second; at the end both are one again.
 pub data ArePlaced (w : Writing) (r : Reading) : List SeatView → Type 0 where
   begun : ArePlaced w r (laid w r ∷ [])
   made : ArePlaced w r (whole w r ∷ [])

@@ -23,8 +23,8 @@ use trace_model::FillNo;
 
 impl WriterSeat {
     /// A load of the number of begun fills, which the writer knows: by it what the writer did in private since its last
-    /// step on a word comes to stand in what its seat knows. Behind it no step is pending. `given` is what a caller tells
-    /// the proof of that; no code reads it.
+    /// step on a word comes to stand in what its seat knows. Behind it no step is pending. `given` is what a caller
+    /// tells the proof of that; no code reads it.
     pub fn note<J: Present, G>(&mut self, given: &G)
         requires due { Leads self.old.shape (writing_in self.old) J.now }
         ensures shape { self.new.shape ≡ self.old.shape }
