@@ -1,0 +1,34 @@
+-- What an event that touches no word makes of the writer's part of a ring: a function of that part, whatever the rest is.
+use Rattle.std.specs.Prelude.{[], Option, Some, None}
+use Rattle.trace_model.specs.Links.{normal_link}
+use Rattle.trace_model.specs.Ring.{Core, first_reader}
+use Rattle.trace_model.specs.Steps.{Event}
+use Rattle.link_marks.proofs.StepFunction.{Outcome, step_of}
+use Rattle.ring_steps.specs.declared.rule.Shape.{Shape}
+use Rattle.ring_steps.specs.Views.{Writing, writing_of}
+
+-- a state with this as the writer's part, and nothing else
+abbrev pub alone : Writing → Core
+alone w = record {
+  links = [];
+  spare_link = normal_link 0 0;
+  done = w.done;
+  opened = w.opened;
+  wish = 0;
+  head = 0;
+  held = [];
+  frames = w.frames;
+  open_pages = w.open_pages;
+  history = w.history;
+  order = [];
+  spare = 0;
+  reader = first_reader 0;
+}
+
+abbrev pub part_of : Writing → Option Outcome → Writing
+part_of w None = w
+part_of w (Some outcome) = writing_of outcome.after
+
+-- the writer's part behind a private event
+abbrev pub behind : Shape → Writing → Event → Writing
+behind shape w event = part_of w (step_of shape.pages shape.size (alone w) event)

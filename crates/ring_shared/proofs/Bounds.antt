@@ -1,0 +1,64 @@
+-- What a writer knows of the numbers that its steps go by.
+use Rattle.std.proofs.Common.{◌≡◌, ◌≢◌, ℕ, ◌+◌, ◌<◌, ◌≤◌, [], length, Some, sym, ap, ◌∙◌, subst, arith}
+use Rattle.trace_model.specs.declared.limits.TheConstants.{MAX_PAGES, LINK_FILLS}
+use Rattle.trace_model.specs.Frames.{Phase, noted_fill}
+use Rattle.link_marks.specs.KeptLinks.{PhaseKept}
+use Rattle.link_marks.specs.KeptProgress.{PhaseAdvances, FramesAdvance}
+use Rattle.link_marks.proofs.FrameChanges.{top_kept}
+use Rattle.nested_writer.specs.Stack.{opened}
+use Rattle.ring_steps.specs.Views.{Writing}
+use Rattle.ring_frames.specs.Value.{phase_of}
+use Rattle.ring_shared.specs.Value.{WriterValue}
+use Rattle.ring_shared.specs.Calls.{IsWriter}
+use Rattle.ring_shared.proofs.Standing.{kept_now, top_in}
+use Rattle.ring_shared.proofs.PhasesFit.{PhaseFits, AllFit, reached_fits}
+
+module _ (v : WriterValue) (w : IsWriter v) where
+  pub opened_now : opened v.frames.stack ≡ v.part.opened
+  opened_now = sym w.frames_are.opened_is ∙ ap (λ (p : Writing). p.opened) w.part_is
+
+  pub done_now : v.frames.stack.done ≡ v.part.done
+  done_now = sym w.frames_are.done_is ∙ ap (λ (p : Writing). p.done) w.part_is
+
+  -- the pages of the fills that are begun and not closed
+  pub count_now : v.part.done + length v.pages ≡ v.part.opened
+  count_now =
+      let count = (kept_now v w).open_pages.count in
+      let done = ap (λ (p : Writing). p.done) w.part_is in
+      let begun = ap (λ (p : Writing). p.opened) w.part_is in
+      let wide = ap (λ (p : Writing). length p.open_pages) w.part_is in
+      let same = ap (length {A = ℕ}) w.pages_are in omega arith
+
+  -- one of them is the tail
+  pub some_open : 0 < length v.pages
+  some_open =
+      let count = count_now in let behind = (kept_now v w).links.done_lt in
+      let done = ap (λ (p : Writing). p.done) w.part_is in let begun = ap (λ (p : Writing). p.opened) w.part_is in omega arith
+
+  module _ (phase : Phase) (some : v.frames.stack.frames ≢ []) (at : phase_of v.frames.phase ≡ phase) where
+    -- what the frame on top knows in its phase
+    pub knows : PhaseKept v.shape.pages w.core.links w.core.order w.core.head w.core.done w.core.opened phase
+    knows =
+        let t = top_in v w w.core w.part_is some in
+        subst (PhaseKept v.shape.pages w.core.links w.core.order w.core.head w.core.done w.core.opened) (t.phase_is ∙ at)
+        (top_kept v.shape.pages w.core t.frame t.below (kept_now v w).links t.is_top)
+
+    pub advances : PhaseAdvances v.shape.pages w.core.links w.core.head phase
+    advances =
+        let t = top_in v w w.core w.part_is some in
+        subst (PhaseAdvances v.shape.pages w.core.links w.core.head) (t.phase_is ∙ at)
+        (subst (FramesAdvance v.shape.pages w.core.links w.core.head) t.is_top (kept_now v w).progress.advance).0
+
+    pub fits : v.shape.pages ≤ MAX_PAGES → PhaseFits v.shape.pages phase
+    fits few =
+        let t = top_in v w w.core w.part_is some in
+        subst (PhaseFits v.shape.pages) (t.phase_is ∙ at)
+        (subst (AllFit v.shape.pages) t.is_top (reached_fits v.shape.pages v.shape.size v.shape.start few w.core w.reached)).0
+
+    module _ (noted : ℕ) (is : noted_fill phase ≡ Some noted) where
+      -- the fill that it noted has a number, behind which there is a whole round of them
+      pub noted_bounds : (v.part.done < noted) × (noted ≤ v.part.opened) × (noted < v.part.done + v.shape.pages) × (noted + v.shape.pages < LINK_FILLS)
+      noted_bounds =
+          let (low, high, room, numbers) = knows.noted noted is in
+          let done = ap (λ (p : Writing). p.done) w.part_is in let begun = ap (λ (p : Writing). p.opened) w.part_is in
+          (omega arith, omega arith, omega arith, numbers)

@@ -1,0 +1,81 @@
+-- The reader's fields behind a step that takes nothing.
+use Rattle.std.proofs.Common.{◌≡◌, ◌≢◌, ℕ, ◌+◌, ◌-◌, ◌≤◌, length, Some, None, sym, ap, ◌∙◌, subst}
+use Rattle.atomic_table.specs.Seated.{TableId}
+use Rattle.trace_model.specs.Links.{normal_link}
+use Rattle.trace_model.specs.Ring as ring
+use Rattle.link_marks.specs.ModelLinks.{link_of}
+use Rattle.link_marks.specs.declared.link.Link.{Link}
+use Rattle.link_marks.specs.declared.link.Mark.{Mark}
+use Rattle.link_marks.specs.declared.link.Mark.TheVariants.{Normal, Header, Update}
+use Rattle.link_marks.proofs.RingsKept.{reached_kept}
+use Rattle.ring_core.specs.Value.{reader_phase_of}
+use Rattle.ring_core.specs.declared.phase.Reader.{Reader}
+use Rattle.ring_steps.specs.declared.rule.Shape.{Shape}
+use Rattle.ring_steps.specs.Views.{Reading}
+use Rattle.ring_steps.specs.Taking.{IsRead}
+use Rattle.ring_shared.specs.Value.{ReaderValue}
+use Rattle.ring_shared.specs.Takes.{IsReaderPart, KeepsSlot, SawPage, FoundEmpty, IsReader}
+use Rattle.ring_shared.proofs.TakeSteps.{Stays, sees_header, sees_update, sees_owed, sees_passed}
+
+-- the reader as the model has it
+abbrev pub AreFields : ring.Reader → Reader → Type 0
+AreFields reader at = (reader.phase ≡ reader_phase_of at.phase) × (reader.hint ≡ at.hint) × (reader.seen ≡ at.seen) × (reader.expected ≡ at.expected)
+
+module _ (w v : ReaderValue) (same : w ≡ v) (is : IsReader v) where
+  pub fields : AreFields v.part.reader w.at
+  fields = subst (λ (x : ReaderValue). AreFields v.part.reader x.at) (sym same) (is.phase_is, is.hint_is, is.seen_is, is.expected_is)
+
+  -- the fields are the reader's part again
+  pub shown_as : (shape : Shape) (table : TableId) (after : Reading) (reader : ring.Reader) (at : Reader) → shape ≡ w.shape → Stays v.shape v.part after reader
+      → AreFields reader at → KeepsSlot at.phase after.keeps_spare → SawPage at.phase
+      → ((done : ℕ) → w.empty_at ≡ Some done → FoundEmpty (record w { shape = shape; table = table; part = after; at = at }) done)
+      → IsReader (record w { shape = shape; table = table; part = after; at = at })
+  shown_as shape table after reader at shape_is s (phase, hint, seen, expected) keeps saw empty = record {
+    part = subst (λ (x : Shape). IsReaderPart x after) (sym (shape_is ∙ ap (λ (x : ReaderValue). x.shape) same)) s.known;
+    order_is = s.order_is ∙ (is.order_is ∙ ap (λ (x : ReaderValue). x.order) (sym same));
+    spare_is = s.spare_is ∙ (is.spare_is ∙ ap (λ (x : ReaderValue). x.spare) (sym same));
+    phase_is = ap (λ (x : ring.Reader). x.phase) s.reader_is ∙ phase;
+    hint_is = ap (λ (x : ring.Reader). x.hint) s.reader_is ∙ hint;
+    seen_is = ap (λ (x : ring.Reader). x.seen) s.reader_is ∙ seen;
+    expected_is = ap (λ (x : ring.Reader). x.expected) s.reader_is ∙ expected;
+    keeps = keeps;
+    saw = saw;
+    empty = empty;
+  }
+
+  -- no take has told that it found nothing
+  pub not_empty : v.empty_at ≡ None → (done : ℕ) → w.empty_at ≡ Some done → ⊥
+  not_empty anew done e = let none : w.empty_at ≡ None = ap (λ (x : ReaderValue). x.empty_at) same ∙ anew in let both = sym none ∙ e in absurd (cc)
+
+  pub shown : (shape : Shape) (table : TableId) (after : Reading) (reader : ring.Reader) (at : Reader) → v.empty_at ≡ None → shape ≡ w.shape → Stays v.shape v.part after reader
+      → AreFields reader at → KeepsSlot at.phase after.keeps_spare → SawPage at.phase
+      → IsReader (record w { shape = shape; table = table; part = after; at = at })
+  shown shape table after reader at anew shape_is s fields keeps saw = shown_as shape table after reader at shape_is s fields keeps saw (λ done e. absurd (not_empty anew done e))
+
+-- the order has as many pages as the ring
+pub positions : (v : ReaderValue) → IsReader v → length v.order ≡ v.shape.pages
+positions v is = let kept = reached_kept v.shape.pages v.shape.size v.shape.start is.part.core is.part.reached in
+    ap (length {A = ℕ}) (sym is.order_is ∙ is.part.is.order_is) ∙ kept.links.apart.pages
+
+-- ---- what a load of a link tells, by its mark
+
+-- the link that is loaded is that into the position of the hint
+abbrev pub SeesLink : ReaderValue → Link → ring.Core → Type 0
+SeesLink v l core = ring.link_into v.shape.pages core.links v.part.reader.hint ≡ link_of l
+
+module _ (v : ReaderValue) (l : Link) (after : Reading) (read : IsRead v.shape v.part (SeesLink v l) after) (at : v.part.reader.phase ≡ ring.loading_link) where
+  link_is : (mark : Mark) → l.mark ≡ mark → ring.link_into v.shape.pages read.1.core.links v.part.reader.hint ≡ link_of record { mark = mark; page = l.page; fill = l.fill }
+  link_is mark is = read.1.seen ∙ ap (λ (m : Mark). link_of record { mark = m; page = l.page; fill = l.fill }) is
+
+  pub at_header : l.mark ≡ Header → Stays v.shape v.part after (record v.part.reader { phase = ring.loading_done l.page l.fill; hint = l.fill }) × (v.part.reader.hint ≤ l.fill)
+  at_header is = sees_header v.shape v.part after (SeesLink v l) read.0 read.1 at l.page l.fill (link_is Header is)
+
+  pub at_update : l.mark ≡ Update → Stays v.shape v.part after (record v.part.reader { phase = ring.loading_link; hint = l.fill + 1 }) × (v.part.reader.hint ≤ l.fill + 1)
+  at_update is = sees_update v.shape v.part after (SeesLink v l) read.0 read.1 at l.page l.fill (link_is Update is)
+
+  pub at_owed : l.mark ≡ Normal → l.fill ≡ v.part.reader.hint → Stays v.shape v.part after v.part.reader
+  at_owed is here = sees_owed v.shape v.part after (SeesLink v l) read.0 read.1 at l.page (link_is Normal is ∙ ap (normal_link l.page) here)
+
+  pub at_passed : l.mark ≡ Normal → l.fill ≢ v.part.reader.hint
+      → Stays v.shape v.part after (record v.part.reader { phase = ring.loading_link; hint = l.fill + 1 - v.shape.pages }) × (v.part.reader.hint + v.shape.pages ≤ l.fill + 1)
+  at_passed is other = sees_passed v.shape v.part after (SeesLink v l) read.0 read.1 at l.page l.fill (link_is Normal is) other

@@ -1,0 +1,49 @@
+-- A step on a link's word, by which the frame on top goes on in another phase, for the fill that it noted.
+use Rattle.std.proofs.Common.{◌≡◌, ◌≢◌, ℕ, List, [], Some, refl, sym, ap, ◌∙◌, subst}
+use Rattle.trace_model.specs.Frames.{Phase as ModelPhase, Frame, noted_fill}
+use Rattle.trace_model.specs.Ring.{Core}
+use Rattle.trace_model.specs.Steps as model
+use Rattle.ring_steps.specs.Views.{Writing, writing_of}
+use Rattle.ring_steps.specs.Seats.{IsWriterStep}
+use Rattle.ring_frames.specs.declared.phase.Phase.{Phase}
+use Rattle.ring_frames.specs.declared.answer.Answer.{Answer}
+use Rattle.ring_frames.specs.declared.answer.Answer.TheVariants.{Going}
+use Rattle.ring_frames.specs.Value.{phase_of}
+use Rattle.ring_frames.specs.Steps.{GoesOnIn, IsNotedIn}
+use Rattle.ring_shared.specs.Value.{WriterValue}
+use Rattle.ring_shared.specs.Calls.{IsWriter, Makes}
+use Rattle.ring_shared.proofs.TopSteps.{top_stepped}
+use Rattle.ring_shared.proofs.Standing.{frames_like, frames_in, top_in, made}
+
+-- the step of the frame on top in a phase makes of the writer's part that the frame goes on in another
+abbrev pub Moves : WriterValue → ModelPhase → ModelPhase → Core → Core → Type 0
+Moves v from to c after = (frame : Frame) (below : List Frame)
+    → model.FrameStep v.shape.pages v.shape.size c frame below from model.going after
+    → writing_of after ≡ writing_of (model.in_phase c frame below to)
+
+-- it goes on in this phase, which was chosen by what the word told
+pub goes_on : (v new : WriterValue) (w : IsWriter v) (some : v.frames.stack.frames ≢ []) (from : ModelPhase) (noted : ℕ) (chosen to : Phase) (sees : Core → Type 0)
+    → phase_of v.frames.phase ≡ from
+    → noted_fill from ≡ Some noted
+    → noted_fill (phase_of to) ≡ Some noted
+    → chosen ≡ to
+    → new.shape ≡ v.shape
+    → new.table ≡ v.table
+    → new.pages ≡ v.pages
+    → ((fill : ℕ) → IsNotedIn v.frames.phase chosen fill → GoesOnIn v.frames chosen new.frames)
+    → (s : IsWriterStep v.shape v.part sees model.going new.part)
+    → Moves v from (phase_of to) s.core s.next
+    → Makes v model.steps Going new
+goes_on v new w some from noted chosen to sees at was is same shape_is table_is pages_is on s moves =
+    let before = frames_in v w s.core s.before_is in
+    let t = top_in v w s.core s.before_is some in
+    let part = moves t.frame t.below (top_stepped v.shape.pages v.shape.size s.core t.frame t.below from model.going s.next t.is_top (t.phase_is ∙ at) s.step) in
+    let goes : GoesOnIn v.frames to new.frames = subst (λ (p : Phase). GoesOnIn v.frames p new.frames) same
+    (on noted record { before = ap noted_fill at ∙ was; behind = ap (λ (p : Phase). noted_fill (phase_of p)) same ∙ is }) in
+    made v w new sees model.going Going shape_is table_is s refl
+    (frames_like v.shape new.frames (model.in_phase s.core t.frame t.below (phase_of to)) s.next (goes v.shape.pages v.shape.size v.shape.start s.core t.frame t.below before t.is_top) part)
+    (ap (λ (p : Writing). p.open_pages) part ∙ ap (λ (p : Writing). p.open_pages) s.before_is ∙ w.pages_are ∙ sym pages_is)
+
+-- the same of a value, where its view is that one, and of an answer
+pub as_called : (v x new : WriterValue) (result : Answer) → v ≡ x → result ≡ Going → Makes v model.steps Going new → Makes x model.steps result new
+as_called v x new result view_is is makes = subst (λ (r : Answer). Makes x model.steps r new) (sym is) (subst (λ (y : WriterValue). Makes y model.steps Going new) view_is makes)

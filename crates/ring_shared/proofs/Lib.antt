@@ -1,0 +1,17 @@
+pub mod Behind
+pub mod Bounds
+pub mod Called
+pub mod Fields
+pub mod FirstReader
+pub mod GoingOn
+pub mod LinkMoves
+pub mod NewWriter
+pub mod Onward
+pub mod PageMoves
+pub mod PhasesFit
+pub mod Privately
+pub mod Settles
+pub mod Standing
+pub mod Swapped
+pub mod TakeSteps
+pub mod TopSteps

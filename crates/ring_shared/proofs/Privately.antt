@@ -1,0 +1,128 @@
+-- Private events of a writer: they lead from its part to the one that is computed, and what its frames make of one is a
+-- call.
+use Rattle.std.proofs.Common.{◌≡◌, ℕ, [], ◌∷◌, refl, sym, ap, ◌∙◌, subst}
+use Rattle.trace_model.specs.Ring.{Core}
+use Rattle.trace_model.specs.Steps as model
+use Rattle.link_marks.specs.Reached.{IsReached}
+use Rattle.link_marks.specs.RingLaws.{MayAsk}
+use Rattle.link_marks.specs.Seats.{WriterStays, PhaseIsPrivate, IsPrivate}
+use Rattle.link_marks.proofs.PrivateAlike.{private_computed}
+use Rattle.link_marks.proofs.PrivateSteps.{private_result, changes_privately}
+use Rattle.link_marks.proofs.RingsKept.{reached_kept, reached_further}
+use Rattle.link_marks.proofs.StepsGiven.{each_event_is_a_step}
+use Rattle.nested_writer.specs.Stack.{opened}
+use Rattle.ring_frames.specs.declared.answer.Answer.{Answer}
+use Rattle.ring_frames.specs.Value.{phase_of}
+use Rattle.ring_frames.specs.Answers.{top_bytes}
+use Rattle.ring_frames.specs.AreFrames.{AreFrames}
+use Rattle.ring_frames.specs.Steps.{MakesPrivate}
+use Rattle.ring_frames.proofs.Asked.{may_end, steps_are_private}
+use Rattle.ring_frames.proofs.Same.{same_frames}
+use Rattle.ring_steps.specs.declared.rule.Shape.{Shape}
+use Rattle.ring_steps.specs.Views.{Writing, writing_of}
+use Rattle.ring_steps.specs.Seats.{Leads}
+use Rattle.ring_shared.specs.Value.{WriterValue}
+use Rattle.ring_shared.specs.Calls.{IsWriter, Makes}
+use Rattle.ring_shared.proofs.Behind.{alone, part_of, behind}
+
+-- ---- the writer's part
+
+part_is : (c d : Core) → WriterStays c d → writing_of c ≡ writing_of d
+part_is c d same = λ i. record {
+  frames = sym same.frames i;
+  open_pages = sym same.open_pages i;
+  history = sym same.history i;
+  done = sym same.done i;
+  opened = sym same.opened i;
+}
+
+stands_alone : (w : Writing) (c : Core) → writing_of c ≡ w → WriterStays c (alone w)
+stands_alone w c is = record {
+  frames = ap (λ (x : Writing). x.frames) (sym is);
+  open_pages = ap (λ (x : Writing). x.open_pages) (sym is);
+  history = ap (λ (x : Writing). x.history) (sym is);
+  done = ap (λ (x : Writing). x.done) (sym is);
+  opened = ap (λ (x : Writing). x.opened) (sym is);
+}
+
+-- behind a private step it is the one that is computed
+pub behind_is : (shape : Shape) (w : Writing) (c : Core) (event : model.Event) (answer : model.Answer) (after : Core) → writing_of c ≡ w → IsPrivate c event → model.Step shape.pages shape.size c event answer after → writing_of after ≡ behind shape w event
+behind_is shape w c event answer after is own step =
+    let (next, computed, same) = private_computed shape.pages shape.size c (alone w) event answer after (stands_alone w c is) own step in
+    part_is after next same ∙ sym (ap (part_of w) computed)
+
+-- ---- what a note asks
+
+-- in each state with this as the writer's part, the event is private and may be asked
+abbrev pub MayNote : Shape → Writing → model.Event → Type 0
+MayNote shape w event = (c : Core)
+    → IsReached shape.pages shape.size shape.start c
+    → writing_of c ≡ w
+    → IsPrivate c event
+    × MayAsk c event
+
+pub leads_behind : (shape : Shape) (w : Writing) (event : model.Event) → MayNote shape w event → Leads shape w (behind shape w event)
+leads_behind shape w event may = λ c reached is.
+    let (own, ask) = may c reached is in
+    let (answer, after, step) = each_event_is_a_step shape.pages shape.size shape.start c event (reached_kept shape.pages shape.size shape.start c reached) ask in
+    (record { event = event; answer = answer } ∷ [], after, (own, after, step, refl), behind_is shape w c event answer after is own step)
+
+pub push_leads : (shape : Shape) (w : Writing) (moment len : ℕ) → Leads shape w (behind shape w (model.pushes moment len))
+push_leads shape w moment len = leads_behind shape w (model.pushes moment len) (λ c reached is. (tt, tt))
+
+pub close_leads : (shape : Shape) (w : Writing) → Leads shape w (behind shape w model.pushes_close)
+close_leads shape w = leads_behind shape w model.pushes_close (λ c reached is. (tt, tt))
+
+-- the writer's frames are those of each state with its part
+frames_there : (v : WriterValue) → IsWriter v → (c : Core) → writing_of c ≡ v.part → AreFrames v.shape.pages v.shape.size v.shape.start v.frames c
+frames_there v w c is = let same = is ∙ sym w.part_is in
+    same_frames v.shape.pages v.shape.size v.shape.start v.frames w.core c w.frames_are
+    (ap (λ (x : Writing). x.frames) same)
+    (ap (λ (x : Writing). x.history) same)
+    (ap (λ (x : Writing). x.done) same)
+    (ap (λ (x : Writing). x.opened) same)
+
+pub end_leads : (v : WriterValue) → IsWriter v → Leads v.shape v.part (behind v.shape v.part (model.ends (top_bytes v.frames.stack v.frames.stack.frames)))
+end_leads v w = leads_behind v.shape v.part (model.ends (top_bytes v.frames.stack v.frames.stack.frames))
+    (λ c reached is. (tt, may_end v.shape.pages v.shape.size v.shape.start v.frames c (frames_there v w c is)))
+
+pub step_leads : (v : WriterValue) → IsWriter v → PhaseIsPrivate (phase_of v.frames.phase) (opened v.frames.stack) → Leads v.shape v.part (behind v.shape v.part model.steps)
+step_leads v w own = leads_behind v.shape v.part model.steps
+    (λ c reached is. (steps_are_private v.shape.pages v.shape.size v.shape.start v.frames c (frames_there v w c is) own, tt))
+
+-- ---- calls
+
+-- what the frames made in private, and the seat has noted, is a call
+private_call : (old : WriterValue) (event : model.Event) (result : Answer) (new : WriterValue) → IsWriter old → new.shape ≡ old.shape → new.table ≡ old.table → new.part ≡ behind old.shape old.part event → new.pages ≡ old.pages → MakesPrivate old.frames event result new.frames → Makes old event result new
+private_call old event result new w shape table noted pages made =
+    let n = old.shape.pages in let size = old.shape.size in let start = old.shape.start in
+    let m = made n size start w.core w.reached w.frames_are in
+    let after_is : writing_of m.after ≡ new.part = behind_is old.shape old.part w.core event m.answer m.after w.part_is m.private m.step ∙ sym noted in
+    let stays = ap (λ (d : Core). d.open_pages) (changes_privately w.core m.after (private_result n size w.core event m.answer m.after m.private m.step)) in
+    record {
+      shape_is = shape;
+      table_is = table;
+      call = record {
+        core = w.core;
+        next = m.after;
+        answer = m.answer;
+        reached = w.reached;
+        before_is = w.part_is;
+        step = m.step;
+        after_is = after_is;
+        tells = m.tells;
+      };
+      writer = record {
+        core = m.after;
+        reached = subst (λ (s : Shape). IsReached s.pages s.size s.start m.after) (sym shape) (reached_further n size start w.core event m.answer m.after w.reached m.step);
+        part_is = after_is;
+        frames_are = subst (λ (s : Shape). AreFrames s.pages s.size s.start new.frames m.after) (sym shape) m.are;
+        pages_are = ap (λ (x : Writing). x.open_pages) (sym after_is) ∙ stays ∙ ap (λ (x : Writing). x.open_pages) w.part_is ∙ w.pages_are ∙ sym pages;
+      };
+    }
+
+-- so of the value that the writer is seen as
+pub seen_call : (old now : WriterValue) (event : WriterValue → model.Event) (result : Answer) (new : WriterValue) → old ≡ now → IsWriter now → new.shape ≡ old.shape → new.table ≡ old.table → new.part ≡ behind old.shape old.part (event old) → new.pages ≡ old.pages → MakesPrivate old.frames (event old) result new.frames → Makes now (event now) result new
+seen_call old now event result new is w shape table noted pages made =
+    subst (λ (v : WriterValue). Makes v (event v) result new) is
+    (private_call old (event old) result new (subst IsWriter (sym is) w) shape table noted pages made)

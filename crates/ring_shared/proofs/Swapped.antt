@@ -1,0 +1,58 @@
+-- What the reader's swap tells of its part.
+use Rattle.std.proofs.Common.{◌≡◌, ◌≢◌, ℕ, ◌+◌, ◌-◌, ◌≤◌, List, [], take, map, sym, ap, ◌∙◌, subst, arith}
+use Rattle.trace_model.specs.Record.{Record}
+use Rattle.trace_model.specs.History.{as_record, reserved_records}
+use Rattle.trace_model.specs.Links.{header_link}
+use Rattle.trace_model.specs.Partition.{IsPartition}
+use Rattle.trace_model.specs.Ring as ring
+use Rattle.trace_model.specs.Steps as model
+use Rattle.link_marks.specs.KeptPartition.{pieces_of}
+use Rattle.link_marks.proofs.RingsKept.{reached_kept}
+use Rattle.page_image.specs.Contents.{Contents}
+use Rattle.nested_writer.specs.Released.{IsWrittenPage}
+use Rattle.ring_steps.specs.declared.rule.Shape.{Shape}
+use Rattle.ring_steps.specs.Views.{Reading}
+use Rattle.ring_steps.specs.Swapping.{HeadTaken, HeadMissed}
+use Rattle.ring_shared.specs.Takes.{IsReaderPart, IsPageTaken}
+use Rattle.ring_shared.proofs.TakeSteps.{Stays, known_after, facts, hint_is}
+
+-- the records that a reader heard of are parted into what it took and what was lost between
+pub parted : (shape : Shape) (part : Reading) → IsReaderPart shape part → IsPartition part.heard (pieces_of part.reader.taken) []
+parted shape part known = let kept = reached_kept shape.pages shape.size shape.start known.core known.reached in
+    subst (λ (heard : List Record). IsPartition heard (pieces_of part.reader.taken) []) (sym known.is.heard_is)
+    (subst (λ (x : ring.Reader). IsPartition (take known.core.reader.expected (map as_record (reserved_records known.core.history))) (pieces_of x.taken) []) (sym known.is.reader_is) kept.partition.partition)
+
+module _ (shape : Shape) (before : Reading) (page fill : ℕ) (after : Reading) (at : before.reader.phase ≡ ring.swapping page fill) where
+  pub takes : (taken : Contents) → HeadTaken shape before page fill taken after → IsReaderPart shape after × IsPageTaken shape before taken (taken.first - before.reader.expected) after
+  takes taken h =
+      let sees : ring.Core → Type 0 = λ core. ring.link_into shape.pages core.links fill ≡ header_link page fill in
+      let known : IsReaderPart shape after = known_after shape before after sees (model.swapped h.told) h.step in
+      let seen = (facts shape before after sees (model.swapped h.told) h.step (ring.swapping page fill) at).0 in
+      let fill_is = seen.fill_is in let told_is = h.fill_is in let hint = hint_is shape before after sees (model.swapped h.told) h.step in (
+        known,
+        record {
+          taken = h.told;
+          is = record { written = subst (λ (f : ℕ). IsWrittenPage shape.size f h.told.held taken) (sym h.fill_is) h.written; missed_is = sym h.skipped_is };
+          one_more = ap (λ (x : ring.Reader). x.taken) h.reader_is;
+          hint_le = omega arith;
+          lost = h.lost;
+          lost_are = h.lost_are ∙ h.skipped_is;
+          heard_is = h.heard_is;
+          partition = parted shape after known;
+        },
+      )
+
+  pub misses : HeadMissed shape before page fill after → Stays shape before after (record before.reader { phase = ring.loading_link; hint = fill + 1 }) × (before.reader.hint ≤ fill + 1)
+  misses h =
+      let sees : ring.Core → Type 0 = λ core. ring.link_into shape.pages core.links fill ≢ header_link page fill in
+      let seen = (facts shape before after sees model.reading h.step (ring.swapping page fill) at).0 in
+      let fill_is = seen.fill_is in let hint = hint_is shape before after sees model.reading h.step in (
+        record {
+          known = known_after shape before after sees model.reading h.step;
+          order_is = ap (λ (r : Reading). r.order) h.after_is;
+          spare_is = ap (λ (r : Reading). r.spare) h.after_is;
+          heard_is = ap (λ (r : Reading). r.heard) h.after_is;
+          reader_is = ap (λ (r : Reading). r.reader) h.after_is;
+        },
+        omega arith,
+      )

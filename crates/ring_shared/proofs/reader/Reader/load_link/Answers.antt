@@ -1,0 +1,88 @@
+use Rattle.std.proofs.Common.{◌≡◌, ℕ, ◌+◌, ◌-◌, ◌≤◌, length, refl, sym, ap, ◌∙◌, subst, arith}
+use Rattle.trace_model.specs.Ring as ring
+use Rattle.link_marks.specs.declared.link.Link.{Link}
+use Rattle.ring_core.specs.Value.{reader_phase_of}
+use Rattle.ring_core.specs.declared.phase.ReaderPhase.{ReaderPhase}
+use Rattle.ring_core.specs.declared.phase.ReaderPhase.TheVariants.{LoadingLink}
+use Rattle.ring_steps.specs.Views.{Reading}
+use Rattle.ring_steps.specs.Ends.{reading_in, reader_table}
+use Rattle.ring_steps.specs.Taking.{IsRead}
+use Rattle.ring_shared.specs.Value.{ReaderValue}
+use Rattle.ring_shared.specs.Takes.{KeepsSlot, SawPage, IsInTheWay, ArePassedBelow}
+use Rattle.ring_shared.proofs.TakeSteps.{Stays, nothing, passed_below_hint}
+use Rattle.ring_shared.proofs.Fields.{SeesLink, fields, positions, shown, at_header, at_update, at_owed, at_passed}
+use Rattle.ring_shared.proofs.reader.Reader.load_link.Goals as goal
+
+-- a move of the head in the way, where the reader's hint is this fill
+in_the_way : (v : ReaderValue) (after : Reading) (reader : ring.Reader) (fill : ℕ) → Stays v.shape v.part after reader → reader.taken ≡ v.part.reader.taken → reader.expected ≡ v.part.reader.expected
+    → reader.seen ≡ v.part.reader.seen → reader.hint ≡ fill → v.part.reader.hint ≤ fill → IsInTheWay v.shape v.part fill after
+in_the_way v after reader fill s taken expected seen hint low = record {
+  nothing = nothing v.shape v.part after reader s taken expected (omega arith) (omega arith);
+  hint_le = low;
+  passed = subst (ArePassedBelow v.shape after) (ap (λ (x : ring.Reader). x.hint) s.reader_is ∙ hint) (passed_below_hint v.shape after s.known);
+}
+
+pub returns-in-Header-clause-turn : goal.returns-in-Header-clause-turn
+returns-in-Header-clause-turn c =
+    let v : ReaderValue = c.args.self.now in let l : Link = c.load_link-mark.result in let after : Reading = reading_in c.load_link-mark.new.self in
+    let read = subst (λ (w : ReaderValue). IsRead w.shape w.part (SeesLink w l) after) c.self.view_is c.load_link-mark.ensures.step in
+    let at = c.requires.reader.phase_is ∙ ap reader_phase_of c.requires.phase in
+    let (s, low) = at_header v l after read at c.in-Header.is in
+    (refl, nothing v.shape v.part after (record v.part.reader { phase = ring.loading_done l.page l.fill; hint = l.fill }) s refl refl low (omega arith))
+
+pub returns-in-Header-clause-reader : goal.returns-in-Header-clause-reader
+returns-in-Header-clause-reader c =
+    let v : ReaderValue = c.args.self.now in let l : Link = c.load_link-mark.result in let new = c.load_link-mark.new.self in let after : Reading = reading_in new in
+    let read = subst (λ (w : ReaderValue). IsRead w.shape w.part (SeesLink w l) after) c.self.view_is c.load_link-mark.ensures.step in
+    let at = c.requires.reader.phase_is ∙ ap reader_phase_of c.requires.phase in
+    let old = fields _ v c.self.view_is c.requires.reader in
+    shown _ v c.self.view_is c.requires.reader new.shape (reader_table new) after (record v.part.reader { phase = ring.loading_done l.page l.fill; hint = l.fill }) _ c.requires.anew c.load_link-mark.ensures.shape
+    (at_header v l after read at c.in-Header.is).0 (refl, refl, old.2, old.3) c.load_link-mark.ensures.spare c.load_link-mark.ensures.fits.page_fits
+
+pub returns-in-Update-clause-turn : goal.returns-in-Update-clause-turn
+returns-in-Update-clause-turn c =
+    let v : ReaderValue = c.args.self.now in let l : Link = c.load_link-mark.result in let after : Reading = reading_in c.load_link-mark.new.self in
+    let read = subst (λ (w : ReaderValue). IsRead w.shape w.part (SeesLink w l) after) c.self.view_is c.load_link-mark.ensures.step in
+    let at = c.requires.reader.phase_is ∙ ap reader_phase_of c.requires.phase in
+    let (s, low) = at_update v l after read at c.in-Update.is in
+    (refl, in_the_way v after (record v.part.reader { phase = ring.loading_link; hint = l.fill + 1 }) (l.fill + 1) s refl refl refl refl low)
+
+pub returns-in-Update-clause-reader : goal.returns-in-Update-clause-reader
+returns-in-Update-clause-reader c =
+    let v : ReaderValue = c.args.self.now in let l : Link = c.load_link-mark.result in let new = c.load_link-mark.new.self in let after : Reading = reading_in new in
+    let read = subst (λ (w : ReaderValue). IsRead w.shape w.part (SeesLink w l) after) c.self.view_is c.load_link-mark.ensures.step in
+    let at = c.requires.reader.phase_is ∙ ap reader_phase_of c.requires.phase in
+    let old = fields _ v c.self.view_is c.requires.reader in
+    let link : c.self.inside.at.phase ≡ LoadingLink = ap (λ (w : ReaderValue). w.at.phase) c.self.view_is ∙ c.requires.phase in
+    shown _ v c.self.view_is c.requires.reader new.shape (reader_table new) after (record v.part.reader { phase = ring.loading_link; hint = l.fill + 1 }) _ c.requires.anew c.load_link-mark.ensures.shape
+    (at_update v l after read at c.in-Update.is).0 (ap reader_phase_of (sym link), refl, old.2, old.3) (subst (λ (p : ReaderPhase). KeepsSlot p after.keeps_spare) (sym link) tt) (subst SawPage (sym link) tt)
+
+pub returns-in-Normal-clause-turn : goal.returns-in-Normal-clause-turn
+returns-in-Normal-clause-turn c =
+    let v : ReaderValue = c.args.self.now in let l : Link = c.load_link-mark.result in let after : Reading = reading_in c.load_link-mark.new.self in
+    let read = subst (λ (w : ReaderValue). IsRead w.shape w.part (SeesLink w l) after) c.self.view_is c.load_link-mark.ensures.step in
+    let at = c.requires.reader.phase_is ∙ ap reader_phase_of c.requires.phase in
+    let hint = (fields _ v c.self.view_is c.requires.reader).1 in
+    let s = at_owed v l after read at c.in-Normal.is (c.if-fill-hint.true ∙ sym hint) in
+    (refl, in_the_way v after v.part.reader c.self.inside.at.hint s refl refl refl hint (omega arith))
+
+pub returns-in-Normal-2-clause-turn : goal.returns-in-Normal-2-clause-turn
+returns-in-Normal-2-clause-turn c =
+    let v : ReaderValue = c.args.self.now in let l : Link = c.load_link-mark.result in let after : Reading = reading_in c.load_link-mark.new.self in
+    let read = subst (λ (w : ReaderValue). IsRead w.shape w.part (SeesLink w l) after) c.self.view_is c.load_link-mark.ensures.step in
+    let at = c.requires.reader.phase_is ∙ ap reader_phase_of c.requires.phase in
+    let hint = (fields _ v c.self.view_is c.requires.reader).1 in
+    let (s, low) = at_passed v l after read at c.in-Normal-2.is (λ e. c.if-fill-hint.false (e ∙ hint)) in
+    (refl, nothing v.shape v.part after (record v.part.reader { phase = ring.loading_link; hint = l.fill + 1 - v.shape.pages }) s refl refl (omega arith) (omega arith))
+
+pub returns-in-Normal-2-clause-reader : goal.returns-in-Normal-2-clause-reader
+returns-in-Normal-2-clause-reader c =
+    let v : ReaderValue = c.args.self.now in let l : Link = c.load_link-mark.result in let new = c.load_link-mark.new.self in let after : Reading = reading_in new in
+    let read = subst (λ (w : ReaderValue). IsRead w.shape w.part (SeesLink w l) after) c.self.view_is c.load_link-mark.ensures.step in
+    let at = c.requires.reader.phase_is ∙ ap reader_phase_of c.requires.phase in
+    let old = fields _ v c.self.view_is c.requires.reader in
+    let link : c.self.inside.at.phase ≡ LoadingLink = ap (λ (w : ReaderValue). w.at.phase) c.self.view_is ∙ c.requires.phase in
+    let pages : c.len-pages.result ≡ v.shape.pages = c.len-pages.ensures ∙ (c.self.inside.order.ok.0 ∙ (ap (λ (w : ReaderValue). length w.order) c.self.view_is ∙ positions v c.requires.reader)) in
+    shown _ v c.self.view_is c.requires.reader new.shape (reader_table new) after (record v.part.reader { phase = ring.loading_link; hint = l.fill + 1 - v.shape.pages }) _ c.requires.anew c.load_link-mark.ensures.shape
+    (at_passed v l after read at c.in-Normal-2.is (λ e. c.if-fill-hint.false (e ∙ old.1))).0
+    (ap reader_phase_of (sym link), ap (λ (n : ℕ). l.fill + 1 - n) (sym pages), old.2, old.3) (subst (λ (p : ReaderPhase). KeepsSlot p after.keeps_spare) (sym link) tt) (subst SawPage (sym link) tt)

@@ -1,0 +1,12 @@
+use Rattle.std.proofs.Common.{refl}
+use Rattle.trace_model.specs.Steps.{pushes}
+use Rattle.ring_steps.specs.Ends.{writing_in}
+use Rattle.ring_shared.proofs.Privately.{push_leads, seen_call}
+use Rattle.ring_shared.proofs.writer.Writer.begin.Goals as goal
+
+pub note-requires : goal.note-requires
+note-requires c = record { due = push_leads c.self.inside.seat.shape (writing_in c.self.inside.seat) c.args.moment c.args.len }
+
+pub returns : goal.returns
+returns c =
+    seen_call _ _ (λ _. pushes c.args.moment c.args.len) c.push.result _ c.self.view_is c.requires.writer c.note.ensures.shape c.note.ensures.table c.note.ensures.noted refl c.push.ensures

@@ -1,0 +1,13 @@
+use Rattle.std.proofs.Common.{refl, sym, subst}
+use Rattle.trace_model.specs.Steps.{ends}
+use Rattle.ring_frames.specs.Answers.{top_bytes}
+use Rattle.ring_shared.specs.Calls.{IsWriter}
+use Rattle.ring_shared.proofs.Privately.{end_leads, seen_call}
+use Rattle.ring_shared.proofs.writer.Writer.end.Goals as goal
+
+pub note-requires : goal.note-requires
+note-requires c = record { due = end_leads _ (subst IsWriter (sym c.self.view_is) c.requires.writer) }
+
+pub returns : goal.returns
+returns c =
+    seen_call _ _ (λ x. ends (top_bytes x.frames.stack x.frames.stack.frames)) c.end.result _ c.self.view_is c.requires.writer c.note.ensures.shape c.note.ensures.table c.note.ensures.noted refl c.end.ensures

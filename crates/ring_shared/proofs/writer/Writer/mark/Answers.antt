@@ -1,0 +1,78 @@
+use Rattle.std.proofs.Common.{◌≡◌, ◌≤◌, refl, sym, ap, ◌∙◌, subst, arith}
+use Rattle.trace_model.specs.Frames.{Phase as ModelPhase, marking, noted_fill}
+use Rattle.trace_model.specs.Steps as model
+use Rattle.trace_model.specs.Steps.{GoesOn}
+use Rattle.nested_writer.specs.Stack.{opened}
+use Rattle.ring_steps.specs.Views.{Writing, writing_of}
+use Rattle.ring_frames.specs.declared.phase.Phase.{Phase}
+use Rattle.ring_frames.specs.Phases.{told}
+use Rattle.ring_frames.specs.Value.{phase_of, role_of}
+use Rattle.ring_shared.specs.Value.{WriterValue}
+use Rattle.ring_shared.specs.Calls.{IsWriter}
+use Rattle.ring_shared.specs.contracts.writer.Writer.{the_view}
+use Rattle.ring_shared.proofs.Standing.{leads_nowhere, phase_shown}
+use Rattle.ring_shared.proofs.Called.{writer_seen, top_seen, phase_seen}
+use Rattle.ring_shared.proofs.Bounds.{opened_now, noted_bounds, advances, fits}
+use Rattle.ring_shared.proofs.GoingOn.{goes_on, as_called}
+use Rattle.ring_shared.proofs.LinkMoves.{noted_after, marked}
+use Rattle.ring_shared.proofs.writer.Writer.mark.Goals as goal
+
+pub overflow_add-behind : goal.overflow_add-behind
+overflow_add-behind c =
+    let v : WriterValue = the_view c.self.inside in
+    let (low, high, room, numbers) = noted_bounds v (writer_seen c.self.view_is c.requires.writer) (marking (role_of c.args.role) c.args.noted c.args.page c.args.next)
+    (top_seen c.self.view_is c.requires.top)
+    (phase_seen c.self.view_is c.requires.phase) c.args.noted refl in omega arith
+
+pub overflow_sub-behind : goal.overflow_sub-behind
+overflow_sub-behind c =
+    let v : WriterValue = the_view c.self.inside in
+    let w : IsWriter v = writer_seen c.self.view_is c.requires.writer in
+    let pages : c.pages.result ≡ v.shape.pages = c.pages.ensures.pages ∙ w.frames_are.pages_is in
+    let round : v.shape.pages ≤ c.args.noted = advances v w (marking (role_of c.args.role) c.args.noted c.args.page c.args.next) (top_seen c.self.view_is c.requires.top)
+    (phase_seen c.self.view_is c.requires.phase) in omega arith
+
+pub mark_next-marked-requires-clause-due : goal.mark_next-marked-requires-clause-due
+mark_next-marked-requires-clause-due c = let v : WriterValue = the_view c.self.inside in leads_nowhere v.shape v.part
+
+pub mark_next-marked-requires-clause-phase : goal.mark_next-marked-requires-clause-phase
+mark_next-marked-requires-clause-phase c =
+    let v : WriterValue = the_view c.self.inside in
+    let w : IsWriter v = writer_seen c.self.view_is c.requires.writer in
+    let some = top_seen c.self.view_is c.requires.top in
+    let at : phase_of v.frames.phase ≡ marking (role_of c.args.role) c.args.noted c.args.page c.args.next = phase_seen c.self.view_is c.requires.phase in
+    let pages : c.pages.result ≡ v.shape.pages = c.pages.ensures.pages ∙ w.frames_are.pages_is in
+    let round : v.shape.pages ≤ c.args.noted = advances v w (marking (role_of c.args.role) c.args.noted c.args.page c.args.next) some at in record {
+      role = role_of c.args.role;
+      noted = c.args.noted;
+      phase = phase_shown v w (marking (role_of c.args.role) c.args.noted c.args.page c.args.next) some at;
+      goes_on = subst (GoesOn (role_of c.args.role) c.args.noted) (ap (λ (x : WriterValue). opened x.frames.stack) (sym c.self.view_is) ∙ opened_now v w) (c.stops.ensures.goes_on c.if-stops.false);
+      behind_is = omega arith;
+    }
+
+pub mark_next-marked-requires-clause-fits : goal.mark_next-marked-requires-clause-fits
+mark_next-marked-requires-clause-fits c =
+    let v : WriterValue = the_view c.self.inside in
+    let w : IsWriter v = writer_seen c.self.view_is c.requires.writer in
+    let pages : c.pages.result ≡ v.shape.pages = c.pages.ensures.pages ∙ w.frames_are.pages_is in
+    let most = c.pages.ensures.most in
+    fits v w (marking (role_of c.args.role) c.args.noted c.args.page c.args.next) (top_seen c.self.view_is c.requires.top)
+    (phase_seen c.self.view_is c.requires.phase) (omega arith)
+
+pub returns : goal.returns
+returns c =
+    let v : WriterValue = the_view c.self.inside in
+    let w : IsWriter v = writer_seen c.self.view_is c.requires.writer in
+    let some = top_seen c.self.view_is c.requires.top in
+    let from : ModelPhase = marking (role_of c.args.role) c.args.noted c.args.page c.args.next in
+    let at : phase_of v.frames.phase ≡ from = phase_seen c.self.view_is c.requires.phase in
+    let new : WriterValue = the_view record { seat = c.mark_next-marked.new.self; frames = c.go_on.new.self; pages = c.self.inside.pages } in
+    let s = c.mark_next-marked.ensures.step in
+    let on : GoesOn (role_of c.args.role) c.args.noted s.core.opened = subst (GoesOn (role_of c.args.role) c.args.noted)
+    (ap (λ (x : WriterValue). opened x.frames.stack) (sym c.self.view_is) ∙ opened_now v w ∙ ap (λ (p : Writing). p.opened) (sym s.before_is)) (c.stops.ensures.goes_on c.if-stops.false) in
+    let next : Phase = c.after_next.result in
+    as_called v c.args.self.now new c.answer.result c.self.view_is (c.answer.ensures ∙ ap told c.go_on.ensures.answer)
+    (goes_on v new w some from c.args.noted next next _ at refl (ap noted_fill c.after_next.ensures ∙ noted_after (role_of c.args.role) c.args.noted c.args.page) refl
+    c.mark_next-marked.ensures.shape c.mark_next-marked.ensures.table refl c.go_on.ensures.goes_on s
+    (λ frame below step. subst (λ (p : ModelPhase). writing_of s.next ≡ writing_of (model.in_phase s.core frame below p)) (sym c.after_next.ensures)
+    (marked v.shape.pages s.core frame below model.going s.next (role_of c.args.role) c.args.noted c.args.page c.args.next on step)))

@@ -1,0 +1,52 @@
+use Rattle.std.proofs.Common.{◌≡◌, sym, ap, ◌∙◌, subst, refl, arith}
+use Rattle.trace_model.specs.Frames.{opening}
+use Rattle.trace_model.specs.Steps as model
+use Rattle.ring_frames.specs.declared.phase.Phase.TheVariants.{Opening}
+use Rattle.ring_frames.specs.declared.answer.Answer.{Answer}
+use Rattle.ring_frames.specs.Fills.{OpensFill}
+use Rattle.ring_shared.specs.Value.{WriterValue}
+use Rattle.ring_shared.specs.Calls.{IsWriter, Makes}
+use Rattle.ring_shared.specs.contracts.writer.Writer.{the_view}
+use Rattle.ring_shared.proofs.Standing.{leads_nowhere, phase_shown}
+use Rattle.ring_shared.proofs.Called.{writer_seen, top_seen, phase_seen}
+use Rattle.ring_shared.proofs.Bounds.{opened_now, count_now, noted_bounds}
+use Rattle.ring_shared.proofs.PageMoves.{opens_fill}
+use Rattle.ring_shared.proofs.writer.Writer.open.Goals as goal
+
+pub open-body-requires-clause-due : goal.open-body-requires-clause-due
+open-body-requires-clause-due c = let v : WriterValue = the_view c.self.inside in leads_nowhere v.shape v.part
+
+pub open-body-requires-clause-phase : goal.open-body-requires-clause-phase
+open-body-requires-clause-phase c =
+    let v : WriterValue = the_view c.self.inside in
+    let w : IsWriter v = writer_seen c.self.view_is c.requires.writer in
+    phase_shown v w (opening c.args.noted c.args.page) (top_seen c.self.view_is c.requires.top)
+    (phase_seen c.self.view_is c.requires.phase)
+
+pub open-body-requires-clause-next : goal.open-body-requires-clause-next
+open-body-requires-clause-next c =
+    let v : WriterValue = the_view c.self.inside in
+    c.if-noted-opened.false ∙ c.opened.ensures.begun ∙ opened_now v (writer_seen c.self.view_is c.requires.writer)
+
+pub push_back_reserved-requires : goal.push_back_reserved-requires
+push_back_reserved-requires c =
+    let v : WriterValue = the_view c.self.inside in
+    let w : IsWriter v = writer_seen c.self.view_is c.requires.writer in
+    let now : c.args.noted ≡ v.part.opened = c.if-noted-opened.false ∙ c.opened.ensures.begun ∙ opened_now v w in
+    let (low, high, room, numbers) = noted_bounds v w (opening c.args.noted c.args.page) (top_seen c.self.view_is c.requires.top)
+    (phase_seen c.self.view_is c.requires.phase) c.args.noted refl in
+    let count = count_now v w in let wide = c.self.inside.pages.ok.0 in let has_room = c.self.invariant in omega arith
+
+pub open-requires-clause-phase : goal.open-requires-clause-phase
+open-requires-clause-phase c =
+    (c.args.page, ap (λ (x : WriterValue). x.frames.phase) c.self.view_is ∙ c.requires.phase ∙ ap (λ noted. Opening noted c.args.page) (c.if-noted-opened.false ∙ c.opened.ensures.begun))
+
+pub returns : goal.returns
+returns c =
+    let v : WriterValue = the_view c.self.inside in
+    let w : IsWriter v = writer_seen c.self.view_is c.requires.writer in
+    let new : WriterValue = the_view record { seat = c.open-body.new.self; frames = c.open.new.self; pages = c.push_back_reserved.new.self } in
+    subst (λ (x : WriterValue). Makes x model.steps c.answer.result new) c.self.view_is
+    (opens_fill v new w (top_seen c.self.view_is c.requires.top) c.open-body.ensures.shape c.open-body.ensures.table _ c.args.noted c.args.page c.answer.result
+    (phase_seen c.self.view_is c.requires.phase) (c.if-noted-opened.false ∙ c.opened.ensures.begun ∙ opened_now v w)
+    (subst (λ (r : Answer). OpensFill v.frames r new.frames) (sym c.answer.ensures) c.open.ensures) c.push_back_reserved.ensures.items c.open-body.ensures.step)

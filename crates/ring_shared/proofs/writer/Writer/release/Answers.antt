@@ -1,0 +1,48 @@
+use Rattle.std.proofs.Common.{List, ℕ, drop, slice_index_or, sym, ap, ◌∙◌, subst, arith}
+use Rattle.std.specs.Option.{IsSome}
+use Rattle.trace_model.specs.Frames.{releasing}
+use Rattle.trace_model.specs.Steps as model
+use Rattle.ring_frames.specs.declared.answer.Answer.TheVariants.{Going}
+use Rattle.ring_shared.specs.Value.{WriterValue}
+use Rattle.ring_shared.specs.Calls.{IsWriter, Makes}
+use Rattle.ring_shared.specs.contracts.writer.Writer.{the_view}
+use Rattle.ring_shared.proofs.Standing.{leads_nowhere, phase_shown}
+use Rattle.ring_shared.proofs.Called.{writer_seen, top_seen, phase_seen}
+use Rattle.ring_shared.proofs.Bounds.{some_open}
+use Rattle.ring_shared.proofs.PageMoves.{closes_fill, is_written}
+use Rattle.ring_shared.proofs.writer.Writer.release.Goals as goal
+
+pub release-requires-clause-due : goal.release-requires-clause-due
+release-requires-clause-due c = let v : WriterValue = the_view c.self.inside in leads_nowhere v.shape v.part
+
+pub release-requires-clause-phase : goal.release-requires-clause-phase
+release-requires-clause-phase c =
+    let v : WriterValue = the_view c.self.inside in
+    phase_shown v (writer_seen c.self.view_is c.requires.writer) releasing (top_seen c.self.view_is c.requires.top)
+    (phase_seen c.self.view_is c.requires.phase)
+
+pub release-requires-clause-oldest : goal.release-requires-clause-oldest
+release-requires-clause-oldest c =
+    let v : WriterValue = the_view c.self.inside in
+    let w : IsWriter v = writer_seen c.self.view_is c.requires.writer in
+    sym (ap (λ (pages : List ℕ). slice_index_or pages 0 0) (w.pages_are ∙ c.in-Some.ensures.items))
+
+pub release-requires-clause-written : goal.release-requires-clause-written
+release-requires-clause-written c =
+    let v : WriterValue = the_view c.self.inside in
+    is_written v (writer_seen c.self.view_is c.requires.writer) c.release-page.result c.release-page.new.self c.release-page.ensures
+
+pub unreachable-requires : goal.unreachable-requires
+unreachable-requires c =
+    let some = some_open (the_view c.self.inside) (writer_seen c.self.view_is c.requires.writer) in
+    let wide = c.self.inside.pages.ok.0 in
+    let there = subst IsSome c.in-None.is (c.pop_front.ensures.variant.1 (omega arith)) in cc
+
+pub returns : goal.returns
+returns c =
+    let v : WriterValue = the_view c.self.inside in
+    let w : IsWriter v = writer_seen c.self.view_is c.requires.writer in
+    let new : WriterValue = the_view record { seat = c.release.new.self; frames = c.release-page.new.self; pages = c.pop_front.new.self } in
+    subst (λ (x : WriterValue). Makes x model.steps Going new) c.self.view_is
+    (closes_fill v new w (top_seen c.self.view_is c.requires.top) c.release.ensures.shape c.release.ensures.table _ c.release-page.result c.release-page.ensures
+    (sym (ap (drop 1) c.in-Some.ensures.items)) c.release.ensures.step)

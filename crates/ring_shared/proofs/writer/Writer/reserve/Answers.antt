@@ -1,0 +1,21 @@
+use Rattle.std.proofs.Common.{◌∙◌, refl, sym, ap, subst}
+use Rattle.trace_model.specs.Steps.{steps}
+use Rattle.link_marks.specs.Seats.{PhaseIsPrivate}
+use Rattle.nested_writer.specs.Stack.{opened}
+use Rattle.ring_frames.specs.declared.phase.Phase.{Phase}
+use Rattle.ring_frames.specs.Value.{phase_of}
+use Rattle.ring_shared.specs.Value.{WriterValue}
+use Rattle.ring_shared.specs.Calls.{IsWriter}
+use Rattle.ring_shared.proofs.Privately.{step_leads, seen_call}
+use Rattle.ring_shared.proofs.writer.Writer.reserve.Goals as goal
+
+pub note-requires : goal.note-requires
+note-requires c = let idle = ap (λ (x : WriterValue). x.frames.phase) c.self.view_is ∙ c.requires.phase in
+    record {
+      due = step_leads _ (subst IsWriter (sym c.self.view_is) c.requires.writer)
+          (subst (λ (p : Phase). PhaseIsPrivate (phase_of p) (opened c.self.inside.frames.stack)) (sym idle) tt);
+    }
+
+pub returns : goal.returns
+returns c =
+    seen_call _ _ (λ _. steps) c.reserve.result _ c.self.view_is c.requires.writer c.note.ensures.shape c.note.ensures.table c.note.ensures.noted refl c.reserve.ensures

@@ -1,0 +1,39 @@
+-- What the calls of a writer make of a running ring.
+use Rattle.std.specs.Prelude.{◌≡◌}
+use Rattle.trace_model.specs.Ring.{Core}
+use Rattle.trace_model.specs.Steps as model
+use Rattle.link_marks.specs.Reached.{IsReached}
+use Rattle.ring_frames.specs.declared.answer.Answer.{Answer}
+use Rattle.ring_frames.specs.Answers.{Tells}
+use Rattle.ring_frames.specs.AreFrames.{AreFrames}
+use Rattle.ring_steps.specs.declared.rule.Shape.{Shape}
+use Rattle.ring_steps.specs.Views.{Writing, writing_of}
+use Rattle.ring_shared.specs.Value.{WriterValue}
+
+-- The writer's fields are its part of the ring, which is that of a state which steps reach.
+pub record IsWriter (v : WriterValue) : Type 0 where
+  pub core : Core
+  pub reached : IsReached v.shape.pages v.shape.size v.shape.start core
+  pub part_is : writing_of core ≡ v.part
+  pub frames_are : AreFrames v.shape.pages v.shape.size v.shape.start v.frames core
+  pub pages_are : v.part.open_pages ≡ v.pages
+
+-- The event is a step of the model, from a state in which the writer's part is the first to one in which it is the
+-- second, and the answer tells the model's.
+pub record IsCall (shape : Shape) (before : Writing) (event : model.Event) (result : Answer) (after : Writing)
+    : Type 0 where
+  pub core : Core
+  pub next : Core
+  pub answer : model.Answer
+  pub reached : IsReached shape.pages shape.size shape.start core
+  pub before_is : writing_of core ≡ before
+  pub step : model.Step shape.pages shape.size core event answer next
+  pub after_is : writing_of next ≡ after
+  pub tells : Tells shape.size result answer
+
+-- so the writer makes of the ring, and is the same one
+pub record Makes (old : WriterValue) (event : model.Event) (result : Answer) (new : WriterValue) : Type 0 where
+  pub shape_is : new.shape ≡ old.shape
+  pub table_is : new.table ≡ old.table
+  pub call : IsCall old.shape old.part event result new.part
+  pub writer : IsWriter new

@@ -1,0 +1,136 @@
+-- What a reader's take answers, and what it knows by it.
+use Rattle.std.specs.Prelude.{◌≡◌, ℕ, ◌<◌, ◌≤◌, Bool, true, false, List, [], ◌∷◌, ◌++◌, length, Option, Some, None}
+use Rattle.trace_model.specs.declared.limits.TheConstants.{LINK_PAGES}
+use Rattle.trace_model.specs.Record.{Record}
+use Rattle.trace_model.specs.Ring.{Taken, Core}
+use Rattle.trace_model.specs.Partition.{IsPartition}
+use Rattle.link_marks.specs.Reached.{IsReached}
+use Rattle.link_marks.specs.AnswerLaws.{ArePassed}
+use Rattle.link_marks.specs.KeptPartition.{pieces_of}
+use Rattle.page_image.specs.Contents.{Contents, records_of_page}
+use Rattle.ring_frames.specs.Answers.{IsTakenPage}
+use Rattle.ring_core.specs.Value.{reader_phase_of}
+use Rattle.ring_core.specs.declared.phase.ReaderPhase.{ReaderPhase}
+use Rattle.ring_core.specs.declared.phase.ReaderPhase.TheVariants.{LoadingLink, LoadingDone, StoringLink, Swapping}
+use Rattle.ring_steps.specs.declared.rule.Shape.{Shape}
+use Rattle.ring_steps.specs.Views.{Reading}
+use Rattle.ring_steps.specs.Shown.{IsReading}
+use Rattle.ring_shared.specs.declared.take.Take.{Take}
+use Rattle.ring_shared.specs.declared.take.Take.TheVariants.{Page, Empty, Moving}
+use Rattle.ring_shared.specs.declared.take.Turn.{Turn}
+use Rattle.ring_shared.specs.declared.take.Turn.TheVariants.{Looking, Done}
+use Rattle.ring_shared.specs.Value.{ReaderValue}
+
+-- ---- the reader
+
+-- the reader's part is that of a state which steps reach
+pub record IsReaderPart (shape : Shape) (part : Reading) : Type 0 where
+  pub core : Core
+  pub reached : IsReached shape.pages shape.size shape.start core
+  pub is : IsReading core part
+
+-- the slot of the reader's page is out with it while it is about to swap, and may be until its next load of a link
+abbrev pub KeepsSlot : ReaderPhase → Bool → Type 0
+KeepsSlot LoadingLink keeps = Unit {0}
+KeepsSlot (LoadingDone page fill) keeps = keeps ≡ false
+KeepsSlot (StoringLink page fill) keeps = keeps ≡ false
+KeepsSlot (Swapping page fill) keeps = keeps ≡ true
+
+-- the page that it saw is one that a link can tell
+abbrev pub SawPage : ReaderPhase → Type 0
+SawPage LoadingLink = Unit {0}
+SawPage (LoadingDone page fill) = page < LINK_PAGES
+SawPage (StoringLink page fill) = page < LINK_PAGES
+SawPage (Swapping page fill) = page < LINK_PAGES
+
+-- The last take found that so many fills are closed, and all of them passed: the reader knows just that, is at no take,
+-- and has no slot.
+pub record FoundEmpty (v : ReaderValue) (done : ℕ) : Type 0 where
+  pub hint_is : v.part.reader.hint ≡ done
+  pub seen_is : v.part.reader.seen ≡ done
+  pub phase_is : v.at.phase ≡ LoadingLink
+  pub no_slot : v.part.keeps_spare ≡ false
+
+-- The reader's fields are its part of the ring.
+pub record IsReader (v : ReaderValue) : Type 0 where
+  pub part : IsReaderPart v.shape v.part
+  pub order_is : v.part.order ≡ v.order
+  pub spare_is : v.part.spare ≡ v.spare
+  pub phase_is : v.part.reader.phase ≡ reader_phase_of v.at.phase
+  pub hint_is : v.part.reader.hint ≡ v.at.hint
+  pub seen_is : v.part.reader.seen ≡ v.at.seen
+  pub expected_is : v.part.reader.expected ≡ v.at.expected
+  pub keeps : KeepsSlot v.at.phase v.part.keeps_spare
+  pub saw : SawPage v.at.phase
+  pub empty : (done : ℕ) → v.empty_at ≡ Some done → FoundEmpty v done
+
+-- ---- takes
+
+-- What was taken and heard of stays, and the reader knows no less.
+pub record TakesNothing (before after : Reading) : Type 0 where
+  pub taken_is : after.reader.taken ≡ before.reader.taken
+  pub heard_is : after.heard ≡ before.heard
+  pub expected_is : after.reader.expected ≡ before.reader.expected
+  pub hint_le : before.reader.hint ≤ after.reader.hint
+  pub seen_le : before.reader.seen ≤ after.reader.seen
+
+-- each fill below this one is taken or lost, in a state of which the reader's part is this
+pub record ArePassedBelow (shape : Shape) (part : Reading) (fill : ℕ) : Type 0 where
+  pub known : IsReaderPart shape part
+  pub passed : ArePassed shape.pages shape.start known.core fill
+
+-- The page is one more fill that was taken, no earlier one than the reader knew, and so many records were lost in front
+-- of it: what the reader has heard of, it and those before it part.
+pub record IsPageTaken (shape : Shape) (before : Reading) (page : Contents) (missed : ℕ) (after : Reading)
+    : Type 0 where
+  pub taken : Taken
+  pub is : IsTakenPage shape.size page missed taken
+  pub one_more : after.reader.taken ≡ before.reader.taken ++ taken ∷ []
+  pub hint_le : before.reader.hint ≤ taken.fill
+  pub lost : List Record
+  pub lost_are : length lost ≡ missed
+  pub heard_is : after.heard ≡ before.heard ++ lost ++ records_of_page page
+  pub partition : IsPartition after.heard (pieces_of after.reader.taken) []
+
+-- All closed fills, so many, are taken or lost; no fewer than the reader had seen.
+pub record IsEmptyFound (shape : Shape) (before : Reading) (done : ℕ) (after : Reading) : Type 0 where
+  pub nothing : TakesNothing before after
+  pub seen_le : before.reader.seen ≤ done
+  pub passed : ArePassedBelow shape after done
+  pub all : passed.known.core.done ≡ done
+
+-- Each fill below this one is taken or lost, and the reader knew of no later one.
+pub record IsInTheWay (shape : Shape) (before : Reading) (fill : ℕ) (after : Reading) : Type 0 where
+  pub nothing : TakesNothing before after
+  pub hint_le : before.reader.hint ≤ fill
+  pub passed : ArePassedBelow shape after fill
+
+abbrev pub IsTake : Shape → Reading → List ℕ → Take → Reading → Type 0
+IsTake shape before body (Page page missed) after = IsPageTaken shape before page missed after
+IsTake shape before body (Empty done back) after = (length back ≡ length body) × IsEmptyFound shape before done after
+IsTake shape before body (Moving fill back) after = (length back ≡ length body) × IsInTheWay shape before fill.0 after
+
+-- the number that the take answered, where it found nothing
+abbrev pub empty_of : Take → Option ℕ
+empty_of (Page page missed) = None
+empty_of (Empty done back) = Some done
+empty_of (Moving fill back) = None
+
+-- ---- the steps of a take
+
+-- what one step of a take answers
+abbrev pub IsTurn : Shape → Reading → List ℕ → Turn → Reading → Type 0
+IsTurn shape before body (Looking back) after = (length back ≡ length body) × TakesNothing before after
+IsTurn shape before body (Done took) after = IsTake shape before body took after
+
+-- the end of a ring stays the same one
+abbrev pub SameRing : ReaderValue → ReaderValue → Type 0
+SameRing before after = (after.shape ≡ before.shape) × (after.table ≡ before.table)
+
+-- Behind a step, the reader's fields are its part again; it found nothing where the answer says so, and the last take's
+-- answer isn't told yet.
+abbrev pub EmptyAfter : ReaderValue → Turn → Type 0
+EmptyAfter v (Looking back) = Unit {0}
+EmptyAfter v (Done (Page page missed)) = Unit {0}
+EmptyAfter v (Done (Empty done back)) = FoundEmpty v done
+EmptyAfter v (Done (Moving fill back)) = Unit {0}

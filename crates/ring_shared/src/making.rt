@@ -1,0 +1,45 @@
+//! The two ends of a new ring.
+ghost use Rattle.std.specs.Prelude.{◌≡◌, ◌+◌, ◌≤◌, ◌<◌, ◌%◌, IfOk};
+ghost use Rattle.trace_model.specs.declared.limits.TheConstants.{MIN_PAGES, MAX_PAGES, MIN_SIZE, MAX_SIZE, LINK_FILLS, START_FILL};
+ghost use Rattle.ring_shared.specs.NewEnds.{AreNewEnds};
+
+use crate::reader::Reader;
+use crate::writer::Writer;
+use ring_steps::seats_at;
+use std::alloc::Global;
+use trace_model::{NoMemory, START_FILL};
+
+/// The two ends of a new ring of `pages` pages and a spare, of `size` bytes of data each, whose first fill has the
+/// number `start`. Either can go to another thread. All room is made here: no call on them takes memory.
+pub fn ring_at(
+    alloc: Global,
+    pages: usize,
+    size: usize,
+    start: u64,
+) -> Result<(Writer, Reader), NoMemory>
+    requires pages { MIN_PAGES ≤ pages }
+    requires most { pages ≤ MAX_PAGES }
+    requires small { MIN_SIZE ≤ size }
+    requires large { size ≤ MAX_SIZE }
+    requires words { size % 4 ≡ 0 }
+    requires start { start + pages < LINK_FILLS }
+    ensures { IfOk result (λ ends. AreNewEnds (record { pages = pages; size = size; start = start }) ends.0 ends.1) }
+{
+    let (writer, reader) = seats_at(alloc, pages, size, start)?;
+    let writer = Writer::new(alloc, writer)?;
+    let reader = Reader::new(alloc, reader)?;
+    Ok((writer, reader))
+}
+
+/// The two ends of a new ring whose first fill has the number `START_FILL`.
+pub fn ring(alloc: Global, pages: usize, size: usize) -> Result<(Writer, Reader), NoMemory>
+    requires pages { MIN_PAGES ≤ pages }
+    requires most { pages ≤ MAX_PAGES }
+    requires small { MIN_SIZE ≤ size }
+    requires large { size ≤ MAX_SIZE }
+    requires words { size % 4 ≡ 0 }
+    ensures { IfOk result (λ ends. AreNewEnds (record { pages = pages; size = size; start = START_FILL })
+        ends.0 ends.1) }
+{
+    ring_at(alloc, pages, size, START_FILL)
+}

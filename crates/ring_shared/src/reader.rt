@@ -1,0 +1,39 @@
+//! The reader's end.
+mod new;
+mod steps;
+mod taking;
+
+use ring_core::phase::Reader as Progress;
+use ring_steps::ReaderSeat;
+use std::marker::Model;
+
+/// The end of a running ring at which pages are taken.
+#[derive(Drop)]
+pub struct Reader {
+    pub(crate) seat: ReaderSeat,
+    /// The page at each position.
+    pub(crate) order: Vec<u16>,
+    /// The reader's page.
+    pub(crate) spare: u16,
+    /// How far its take has come.
+    pub(crate) at: Progress,
+    /// The number of closed fills that the last take answered, where it found nothing.
+    pub(crate) empty_at: Option<u64>,
+}
+
+impl Model for Reader {
+    ghost use Rattle.ring_steps.specs.Ends.{reading_in, reader_table};
+    ghost use Rattle.ring_shared.specs.Value.{ReaderValue};
+
+    ghost Value = { ReaderValue };
+
+    ghost view = { λ r. record {
+      shape = r.seat.shape;
+      table = reader_table r.seat;
+      part = reading_in r.seat;
+      order = r.order.items;
+      spare = r.spare;
+      at = r.at;
+      empty_at = r.empty_at;
+    } };
+}

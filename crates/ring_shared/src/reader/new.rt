@@ -1,0 +1,51 @@
+//! A new reader's end.
+use crate::reader::Reader;
+use ring_core::phase::{Reader as Progress, ReaderPhase};
+use ring_steps::ReaderSeat;
+use std::alloc::Global;
+use trace_model::NoMemory;
+
+impl Reader {
+    ghost use Rattle.std.specs.Prelude.{◌≡◌, IfOk};
+    ghost use Rattle.ring_steps.specs.Ends.{reading_in};
+    ghost use Rattle.ring_steps.specs.NewRings.{IsShape, first_reading};
+    ghost use Rattle.ring_shared.specs.NewReader.{IsNewReader};
+
+    /// The reader's end of a new ring, at this seat. All room is made here: no other call takes memory.
+    pub(crate) fn new(alloc: Global, seat: ReaderSeat) -> Result<Reader, NoMemory>
+        requires shape { IsShape seat.shape }
+        requires anew { reading_in seat ≡ first_reading seat.shape }
+        ensures { IfOk result (λ reader. IsNewReader seat reader) }
+    {
+        let shape = seat.shape;
+        let order = first_order(alloc, shape.pages)?;
+        Ok(Reader {
+            seat,
+            order,
+            spare: shape.pages as u16,
+            at: Progress {
+                phase: ReaderPhase::LoadingLink,
+                hint: shape.start,
+                seen: shape.start,
+                expected: 0,
+            },
+            empty_at: None,
+        })
+    }
+}
+
+ghost use Rattle.std.specs.Prelude.{◌≡◌, ◌≤◌, IfOk};
+ghost use Rattle.trace_model.specs.declared.limits.TheConstants.{MAX_PAGES};
+ghost use Rattle.ring_steps.specs.NewRings.{counted};
+
+/// The pages of a new ring: each position has the page of its number.
+fn first_order(alloc: Global, pages: usize) -> Result<Vec<u16>, NoMemory>
+    requires { pages ≤ MAX_PAGES }
+    ensures { IfOk result (λ order. order.items ≡ counted 0 pages) }
+{
+    let mut order = Vec::with_capacity(alloc, pages)?;
+    for page in 0..pages as u16 {
+        order.push_reserved(page);
+    }
+    Ok(order)
+}

@@ -1,0 +1,143 @@
+//! The steps of a take, each on one word.
+use crate::reader::Reader;
+use crate::take::{Take, Turn};
+use link_marks::{Link, Mark, header};
+use page_image::{Body, Page};
+use ring_core::phase::ReaderPhase;
+use trace_model::{FillNo, RecordNo};
+
+impl Reader {
+    ghost use Rattle.std.specs.Prelude.{◌≡◌, ℕ, length, None};
+    ghost use Rattle.trace_model.specs.Ring.{page_at};
+    ghost use Rattle.ring_core.specs.declared.phase.ReaderPhase.TheVariants.{LoadingLink, LoadingDone, StoringLink, Swapping};
+    ghost use Rattle.ring_shared.specs.Takes.{IsReader, IsTurn, EmptyAfter, SameRing};
+
+    /// One step of a take.
+    pub(crate) fn step(&mut self, body: Body) -> Turn
+        requires reader { IsReader self.old }
+        requires size { length body ≡ self.old.shape.size }
+        requires anew { self.old.empty_at ≡ None }
+        ensures turn { IsTurn self.old.shape self.old.part body result self.new.part }
+        ensures empty { EmptyAfter self.new result }
+        ensures empty_at { self.new.empty_at ≡ None }
+        ensures ring { SameRing self.old self.new }
+        ensures reader { IsReader self.new }
+    {
+        match self.at.phase {
+            ReaderPhase::LoadingLink => self.load_link(body),
+            ReaderPhase::LoadingDone { page, fill } => self.load_done(page, fill, body),
+            ReaderPhase::StoringLink { page, fill } => self.store_link(page, fill, body),
+            ReaderPhase::Swapping { page, fill } => self.swap(page, fill, body),
+        }
+    }
+
+    /// The page at the position of a fill.
+    fn page_at(&self, fill: u64) -> u16
+        requires reader { IsReader self.now }
+        ensures { result ≡ page_at self.now.shape.pages self.now.order fill }
+    {
+        self.order[(fill % self.order.len() as u64) as usize]
+    }
+
+    /// A load of the link into the position of the hint.
+    fn load_link(&mut self, body: Body) -> Turn
+        requires reader { IsReader self.old }
+        requires anew { self.old.empty_at ≡ None }
+        requires phase { self.old.at.phase ≡ LoadingLink }
+        ensures turn { IsTurn self.old.shape self.old.part body result self.new.part }
+        ensures empty { EmptyAfter self.new result }
+        ensures empty_at { self.new.empty_at ≡ None }
+        ensures ring { SameRing self.old self.new }
+        ensures reader { IsReader self.new }
+    {
+        let hint = self.at.hint;
+        let pages = self.order.len() as u64;
+        let front = self.page_at(hint + pages - 1);
+        let Link { mark, page, fill } = self.seat.load_link(front);
+        match mark {
+            Mark::Header => {
+                self.at.phase = ReaderPhase::LoadingDone { page, fill };
+                self.at.hint = fill;
+                Turn::Looking(body)
+            }
+            Mark::Update => {
+                self.at.hint = fill + 1;
+                Turn::Done(Take::Moving(FillNo(fill + 1), body))
+            }
+            Mark::Normal if fill == hint => Turn::Done(Take::Moving(FillNo(hint), body)),
+            Mark::Normal => {
+                self.at.hint = fill + 1 - pages;
+                Turn::Looking(body)
+            }
+        }
+    }
+
+    /// A load of the number of closed fills: the head, which is this fill, is closed, or no closed fill is unread.
+    fn load_done(&mut self, page: u16, fill: u64, body: Body) -> Turn
+        requires reader { IsReader self.old }
+        requires anew { self.old.empty_at ≡ None }
+        requires phase { self.old.at.phase ≡ LoadingDone page fill }
+        ensures turn { IsTurn self.old.shape self.old.part body result self.new.part }
+        ensures empty { EmptyAfter self.new result }
+        ensures empty_at { self.new.empty_at ≡ None }
+        ensures ring { SameRing self.old self.new }
+        ensures reader { IsReader self.new }
+    {
+        let done = self.seat.load_done();
+        self.at.seen = done;
+        if done <= fill {
+            self.at.phase = ReaderPhase::LoadingLink;
+            return Turn::Done(Take::Empty(done, body));
+        }
+        self.at.phase = ReaderPhase::StoringLink { page, fill };
+        Turn::Looking(body)
+    }
+
+    /// A store of the link of the reader's page: it will lead to the fill behind the one that is taken.
+    fn store_link(&mut self, page: u16, fill: u64, body: Body) -> Turn
+        requires reader { IsReader self.old }
+        requires anew { self.old.empty_at ≡ None }
+        requires phase { self.old.at.phase ≡ StoringLink page fill }
+        ensures turn { IsTurn self.old.shape self.old.part body result self.new.part }
+        ensures empty { EmptyAfter self.new result }
+        ensures empty_at { self.new.empty_at ≡ None }
+        ensures ring { SameRing self.old self.new }
+        ensures reader { IsReader self.new }
+    {
+        let behind = header(self.page_at(fill + 1), fill + 1);
+        self.seat.store_spare_link(self.spare, behind);
+        self.at.phase = ReaderPhase::Swapping { page, fill };
+        Turn::Looking(body)
+    }
+
+    /// A compare and exchange of the link to the head, this page as this fill, from HEADER to NORMAL: the swap.
+    fn swap(&mut self, page: u16, fill: u64, body: Body) -> Turn
+        requires reader { IsReader self.old }
+        requires size { length body ≡ self.old.shape.size }
+        requires anew { self.old.empty_at ≡ None }
+        requires phase { self.old.at.phase ≡ Swapping page fill }
+        ensures turn { IsTurn self.old.shape self.old.part body result self.new.part }
+        ensures empty { EmptyAfter self.new result }
+        ensures empty_at { self.new.empty_at ≡ None }
+        ensures ring { SameRing self.old self.new }
+        ensures reader { IsReader self.new }
+    {
+        let pages = self.order.len() as u64;
+        let front = self.page_at(fill + pages - 1);
+        let blank = Page::fresh(body, RecordNo(0), FillNo(0));
+        let swapped = self.seat.swap(front, page, FillNo(fill), self.spare, blank);
+        self.at.phase = ReaderPhase::LoadingLink;
+        self.at.hint = fill + 1;
+        match swapped {
+            Ok(taken) => {
+                self.order[(fill % pages) as usize] = self.spare;
+                self.spare = page;
+                let first = taken.first().0;
+                let missed = first - self.at.expected;
+                self.at.expected = first + taken.count();
+                Turn::Done(Take::Page(taken, missed))
+            }
+            Err(blank) => Turn::Looking(blank.into_body()),
+        }
+    }
+}

@@ -1,0 +1,82 @@
+//! The take, and what else a reader is asked.
+use crate::reader::Reader;
+use crate::take::{Take, Turn};
+use page_image::{Body, Page};
+use trace_model::FillNo;
+
+impl Reader {
+    ghost use Rattle.std.specs.Prelude.{◌≡◌, ◌+◌, ⊤, length};
+    ghost use Rattle.trace_model.specs.Steps.{wishes, wished_for};
+    ghost use Rattle.ring_steps.specs.Seats.{IsReaderStep};
+    ghost use Rattle.ring_shared.specs.declared.take.Turn.TheVariants.{Done};
+    ghost use Rattle.ring_shared.specs.Takes.{IsReader, IsTake, EmptyAfter, SameRing, empty_of};
+
+    /// Takes the oldest page that is closed and unread, for which `body`, of the ring's data size, goes into the ring.
+    /// It makes at most two steps for each page of the ring and eight; where that is not enough, it answers `Moving`,
+    /// and the next take goes on where this one came to.
+    pub fn take(&mut self, body: Body) -> Take
+        requires reader { IsReader self.old }
+        requires size { length body ≡ self.old.shape.size }
+        ensures took { IsTake self.old.shape self.old.part body result self.new.part }
+        ensures empty_at { self.new.empty_at ≡ empty_of result }
+        ensures ring { SameRing self.old self.new }
+        ensures reader { IsReader self.new }
+    {
+        self.empty_at = None;
+        let took = self.look(body);
+        if let Take::Empty(done, _) = &took {
+            self.empty_at = Some(*done);
+        }
+        took
+    }
+
+    /// The steps of a take.
+    fn look(&mut self, body: Body) -> Take
+        requires reader { IsReader self.old }
+        requires size { length body ≡ self.old.shape.size }
+        requires anew { self.old.empty_at ≡ None }
+        ensures took { IsTake self.old.shape self.old.part body result self.new.part }
+        ensures empty { EmptyAfter self.new (Done result) }
+        ensures empty_at { self.new.empty_at ≡ None }
+        ensures ring { SameRing self.old self.new }
+        ensures reader { IsReader self.new }
+    {
+        let mut body = body;
+        for _ in 0..2 * self.order.len() + 8 {
+            match self.step(body) {
+                Turn::Looking(back) => body = back,
+                Turn::Done(took) => return took,
+            }
+        }
+        Take::Moving(FillNo(self.at.hint), body)
+    }
+
+    /// Wishes for the tail page to be closed, behind the fills that the reader knows to be closed: answers the number
+    /// of the fill that it wished for. A writer that finds nothing left to close looks for the wish.
+    pub fn wish(&mut self) -> FillNo
+        requires reader { IsReader self.old }
+        ensures fill { result.0 ≡ self.old.part.reader.seen }
+        ensures step { IsReaderStep self.old.shape self.old.part (λ _. ⊤) wishes (wished_for result.0) self.new.part }
+        ensures wished { self.new ≡ record self.old { part = record self.old.part { wish = result.0 + 1 } } }
+        ensures reader { IsReader self.new }
+    {
+        let fill = FillNo(self.at.seen);
+        self.seat.store_wish(fill);
+        fill
+    }
+
+    /// The number of closed fills that the last take answered, where it found nothing to take.
+    pub fn empty_at(&self) -> Option<u64>
+        ensures { result ≡ self.now.empty_at }
+    {
+        self.empty_at
+    }
+
+    /// The body of a page that was taken, to be handed in for another one.
+    pub fn give_back(&mut self, page: Page) -> Body
+        ensures size { length result ≡ page.size }
+        ensures stays { self.new ≡ self.old }
+    {
+        page.into_body()
+    }
+}

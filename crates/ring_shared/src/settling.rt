@@ -1,0 +1,59 @@
+//! The two ends of a ring, settled.
+use crate::reader::Reader;
+use crate::writer::Writer;
+use page_image::Page;
+use std::alloc::Global;
+
+/// What is left of a ring whose ends were joined.
+#[derive(Drop)]
+pub struct Settled {
+    pub(crate) tail: Page,
+}
+
+impl Settled {
+    ghost use Rattle.std.specs.Prelude.{◌≡◌, Some, None, MatchOption};
+    ghost use Rattle.ring_shared.specs.Settling.{unread_page};
+
+    /// The page that no take has answered: the tail, if it holds a record.
+    pub fn unread(&self) -> Option<&Page>
+        ensures { MatchOption result (unread_page self.now ≡ None) (λ page. unread_page self.now ≡ Some page.now) }
+    {
+        if self.tail.count() == 0 {
+            return None;
+        }
+        Some(&self.tail)
+    }
+}
+
+/// Why two ends weren't settled. They come back as they were.
+#[derive(Drop)]
+pub enum SettleFault {
+    /// There was no memory.
+    NoMemory(Writer, Reader),
+}
+
+ghost use Rattle.std.specs.Prelude.{◌≡◌, [], Some, IfOk, IfErr};
+ghost use Rattle.ring_shared.specs.Calls.{IsWriter};
+ghost use Rattle.ring_shared.specs.Takes.{IsReader};
+ghost use Rattle.ring_shared.specs.Settling.{IsSettled, CameBack};
+
+/// Joins the two ends of a ring: the pages that its reader took, and then the unread one if there is one, are all
+/// records that its writer committed, but those that are told as missed. No frame of the writer stands, and the last
+/// take found that all closed fills are taken or lost.
+pub fn settle(alloc: Global, writer: Writer, reader: Reader) -> Result<Settled, SettleFault>
+    requires writer { IsWriter writer }
+    requires reader { IsReader reader }
+    requires one_ring { reader.table ≡ writer.table }
+    requires at_rest { writer.frames.stack.frames ≡ [] }
+    requires all_read { reader.empty_at ≡ Some writer.frames.stack.done }
+    ensures settled { IfOk result (λ settled. IsSettled writer.shape writer.part reader.part settled) }
+    ensures refused { IfErr result (λ fault. CameBack fault writer reader) }
+{
+    let _alloc = alloc;
+    let Writer { seat, frames, .. } = writer;
+    let Reader { seat: other, .. } = reader;
+    ring_steps::settle(seat, other);
+    Ok(Settled {
+        tail: frames.into_tail(),
+    })
+}

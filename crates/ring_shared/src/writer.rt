@@ -1,0 +1,61 @@
+//! The writer's end.
+mod frames;
+mod head;
+mod new;
+mod pages;
+mod step;
+mod top;
+
+use ring_frames::Frames;
+use ring_steps::WriterSeat;
+use std::collections::VecDeque;
+use std::marker::Model;
+
+/// The end of a running ring at which records are put in, by writers of which each may interrupt the one before.
+#[derive(Drop)]
+pub struct Writer {
+    pub(crate) seat: WriterSeat,
+    /// The frames of the writers that stand, and the pages that they write.
+    pub(crate) frames: Frames,
+    /// The numbers of these pages, the oldest first.
+    pub(crate) pages: VecDeque<u16>,
+}
+
+impl Model for Writer {
+    ghost use Rattle.std.specs.Prelude.{◌≤◌};
+    ghost use Rattle.std.specs.VecDeque.{deque_capacity};
+    ghost use Rattle.ring_steps.specs.Ends.{writing_in, writer_table};
+    ghost use Rattle.ring_shared.specs.Value.{WriterValue};
+
+    ghost Value = { WriterValue };
+
+    ghost view = { λ w. record {
+      shape = w.seat.shape;
+      table = writer_table w.seat;
+      part = writing_in w.seat;
+      frames = w.frames;
+      pages = w.pages.items;
+    } };
+
+    ghost invariant = { λ w. w.seat.shape.pages ≤ deque_capacity w.pages };
+}
+
+impl Writer {
+    ghost use Rattle.std.specs.Prelude.{◌≡◌, length};
+
+    /// How many frames stand.
+    #[inline(always)]
+    pub fn depth(&self) -> usize
+        ensures { result ≡ length self.now.frames.stack.frames }
+    {
+        self.frames.depth()
+    }
+
+    /// How many fills are closed.
+    #[inline(always)]
+    pub fn done(&self) -> u64
+        ensures { result ≡ self.now.frames.stack.done }
+    {
+        self.frames.done()
+    }
+}

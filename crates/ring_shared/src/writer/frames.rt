@@ -1,0 +1,68 @@
+//! What frames do in private: each of it is one load more, by which the writer's seat knows of it.
+use crate::writer::Writer;
+use ring_frames::Answer;
+use std::marker::Brand;
+
+impl Writer {
+    ghost use Rattle.std.specs.Prelude.{◌≡◌, ◌≢◌, ℕ, [], Some};
+    ghost use Rattle.trace_model.specs.Steps as model;
+    ghost use Rattle.trace_model.specs.Frames.{noted_fill};
+    ghost use Rattle.link_marks.specs.Seats.{PhaseIsPrivate};
+    ghost use Rattle.nested_writer.specs.Stack.{opened};
+    ghost use Rattle.ring_frames.specs.declared.phase.Phase.TheVariants.{Idle};
+    ghost use Rattle.ring_frames.specs.Value.{phase_of};
+    ghost use Rattle.ring_frames.specs.Answers.{top_bytes};
+    ghost use Rattle.ring_shared.specs.Calls.{IsWriter, Makes};
+
+    /// A writer begins: a frame is pushed for a record of this moment, and of a payload of `len` bytes.
+    pub fn begin(&mut self, moment: u64, len: usize) -> Answer
+        requires writer { IsWriter self.old }
+        ensures { Makes self.old (model.pushes moment len) result self.new }
+    {
+        self.seat.note::<Brand, _>(&(moment, len));
+        self.frames.push(moment, len)
+    }
+
+    /// A frame is pushed that leaves the tail page, where that holds a record.
+    pub fn begin_close(&mut self) -> Answer
+        requires writer { IsWriter self.old }
+        ensures { Makes self.old model.pushes_close result self.new }
+    {
+        self.seat.note::<Brand, _>(&());
+        self.frames.push_close()
+    }
+
+    /// The frame on top, whose record is reserved, ends with the payload that stands in its slot.
+    pub fn end(&mut self) -> Answer
+        requires writer { IsWriter self.old }
+        ensures { Makes self.old (model.ends (top_bytes self.old.frames.stack self.old.frames.stack.frames)) result
+            self.new }
+    {
+        self.seat.note::<Brand, _>(&self.frames);
+        self.frames.end()
+    }
+
+    /// The record of the frame on top is reserved, or a page is needed, or the frame is refused.
+    pub(crate) fn reserve(&mut self) -> Answer
+        requires writer { IsWriter self.old }
+        requires top { self.old.frames.stack.frames ≢ [] }
+        requires phase { self.old.frames.phase ≡ Idle }
+        ensures { Makes self.old model.steps result self.new }
+    {
+        self.seat.note::<Brand, _>(&());
+        self.frames.reserve()
+    }
+
+    /// A fill was begun since the frame on top noted what to open, so that it begins anew.
+    pub(crate) fn begin_anew(&mut self) -> Answer
+        requires writer { IsWriter self.old }
+        requires top { self.old.frames.stack.frames ≢ [] }
+        requires passed { (noted : ℕ) × (noted_fill (phase_of self.old.frames.phase) ≡ Some noted)
+            × (noted ≢ opened self.old.frames.stack) }
+        requires private { PhaseIsPrivate (phase_of self.old.frames.phase) (opened self.old.frames.stack) }
+        ensures { Makes self.old model.steps result self.new }
+    {
+        self.seat.note::<Brand, _>(&());
+        self.frames.begin_anew().answer()
+    }
+}

@@ -1,0 +1,161 @@
+//! The steps of a frame that needs a page, up to the fill's beginning, each on the word of one link: it looks for a
+//! free position, and where there is none moves the head.
+use crate::writer::Writer;
+use link_marks::Mark;
+use ring_frames::{Answer, Phase, Role};
+use std::marker::Brand;
+use trace_model::FillNo;
+
+impl Writer {
+    ghost use Rattle.std.specs.Prelude.{◌≡◌, ◌≢◌, true, false, []};
+    ghost use Rattle.trace_model.specs.Steps as model;
+    ghost use Rattle.trace_model.specs.Steps.{GoesOn};
+    ghost use Rattle.nested_writer.specs.Stack.{opened};
+    ghost use Rattle.ring_frames.specs.declared.phase.Phase.TheVariants.{Looking, Claiming, LookingNext, Marking, Clearing};
+    ghost use Rattle.ring_frames.specs.declared.phase.Role.TheVariants.{Helper};
+    ghost use Rattle.ring_frames.specs.Value.{role_of};
+    ghost use Rattle.ring_steps.specs.Linking.{tail_in};
+    ghost use Rattle.ring_shared.specs.Calls.{IsWriter, Makes};
+
+    /// The page of the last fill that is begun.
+    fn tail(&self) -> u16
+        requires writer { IsWriter self.now }
+        ensures { result ≡ tail_in self.now.part }
+    {
+        match self.pages.back() {
+            Some(page) => *page,
+            None => unreachable!(),
+        }
+    }
+
+    /// A load of the link into the position of the fill to open, from the tail's word: it is free, or its page is the
+    /// head, or a frame below is moving the head.
+    #[inline(never)]
+    pub(crate) fn look(&mut self, noted: u64) -> Answer
+        requires writer { IsWriter self.old }
+        requires top { self.old.frames.stack.frames ≢ [] }
+        requires phase { self.old.frames.phase ≡ Looking noted }
+        ensures { Makes self.old model.steps result self.new }
+    {
+        if noted != self.frames.opened() {
+            return self.begin_anew();
+        }
+        let tail = self.tail();
+        let link = self.seat.load_link::<Brand>(tail);
+        let page = link.page;
+        let phase = match link.mark {
+            Mark::Normal => Phase::Opening { noted, page },
+            Mark::Header => Phase::Claiming { noted, page },
+            Mark::Update => Phase::LookingNext {
+                role: Role::Helper,
+                noted,
+                page,
+            },
+        };
+        self.frames.go_on(phase).answer()
+    }
+
+    /// A compare and exchange of that link from HEADER to UPDATE, by which the head is lost.
+    #[inline(never)]
+    pub(crate) fn claim(&mut self, noted: u64, page: u16) -> Answer
+        requires writer { IsWriter self.old }
+        requires top { self.old.frames.stack.frames ≢ [] }
+        requires phase { self.old.frames.phase ≡ Claiming noted page }
+        ensures { Makes self.old model.steps result self.new }
+    {
+        if noted != self.frames.opened() {
+            return self.begin_anew();
+        }
+        let tail = self.tail();
+        let lost = FillNo(noted - self.frames.pages() as u64);
+        let phase = if self.seat.claim_head::<Brand>(tail, page, lost) {
+            Phase::LookingNext {
+                role: Role::Owner,
+                noted,
+                page,
+            }
+        } else {
+            Phase::Looking { noted }
+        };
+        self.frames.go_on(phase).answer()
+    }
+
+    /// A load of the next link, from the word of the page that is passed: does it still wait for the HEADER?
+    #[inline(never)]
+    pub(crate) fn look_next(&mut self, role: Role, noted: u64, page: u16) -> Answer
+        requires writer { IsWriter self.old }
+        requires top { self.old.frames.stack.frames ≢ [] }
+        requires phase { self.old.frames.phase ≡ LookingNext role noted page }
+        ensures { Makes self.old model.steps result self.new }
+    {
+        if self.stops(role, noted) {
+            return self.begin_anew();
+        }
+        let behind = noted + 1 - self.frames.pages() as u64;
+        let link = self.seat.load_next::<Brand>(page, FillNo(behind));
+        let phase = match link.mark {
+            Mark::Normal if link.fill == behind => Phase::Marking {
+                role,
+                noted,
+                page,
+                next: link.page,
+            },
+            _ => after_next(role, noted, page),
+        };
+        self.frames.go_on(phase).answer()
+    }
+
+    /// A compare and exchange of the next link from NORMAL to HEADER.
+    #[inline(never)]
+    pub(crate) fn mark(&mut self, role: Role, noted: u64, page: u16, next: u16) -> Answer
+        requires writer { IsWriter self.old }
+        requires top { self.old.frames.stack.frames ≢ [] }
+        requires phase { self.old.frames.phase ≡ Marking role noted page next }
+        ensures { Makes self.old model.steps result self.new }
+    {
+        if self.stops(role, noted) {
+            return self.begin_anew();
+        }
+        let behind = noted + 1 - self.frames.pages() as u64;
+        let _marked = self.seat.mark_next::<Brand>(page, next, FillNo(behind));
+        self.frames.go_on(after_next(role, noted, page)).answer()
+    }
+
+    /// A store of the link of the claim, from the frame's own UPDATE to NORMAL.
+    #[inline(never)]
+    pub(crate) fn clear(&mut self, noted: u64, page: u16) -> Answer
+        requires writer { IsWriter self.old }
+        requires top { self.old.frames.stack.frames ≢ [] }
+        requires phase { self.old.frames.phase ≡ Clearing noted page }
+        ensures { Makes self.old model.steps result self.new }
+    {
+        let front = self.pages[(noted - 1 - self.frames.done()) as usize];
+        self.seat.clear::<Brand>(front, page, FillNo(noted));
+        self.frames.go_on(Phase::Opening { noted, page }).answer()
+    }
+
+    /// A helper stops where another frame has begun a fill.
+    fn stops(&self, role: Role, noted: u64) -> bool
+        ensures stops { result ≡ true → (role ≡ Helper) × (noted ≢ opened self.now.frames.stack) }
+        ensures goes_on { result ≡ false → GoesOn (role_of role) noted (opened self.now.frames.stack) }
+    {
+        match role {
+            Role::Owner => false,
+            Role::Helper => noted != self.frames.opened(),
+        }
+    }
+}
+
+/// After the look at the next link: only the owner clears its UPDATE.
+fn after_next(role: Role, noted: u64, page: u16) -> Phase
+    ensures { phase_of result ≡ model.after_next (role_of role) noted page }
+{
+    match role {
+        Role::Owner => Phase::Clearing { noted, page },
+        Role::Helper => Phase::Opening { noted, page },
+    }
+}
+
+ghost use Rattle.std.specs.Prelude.{◌≡◌};
+ghost use Rattle.trace_model.specs.Steps as model;
+ghost use Rattle.ring_frames.specs.Value.{phase_of, role_of};

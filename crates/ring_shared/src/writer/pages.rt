@@ -1,0 +1,58 @@
+//! The steps by which pages come to the writer and go: a fill is begun, fills are closed, and the reader's wish is
+//! looked for.
+use crate::writer::Writer;
+use ring_frames::Answer;
+use std::marker::Brand;
+use trace_model::FillNo;
+
+impl Writer {
+    ghost use Rattle.std.specs.Prelude.{◌≡◌, ◌≢◌, []};
+    ghost use Rattle.trace_model.specs.Steps as model;
+    ghost use Rattle.ring_frames.specs.declared.phase.Phase.TheVariants.{Opening, Releasing, Wishing};
+    ghost use Rattle.ring_shared.specs.Calls.{IsWriter, Makes};
+
+    /// A store of the number of begun fills: the page to open is taken from its home, and is the tail from now on.
+    #[inline(never)]
+    pub(crate) fn open(&mut self, noted: u64, page: u16) -> Answer
+        requires writer { IsWriter self.old }
+        requires top { self.old.frames.stack.frames ≢ [] }
+        requires phase { self.old.frames.phase ≡ Opening noted page }
+        ensures { Makes self.old model.steps result self.new }
+    {
+        if noted != self.frames.opened() {
+            return self.begin_anew();
+        }
+        let body = self.seat.open::<Brand>(page, FillNo(noted));
+        self.pages.push_back_reserved(page);
+        self.frames.open(body).answer()
+    }
+
+    /// A store of the number of closed fills: the oldest fill that isn't closed is, and its page goes home.
+    #[inline(never)]
+    pub(crate) fn release(&mut self) -> Answer
+        requires writer { IsWriter self.old }
+        requires top { self.old.frames.stack.frames ≢ [] }
+        requires phase { self.old.frames.phase ≡ Releasing }
+        ensures { Makes self.old model.steps result self.new }
+    {
+        let page = self.frames.release();
+        match self.pages.pop_front() {
+            Some(number) => self.seat.release::<Brand>(number, page),
+            None => unreachable!(),
+        }
+        Answer::Going
+    }
+
+    /// A load of the reader's wish: where it is for the tail, and the tail holds a record and isn't the last fill, the
+    /// frame closes it; else it closes what was begun meanwhile, or is gone.
+    #[inline(always)]
+    pub(crate) fn load_wish(&mut self) -> Answer
+        requires writer { IsWriter self.old }
+        requires top { self.old.frames.stack.frames ≢ [] }
+        requires phase { self.old.frames.phase ≡ Wishing }
+        ensures { Makes self.old model.steps result self.new }
+    {
+        let wish = self.seat.load_wish::<Brand, _>(&());
+        self.frames.load_wish(wish)
+    }
+}

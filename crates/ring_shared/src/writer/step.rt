@@ -1,0 +1,36 @@
+//! One step of the frame on top.
+use crate::writer::Writer;
+use nested_writer::WriteFault;
+use ring_frames::{Answer, Phase};
+
+impl Writer {
+    ghost use Rattle.trace_model.specs.Steps as model;
+    ghost use Rattle.ring_shared.specs.Calls.{IsWriter, Makes};
+
+    /// One step of the frame on top, in its phase: a step on one word, or one that touches none. Refused with `NoFrame`
+    /// where no frame stands.
+    pub fn step(&mut self) -> Answer
+        requires writer { IsWriter self.old }
+        ensures { Makes self.old model.steps result self.new }
+    {
+        if self.frames.depth() == 0 {
+            return Answer::Refused(WriteFault::NoFrame);
+        }
+        match self.frames.phase() {
+            Phase::Idle => self.reserve(),
+            Phase::Looking { noted } => self.look(noted),
+            Phase::Claiming { noted, page } => self.claim(noted, page),
+            Phase::LookingNext { role, noted, page } => self.look_next(role, noted, page),
+            Phase::Marking {
+                role,
+                noted,
+                page,
+                next,
+            } => self.mark(role, noted, page, next),
+            Phase::Clearing { noted, page } => self.clear(noted, page),
+            Phase::Opening { noted, page } => self.open(noted, page),
+            Phase::Releasing => self.release(),
+            Phase::Wishing => self.load_wish(),
+        }
+    }
+}
