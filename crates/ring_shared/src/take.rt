@@ -8,9 +8,10 @@ pub enum Take {
     /// The oldest page that was closed and unread, and how many numbers are missing in front of its first record since
     /// the last page taken.
     Page(Page, u64),
-    /// No closed fill is unread: so many are closed.
+    /// No closed fill is unread: this is the number of the oldest one that isn't closed. The body comes back.
     Empty(u64, Body),
-    /// A move of the head stands in the way, or came in it too often; each fill below this one is taken or lost.
+    /// A move of the head stands in the way, or the take has made as many steps as it may: each fill below this one is
+    /// taken or lost. The body comes back.
     Moving(FillNo, Body),
 }
 

@@ -51,7 +51,8 @@ impl Writer {
         self.frames.depth()
     }
 
-    /// How many fills are closed.
+    /// The number of the oldest fill that isn't closed: in a ring whose first fill has the number 0, how many are
+    /// closed.
     #[inline(always)]
     pub fn done(&self) -> u64
         ensures { result ≡ self.now.frames.stack.done }

@@ -57,7 +57,7 @@ fn take_tail(board: &Board, shape: Shape, seat: &mut Place)
 }
 
 /// The seats of a new ring of `pages` pages and a spare, of `size` bytes of data each, whose first fill has the number
-/// `start`. All room is made here: no other call but `settle` takes memory.
+/// `start`. All room is made here: no other call takes memory.
 pub fn seats_at(
     alloc: Global,
     pages: usize,

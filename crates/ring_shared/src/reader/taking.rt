@@ -11,9 +11,9 @@ impl Reader {
     ghost use Rattle.ring_shared.specs.declared.take.Turn.TheVariants.{Done};
     ghost use Rattle.ring_shared.specs.Takes.{IsReader, IsTake, EmptyAfter, SameRing, empty_of};
 
-    /// Takes the oldest page that is closed and unread, for which `body`, of the ring's data size, goes into the ring.
-    /// It makes at most two steps for each page of the ring and eight; where that is not enough, it answers `Moving`,
-    /// and the next take goes on where this one came to.
+    /// Takes the oldest page that is closed and unread, for which `body`, of the ring's data size in bytes, goes into
+    /// the ring; with any other answer a body of that size comes back. It makes at most two steps for each page of the
+    /// ring and eight; where that is not enough, it answers `Moving`, and the next take goes on where this one came to.
     pub fn take(&mut self, body: Body) -> Take
         requires reader { IsReader self.old }
         requires size { length body ≡ self.old.shape.size }

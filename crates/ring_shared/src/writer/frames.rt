@@ -14,7 +14,9 @@ impl Writer {
     ghost use Rattle.ring_frames.specs.Answers.{top_bytes};
     ghost use Rattle.ring_shared.specs.Calls.{IsWriter, Makes};
 
-    /// A writer begins: a frame is pushed for a record of this moment, and of a payload of `len` bytes.
+    /// A writer begins: a frame is pushed for a record of this moment, below `MOMENT_LIMIT`, and of a payload of `len`
+    /// bytes. `Pushed`; or refused, and nothing changed: `TooDeep` where four frames stand, `TooLong` where the record
+    /// has no room on an empty page, `LateMoment`, the first of these that holds.
     pub fn begin(&mut self, moment: u64, len: usize) -> Answer
         requires writer { IsWriter self.old }
         ensures { Makes self.old (model.pushes moment len) result self.new }
@@ -23,7 +25,7 @@ impl Writer {
         self.frames.push(moment, len)
     }
 
-    /// A frame is pushed that leaves the tail page, where that holds a record.
+    /// A frame is pushed that leaves the tail page, where that holds a record. `Pushed`, or refused as `TooDeep`.
     pub fn begin_close(&mut self) -> Answer
         requires writer { IsWriter self.old }
         ensures { Makes self.old model.pushes_close result self.new }
@@ -32,7 +34,8 @@ impl Writer {
         self.frames.push_close()
     }
 
-    /// The frame on top, whose record is reserved, ends with the payload that stands in its slot.
+    /// The frame on top, whose record is reserved, ends with the payload that stands in its slot. `Ended`; or refused,
+    /// and nothing changed, as `NoFrame` or as `NotReserved`.
     pub fn end(&mut self) -> Answer
         requires writer { IsWriter self.old }
         ensures { Makes self.old (model.ends (top_bytes self.old.frames.stack self.old.frames.stack.frames)) result

@@ -7,8 +7,10 @@ impl Writer {
     ghost use Rattle.trace_model.specs.Steps as model;
     ghost use Rattle.ring_shared.specs.Calls.{IsWriter, Makes};
 
-    /// One step of the frame on top, in its phase: a step on one word, or one that touches none. Refused with `NoFrame`
-    /// where no frame stands.
+    /// One step of the frame on top, in its phase: a step on one word, or one that touches none. `Going` while it
+    /// stands and has reserved nothing or has left; `Reserved` with its record's number; `Gone` once it has left the
+    /// stack. Refused with `NoFrame` where no frame stands; and a frame that needs a page is refused, and leaves, as
+    /// `Crowded` where no page is released, as `Worn` behind the last fill.
     pub fn step(&mut self) -> Answer
         requires writer { IsWriter self.old }
         ensures { Makes self.old model.steps result self.new }
