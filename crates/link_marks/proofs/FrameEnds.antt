@@ -25,13 +25,13 @@ use Rattle.link_marks.proofs.HistorySteps.{top_agrees, top_stack, wishing_left}
 
 -- ---- parts of a rank
 
-late_now : (noted opened : ℕ) → noted ≡ opened → late_rank noted opened ≡ 0
+pub late_now : (noted opened : ℕ) → noted ≡ opened → late_rank noted opened ≡ 0
 late_now noted opened e = ap (λ (b : Bool). if b then 0 else 20) (eq-eqb noted opened e)
 
-late_passed : (noted opened : ℕ) → noted ≢ opened → late_rank noted opened ≡ 20
+pub late_passed : (noted opened : ℕ) → noted ≢ opened → late_rank noted opened ≡ 20
 late_passed noted opened ne = ap (λ (b : Bool). if b then 0 else 20) (ne_eqb noted opened ne)
 
-late_le : (noted opened : ℕ) → late_rank noted opened ≤ 20
+pub late_le : (noted opened : ℕ) → late_rank noted opened ≤ 20
 late_le noted opened = cond_both (noted == opened) 0 20 (λ (k : ℕ). k ≤ 20) (λ _. omega arith) (λ _. omega arith)
 
 wish_le : (c : Core) → wish_rank c ≤ 12
@@ -58,7 +58,7 @@ tail_held (r ∷ records) holds = refl
 closing_le : (n : ℕ) (c : Core) (state : FrameState) → phase_rank n c state (closing_phase c) ≤ wish_rank c + 1
 closing_le n c state = cond_both ((c.done + 1) == c.opened) wishing releasing (λ (p : Phase). phase_rank n c state p ≤ wish_rank c + 1) (λ _. omega arith) (λ _. omega arith)
 
-opened_tail : (h : List Action) → tail_of (h ++ open_fill ∷ []) ≡ []
+pub opened_tail : (h : List Action) → tail_of (h ++ open_fill ∷ []) ≡ []
 opened_tail h =
     let cuts : List ℕ = opens_of h in
     let xs : List Reservation = reserved_records h in
@@ -78,7 +78,7 @@ leave_le n c frame [] payload same = let low = closing_le n c left in
 leave_le n c frame (next ∷ below) payload same = absurd (let wrong : suc (length below) ≡ suc (suc (length below)) = same in omega arith)
 
 -- what a frame that begins anew has before it, where an idle one has at most i, and one that closes fills at most w
-abbrev anew_rank : ℕ → ℕ → FrameState → ℕ
+abbrev pub anew_rank : ℕ → ℕ → FrameState → ℕ
 anew_rank i w waiting = i
 anew_rank i w (reserved number) = 15
 anew_rank i w left = w
@@ -89,12 +89,12 @@ begin_le n c for_close waiting frame below i w same low wish_low le stays = let 
 begin_le n c kind (reserved number) frame below i w same low wish_low le stays = subst (λ (s : FrameState). 3 * (c.opened - c.done) + idle_rank c s ≤ 3 * (c.opened - c.done) + 15) (sym same) (omega arith)
 begin_le n c kind left frame below i w same low wish_low le stays = let less = closing_le n c frame.state in omega arith
 
-anew_lt : (state : FrameState) → anew_rank 32 13 state < state_rank state + 25
+pub anew_lt : (state : FrameState) → anew_rank 34 13 state < state_rank state + 25
 anew_lt waiting = omega arith
 anew_lt (reserved number) = omega arith
 anew_lt left = omega arith
 
-opened_lt : (state : FrameState) → anew_rank 16 1 state + 3 < state_rank state + 5
+pub opened_lt : (state : FrameState) → anew_rank 16 1 state + 3 < state_rank state + 5
 opened_lt waiting = omega arith
 opened_lt (reserved number) = omega arith
 opened_lt left = omega arith
@@ -172,13 +172,13 @@ module _ (n size start : ℕ) (c : Core) (frame : Frame) (below : List Frame) (r
       let late = late_passed noted c.opened step.passed in
       let wish_low = wish_le c in
       let begun : Core = after_begin frame.kind frame.state c frame below in
-      let low = begin_le n c frame.kind frame.state frame below 32 13 refl (tail_le (tail_of c.history)) (omega arith) (omega arith) (stands after begun step.after_is stays) in
+      let low = begin_le n c frame.kind frame.state frame below 34 13 refl (let low = tail_le (tail_of c.history) in omega arith) (omega arith) (omega arith) (stands after begun step.after_is stays) in
       let less = anew_lt frame.state in
       subst (λ (a : Core). frame_rank n a < frame_rank n c) (sym step.after_is)
       (subst (λ (m : ℕ). frame_rank n begun < m) (sym (old phase same)) (omega arith))
 
   -- a page is needed only where the tail holds a record
-  needs_tail : (kind : Kind) → frame.kind ≡ kind → frame.state ≡ waiting → NeedsPage size c kind → tail_of c.history ≢ []
+  pub needs_tail : (kind : Kind) → frame.kind ≡ kind → frame.state ≡ waiting → NeedsPage size c kind → tail_of c.history ≢ []
   needs_tail kind kind_is state_is needs =
       let p : PackedAt size c.history c.opened (frame ∷ below) = subst (PackedAt size c.history c.opened) top r.packed in
       (fit_open size c.history frame.kind frame.state (pushed_frames below) (top_stack n start c frame below r.history top) (λ gone. ap pushed_frames ((top_agrees c frame below r.stack top).1 gone)) p.needs.0
@@ -348,7 +348,7 @@ ends_lower n size start c frame below number payload answer after r top own (wis
 
 -- ---- the limit
 
-state_le : (state : FrameState) → state_rank state ≤ 20
+pub state_le : (state : FrameState) → state_rank state ≤ 20
 state_le waiting = omega arith
 state_le (reserved number) = omega arith
 state_le left = omega arith

@@ -58,7 +58,12 @@ pub mod PrivateAlike
 pub mod SeatPages
 pub mod PrivateCommutes
 pub mod FrameEnds
+pub mod WriterEnds
 pub mod TakeEnds
+-- what a frame has seen of a link that it is about to set
+pub mod SeenLinks
 -- the worked examples and the wrong steps
 pub mod ExamplesRun
 pub mod WrongStepsRefused
+pub mod TopSteps
+pub mod FrameOutcomes

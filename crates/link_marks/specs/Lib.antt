@@ -28,3 +28,6 @@ pub mod Ranks
 pub mod Examples
 pub mod WrongSteps
 pub mod FirstLinks
+pub mod WriterRanks
+pub mod SeenLinks
+pub mod FrameOutcomes

@@ -1,7 +1,9 @@
-//! Laws of how a ring's frames and its reader come to their ends, where nothing comes between.
+//! Laws of how a ring's frames and its reader come to their ends.
+ghost use Rattle.link_marks.specs.FrameOutcomes.{FramesLeave, FramesReserve};
 ghost use Rattle.link_marks.specs.Ranks.{EndsComeToAnEnd, FramesAreNearTheirEnd, StepsComeToAnEnd, TakesAreNearTheirAnswer, TakesComeToAnAnswer};
+ghost use Rattle.link_marks.specs.WriterRanks.{WriterStepsComeToAnEnd, WritersAreNearTheirEnd};
 
-/// Each step of a frame that stands behind it lowers a number that is small from the start.
+/// Where nothing comes between, each step of a frame that stands behind it lowers a number that is small from the start.
 pub fn frames_come_to_an_end()
     ensures steps { StepsComeToAnEnd }
     ensures ends { EndsComeToAnEnd }
@@ -12,4 +14,18 @@ pub fn frames_come_to_an_end()
 pub fn takes_come_to_an_answer()
     ensures steps { TakesComeToAnAnswer }
     ensures near { TakesAreNearTheirAnswer }
+{}
+
+/// A step of a frame with a record to reserve leaves it so, or reserves it, or is refused; and a frame that closes the
+/// tail, or has left, stays, or is gone.
+pub fn frames_reserve_or_leave()
+    ensures reserve { FramesReserve }
+    ensures leave { FramesLeave }
+{}
+
+/// Where the reader steps in between, each step of a frame that hasn't reserved and stands behind it lowers a number that
+/// is small from the start, by what the writer knows of the fills that are passed.
+pub fn writers_come_to_an_end()
+    ensures steps { WriterStepsComeToAnEnd }
+    ensures near { WritersAreNearTheirEnd }
 {}
