@@ -124,28 +124,35 @@ module _ (tail tail' : Contents) (prev moment len : ℕ) (part : List ℕ) (plac
 
 -- ---- the history
 
-padded_twice : (payload : List ℕ) → padded (padded payload) ≡ padded payload
+pub padded_twice : (payload : List ℕ) → padded (padded payload) ≡ padded payload
 padded_twice payload = padded_whole (padded payload) (ap slot_len (length-padded payload) ∙ slot_len-slot_len (length payload) ∙ sym (length-padded payload))
 
--- a record gets the same bytes, whether its payload comes with the zeros behind it or without them
-same_padded : (number : ℕ) (payload : List ℕ) (xs : List Reservation) → records_with_payload (Some number) (Some payload) xs ≡ records_with_payload (Some number) (Some (padded payload)) xs
-same_padded number payload [] = refl
-same_padded zero payload (x ∷ xs) = ap (λ (b : List ℕ). let r : Reservation = record x { bytes = Some b } in r ∷ xs) (sym (padded_twice payload))
-same_padded (suc number) payload (x ∷ xs) = ap (λ (l : List Reservation). x ∷ l) (same_padded number payload xs)
+-- a record gets the same bytes by payloads that only differ in the zeros behind them
+same_padded : (number : ℕ) (p q : List ℕ) (xs : List Reservation) → padded p ≡ padded q → records_with_payload (Some number) (Some p) xs ≡ records_with_payload (Some number) (Some q) xs
+same_padded number p q [] same = refl
+same_padded zero p q (x ∷ xs) same = ap (λ (b : List ℕ). let r : Reservation = record x { bytes = Some b } in r ∷ xs) same
+same_padded (suc number) p q (x ∷ xs) same = ap (λ (l : List Reservation). x ∷ l) (same_padded number p q xs same)
 
-left_unpadded : (start : ℕ) (h : List Action) (s : Stack) (moment len number : ℕ) (below : List PushedFrame) (payload : List ℕ) → (writer_after h).stack ≡ record_frame moment len (Some number) ∷ below → slot_len (length payload) ≡ slot_len len → IsHistory h → AreFit s.size h
-    → IsStack start (h ++ leave (Some (padded payload)) ∷ []) s
-    → IsStack start (h ++ leave (Some payload) ∷ []) s
-left_unpadded start h s moment len number below payload stack fills keeps fit k =
+keeps_front : (h : List Action) (a : Action) → IsHistory (h ++ a ∷ []) → IsHistory h
+keeps_front h a keeps = λ front behind x is. keeps front (behind ++ a ∷ []) x (ap (λ (g : List Action). g ++ a ∷ []) is ∙ append_assoc front (x ∷ behind) (a ∷ []))
+
+fit_front : (size : ℕ) (h : List Action) (a : Action) → AreFit size (h ++ a ∷ []) → AreFit size h
+fit_front size h a fit = λ front behind x is. fit front (behind ++ a ∷ []) x (ap (λ (g : List Action). g ++ a ∷ []) is ∙ append_assoc front (x ∷ behind) (a ∷ []))
+
+-- so its frame may leave with either of them
+pub left_alike : (start : ℕ) (h : List Action) (s : Stack) (moment len number : ℕ) (below : List PushedFrame) (p q : List ℕ) → padded p ≡ padded q → (writer_after h).stack ≡ record_frame moment len (Some number) ∷ below → slot_len (length p) ≡ slot_len len
+    → IsStack start (h ++ leave (Some q) ∷ []) s
+    → IsStack start (h ++ leave (Some p) ∷ []) s
+left_alike start h s moment len number below p q same stack fills k =
     let f : PushedFrame = record_frame moment len (Some number) in
-    let p : Option (List ℕ) = Some payload in
-    let q : Option (List ℕ) = Some (padded payload) in
+    let a : Action = leave (Some p) in
+    let b : Action = leave (Some q) in
     record {
-      keeps = IsHistory-push h (leave p) keeps (subst (λ (st : List PushedFrame). MayLeave st p) (sym stack) fills);
-      stack_is = left_stack h f below p stack ∙ sym (left_stack h f below q stack) ∙ k.stack_is;
-      fit = fit_more s.size h (leave p) fit tt;
-      holds = same_of start (opens_of (h ++ leave q ∷ [])) (opens_of (h ++ leave p ∷ [])) (reserved_records (h ++ leave q ∷ [])) (reserved_records (h ++ leave p ∷ [])) (is_wished (h ++ leave q ∷ [])) (is_wished (h ++ leave p ∷ [])) s
-          (opens_of-leave h p ∙ sym (opens_of-leave h q)) (records_left h f below p stack ∙ same_padded number payload (reserved_records h) ∙ sym (records_left h f below q stack)) (is_wished-leave h p ∙ sym (is_wished-leave h q)) k.holds;
+      keeps = IsHistory-push h a (keeps_front h b k.keeps) (subst (λ (st : List PushedFrame). MayLeave st (Some p)) (sym stack) fills);
+      stack_is = left_stack h f below (Some p) stack ∙ sym (left_stack h f below (Some q) stack) ∙ k.stack_is;
+      fit = fit_more s.size h a (fit_front s.size h b k.fit) tt;
+      holds = same_of start (opens_of (h ++ b ∷ [])) (opens_of (h ++ a ∷ [])) (reserved_records (h ++ b ∷ [])) (reserved_records (h ++ a ∷ [])) (is_wished (h ++ b ∷ [])) (is_wished (h ++ a ∷ [])) s
+          (opens_of-leave h (Some p) ∙ sym (opens_of-leave h (Some q))) (records_left h f below (Some p) stack ∙ same_padded number p q (reserved_records h) same ∙ sym (records_left h f below (Some q) stack)) (is_wished-leave h (Some p) ∙ sym (is_wished-leave h (Some q))) k.holds;
     }
 
 -- ---- the stack
@@ -199,7 +206,7 @@ module _ (start : ℕ) (h : List Action) (s : Stack) (moment : ℕ) (payload : L
       let before : List Action = (h ++ push moment (length payload) ∷ []) ++ reserve ∷ [] in
       let frames : filled.frames ≡ holds ∷ [] = ap (λ (fs : List Frame). holds ∷ fs) none in
       let there : bytes_at place.start place.len tail'.bytes ≡ padded payload = part_at s.tail tail' s.last_moment raised (length payload) (padded payload) place k.holds.tail_is.page_reads p in
-      left_unpadded start before (after_leave filled holds []) moment (length payload) (next_number s) [] payload (is_filled.stack_is ∙ ap (λ (fs : List Frame). pushed_of (model_frames fs)) frames) refl is_filled.keeps is_filled.fit
+      left_alike start before (after_leave filled holds []) moment (length payload) (next_number s) [] payload (padded payload) (sym (padded_twice payload)) (is_filled.stack_is ∙ ap (λ (fs : List Frame). pushed_of (model_frames fs)) frames) refl
       (subst (λ (b : List ℕ). IsStack start (before ++ leave (Some b) ∷ []) (after_leave filled holds [])) there (ended start before filled holds [] slot tail' frames refl (is_tail refl refl) is_filled))
 
   pub written_at_once : IsStack start (h ++ push moment (length payload) ∷ reserve ∷ leave (Some payload) ∷ []) (record s { tail = tail'; frames = record { purpose = ForRecord moment (length payload); progress = Left None } ∷ []; last_moment = max moment s.last_moment })
