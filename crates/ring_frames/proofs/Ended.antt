@@ -43,7 +43,7 @@ through_not Close noted phase alike = alike
 -- ---- the bytes in a slot
 
 -- the page of an open fill, found by its number
-page_found : (s : Stack) (fill : ℕ) (page : Contents) → s.tail.fill ≡ tail_fill s → IsOpenPage s.done s.older s.tail fill page → open_page s fill ≡ page
+pub page_found : (s : Stack) (fill : ℕ) (page : Contents) → s.tail.fill ≡ tail_fill s → IsOpenPage s.done s.older s.tail fill page → open_page s fill ≡ page
 page_found s fill page tail_is (is_tail at is) = cond-true _ _ _ (eq-eqb fill s.tail.fill (at ∙ sym tail_is)) ∙ sym is
 page_found s fill page tail_is (is_older k at is) =
     let inside = slice_get_within s.older k page is in

@@ -5,6 +5,7 @@ pub mod Pushed
 pub mod Pushes
 pub mod Left
 pub mod Ended
+pub mod Payloads
 pub mod Asked
 pub mod Closing
 pub mod Anew
@@ -17,5 +18,6 @@ pub mod Beginning
 pub mod Releasing
 pub mod Wishing
 pub mod NewFrames
+pub mod AtOnce
 pub mod Lent
 pub mod FirstStates

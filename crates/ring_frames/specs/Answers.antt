@@ -1,9 +1,10 @@
 -- What the answer of a ring means in the model; and the bytes that stand in the slot of the frame on top.
-use Rattle.std.specs.Prelude.{◌≡◌, ℕ, ◌-◌, if◌then◌else◌, ◌==◌, List, [], ◌∷◌, slice_index_or}
+use Rattle.std.specs.Prelude.{◌≡◌, ℕ, ◌-◌, if◌then◌else◌, ◌==◌, List, [], ◌∷◌, ◌⊎◌, replicate, slice_index_or}
 use Rattle.trace_model.specs.Frames.{Refusal, too_deep, too_long, late_moment, crowded, worn, no_frame, not_reserved}
 use Rattle.trace_model.specs.Overwriting.{bytes_at}
 use Rattle.trace_model.specs.Ring.{Taken}
 use Rattle.trace_model.specs.Steps as model
+use Rattle.trace_model.specs.declared.numbers.RecordNo.{RecordNo}
 use Rattle.page_image.specs.Contents.{Contents}
 use Rattle.nested_writer.specs.declared.fault.WriteFault.{WriteFault}
 use Rattle.nested_writer.specs.declared.fault.WriteFault.TheVariants.{TooDeep, TooLong, LateMoment, Crowded, Worn, NoFrame, NotReserved}
@@ -13,6 +14,7 @@ use Rattle.nested_writer.specs.declared.frame.Progress.{Progress}
 use Rattle.nested_writer.specs.declared.frame.Progress.TheVariants.{Waiting, Through, Reserved as HasReserved, Left}
 use Rattle.nested_writer.specs.declared.frame.Frame.{Frame}
 use Rattle.nested_writer.specs.Stack.{Stack}
+use Rattle.nested_writer.specs.Calls.{LacksSlot, IsTopSlot}
 use Rattle.nested_writer.specs.Released.{IsWrittenPage}
 use Rattle.ring_frames.specs.declared.answer.Answer.{Answer}
 use Rattle.ring_frames.specs.declared.answer.Answer.TheVariants.{Pushed, Going, Reserved, Ended, Gone, Refused, Looking, Empty, Moving, Taken as IsTaken, Wished}
@@ -37,6 +39,15 @@ bytes_of_progress s (Left noted) = []
 abbrev pub top_bytes : Stack → List Frame → List ℕ
 top_bytes s [] = []
 top_bytes s (top ∷ below) = bytes_of_progress s top.progress
+
+-- a frame of these has reserved this slot
+abbrev pub HoldSlot : List Frame → Slot → Type 0
+HoldSlot [] slot = ⊥
+HoldSlot (f ∷ frames) slot = (f.progress ≡ HasReserved slot) ⊎ HoldSlot frames slot
+
+-- Each slot that a frame of the old stack has reserved holds the same bytes in the new one.
+abbrev pub KeepsPayloads : Stack → Stack → Type 0
+KeepsPayloads old new = (slot : Slot) → HoldSlot old.frames slot → bytes_in old slot ≡ bytes_in new slot
 
 -- ---- answers
 
@@ -69,3 +80,11 @@ Tells size (Empty done body) told = told ≡ model.empty done
 Tells size (Moving fill body) told = told ≡ model.moving fill.0
 Tells size (IsTaken page missed) told = (t : Taken) × (told ≡ model.swapped t) × IsTakenPage size page missed t
 Tells size (Wished fill) told = told ≡ model.wished_for fill.0
+
+-- A slot that is reserved by this answer holds only zeros.
+abbrev pub ZerosSlot : Stack → Answer → Stack → Type 0
+ZerosSlot old result new = (number : RecordNo) (slot : Slot)
+    → result ≡ Reserved number
+    → LacksSlot old.frames
+    → IsTopSlot new.frames slot
+    → bytes_in new slot ≡ replicate slot.place.len 0

@@ -4,6 +4,7 @@ pub mod AreFrames
 pub mod Answers
 pub mod Phases
 pub mod Steps
+pub mod AtOnce
 pub mod Fills
 pub mod Lending
 pub mod Laws

@@ -4,8 +4,9 @@ mod leave;
 mod push;
 mod tail;
 mod top;
+mod write;
 
-use crate::phase::Phase;
+use crate::phase::{Phase, Role};
 use nested_writer::WriterStack;
 use nested_writer::frame::Frame;
 use std::alloc::Global;
@@ -36,10 +37,13 @@ impl Model for Frames {
 }
 
 impl Frames {
-    ghost use Rattle.std.specs.Prelude.{◌≡◌, ◌+◌, ◌%◌, ◌≤◌, ◌<◌, length, IfOk};
+    ghost use Rattle.std.specs.Prelude.{◌≡◌, ◌≢◌, true, false, ◌+◌, ◌%◌, ◌≤◌, ◌<◌, length, IfOk};
     ghost use Rattle.trace_model.specs.declared.limits.TheConstants.{MIN_PAGES, MAX_PAGES, MIN_SIZE, MAX_SIZE, MAX_FRAMES, LINK_FILLS};
+    ghost use Rattle.trace_model.specs.Steps.{GoesOn};
     ghost use Rattle.nested_writer.specs.Stack.{opened};
     ghost use Rattle.nested_writer.specs.Calls.{top_of};
+    ghost use Rattle.ring_frames.specs.declared.phase.Role.TheVariants.{Helper};
+    ghost use Rattle.ring_frames.specs.Value.{role_of};
     ghost use Rattle.ring_frames.specs.Steps.{AreNew};
 
     /// No frame, over the empty tail page of a new ring of `pages` pages of `size` bytes of data each, whose first fill
@@ -107,6 +111,18 @@ impl Frames {
         ensures numbered { result + self.now.stack.pages ≤ LINK_FILLS }
     {
         self.stack.opened()
+    }
+
+    /// Whether a frame of this role, which noted this fill, stops: a helper does where another frame has begun a fill.
+    #[inline(always)]
+    pub fn stops(&self, role: Role, noted: u64) -> bool
+        ensures stops { result ≡ true → (role ≡ Helper) × (noted ≢ opened self.now.stack) }
+        ensures goes_on { result ≡ false → GoesOn (role_of role) noted (opened self.now.stack) }
+    {
+        match role {
+            Role::Owner => false,
+            Role::Helper => noted != self.stack.opened(),
+        }
     }
 
     /// The frame on top.

@@ -10,6 +10,23 @@ pub enum Role {
     Helper,
 }
 
+impl Role {
+    ghost use Rattle.std.specs.Prelude.{◌≡◌};
+    ghost use Rattle.trace_model.specs.Steps as model;
+    ghost use Rattle.ring_frames.specs.Value.{phase_of, role_of};
+
+    /// The phase after the look at the next link: only the owner clears its UPDATE.
+    #[inline(always)]
+    pub fn after_next(self, noted: u64, page: u16) -> Phase
+        ensures { phase_of result ≡ model.after_next (role_of self) noted page }
+    {
+        match self {
+            Role::Owner => Phase::Clearing { noted, page },
+            Role::Helper => Phase::Opening { noted, page },
+        }
+    }
+}
+
 /// How far a frame has come. `noted` is the number of fills that were begun when it found that it needs a page, so the
 /// number of the fill to open; `page` stands at that fill's position, and `next` behind it.
 #[derive(Clone, Copy, Debug, PartialEq, Eq)]

@@ -3,7 +3,7 @@ ghost use Rattle.std.specs.Prelude.{IfOk};
 ghost use Rattle.ring_frames.specs.Steps.{IsFrames};
 
 use crate::{Answer, Frames, Phase};
-use nested_writer::{Ended, WriteFault};
+use nested_writer::{Ended, WriteFault, Wrote};
 use std::alloc::Global;
 use std::test::Fail;
 use trace_model::NoMemory;
@@ -46,6 +46,14 @@ fn end(frames: &mut Frames) -> Answer
     frames.end()
 }
 
+/// A record is written at once, or nothing is.
+fn write(frames: &mut Frames, moment: u64, payload: &[u8]) -> Wrote
+    requires { IsFrames frames.old }
+    ensures { IsFrames frames.new }
+{
+    frames.write(moment, payload)
+}
+
 /// A frame above another one reserves the next record, and is pending; the outer one is full, and looks for the wish.
 #[test]
 fn nested_frames_reserve_and_end(rt: HostRuntime) -> Result<(), Fail> {
@@ -82,5 +90,24 @@ fn a_full_tail_is_noted(rt: HostRuntime) -> Result<(), Fail> {
     assert!(rt; matches!(reserve(&mut frames), Answer::Going));
     assert_eq!(rt; frames.phase(), Phase::Looking { noted: 1 });
     assert!(rt; matches!(end(&mut frames), Answer::Refused(WriteFault::NotReserved)));
+    Ok(())
+}
+
+/// A record that fits is written where no frame stands, and its frame is left at the bottom, above which none is
+/// written at once; one that fits no page, or comes too late, isn't written.
+#[test]
+fn a_record_is_written_at_once(rt: HostRuntime) -> Result<(), Fail> {
+    let mut frames = two_pages(rt.alloc())?;
+    assert_eq!(rt; write(&mut frames, 1, &[0; 33]), Wrote::Nothing);
+    assert_eq!(rt; write(&mut frames, u64::MAX, &[1, 2, 3, 4]), Wrote::Nothing);
+    assert_eq!(rt; frames.depth(), 0);
+    assert_eq!(rt; write(&mut frames, 1, &[1, 2, 3, 4]), Wrote::Record);
+    assert_eq!(rt; (frames.depth(), frames.phase()), (1, Phase::Wishing));
+    assert_eq!(rt; write(&mut frames, 2, &[5]), Wrote::Nothing);
+    assert!(rt; matches!(push(&mut frames, 2, 4), Answer::Pushed));
+    match reserve(&mut frames) {
+        Answer::Reserved(second) => assert_eq!(rt; second.0, 1),
+        other => assert!(rt; false, "{other:?}"),
+    }
     Ok(())
 }

@@ -6,14 +6,9 @@ use link_marks::{Mark, header, normal, update};
 use ring_frames::Turned;
 
 impl Core {
-    ghost use Rattle.std.specs.Prelude.{◌≡◌, ◌≢◌, ℕ, true, false, [], ◌∷◌};
+    ghost use Rattle.std.specs.Prelude.{◌≡◌, ◌≢◌, ℕ, true, false, []};
     ghost use Rattle.trace_model.specs.Steps as model;
-    ghost use Rattle.trace_model.specs.Steps.{GoesOn};
-    ghost use Rattle.nested_writer.specs.Stack.{opened};
     ghost use Rattle.ring_frames.specs.declared.phase.Phase.TheVariants.{Looking, Claiming, LookingNext, Marking, Clearing};
-    ghost use Rattle.ring_frames.specs.declared.phase.Role.{Role};
-    ghost use Rattle.ring_frames.specs.declared.phase.Role.TheVariants.{Helper};
-    ghost use Rattle.ring_frames.specs.Value.{role_of};
     ghost use Rattle.ring_core.specs.Heads.{HasHeader, ClaimsHead};
     ghost use Rattle.ring_frames.specs.Phases.{told};
     ghost use Rattle.ring_core.specs.Steps.{Makes, IsRing};
@@ -87,7 +82,7 @@ impl Core {
         requires phase { self.old.phase ≡ LookingNext role noted page }
         ensures { Makes self.old model.steps (told result) self.new }
     {
-        if self.stops(role, noted) {
+        if self.frames.stops(role, noted) {
             return self.begin_anew();
         }
         let behind = noted - self.positions() + 1;
@@ -99,7 +94,7 @@ impl Core {
                 page,
                 next: link.page,
             },
-            _ => after_next(role, noted, page),
+            _ => role.after_next(noted, page),
         };
         self.go_on(phase)
     }
@@ -112,23 +107,12 @@ impl Core {
         requires phase { self.old.phase ≡ Marking role noted page next }
         ensures { Makes self.old model.steps (told result) self.new }
     {
-        if self.stops(role, noted) {
+        if self.frames.stops(role, noted) {
             return self.begin_anew();
         }
         let behind = noted - self.positions() + 1;
         self.exchange(behind, normal(next, behind), header(next, behind));
-        self.go_on(after_next(role, noted, page))
-    }
-
-    /// A helper stops where another frame has begun a fill.
-    fn stops(&self, role: Role, noted: u64) -> bool
-        ensures stops { result ≡ true → (role ≡ Helper) × (noted ≢ opened self.now.stack) }
-        ensures goes_on { result ≡ false → GoesOn (role_of role) noted (opened self.now.stack) }
-    {
-        match role {
-            Role::Owner => false,
-            Role::Helper => noted != self.frames.opened(),
-        }
+        self.go_on(role.after_next(noted, page))
     }
 
     /// A store of that link, from the frame's own UPDATE to NORMAL.
@@ -143,17 +127,3 @@ impl Core {
         self.go_on(Phase::Opening { noted, page })
     }
 }
-
-/// After the look at the next link: only the owner clears its UPDATE.
-fn after_next(role: Role, noted: u64, page: u16) -> Phase
-    ensures { phase_of result ≡ model.after_next (role_of role) noted page }
-{
-    match role {
-        Role::Owner => Phase::Clearing { noted, page },
-        Role::Helper => Phase::Opening { noted, page },
-    }
-}
-
-ghost use Rattle.std.specs.Prelude.{◌≡◌};
-ghost use Rattle.trace_model.specs.Steps as model;
-ghost use Rattle.ring_frames.specs.Value.{phase_of, role_of};

@@ -15,6 +15,7 @@ impl Frames {
     ghost use Rattle.nested_writer.specs.Released.{IsWrittenPage};
     ghost use Rattle.ring_frames.specs.declared.phase.Phase.TheVariants.{Opening, Releasing, Wishing};
     ghost use Rattle.ring_frames.specs.declared.answer.Answer.TheVariants.{Going};
+    ghost use Rattle.ring_frames.specs.Answers.{KeepsPayloads};
     ghost use Rattle.ring_frames.specs.Phases.{told};
     ghost use Rattle.ring_frames.specs.Steps.{IsFrames};
     ghost use Rattle.ring_frames.specs.Fills.{OpensFill, Releases, LooksForWish, GrantsNone};
@@ -26,7 +27,8 @@ impl Frames {
         requires top { self.old.stack.frames ≢ [] }
         requires phase { (page : ℕ) × (self.old.phase ≡ Opening (opened self.old.stack) page) }
         requires size { length body ≡ self.old.stack.size }
-        ensures { OpensFill self.old (told result) self.new }
+        ensures opens { OpensFill self.old (told result) self.new }
+        ensures payloads { KeepsPayloads self.old.stack self.new.stack }
     {
         self.stack.add_page(body);
         self.begin_anew()
@@ -38,7 +40,8 @@ impl Frames {
         requires frames { IsFrames self.old }
         requires top { self.old.stack.frames ≢ [] }
         requires phase { self.old.phase ≡ Releasing }
-        ensures { Releases self.old result self.new }
+        ensures releases { Releases self.old result self.new }
+        ensures payloads { KeepsPayloads self.old.stack self.new.stack }
     {
         let page = self.stack.drop_front();
         self.phase = self.closing_phase();
@@ -63,7 +66,8 @@ impl Frames {
         requires frames { IsFrames self.old }
         requires top { self.old.stack.frames ≢ [] }
         requires phase { self.old.phase ≡ Wishing }
-        ensures { LooksForWish self.old wish result self.new }
+        ensures looks { LooksForWish self.old wish result self.new }
+        ensures payloads { KeepsPayloads self.old.stack self.new.stack }
     {
         if self.grant_wish(wish) {
             return Answer::Going;

@@ -8,13 +8,15 @@ impl Frames {
     ghost use Rattle.trace_model.specs.declared.limits.TheConstants.{MAX_FRAMES};
     ghost use Rattle.trace_model.specs.Steps as model;
     ghost use Rattle.ring_frames.specs.Steps.{MakesPrivate, IsShown};
+    ghost use Rattle.ring_frames.specs.Answers.{KeepsPayloads};
     ghost use Rattle.ring_frames.specs.Phases.{with_pushed_phase};
 
     /// A frame is pushed for a record of this moment and of a payload of `len` bytes.
     #[inline(always)]
     pub fn push(&mut self, moment: u64, len: usize) -> Answer
         requires shown { IsShown self.old }
-        ensures { MakesPrivate self.old (model.pushes moment len) result self.new }
+        ensures step { MakesPrivate self.old (model.pushes moment len) result self.new }
+        ensures payloads { KeepsPayloads self.old.stack self.new.stack }
     {
         match self.stack.begin(moment, len) {
             Ok(()) => self.push_phase(),
@@ -25,7 +27,8 @@ impl Frames {
     /// A frame is pushed that leaves the tail page, where that holds a record.
     pub fn push_close(&mut self) -> Answer
         requires shown { IsShown self.old }
-        ensures { MakesPrivate self.old model.pushes_close result self.new }
+        ensures step { MakesPrivate self.old model.pushes_close result self.new }
+        ensures payloads { KeepsPayloads self.old.stack self.new.stack }
     {
         match self.stack.begin_close() {
             Ok(()) => self.push_phase(),

@@ -18,6 +18,7 @@ impl Frames {
     ghost use Rattle.ring_frames.specs.declared.phase.Turned.TheVariants.{Going};
     ghost use Rattle.ring_frames.specs.declared.phase.Phase.TheVariants.{Idle};
     ghost use Rattle.ring_frames.specs.Value.{phase_of};
+    ghost use Rattle.ring_frames.specs.Answers.{KeepsPayloads, ZerosSlot};
     ghost use Rattle.ring_frames.specs.Phases.{with_left_phase, left_answer, told};
     ghost use Rattle.ring_frames.specs.Steps.{MakesPrivate, IsFrames, IsShown, GoesOnIn, IsNotedIn, BeginsAnew, LeavesWithout, IsCloseTop};
 
@@ -28,7 +29,9 @@ impl Frames {
         requires frames { IsFrames self.old }
         requires top { self.old.stack.frames ≢ [] }
         requires phase { self.old.phase ≡ Idle }
-        ensures { MakesPrivate self.old model.steps result self.new }
+        ensures step { MakesPrivate self.old model.steps result self.new }
+        ensures payloads { KeepsPayloads self.old.stack self.new.stack }
+        ensures zeros { ZerosSlot self.old.stack result self.new.stack }
     {
         match self.stack.allot() {
             Ok(Allot::Fits(_)) => {
@@ -82,6 +85,7 @@ impl Frames {
         ensures anew { BeginsAnew self.old (told result) self.new }
         ensures late { PhaseIsPrivate (phase_of self.old.phase) (opened self.old.stack)
             → MakesPrivate self.old model.steps (told result) self.new }
+        ensures payloads { KeepsPayloads self.old.stack self.new.stack }
     {
         self.anew()
     }
@@ -93,7 +97,8 @@ impl Frames {
         requires top { self.old.stack.frames ≢ [] }
         requires passed { (noted : ℕ) × (noted_fill (phase_of self.old.phase) ≡ Some noted)
             × (noted ≢ opened self.old.stack) }
-        ensures { BeginsAnew self.old (told result) self.new }
+        ensures anew { BeginsAnew self.old (told result) self.new }
+        ensures payloads { KeepsPayloads self.old.stack self.new.stack }
     {
         let Some(top) = self.stack.top() else {
             unreachable!()
@@ -117,6 +122,7 @@ impl Frames {
         ensures answer { result ≡ Going }
         ensures phase { self.new ≡ record self.old { phase = phase } }
         ensures goes_on { (noted : ℕ) → IsNotedIn self.old.phase phase noted → GoesOnIn self.old phase self.new }
+        ensures payloads { KeepsPayloads self.old.stack self.new.stack }
     {
         self.phase = phase;
         Turned::Going
@@ -126,7 +132,8 @@ impl Frames {
     fn leave_closed(&mut self) -> Turned
         requires shown { IsShown self.old }
         requires close { (noted : ℕ) × IsCloseTop self.old noted × (noted ≢ opened self.old.stack) }
-        ensures { LeavesWithout self.old (told result) self.new }
+        ensures without { LeavesWithout self.old (told result) self.new }
+        ensures payloads { KeepsPayloads self.old.stack self.new.stack }
     {
         match self.stack.allot() {
             Ok(_) => self.end_close(),

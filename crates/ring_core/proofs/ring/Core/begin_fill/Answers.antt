@@ -47,7 +47,7 @@ returns c = λ n size start m old.
     let some = subst (λ (x : CoreValue). x.stack.frames ≢ []) (sym c.self.view_is) c.requires.top in
     let is = subst (λ (x : CoreValue). x.phase ≡ Opening (opened x.stack) c.args.page) (sym c.self.view_is) c.requires.phase in
     subst (λ (x : Option Contents). IsStep n size start m steps (told c.open.result) (record (with_frames v c.open.new.self) { homes = slice_set v.homes c.args.page x })) (sym c.take.ensures.after)
-    (begun n size start v m core some c.args.page is (told c.open.result) c.open.new.self c.open.ensures)
+    (begun n size start v m core some c.args.page is (told c.open.result) c.open.new.self c.open.ensures.opens)
 
 pub unreachable-requires : goal.unreachable-requires
 unreachable-requires c =

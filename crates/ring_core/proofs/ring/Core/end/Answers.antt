@@ -12,4 +12,4 @@ end-requires c = let (n, size, start, m, core) = subst IsRing (sym c.self.view_i
 
 pub returns : goal.returns
 returns c = subst (λ (x : CoreValue). Makes x (ends (top_bytes x.stack x.stack.frames)) c.end.result (shown record c.self.inside { frames = c.end.new.self })) c.self.view_is
-    (made_privately (shown c.self.inside) (ends (top_bytes c.self.inside.frames.stack c.self.inside.frames.stack.frames)) c.end.result c.end.new.self c.end.ensures)
+    (made_privately (shown c.self.inside) (ends (top_bytes c.self.inside.frames.stack c.self.inside.frames.stack.frames)) c.end.result c.end.new.self c.end.ensures.step)

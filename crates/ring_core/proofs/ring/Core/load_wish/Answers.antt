@@ -13,4 +13,4 @@ load_wish-requires-clause-frames c =
 
 pub returns : goal.returns
 returns c = subst (λ (x : CoreValue). Makes x steps c.load_wish.result (shown record c.self.inside { frames = c.load_wish.new.self })) c.self.view_is
-    (looked_for_wish (shown c.self.inside) c.load_wish.result c.load_wish.new.self c.load_wish.ensures)
+    (looked_for_wish (shown c.self.inside) c.load_wish.result c.load_wish.new.self c.load_wish.ensures.looks)

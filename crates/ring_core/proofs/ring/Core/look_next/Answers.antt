@@ -21,7 +21,8 @@ use Rattle.ring_core.proofs.ring.Core.look_next.Goals as goal
 pub begin_anew-requires-clause-late : goal.begin_anew-requires-clause-late
 begin_anew-requires-clause-late c =
     let (helps, passed) = c.stops.ensures.stops c.if-stops.true in
-    is_late c.args.self.now (LookingNext Helper c.args.noted c.args.page) c.args.noted (c.requires.phase ∙ ap (λ (r : Role). LookingNext r c.args.noted c.args.page) helps) refl (λ own. own) passed
+    is_late c.args.self.now (LookingNext Helper c.args.noted c.args.page) c.args.noted (c.requires.phase ∙ ap (λ (r : Role). LookingNext r c.args.noted c.args.page) helps) refl (λ own. own)
+    (λ e. passed (e ∙ sym (ap (λ (x : CoreValue). opened x.stack) c.self.view_is)))
 
 pub overflow_sub-behind : goal.overflow_sub-behind
 overflow_sub-behind c =
@@ -32,7 +33,7 @@ overflow_sub-behind c =
 pub returns : goal.returns
 returns c = λ n size start s old.
     let v : CoreValue = c.args.self.now in
-    let now : GoesOn (role_of c.args.role) c.args.noted (opened v.stack) = c.stops.ensures.goes_on c.if-stops.false in
+    let now : GoesOn (role_of c.args.role) c.args.noted (opened v.stack) = subst (GoesOn (role_of c.args.role) c.args.noted) (ap (λ (x : CoreValue). opened x.stack) c.self.view_is) (c.stops.ensures.goes_on c.if-stops.false) in
     let round = round_next n size start v s old c.requires.top c.args.role c.args.noted c.args.page c.requires.phase in
     let wide : c.positions.result ≡ length v.links = c.positions.ensures.positions in
     let lost : ℕ = c.args.noted - c.positions.result in

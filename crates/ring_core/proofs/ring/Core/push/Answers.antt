@@ -11,4 +11,4 @@ push-requires c = let (n, size, start, m, core) = subst IsRing (sym c.self.view_
 
 pub returns : goal.returns
 returns c = subst (λ (x : CoreValue). Makes x (pushes c.args.moment c.args.len) c.push.result (shown record c.self.inside { frames = c.push.new.self })) c.self.view_is
-    (made_privately (shown c.self.inside) (pushes c.args.moment c.args.len) c.push.result c.push.new.self c.push.ensures)
+    (made_privately (shown c.self.inside) (pushes c.args.moment c.args.len) c.push.result c.push.new.self c.push.ensures.step)

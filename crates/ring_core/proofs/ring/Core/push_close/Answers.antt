@@ -11,4 +11,4 @@ push_close-requires c = let (n, size, start, m, core) = subst IsRing (sym c.self
 
 pub returns : goal.returns
 returns c = subst (λ (x : CoreValue). Makes x pushes_close c.push_close.result (shown record c.self.inside { frames = c.push_close.new.self })) c.self.view_is
-    (made_privately (shown c.self.inside) pushes_close c.push_close.result c.push_close.new.self c.push_close.ensures)
+    (made_privately (shown c.self.inside) pushes_close c.push_close.result c.push_close.new.self c.push_close.ensures.step)

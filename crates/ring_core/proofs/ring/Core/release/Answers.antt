@@ -30,4 +30,4 @@ returns c = λ n size start m old.
       homes = homes_in c.self.inside c.self.invariant;
       at_is = c.page_at-page.ensures ∙ (λ i. page_at (length (sym c.self.view_is i).links) (sym c.self.view_is i).order (c.done.ensures i));
     }
-    (c.release.ensures n size start m core.reached core.shows.frames)
+    (c.release.ensures.releases n size start m core.reached core.shows.frames)

@@ -13,4 +13,4 @@ reserve-requires-clause-frames c =
 
 pub returns : goal.returns
 returns c = subst (λ (x : CoreValue). Makes x steps c.reserve.result (shown record c.self.inside { frames = c.reserve.new.self })) c.self.view_is
-    (made_privately (shown c.self.inside) steps c.reserve.result c.reserve.new.self c.reserve.ensures)
+    (made_privately (shown c.self.inside) steps c.reserve.result c.reserve.new.self c.reserve.ensures.step)

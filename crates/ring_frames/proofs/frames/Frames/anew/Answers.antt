@@ -46,28 +46,28 @@ behind_not_left progress other (inr (slot, a)) b = not_both (sym a ∙ b)
     not_both : Reserved slot ≡ Left other → ⊥
     not_both e = cc
 
-pub returns-in-Record : goal.returns-in-Record
-returns-in-Record c =
+pub returns-in-Record-clause-anew : goal.returns-in-Record-clause-anew
+returns-in-Record-clause-anew c =
     let v : FramesValue = c.args.self.now in
     let (below, is) = top_from v.stack.frames c.in-Some.top (c.in-Some.ensures ∙ ap (λ (x : FramesValue). top_of x.stack.frames) c.self.view_is) in
     rw (c.go_on.ensures.answer, c.go_on.ensures.phase)
     (tries_anew v c.in-Some.top below is (λ noted close waits. record_not_close c.in-Record.moment c.in-Record.len c.in-Some.top.purpose c.in-Record.is close) (λ noted has. waiting_not_left _ noted c.in-Some.top.progress c.in-Waiting.is has))
 
-pub returns-in-Close : goal.returns-in-Close
-returns-in-Close c =
+pub returns-in-Close-clause-anew : goal.returns-in-Close-clause-anew
+returns-in-Close-clause-anew c =
     let v : FramesValue = c.args.self.now in
     let (below, is) = top_from v.stack.frames c.in-Some.top (c.in-Some.ensures ∙ ap (λ (x : FramesValue). top_of x.stack.frames) c.self.view_is) in
-    closes_anew v c.in-Some.top below _ (told c.leave_closed.result) c.leave_closed.new.self is c.in-Close.is c.in-Waiting.is c.leave_closed.ensures
+    closes_anew v c.in-Some.top below _ (told c.leave_closed.result) c.leave_closed.new.self is c.in-Close.is c.in-Waiting.is c.leave_closed.ensures.without
 
-pub returns-in-Left : goal.returns-in-Left
-returns-in-Left c =
+pub returns-in-Left-clause-anew : goal.returns-in-Left-clause-anew
+returns-in-Left-clause-anew c =
     let v : FramesValue = c.args.self.now in
     let (below, is) = top_from v.stack.frames c.in-Some.top (c.in-Some.ensures ∙ ap (λ (x : FramesValue). top_of x.stack.frames) c.self.view_is) in
     rw (c.go_on-in-Left.ensures.answer, c.go_on-in-Left.ensures.phase)
     (leaver_anew v c.in-Some.top below _ c.closing_phase-phase.result is c.in-Left.is c.closing_phase-phase.ensures)
 
-pub returns-in-Through : goal.returns-in-Through
-returns-in-Through c =
+pub returns-in-Through-clause-anew : goal.returns-in-Through-clause-anew
+returns-in-Through-clause-anew c =
     let v : FramesValue = c.args.self.now in
     let (below, is) = top_from v.stack.frames c.in-Some.top (c.in-Some.ensures ∙ ap (λ (x : FramesValue). top_of x.stack.frames) c.self.view_is) in
     rw (c.go_on-in-Through.ensures.answer, c.go_on-in-Through.ensures.phase)

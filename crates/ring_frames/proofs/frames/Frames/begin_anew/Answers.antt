@@ -4,4 +4,4 @@ use Rattle.ring_frames.proofs.frames.Frames.begin_anew.Goals as goal
 pub returns-clause-late : goal.returns-clause-late
 returns-clause-late c = λ own.
     let (noted, is, passed) = c.requires.passed in
-    late_private _ _ _ noted c.requires.top is own c.anew.ensures
+    late_private _ _ _ noted c.requires.top is own c.anew.ensures.anew

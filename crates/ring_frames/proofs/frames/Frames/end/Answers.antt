@@ -14,8 +14,8 @@ use Rattle.ring_frames.specs.Steps.{IsPrivateStep}
 use Rattle.ring_frames.proofs.Ended.{frame_ended, end_refused}
 use Rattle.ring_frames.proofs.frames.Frames.end.Goals as goal
 
-pub returns-in-Ok : goal.returns-in-Ok
-returns-in-Ok c = λ n size start s reached now.
+pub returns-in-Ok-clause-step : goal.returns-in-Ok-clause-step
+returns-in-Ok-clause-step c = λ n size start s reached now.
     let are : AreFrames n size start (shown c.self.inside) s = subst (λ (x : FramesValue). AreFrames n size start x s) (sym c.self.view_is) now in
     let made = frame_ended n size start (shown c.self.inside) s c.in-Ok.ended c.end.new.self are (λ may many. ok_is (c.in-Ok.ensures.pending.1 (may, many))) (λ may one. ok_is (c.in-Ok.ensures.full.1 (may, one))) c.in-Ok.ensures.ok in
     subst (λ (x : FramesValue). IsPrivateStep n size start s (ends (top_bytes x.stack x.stack.frames)) (HasEndedSo c.in-Ok.ended) c.pop_phase.new.self) c.self.view_is
@@ -24,8 +24,8 @@ returns-in-Ok c = λ n size start s reached now.
     ok_is : {a b : Ended} → ◌≡◌ {A = Result Ended WriteFault} (Ok a) (Ok b) → a ≡ b
     ok_is e = cc
 
-pub returns-in-Err : goal.returns-in-Err
-returns-in-Err c = λ n size start s reached now.
+pub returns-in-Err-clause-step : goal.returns-in-Err-clause-step
+returns-in-Err-clause-step c = λ n size start s reached now.
     let are : AreFrames n size start (shown c.self.inside) s = subst (λ (x : FramesValue). AreFrames n size start x s) (sym c.self.view_is) now in
     let made = end_refused n size start (shown c.self.inside) s c.in-Err.fault are (λ none. err_is (c.in-Err.ensures.no_frame.1 none)) (λ early. err_is (c.in-Err.ensures.not_reserved.1 early))
     (λ may. dite (dec_le 2 (length c.self.inside.stack.frames)) (λ many. err_not_ok (c.in-Err.ensures.pending.1 (may, many))) (λ one. err_not_ok (c.in-Err.ensures.full.1 (may, omega arith)))) in

@@ -23,8 +23,8 @@ end_close-requires-clause-stack c =
     let (fits, through) = top_fits n size start v s noted _ c.allot.new.self k top ne c.in-Ok.ensures.answered c.in-Ok.ensures.after in
     (start, s.history, acted_none start s.history v.stack c.allot.new.self through.1 k.stack_is)
 
-pub returns : goal.returns
-returns c =
+pub returns-clause-without : goal.returns-clause-without
+returns-clause-without c =
     let v : FramesValue = shown c.self.inside in
     let (noted, top, ne) = subst HasPassed (sym c.self.view_is) c.requires.close in
     subst (λ (x : FramesValue). LeavesWithout x (told c.end_close.result) c.end_close.new.self) c.self.view_is (λ n size start s frame below k model_is.

@@ -8,6 +8,8 @@ use Rattle.ring_frames.specs.Steps.{IsFrames}
 use Rattle.ring_frames.specs.Fills.{OpensFill}
 use Rattle.ring_frames.specs.Phases.{told}
 use Rattle.ring_frames.proofs.Beginning.{noted_in, room, fills, begun, one_more}
+use Rattle.ring_frames.specs.Answers.{KeepsPayloads}
+use Rattle.ring_frames.proofs.Payloads.{added_then}
 use Rattle.ring_frames.proofs.frames.Frames.open.Goals as goal
 
 -- the frame on top is about to begin the next fill
@@ -43,8 +45,15 @@ begin_anew-requires-clause-passed c =
     let more = one_more v c.add_page.new.self (next_number v.stack) c.add_page.ensures.page in
     (opened v.stack, noted_in v.phase (opened v.stack) page is, λ e. omega arith)
 
-pub returns : goal.returns
-returns c =
+pub returns-clause-opens : goal.returns-clause-opens
+returns-clause-opens c =
     let v : FramesValue = shown c.self.inside in
     subst (λ (x : FramesValue). OpensFill x (told c.begin_anew.result) c.begin_anew.new.self) c.self.view_is (λ n size start page m frame below are top.
     c.begin_anew.ensures.anew n size start (with_new_tail m page) frame below (begun n size start v m page c.add_page.new.self (next_number v.stack) are c.add_page.ensures.page c.add_page.ensures.stack) top)
+
+pub returns-clause-payloads : goal.returns-clause-payloads
+returns-clause-payloads c =
+    let v : FramesValue = shown c.self.inside in
+    let (n, size, start, m, core) = subst IsFrames (sym c.self.view_is) c.requires.frames in
+    subst (λ (x : FramesValue). KeepsPayloads x.stack c.begin_anew.new.self.stack) c.self.view_is
+    (added_then start m.history v.stack core.are.stack_is c.add_page.new.self c.begin_anew.new.self.stack c.add_page.ensures.page c.begin_anew.ensures.payloads)

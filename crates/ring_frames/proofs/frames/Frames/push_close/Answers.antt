@@ -7,14 +7,14 @@ use Rattle.ring_frames.specs.AreFrames.{AreFrames}
 use Rattle.ring_frames.proofs.Pushes.{close_pushed, close_refused}
 use Rattle.ring_frames.proofs.frames.Frames.push_close.Goals as goal
 
-pub returns-in-Ok : goal.returns-in-Ok
-returns-in-Ok c = λ n size start s reached now.
+pub returns-in-Ok-clause-step : goal.returns-in-Ok-clause-step
+returns-in-Ok-clause-step c = λ n size start s reached now.
     let are : AreFrames n size start (shown c.self.inside) s = subst (λ (x : FramesValue). AreFrames n size start x s) (sym c.self.view_is) now in
     rw (c.push_phase.ensures.pushed, c.push_phase.ensures.phase)
     (close_pushed n size start (shown c.self.inside) s c.begin_close.new.self are (c.in-Ok.ensures.begun.0 refl) c.in-Ok.ensures.ok (c.in-Ok.ensures.pushed start s.history are.stack_is))
 
-pub returns-in-Err : goal.returns-in-Err
-returns-in-Err c = λ n size start s reached now.
+pub returns-in-Err-clause-step : goal.returns-in-Err-clause-step
+returns-in-Err-clause-step c = λ n size start s reached now.
     let are : AreFrames n size start (shown c.self.inside) s = subst (λ (x : FramesValue). AreFrames n size start x s) (sym c.self.view_is) now in
     rw c.in-Err.ensures.err
     (close_refused n size start (shown c.self.inside) s c.in-Err.fault are

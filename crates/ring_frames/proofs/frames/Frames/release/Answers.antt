@@ -4,6 +4,7 @@ use Rattle.ring_frames.specs.Inside.{shown}
 use Rattle.ring_frames.specs.AreFrames.{AreFrames, HasFrames}
 use Rattle.ring_frames.specs.Steps.{IsFrames}
 use Rattle.ring_frames.proofs.Releasing.{is_bottom, some_older, released}
+use Rattle.ring_frames.proofs.Payloads.{bottom_held}
 use Rattle.ring_frames.proofs.frames.Frames.release.Goals as goal
 
 pub drop_front-page-requires-clause-more : goal.drop_front-page-requires-clause-more
@@ -20,8 +21,8 @@ drop_front-page-requires-clause-bottom c =
     let some = subst (λ (x : FramesValue). x.stack.frames ≢ []) (sym c.self.view_is) c.requires.top in
     is_bottom n size start v m core some (ap (λ (x : FramesValue). x.phase) c.self.view_is ∙ c.requires.phase)
 
-pub returns : goal.returns
-returns c = λ n size start m reached now.
+pub returns-clause-releases : goal.returns-clause-releases
+returns-clause-releases c = λ n size start m reached now.
     let v : FramesValue = shown c.self.inside in
     let core : HasFrames n size start v m = record { reached = reached; are = subst (λ (x : FramesValue). AreFrames n size start x m) (sym c.self.view_is) now } in
     let some = subst (λ (x : FramesValue). x.stack.frames ≢ []) (sym c.self.view_is) c.requires.top in
@@ -33,3 +34,8 @@ returns c = λ n size start m reached now.
       written = c.drop_front-page.ensures.written;
     }
     c.closing_phase-self-inside.result c.closing_phase-self-inside.ensures
+
+pub returns-clause-payloads : goal.returns-clause-payloads
+returns-clause-payloads c =
+    let (n, size, start, m, core) = c.requires.frames in
+    bottom_held c.args.self.now.stack c.drop_front-page.new.self (is_bottom n size start c.args.self.now m core c.requires.top c.requires.phase)

@@ -5,6 +5,7 @@ use Rattle.nested_writer.specs.declared.frame.Slot.{Slot}
 use Rattle.nested_writer.specs.declared.frame.Progress.{Progress}
 use Rattle.nested_writer.specs.declared.frame.Progress.TheVariants.{Waiting, Through, Reserved, Left}
 use Rattle.nested_writer.specs.declared.frame.Frame.{Frame}
+use Rattle.nested_writer.specs.Calls.{LacksSlot}
 use Rattle.nested_writer.specs.Allotted.{IsAllotted}
 use Rattle.nested_writer.specs.Answered.{IsAnswered}
 use Rattle.ring_frames.specs.declared.phase.Phase.TheVariants.{Idle}
@@ -14,6 +15,8 @@ use Rattle.ring_frames.specs.AreFrames.{AreFrames, HasFrames}
 use Rattle.ring_frames.specs.Steps.{IsFrames}
 use Rattle.ring_frames.proofs.Closing.{through_may_end, acted_none}
 use Rattle.ring_frames.proofs.Reserves.{page_noted, refused, fits_slot, fits_close, nothing_found}
+use Rattle.ring_frames.specs.Answers.{KeepsPayloads}
+use Rattle.ring_frames.proofs.Payloads.{allotted_kept, ended_same, kept_then, zeros_reserved}
 use Rattle.ring_frames.proofs.frames.Frames.reserve.Goals as goal
 
 -- a frame stands, and this one is on top
@@ -39,8 +42,8 @@ has_none progress (inr (inr (noted, is))) slot has = not_both (sym is ∙ has)
     not_both : Left noted ≡ Reserved slot → ⊥
     not_both e = cc
 
-pub returns-in-Reserved : goal.returns-in-Reserved
-returns-in-Reserved c = λ n size start s reached now.
+pub returns-in-Reserved-clause-step : goal.returns-in-Reserved-clause-step
+returns-in-Reserved-clause-step c = λ n size start s reached now.
     let v : FramesValue = shown c.self.inside in
     let core : HasFrames n size start v s = record { reached = reached; are = subst (λ (x : FramesValue). AreFrames n size start x s) (sym c.self.view_is) now } in
     let (top, rest, is) = some_top v.stack.frames (λ none. c.requires.top (ap (λ (x : FramesValue). x.stack.frames) (sym c.self.view_is) ∙ none)) in
@@ -63,8 +66,8 @@ end_close-requires c =
       through = through_may_end v.stack top rest _ c.allot.new.self closing.through.0;
     }
 
-pub returns-in-Waiting : goal.returns-in-Waiting
-returns-in-Waiting c = λ n size start s reached now.
+pub returns-in-Waiting-clause-step : goal.returns-in-Waiting-clause-step
+returns-in-Waiting-clause-step c = λ n size start s reached now.
     let v : FramesValue = shown c.self.inside in
     let core : HasFrames n size start v s = record { reached = reached; are = subst (λ (x : FramesValue). AreFrames n size start x s) (sym c.self.view_is) now } in
     let resting : v.phase ≡ Idle = ap (λ (x : FramesValue). x.phase) c.self.view_is ∙ c.requires.phase in
@@ -76,8 +79,8 @@ returns-in-Waiting c = λ n size start s reached now.
     rw (c.answer.ensures, c.end_close.ensures.answer, c.end_close.ensures.phase)
     (nothing_found n size start v s core resting top rest is c.allot.new.self c.end_close.new.self.stack closing c.end_close.ensures.left)
 
-pub returns-in-Ok-NeedsPage : goal.returns-in-Ok-NeedsPage
-returns-in-Ok-NeedsPage c = λ n size start s reached now.
+pub returns-in-Ok-NeedsPage-clause-step : goal.returns-in-Ok-NeedsPage-clause-step
+returns-in-Ok-NeedsPage-clause-step c = λ n size start s reached now.
     let v : FramesValue = shown c.self.inside in
     let core : HasFrames n size start v s = record { reached = reached; are = subst (λ (x : FramesValue). AreFrames n size start x s) (sym c.self.view_is) now } in
     let (top, rest, is) = some_top v.stack.frames (λ none. c.requires.top (ap (λ (x : FramesValue). x.stack.frames) (sym c.self.view_is) ∙ none)) in
@@ -86,10 +89,34 @@ returns-in-Ok-NeedsPage c = λ n size start s reached now.
     (subst (λ (a : Allot). IsAllotted v.stack v.stack.frames (Ok a) c.allot.new.self) c.in-Ok-NeedsPage.field-0-is c.in-Ok-NeedsPage.ensures.after)
     c.opened.ensures.begun
 
-pub returns-in-Err : goal.returns-in-Err
-returns-in-Err c = λ n size start s reached now.
+pub returns-in-Err-clause-step : goal.returns-in-Err-clause-step
+returns-in-Err-clause-step c = λ n size start s reached now.
     let v : FramesValue = shown c.self.inside in
     let core : HasFrames n size start v s = record { reached = reached; are = subst (λ (x : FramesValue). AreFrames n size start x s) (sym c.self.view_is) now } in
     let (top, rest, is) = some_top v.stack.frames (λ none. c.requires.top (ap (λ (x : FramesValue). x.stack.frames) (sym c.self.view_is) ∙ none)) in
     rw c.pop_phase.ensures.phase
     (refused n size start v s core (ap (λ (x : FramesValue). x.phase) c.self.view_is ∙ c.requires.phase) top rest is c.in-Err.fault c.allot.new.self (c.in-Err.ensures.answered start s.history core.are.stack_is) c.in-Err.ensures.after)
+
+-- ---- payloads
+
+pub returns-in-Reserved-clause-payloads : goal.returns-in-Reserved-clause-payloads
+returns-in-Reserved-clause-payloads c =
+    let v : FramesValue = shown c.self.inside in
+    let (n, size, start, s, core) = subst IsFrames (sym c.self.view_is) c.requires.frames in
+    subst (λ (x : FramesValue). KeepsPayloads x.stack c.allot.new.self) c.self.view_is
+    (allotted_kept start s.history v.stack c.allot.new.self _ core.are.stack_is c.in-Ok-Fits.ensures.after)
+
+pub returns-in-Reserved-clause-zeros : goal.returns-in-Reserved-clause-zeros
+returns-in-Reserved-clause-zeros c = λ number slot is lacks on_top.
+    let v : FramesValue = shown c.self.inside in
+    let (n, size, start, s, core) = subst IsFrames (sym c.self.view_is) c.requires.frames in
+    zeros_reserved start s.history v.stack c.allot.new.self c.in-Ok-Fits.field-0-0 core.are.stack_is
+    (subst (λ (a : Allot). IsAllotted v.stack v.stack.frames (Ok a) c.allot.new.self) c.in-Ok-Fits.field-0-is c.in-Ok-Fits.ensures.after)
+    (subst (λ (x : FramesValue). LacksSlot x.stack.frames) (sym c.self.view_is) lacks) slot on_top
+
+pub returns-in-Waiting-clause-payloads : goal.returns-in-Waiting-clause-payloads
+returns-in-Waiting-clause-payloads c =
+    let v : FramesValue = shown c.self.inside in
+    let (n, size, start, s, core) = subst IsFrames (sym c.self.view_is) c.requires.frames in
+    subst (λ (x : FramesValue). KeepsPayloads x.stack c.end_close.new.self.stack) c.self.view_is
+    (kept_then v.stack c.allot.new.self c.end_close.new.self.stack (allotted_kept start s.history v.stack c.allot.new.self _ core.are.stack_is c.in-Ok-Fits.ensures.after) (ended_same c.allot.new.self c.end_close.new.self.stack c.end_close.ensures.left))

@@ -1,0 +1,156 @@
+-- A record that is written at once, as three private steps: its frame is pushed, reserves and ends.
+use Rattle.std.proofs.Common.{◌≡◌, ℕ, ◌<◌, List, [], ◌∷◌, ◌++◌, length, Some, None, refl, sym, ap, ◌∙◌, subst, arith, append_assoc}
+use Rattle.trace_model.specs.declared.limits.TheConstants.{MAX_FRAMES}
+use Rattle.trace_model.specs.Words.{slot_len, padded}
+use Rattle.trace_model.specs.History.{Action, push, reserve, leave, record_frame, writer_after, reserved_records}
+use Rattle.trace_model.specs.Packing.{tail_of, FitsBehind}
+use Rattle.trace_model.specs.Frames.{for_record, waiting, reserved, left, idle, pushed_of, Frame as ModelFrame}
+use Rattle.trace_model.specs.Ring.{Core}
+use Rattle.trace_model.specs.Steps as model
+use Rattle.trace_model.proofs.Lengths.{length-padded, slot_len-slot_len}
+use Rattle.trace_model.proofs.NextAction.{reserved_stack}
+use Rattle.link_marks.proofs.RingsKept.{reached_further}
+use Rattle.nested_writer.specs.declared.frame.Purpose.TheVariants.{Record}
+use Rattle.nested_writer.specs.declared.frame.Progress.TheVariants.{Left}
+use Rattle.nested_writer.specs.declared.frame.Frame.{Frame}
+use Rattle.nested_writer.specs.Stack.{Stack, opened, next_number, model_frames}
+use Rattle.nested_writer.specs.Calls.{with_frame}
+use Rattle.nested_writer.specs.IsStack.{IsStack}
+use Rattle.nested_writer.specs.AtOnce.{FitsAtOnce, with_record}
+use Rattle.nested_writer.specs.Allotted.{HasActed}
+use Rattle.nested_writer.proofs.Pushing.{pushed_record}
+use Rattle.nested_writer.proofs.Answering.{number_counts, record_fits}
+use Rattle.nested_writer.proofs.AtOnce.{padded_twice, left_alike, fits_page}
+use Rattle.ring_frames.specs.Phases.{closing_phase}
+use Rattle.ring_frames.specs.Value.{FramesValue}
+use Rattle.ring_frames.specs.AreFrames.{ring_frames, AreBelow, AreNotedAlike, AreFrames}
+use Rattle.ring_frames.specs.Steps.{IsFrames}
+use Rattle.ring_frames.specs.AtOnce.{IsWriteAtOnce, WritesAtOnce, IsWrittenAlone}
+use Rattle.ring_frames.proofs.Privately.{top_is_private}
+use Rattle.ring_frames.proofs.Pushed.{new_frame, has_room}
+use Rattle.ring_frames.proofs.Left.{closing_is, left_notes}
+use Rattle.ring_frames.proofs.Reshown.{reshown}
+
+-- the value with this stack, whose bottom frame has just left
+abbrev pub closing_value : FramesValue → Stack → FramesValue
+closing_value v stack = record v { stack = stack; phase = closing_phase stack }
+
+module _ (n size start : ℕ) (v : FramesValue) (c : Core) (k : AreFrames n size start v c) (moment : ℕ) (payload : List ℕ) (fits : FitsAtOnce v.stack moment (length payload)) (stack : Stack) (is : stack ≡ with_record v.stack moment payload) where
+  abbrev len : ℕ
+  len = length payload
+
+  none : v.stack.frames ≡ []
+  none = fits.0
+
+  none_below : v.below ≡ []
+  none_below = subst (λ (fs : List Frame). AreBelow fs v.below) none k.below_are
+
+  -- ---- the states on the way
+
+  -- its frame as it is pushed, and once it has reserved
+  abbrev waits : ModelFrame
+  waits = record { kind = for_record moment len; state = waiting; phase = idle }
+
+  abbrev holds : ℕ → ModelFrame
+  holds number = record { kind = for_record moment len; state = reserved number; phase = idle }
+
+  abbrev pushed : Core
+  pushed = model.with_action (model.with_frame c (for_record moment len)) (push moment len)
+
+  abbrev number : ℕ
+  number = length (reserved_records pushed.history)
+
+  abbrev with_its_record : Core
+  with_its_record = model.in_reserved (model.with_reservation pushed (model.new_reservation pushed moment len)) waits [] number
+
+  abbrev after : Core
+  after = model.after_leave with_its_record (holds number) [] (Some (padded payload))
+
+  -- ---- the steps
+
+  push_is : model.Step n size c (model.pushes moment len) model.pushed pushed
+  push_is =
+      let few : length v.stack.frames < MAX_FRAMES = subst (λ (fs : List Frame). length fs < MAX_FRAMES) (sym none) (omega arith) in
+      model.push_step moment len refl (has_room n size start v c k few) (subst (λ (s : ℕ). model.IsTooLong s len → ⊥) k.size_is fits.1) fits.2 refl refl
+
+  pushed_frames : pushed.frames ≡ waits ∷ []
+  pushed_frames = ap (λ (fs : List ModelFrame). waits ∷ fs) (k.frames_are ∙ ap (λ (fs : List Frame). ring_frames fs (v.phase ∷ v.below)) none)
+
+  abbrev pushed_stack : Stack
+  pushed_stack = with_frame v.stack (new_frame (Record moment len))
+
+  is_pushed : IsStack start pushed.history pushed_stack
+  is_pushed = pushed_record start c.history v.stack moment len (fits_page v.stack.size len fits.1) fits.2 k.stack_is
+
+  numbered : next_number v.stack ≡ number
+  numbered = number_counts start pushed.history pushed_stack is_pushed
+
+  reserve_is : model.Step n size pushed model.steps (model.reserved_as (next_number v.stack)) with_its_record
+  reserve_is =
+      let room = fits.3 in
+      let tail = record_fits start pushed.history pushed_stack is_pushed moment len (λ past. omega arith) in
+      model.frame_step waits [] refl pushed_frames
+      (model.reserves moment len (model.new_reservation pushed moment len) refl refl (subst (λ (s : ℕ). FitsBehind s (tail_of pushed.history) (model.new_reservation pushed moment len)) k.size_is tail) (ap model.reserved_as numbered) refl)
+
+  same_slot : slot_len (length (padded payload)) ≡ slot_len len
+  same_slot = ap slot_len (length-padded payload) ∙ slot_len-slot_len len
+
+  end_is : model.Step n size with_its_record (model.ends (padded payload)) model.full after
+  end_is = model.end_step (padded payload) (holds number) [] number moment len refl refl refl refl same_slot refl refl
+
+  -- ---- the frames behind them
+
+  reserved_alone : (writer_after (pushed.history ++ reserve ∷ [])).stack ≡ record_frame moment len (Some number) ∷ []
+  reserved_alone = reserved_stack pushed.history moment len [] (is_pushed.stack_is ∙ ap (λ (fs : List Frame). pushed_of (model_frames (new_frame (Record moment len) ∷ fs))) none)
+
+  kept : HasActed v.stack (push moment len ∷ reserve ∷ leave (Some payload) ∷ []) stack → IsStack start after.history stack
+  kept acted =
+      let turns = append_assoc pushed.history (reserve ∷ []) (leave (Some payload) ∷ []) ∙ append_assoc c.history (push moment len ∷ []) (reserve ∷ leave (Some payload) ∷ []) in
+      left_alike start (pushed.history ++ reserve ∷ []) stack moment len number [] (padded payload) payload (padded_twice payload) reserved_alone same_slot
+      (subst (λ (h : List Action). IsStack start h stack) (sym turns) (acted start c.history k.stack_is))
+
+  abbrev has_left : Frame
+  has_left = record { purpose = Record moment len; progress = Left None }
+
+  shown : HasActed v.stack (push moment len ∷ reserve ∷ leave (Some payload) ∷ []) stack → AreFrames n size start (closing_value v stack) after
+  shown acted =
+      let frames_is : stack.frames ≡ has_left ∷ [] = ap (λ (s : Stack). s.frames) is in
+      let done : c.done ≡ stack.done = k.done_is ∙ sym (ap (λ (s : Stack). s.done) is) in
+      let begun : c.opened ≡ opened stack = k.opened_is ∙ sym (ap opened is) in
+      reshown n size start v c stack (closing_phase stack) v.below after.frames after.history after.held k record {
+        pages_is = ap (λ (s : Stack). s.pages) is;
+        size_is = ap (λ (s : Stack). s.size) is;
+        done_is = ap (λ (s : Stack). s.done) is;
+        opened_is = ap opened is;
+        stack_is = kept acted;
+        frames_are = (λ i. let f : ModelFrame = record { kind = for_record moment len; state = left; phase = sym (closing_is stack c done begun) i } in f ∷ []) ∙ ap (λ (fs : List Frame). ring_frames fs (closing_phase stack ∷ v.below)) (sym frames_is);
+        below_are = subst (λ (fs : List Frame). AreBelow fs v.below) (sym frames_is) (ap length none_below);
+        noted = subst (λ (fs : List Frame). AreNotedAlike fs (closing_phase stack ∷ v.below)) (sym frames_is) (left_notes stack (Record moment len) None, tt);
+      }
+
+  pub written : HasActed v.stack (push moment len ∷ reserve ∷ leave (Some payload) ∷ []) stack → IsWriteAtOnce n size start c moment payload (next_number v.stack) (closing_value v stack)
+  written acted = record {
+    pushed = pushed;
+    reserved = with_its_record;
+    after = after;
+    push = push_is;
+    push_private = tt;
+    next = number_counts start c.history v.stack k.stack_is;
+    reserve = reserve_is;
+    reserve_private = top_is_private pushed waits [] pushed_frames tt;
+    end = end_is;
+    end_private = tt;
+    are = shown acted;
+  }
+
+  pub written_alone : IsWrittenAlone v moment payload (closing_value v stack)
+  written_alone = record { none = none; stack = is; phase = refl; below = none_below }
+
+-- behind it the frames are those of a state that steps reach
+pub frames_behind_write : (old : FramesValue) (moment : ℕ) (payload : List ℕ) (new : FramesValue) → IsFrames old → WritesAtOnce old moment payload new → IsFrames new
+frames_behind_write old moment payload new (n, size, start, c, core) writes =
+    let w = writes n size start c core.reached core.are in
+    let one = reached_further n size start c (model.pushes moment (length payload)) model.pushed w.pushed core.reached w.push in
+    let two = reached_further n size start w.pushed model.steps (model.reserved_as (next_number old.stack)) w.reserved one w.reserve in
+    let three = reached_further n size start w.reserved (model.ends (padded payload)) model.full w.after two w.end in
+    (n, size, start, w.after, record { reached = three; are = w.are })

@@ -1,0 +1,45 @@
+-- What a record that is written at once makes of a writer's frames: the private steps by which its frame is pushed,
+-- reserves and ends.
+use Rattle.std.specs.Prelude.{◌≡◌, ℕ, List, [], length}
+use Rattle.trace_model.specs.Words.{padded}
+use Rattle.trace_model.specs.History.{reserved_records}
+use Rattle.trace_model.specs.Ring.{Core}
+use Rattle.trace_model.specs.Steps as model
+use Rattle.link_marks.specs.Reached.{IsReached}
+use Rattle.link_marks.specs.Seats.{IsPrivate}
+use Rattle.nested_writer.specs.Stack.{next_number}
+use Rattle.nested_writer.specs.AtOnce.{with_record}
+use Rattle.ring_frames.specs.Phases.{closing_phase}
+use Rattle.ring_frames.specs.Value.{FramesValue}
+use Rattle.ring_frames.specs.AreFrames.{AreFrames}
+
+-- In this state three private steps of the model follow one another: a frame is pushed for a record of this moment and
+-- payload; its record, the next one, is reserved under this number; and it ends, with the payload and the zeros up to
+-- the end of its slot. The frames behind them are those of the last state.
+pub record IsWriteAtOnce (n size start : ℕ) (c : Core) (moment : ℕ) (payload : List ℕ) (number : ℕ) (new : FramesValue)
+    : Type 0 where
+  pub pushed : Core
+  pub reserved : Core
+  pub after : Core
+  pub push : model.Step n size c (model.pushes moment (length payload)) model.pushed pushed
+  pub push_private : IsPrivate c (model.pushes moment (length payload))
+  pub next : number ≡ length (reserved_records c.history)
+  pub reserve : model.Step n size pushed model.steps (model.reserved_as number) reserved
+  pub reserve_private : IsPrivate pushed model.steps
+  pub end : model.Step n size reserved (model.ends (padded payload)) model.full after
+  pub end_private : IsPrivate reserved (model.ends (padded payload))
+  pub are : AreFrames n size start new after
+
+-- so in each state whose frames these are, and which steps from a new ring reach
+abbrev pub WritesAtOnce : FramesValue → ℕ → List ℕ → FramesValue → Type 0
+WritesAtOnce old moment payload new = (n size start : ℕ) (c : Core)
+    → IsReached n size start c
+    → AreFrames n size start old c
+    → IsWriteAtOnce n size start c moment payload (next_number old.stack) new
+
+-- No frame stood; that of the record stands alone, has left, and closes fills or looks for a wish.
+pub record IsWrittenAlone (old : FramesValue) (moment : ℕ) (payload : List ℕ) (new : FramesValue) : Type 0 where
+  pub none : old.stack.frames ≡ []
+  pub stack : new.stack ≡ with_record old.stack moment payload
+  pub phase : new.phase ≡ closing_phase new.stack
+  pub below : new.below ≡ []
