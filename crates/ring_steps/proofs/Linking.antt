@@ -4,6 +4,8 @@ use Rattle.std.specs.List.{slice_index}
 use Rattle.std.proofs.Common.{◌≡◌, ◌≢◌, ℕ, suc, ◌+◌, ◌-◌, ◌%◌, ◌<◌, ◌≤◌, Bool, List, [], ◌∷◌, length, refl, sym, ap, ◌∙◌, subst, mod-lt, eq-eqb, ne_eqb, arith}
 use Rattle.std.proofs.lemmas.List.{set-get_or}
 use Rattle.std.proofs.lemmas.List.Elements.{All-get_or}
+use mathlib.Core.Logic.{dite}
+use native.Mathlib.Decide.{dec_le}
 use prog.Atomic.{either}
 use Rattle.atomic_table.specs.Table.{keeps}
 use Rattle.trace_model.specs.declared.limits.TheConstants.{MAX_PAGES, LINK_PAGES}
@@ -19,57 +21,26 @@ use Rattle.link_marks.proofs.Positions.{page_turn}
 use Rattle.link_marks.proofs.FrameChanges.{top_kept}
 use Rattle.link_marks.proofs.LinksFit.{links_fit_words}
 use Rattle.link_marks.proofs.PrivateSteps.{IsPrivateOf}
+use Rattle.link_marks.proofs.SeenLinks.{claims_fail_behind_the_head}
+use Rattle.link_marks.proofs.TopSteps.{top_stepped}
 use Rattle.link_marks.proofs.RingsKept.{reached_kept, reached_further}
 use Rattle.link_marks.proofs.StepsGiven.{each_event_is_a_step}
 use Rattle.ring_steps.specs.declared.rule.Shape.{Shape}
-use Rattle.ring_steps.specs.Views.{Writing, writing_of, Reading, writing}
+use Rattle.ring_steps.specs.Views.{Writing, writing_of, Reading, writing, passed}
 use Rattle.ring_steps.specs.Shown.{page_word, page_before, AreWords, Homes}
 use Rattle.ring_steps.specs.Seats.{Sat, emptied, IsWriting, WriterTold}
 use Rattle.ring_steps.specs.Paging.{IsTopIn}
-use Rattle.ring_steps.specs.Linking.{tail_in, LooksBehind, MarksBehind, number_or_zero, noted_on_top, behind_in, LinkTold, WishTold}
+use Rattle.ring_steps.specs.Linking.{tail_in, LooksBehind, MarksBehind, number_or_zero, noted_on_top, behind_in, SeesLink, LinkTold, ClaimTold, WishTold}
 use Rattle.ring_steps.proofs.LinkWords.{with_link_word}
 use Rattle.ring_steps.proofs.Private.{stays_shown}
 use Rattle.ring_steps.proofs.Allowing.{IsShownBy, WriterMoves}
 use Rattle.ring_steps.proofs.Paging.{top_of}
 
--- ---- the step of the frame on top
+-- ---- what is passed
 
-abbrev IsSteps : Event → Type 0
-IsSteps (pushes moment len) = ⊥
-IsSteps pushes_close = ⊥
-IsSteps steps = Unit {0}
-IsSteps (ends payload) = ⊥
-IsSteps reads = ⊥
-IsSteps wishes = ⊥
-
-abbrev first_of : Frame → List Frame → Frame
-first_of frame [] = frame
-first_of frame (first ∷ others) = first
-
-abbrev others_of : List Frame → List Frame
-others_of [] = []
-others_of (first ∷ others) = others
-
-module _ (n size : ℕ) (c : Core) (frame : Frame) (below : List Frame) (phase : Phase) (answer : Answer) (after : Core) (top : c.frames ≡ frame ∷ below) (at : frame.phase ≡ phase) where
-  same_top : (other : Frame) (others : List Frame) → c.frames ≡ other ∷ others → FrameStep n size c other others other.phase answer after → FrameStep n size c frame below phase answer after
-  same_top other others is step =
-      let same : other ∷ others ≡ frame ∷ below = sym is ∙ top in
-      subst (λ (p : Phase). FrameStep n size c frame below p answer after) at
-      (subst (λ (fs : List Frame). FrameStep n size c frame fs frame.phase answer after) (ap others_of same)
-      (subst (λ (f : Frame). FrameStep n size c f others f.phase answer after) (ap (first_of frame) same) step))
-
-  frame_stepped : Step n size c steps answer after → FrameStep n size c frame below phase answer after
-  frame_stepped (push_step moment len e few short early a is) = absurd (subst IsSteps e tt)
-  frame_stepped (push_refused moment len why e refused a is) = absurd (subst IsSteps e tt)
-  frame_stepped (close_step e few a is) = absurd (subst IsSteps e tt)
-  frame_stepped (close_refused e many a is) = absurd (subst IsSteps e tt)
-  frame_stepped (frame_step other others e is step) = same_top other others is step
-  frame_stepped (frame_lacks e none a is) = let z = ap (λ (l : List Frame). length l) (sym none ∙ top) in absurd (omega arith)
-  frame_stepped (end_step payload f fs number moment len e is x kind slot a after_is) = absurd (subst IsSteps e tt)
-  frame_stepped (end_lacks payload e none a is) = absurd (subst IsSteps e tt)
-  frame_stepped (end_early payload f fs e is none a after_is) = absurd (subst IsSteps e tt)
-  frame_stepped (read_step e step) = absurd (subst IsSteps e tt)
-  frame_stepped (wish_step e a is) = absurd (subst IsSteps e tt)
+-- two numbers that are at most the head
+known_with : (known least head : ℕ) → known ≤ head → least ≤ head → (knows : ℕ) × (known ≤ knows) × (least ≤ knows) × (knows ≤ head)
+known_with known least head low high = dite (dec_le known least) (λ le. (least, le, omega arith, high)) (λ not. (known, omega arith, omega arith, low))
 
 -- ---- the fill behind the lost one
 
@@ -106,7 +77,7 @@ not_done_at found from to ne = subst (λ (b : Bool). either b to found ≡ found
 abbrev moved : Core → List Frame → List Link → ℕ → Core
 moved c frames links head = record c { frames = frames; links = links; head = head }
 
-module _ (shape : Shape) (me : Sat) (is : IsWriting me) (now : Writing) (c : Core) (r : Reading) (ws : List ℕ) (homes : Homes) (s : IsShownBy shape c r ws homes) (now_is : writing_of c ≡ now) (pages : c.open_pages ≡ (writing me.0).open_pages) where
+module _ (shape : Shape) (me : Sat) (is : IsWriting me) (now : Writing) (c : Core) (r : Reading) (ws : List ℕ) (homes : Homes) (s : IsShownBy shape c r ws homes) (now_is : writing_of c ≡ now) (pages : c.open_pages ≡ (writing me.0).open_pages) (known : passed me.0 ≤ c.head) where
   kept : IsRingKept shape.pages shape.size shape.start c
   kept = reached_kept shape.pages shape.size shape.start c s.reached
 
@@ -115,9 +86,11 @@ module _ (shape : Shape) (me : Sat) (is : IsWriting me) (now : Writing) (c : Cor
       → c.head ≤ head
       → sees (slice_index ws i) c
       → AreWords shape.pages (moved c frames links head) (slice_set ws i (f (slice_index ws i)))
-      → WriterMoves shape r me ws homes i f (λ found after. WriterTold shape now (sees found) going after)
+      → WriterMoves shape r me ws homes i f (λ found after. WriterTold shape now (passed me.0) (sees found) going after)
   moves_on i f sees frames links head step low seen words = record {
     next = moved c frames links head;
+    knows = passed me.0;
+    low = omega arith;
     act = keeps;
     valid = tt;
     shown = record {
@@ -136,6 +109,7 @@ module _ (shape : Shape) (me : Sat) (is : IsWriting me) (now : Writing) (c : Cor
     };
     told = record {
       seat = record { view = refl; hand = is.hand ∙ ap emptied (sym pages) };
+      knows = omega arith;
       step = record { core = c; next = moved c frames links head; reached = s.reached; before_is = now_is; seen = seen; step = step; after_is = refl };
     };
   }
@@ -145,7 +119,7 @@ module _ (shape : Shape) (me : Sat) (is : IsWriting me) (now : Writing) (c : Cor
       → Step shape.pages shape.size c steps going (moved c frames c.links c.head)
       → sees (slice_index ws i) c
       → f (slice_index ws i) ≡ slice_index ws i
-      → WriterMoves shape r me ws homes i f (λ found after. WriterTold shape now (sees found) going after)
+      → WriterMoves shape r me ws homes i f (λ found after. WriterTold shape now (passed me.0) (sees found) going after)
   stays_on i f sees frames step seen same =
       let a = s.are_words in
       moves_on i f sees frames c.links c.head step (omega arith) seen
@@ -198,15 +172,15 @@ module _ (shape : Shape) (me : Sat) (is : IsWriting me) (now : Writing) (c : Cor
   -- ---- loads of links
 
   abbrev Sees : ℕ → ℕ → Core → Type 0
-  Sees fill found core = word_of (link_into shape.pages core.links fill) ≡ found
+  Sees fill found = SeesLink shape (passed me.0) fill found
 
   abbrev LoadMoves : (page fill : ℕ) → Type 0
-  LoadMoves page fill = WriterMoves shape r me ws homes (page_word page) (λ n. n) (λ found after. LinkTold shape now fill found after)
+  LoadMoves page fill = WriterMoves shape r me ws homes (page_word page) (λ n. n) (λ found after. LinkTold shape now (passed me.0) fill found after)
 
   loads : (page fill : ℕ) (frame : Frame) (below : List Frame) (phase : Phase) (answer : Answer) (after : Core) → page ≡ page_before shape.pages c.order fill
       → Step shape.pages shape.size c steps answer after → answer ≡ going → after ≡ in_phase c frame below phase → LoadMoves page fill
   loads page fill frame below phase answer after e step a after_is =
-      stays_on (page_word page) (λ n. n) (λ found. Sees fill found) (record frame { phase = phase } ∷ below) (goes answer after (in_phase c frame below phase) step a after_is) (word_there page fill e) refl
+      stays_on (page_word page) (λ n. n) (λ found. Sees fill found) (record frame { phase = phase } ∷ below) (goes answer after (in_phase c frame below phase) step a after_is) (known, word_there page fill e) refl
 
   looks : (page noted : ℕ) (frame : Frame) (below : List Frame) (answer : Answer) (after : Core) → page ≡ page_before shape.pages c.order noted → noted ≡ c.opened
       → Step shape.pages shape.size c steps answer after → LookStep shape.pages c frame below noted answer after → LoadMoves page noted
@@ -223,7 +197,7 @@ module _ (shape : Shape) (me : Sat) (is : IsWriting me) (now : Writing) (c : Cor
       let top = top_of c.frames (looking now.opened) (top_now (looking now.opened) phase) in
       let (answer, after, step) = each_event_is_a_step shape.pages shape.size shape.start c steps kept tt in
       looks tail now.opened top.frame top.below answer after (tail_is ∙ tail_front) opened_is step
-      (frame_stepped shape.pages shape.size c top.frame top.below (looking now.opened) answer after top.is top.phase_is step)
+      (top_stepped shape.pages shape.size c top.frame top.below (looking now.opened) answer after top.is top.phase_is step)
 
   nexts : (page behind : ℕ) (frame : Frame) (below : List Frame) (role : Role) (noted : ℕ) (answer : Answer) (after : Core) → page ≡ page_before shape.pages c.order behind → GoesOn role noted c.opened
       → Step shape.pages shape.size c steps answer after → NextStep shape.pages c frame below role noted page answer after → LoadMoves page behind
@@ -239,21 +213,25 @@ module _ (shape : Shape) (me : Sat) (is : IsWriting me) (now : Writing) (c : Cor
       let passed = known.passed due.noted page (ap passed_spot top.phase_is) in
       subst (λ (fill : ℕ). LoadMoves page fill) (looks_behind shape.pages now page behind due)
       (nexts page behind top.frame top.below due.role due.noted answer after (passed_front page due.noted behind passed.2 due.behind_is) (subst (GoesOn due.role due.noted) opened_is due.goes_on) step
-      (frame_stepped shape.pages shape.size c top.frame top.below (looking_next due.role due.noted page) answer after top.is top.phase_is step))
+      (top_stepped shape.pages shape.size c top.frame top.below (looking_next due.role due.noted page) answer after top.is top.phase_is step))
 
   -- ---- the wish
 
   asks : (answer : Answer) (after next : Core) → Step shape.pages shape.size c steps answer after → after ≡ next → IsPrivateOf c next → ((page : ℕ) → contents_of next page ≡ contents_of c page) → next.open_pages ≡ c.open_pages
-      → WriterMoves shape r me ws homes 2 (λ n. n) (λ found after. WishTold shape now found after)
+      → WriterMoves shape r me ws homes 2 (λ n. n) (λ found after. WishTold shape now (passed me.0) found after)
   asks answer after next step after_is own holds same =
       let shown = stays_shown shape.pages shape.size shape.start c steps answer next r ws homes s (subst (λ (d : Core). Step shape.pages shape.size c steps answer d) after_is step) own
-      (λ f low high. holds (page_at shape.pages c.order f)) in record {
+      (λ f low high. holds (page_at shape.pages c.order f)) in
+      let head = ap (λ (d : Core). d.head) own in record {
         next = next;
+        knows = passed me.0;
+        low = omega arith;
         act = keeps;
         valid = tt;
         shown = subst (λ (words : List ℕ). IsShownBy shape next r words homes) (sym (set-get_or ws 2 0)) shown;
         told = record {
           seat = record { view = refl; hand = is.hand ∙ ap emptied (sym (same ∙ pages)) };
+          knows = omega arith;
           answer = answer;
           step = record {
             core = c;
@@ -268,58 +246,83 @@ module _ (shape : Shape) (me : Sat) (is : IsWriting me) (now : Writing) (c : Cor
       }
 
   wishes_at : (frame : Frame) (below : List Frame) (answer : Answer) (after : Core) → Step shape.pages shape.size c steps answer after → WishStep shape.pages c frame below answer after
-      → WriterMoves shape r me ws homes 2 (λ n. n) (λ found after. WishTold shape now found after)
+      → WriterMoves shape r me ws homes 2 (λ n. n) (λ found after. WishTold shape now (passed me.0) found after)
   wishes_at frame below answer after step (grants alone granted a after_is) = asks answer after _ step after_is refl (λ page. refl) refl
   wishes_at frame below answer after step (closes_more alone denied more a after_is) = asks answer after _ step after_is refl (λ page. refl) refl
   wishes_at frame below answer after step (goes_away alone denied last a after_is) = asks answer after _ step after_is refl (λ page. refl) refl
 
-  pub load_wish_moves : IsTopIn now.frames wishing → WriterMoves shape r me ws homes 2 (λ n. n) (λ found after. WishTold shape now found after)
+  pub load_wish_moves : IsTopIn now.frames wishing → WriterMoves shape r me ws homes 2 (λ n. n) (λ found after. WishTold shape now (passed me.0) found after)
   load_wish_moves phase =
       let top = top_of c.frames wishing (top_now wishing phase) in
       let (answer, after, step) = each_event_is_a_step shape.pages shape.size shape.start c steps kept tt in
-      wishes_at top.frame top.below answer after step (frame_stepped shape.pages shape.size c top.frame top.below wishing answer after top.is top.phase_is step)
+      wishes_at top.frame top.below answer after step (top_stepped shape.pages shape.size c top.frame top.below wishing answer after top.is top.phase_is step)
 
   -- ---- exchanges of links
 
   abbrev ExchangeMoves : (page fill from to : ℕ) → Type 0
-  ExchangeMoves page fill from to = WriterMoves shape r me ws homes (page_word page) (λ n. either (n == from) to n) (λ found after. LinkTold shape now fill found after)
+  ExchangeMoves page fill from to = WriterMoves shape r me ws homes (page_word page) (λ n. either (n == from) to n) (λ found after. LinkTold shape now (passed me.0) fill found after)
 
   done_on : (page fill from to : ℕ) (old new : Link) (frames : List Frame) (head : ℕ) → page ≡ page_before shape.pages c.order fill → from ≡ word_of old → to ≡ word_of new
       → link_into shape.pages c.links fill ≡ old → c.head ≤ head → Step shape.pages shape.size c steps going (moved c frames (links_with shape.pages c.links fill new) head) → ExchangeMoves page fill from to
   done_on page fill from to old new frames head e from_is to_is at low step =
       let found : slice_index ws (page_word page) ≡ from = sym (word_there page fill e) ∙ (ap word_of at ∙ sym from_is) in
-      moves_on (page_word page) (λ n. either (n == from) to n) (λ found. Sees fill found) frames (links_with shape.pages c.links fill new) head step low (word_there page fill e)
+      moves_on (page_word page) (λ n. either (n == from) to n) (λ found. Sees fill found) frames (links_with shape.pages c.links fill new) head step low (known, word_there page fill e)
       (subst (λ (word : ℕ). AreWords shape.pages (moved c frames (links_with shape.pages c.links fill new) head) (slice_set ws (page_word page) word))
       (sym (done_at (slice_index ws (page_word page)) from to found ∙ to_is)) (words_with page fill new frames head e))
 
   fails_on : (page fill from to : ℕ) (old : Link) (frames : List Frame) → page ≡ page_before shape.pages c.order fill → from ≡ word_of old → FitsWord old
       → link_into shape.pages c.links fill ≢ old → Step shape.pages shape.size c steps going (moved c frames c.links c.head) → ExchangeMoves page fill from to
   fails_on page fill from to old frames e from_is fits differ step =
-      stays_on (page_word page) (λ n. either (n == from) to n) (λ found. Sees fill found) frames step (word_there page fill e)
+      stays_on (page_word page) (λ n. either (n == from) to n) (λ found. Sees fill found) frames step (known, word_there page fill e)
       (not_done_at (slice_index ws (page_word page)) from to (λ same. other_word page fill old e fits differ (same ∙ from_is)))
 
-  claims_at : (tail page lost from to : ℕ) (frame : Frame) (below : List Frame) (answer : Answer) (after : Core)
+  abbrev ClaimMoves : (page from to : ℕ) → Type 0
+  ClaimMoves page from to = WriterMoves shape r me ws homes (page_word page) (λ n. either (n == from) to n) (λ found after. ClaimTold shape now (passed me.0) found after)
+
+  -- the lost fill is passed behind the claim, and the writer knows it
+  raised : (page from to lost : ℕ) → lost + shape.pages ≡ now.opened → (m : ExchangeMoves page now.opened from to) → lost < m.next.head → ClaimMoves page from to
+  raised page from to lost sum m behind =
+      let (knows, more, least, low) = known_with m.knows (lost + 1) m.next.head m.low (omega arith) in let before = m.told.knows in record {
+        next = m.next;
+        knows = knows;
+        low = low;
+        act = m.act;
+        valid = m.valid;
+        shown = m.shown;
+        told = record {
+          told = record { seat = record { view = refl; hand = m.told.seat.hand }; knows = omega arith; step = m.told.step };
+          lost = omega arith;
+        };
+      }
+
+  claims_at : (tail page lost from to : ℕ) (frame : Frame) (below : List Frame) (answer : Answer) (after : Core) → c.frames ≡ frame ∷ below → frame.phase ≡ claiming now.opened page
       → lost + shape.pages ≡ now.opened → page < LINK_PAGES → from ≡ word_of (header_link page lost) → to ≡ word_of (update_link page lost) → tail ≡ page_before shape.pages c.order now.opened
-      → Step shape.pages shape.size c steps answer after → ClaimStep shape.pages c frame below now.opened page answer after → ExchangeMoves tail now.opened from to
-  claims_at tail page lost from to frame below answer after sum fits from_is to_is e step (claim_late late) = absurd (late.passed opened_is)
-  claims_at tail page lost from to frame below answer after sum fits from_is to_is e step (claims u x u_sum at a after_is) =
-      let same : u ≡ lost = omega arith in
-      done_on tail now.opened from to (header_link page lost) (update_link page lost) (record frame { phase = looking_next owner now.opened page } ∷ below) (c.head + 1) e from_is to_is
+      → Step shape.pages shape.size c steps answer after → ClaimStep shape.pages c frame below now.opened page answer after → ClaimMoves tail from to
+  unfolding moves_on stays_on done_on fails_on
+  claims_at tail page lost from to frame below answer after top at_phase sum fits from_is to_is e step (claim_late late) = absurd (late.passed opened_is)
+  claims_at tail page lost from to frame below answer after top at_phase sum fits from_is to_is e step (claims u x u_sum at a after_is) =
+      let same : u ≡ lost = omega arith in let here = opened_is in let room = kept.links.opened_le in
+      let behind : lost < c.head + 1 = omega arith in
+      raised tail from to lost sum
+      (done_on tail now.opened from to (header_link page lost) (update_link page lost) (record frame { phase = looking_next owner now.opened page } ∷ below) (c.head + 1) e from_is to_is
       (at ∙ ap (header_link page) same) (omega arith)
       (goes answer after (in_phase (with_head_claimed shape.pages c now.opened page lost) frame below (looking_next owner now.opened page)) step a
-      (after_is ∙ ap (λ (f : ℕ). in_phase (with_head_claimed shape.pages c now.opened page f) frame below (looking_next owner now.opened page)) same))
-  claims_at tail page lost from to frame below answer after sum fits from_is to_is e step (claim_fails x differ a after_is) =
+      (after_is ∙ ap (λ (f : ℕ). in_phase (with_head_claimed shape.pages c now.opened page f) frame below (looking_next owner now.opened page)) same)))
+      behind
+  claims_at tail page lost from to frame below answer after top at_phase sum fits from_is to_is e step (claim_fails x differ a after_is) =
       let some = kept.links.some_pages in let room = kept.links.fits in let here = opened_is in
-      fails_on tail now.opened from to (header_link page lost) (record frame { phase = looking now.opened } ∷ below) e from_is record { page_fits = fits; fill_fits = omega arith } (differ lost sum)
-      (goes answer after (in_phase c frame below (looking now.opened)) step a after_is)
+      raised tail from to lost sum
+      (fails_on tail now.opened from to (header_link page lost) (record frame { phase = looking now.opened } ∷ below) e from_is record { page_fits = fits; fill_fits = omega arith } (differ lost sum)
+      (goes answer after (in_phase c frame below (looking now.opened)) step a after_is))
+      (claims_fail_behind_the_head shape.pages shape.size shape.start c frame below now.opened page lost s.reached top at_phase opened_is sum (differ lost sum))
 
   pub claim_moves : (tail page lost from to : ℕ) → tail ≡ tail_in now → IsTopIn now.frames (claiming now.opened page)
-      → lost + shape.pages ≡ now.opened → page < LINK_PAGES → from ≡ word_of (header_link page lost) → to ≡ word_of (update_link page lost) → ExchangeMoves tail now.opened from to
+      → lost + shape.pages ≡ now.opened → page < LINK_PAGES → from ≡ word_of (header_link page lost) → to ≡ word_of (update_link page lost) → ClaimMoves tail from to
   claim_moves tail page lost from to tail_is phase sum fits from_is to_is =
       let top = top_of c.frames (claiming now.opened page) (top_now (claiming now.opened page) phase) in
       let (answer, after, step) = each_event_is_a_step shape.pages shape.size shape.start c steps kept tt in
-      claims_at tail page lost from to top.frame top.below answer after sum fits from_is to_is (tail_is ∙ tail_front) step
-      (frame_stepped shape.pages shape.size c top.frame top.below (claiming now.opened page) answer after top.is top.phase_is step)
+      claims_at tail page lost from to top.frame top.below answer after top.is top.phase_is sum fits from_is to_is (tail_is ∙ tail_front) step
+      (top_stepped shape.pages shape.size c top.frame top.below (claiming now.opened page) answer after top.is top.phase_is step)
 
   marks_at : (page next behind from to : ℕ) (frame : Frame) (below : List Frame) (role : Role) (noted : ℕ) (answer : Answer) (after : Core)
       → GoesOn role noted c.opened → behind + shape.pages ≡ noted + 1 → FitsWord (normal_link next behind) → from ≡ word_of (normal_link next behind) → to ≡ word_of (header_link next behind)
@@ -349,12 +352,12 @@ module _ (shape : Shape) (me : Sat) (is : IsWriting me) (now : Writing) (c : Cor
       subst (λ (fill : ℕ). ExchangeMoves page fill from to) (marks_behind shape.pages now page next behind due)
       (marks_at page next behind from to top.frame top.below due.role due.noted answer after (subst (GoesOn due.role due.noted) opened_is due.goes_on) due.behind_is
       record { page_fits = fits; fill_fits = omega arith } from_is to_is (passed_front page due.noted behind passed.2 due.behind_is) step
-      (frame_stepped shape.pages shape.size c top.frame top.below (marking due.role due.noted page next) answer after top.is top.phase_is step))
+      (top_stepped shape.pages shape.size c top.frame top.below (marking due.role due.noted page next) answer after top.is top.phase_is step))
 
   -- ---- the store of a link
 
   abbrev ClearMoves : (page to : ℕ) → Type 0
-  ClearMoves page to = WriterMoves shape r me ws homes (page_word page) (λ _. to) (λ _ after. WriterTold shape now (λ _. ⊤) going after)
+  ClearMoves page to = WriterMoves shape r me ws homes (page_word page) (λ _. to) (λ _ after. WriterTold shape now (passed me.0) (λ _. ⊤) going after)
 
   clears_at : (before page noted to : ℕ) (frame : Frame) (below : List Frame) (answer : Answer) (after : Core) → to ≡ word_of (normal_link page noted) → before ≡ page_before shape.pages c.order noted
       → Step shape.pages shape.size c steps answer after → ClearStep shape.pages c frame below noted page answer after → ClearMoves before to
@@ -372,4 +375,4 @@ module _ (shape : Shape) (me : Sat) (is : IsWriting me) (now : Writing) (c : Cor
       let (low, high, room, numbers) = known.noted noted (ap noted_fill top.phase_is) in
       clears_at before page noted to top.frame top.below answer after to_is
       (before_is ∙ (ap (λ (w : Writing). slice_index_or w.open_pages (noted - 1 - w.done) 0) (sym now_is) ∙ front noted low high)) step
-      (frame_stepped shape.pages shape.size c top.frame top.below (clearing noted page) answer after top.is top.phase_is step)
+      (top_stepped shape.pages shape.size c top.frame top.below (clearing noted page) answer after top.is top.phase_is step)

@@ -1,12 +1,12 @@
 -- A load by which what the writer did in private comes to stand in its view.
-use Rattle.std.proofs.Common.{◌≡◌, ℕ, List, refl, sym, ap, ◌∙◌, subst}
+use Rattle.std.proofs.Common.{◌≡◌, ◌≤◌, ℕ, List, refl, sym, ap, ◌∙◌, subst, arith}
 use Rattle.std.proofs.Math.Logic.{∥∥₁_elim}
 use Rattle.std.proofs.Props.{props}
 use lib.Seq.{set-get_or}
 use Rattle.atomic_table.specs.Table.{keeps}
 use Rattle.trace_model.specs.Ring.{Core}
 use Rattle.ring_steps.specs.declared.rule.Shape.{Shape}
-use Rattle.ring_steps.specs.Views.{Writing, writing_of, Reading, writing}
+use Rattle.ring_steps.specs.Views.{Writing, writing_of, Reading, writing, passed}
 use Rattle.ring_steps.specs.Shown.{Homes, AreWords}
 use Rattle.ring_steps.specs.Seats.{Sat, emptied, IsWriting, Leads, NoteTold}
 use Rattle.ring_steps.specs.Paging.{IsWriterReached}
@@ -15,10 +15,12 @@ use Rattle.ring_steps.proofs.Private.{private_reached}
 
 -- the state stays, whichever word is loaded
 pub note_moves : (shape : Shape) (me : Sat) (is : IsWriting me) (now : Writing) (i : ℕ) (c : Core) (r : Reading) (words : List ℕ) (homes : Homes)
-    → IsShownBy shape c r words homes → writing_of c ≡ now → c.open_pages ≡ (writing me.0).open_pages
-    → WriterMoves shape r me words homes i (λ n. n) (λ _ after. NoteTold now after)
-note_moves shape me is now i c r words homes s now_is pages = record {
+    → IsShownBy shape c r words homes → writing_of c ≡ now → c.open_pages ≡ (writing me.0).open_pages → passed me.0 ≤ c.head
+    → WriterMoves shape r me words homes i (λ n. n) (λ _ after. NoteTold now (passed me.0) after)
+note_moves shape me is now i c r words homes s now_is pages low = record {
   next = c;
+  knows = passed me.0;
+  low = low;
   act = keeps;
   valid = tt;
   shown = record {
@@ -30,6 +32,7 @@ note_moves shape me is now i c r words homes s now_is pages = record {
   };
   told = record {
     seat = record { view = refl; hand = is.hand ∙ ap emptied (sym pages) };
+    knows = omega arith;
     noted = now_is;
   };
 }

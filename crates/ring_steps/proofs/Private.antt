@@ -78,6 +78,12 @@ private_open_pages n size c aside [] run = ap (λ (d : Core). d.open_pages) (sym
 private_open_pages n size c aside (x ∷ exchanges) (own, between, step, run) =
     private_open_pages n size between aside exchanges run ∙ ap (λ (d : Core). d.open_pages) (changes_privately c between (private_result n size c x.event x.answer between own step))
 
+-- and so is the head
+pub private_head : (n size : ℕ) (c aside : Core) (exchanges : List Exchange) → PrivateRun n size c exchanges aside → aside.head ≡ c.head
+private_head n size c aside [] run = ap (λ (d : Core). d.head) (sym run)
+private_head n size c aside (x ∷ exchanges) (own, between, step, run) =
+    private_head n size between aside exchanges run ∙ ap (λ (d : Core). d.head) (changes_privately c between (private_result n size c x.event x.answer between own step))
+
 pub private_reached : (n size start : ℕ) (c aside : Core) (exchanges : List Exchange) → IsReached n size start c → PrivateRun n size c exchanges aside → IsReached n size start aside
 private_reached n size start c aside [] reached run = subst (IsReached n size start) run reached
 private_reached n size start c aside (x ∷ exchanges) reached (own, between, step, run) =

@@ -60,6 +60,7 @@ module _ (shape : Shape) (me : Sat) (is : IsSeatOfReader me) (c : Core) (ws : Li
           is_reading = is_reading;
         };
         writer_is = refl;
+        head_le = omega arith;
         told = record {
           seat = record { view = refl; hand = is.hand };
           within = reader_within shape next after (reached_kept shape.pages shape.size shape.start next reached) is_reading;

@@ -88,7 +88,7 @@ module _ (shape : Shape) (me : Sat) (c : Core) (ws : List ℕ) (homes : Homes) (
         let next : Core = gone_on c reader_on c.spare_link in
         let step : model.Step shape.pages shape.size c model.reads model.reading next = step_in shape me c ws homes s (swapping page fill) model.reading next at (model.swap_fails differs refl refl) in
         let on : suc fill ≡ fill + 1 = omega arith in
-        reads_on shape me c ws homes s (front + 3) (λ k. either (k == from) to k) (λ found after. SwapTold shape me (spot fill page) found after) (λ _. ⊤) true model.reading next keeps step tt
+        reads_on shape me c ws homes s (front + 3) (λ k. either (k == from) to k) (λ found after. SwapTold shape me (spot fill page) found after) (λ _. ⊤) true model.reading next keeps step (omega arith) tt
         tt
         (exchanged found from to (λ (word : ℕ). AreWords shape.pages next (slice_set ws (front + 3) word)) (λ e. absurd (other e))
         (λ _. subst (AreWords shape.pages next) (sym (set-get_or ws (front + 3) 0)) (words_on shape.pages c ws reader_on s.are_words)))
@@ -195,7 +195,7 @@ module _ (shape : Shape) (me : Sat) (c : Core) (ws : List ℕ) (homes : Homes) (
     unfolding next home
     done =
         let hand_here : me.1 ≡ (c.spare, Some blank) ∷ [] = hand ∙ (λ i. (spare_here i, Some blank) ∷ []) in
-        reads_on shape me c ws homes s (front + 3) (λ k. either (k == from) to k) (λ found after. SwapTold shape me (spot fill page) found after) (λ _. ⊤) true (model.swapped (model.taken_fill c page fill)) next act step tt
+        reads_on shape me c ws homes s (front + 3) (λ k. either (k == from) to k) (λ found after. SwapTold shape me (spot fill page) found after) (λ _. ⊤) true (model.swapped (model.taken_fill c page fill)) next act step (omega arith) tt
         (tt, ap (λ (l : List (ℕ × Option Contents)). get_elem? (put_back homes l) page) hand_here ∙ behind.head_stays shape.pages shape.size shape.start c ring page fill facts told (reading me.0) homes blank sized s.are_homes)
         (exchanged found from to (λ (word : ℕ). AreWords shape.pages next (slice_set ws (front + 3) word))
         (λ _. subst (λ (word : ℕ). AreWords shape.pages next (slice_set ws (front + 3) word)) (sym (to_is ∙ ap (λ (spare : ℕ). word_of (normal_link spare (fill + shape.pages))) spare_here))

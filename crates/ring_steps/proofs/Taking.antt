@@ -150,13 +150,14 @@ module _ (shape : Shape) (me : Sat) (c : Core) (ws : List ℕ) (homes : Homes) (
 module _ (shape : Shape) (me : Sat) (c : Core) (ws : List ℕ) (homes : Homes) (s : IsShownBy shape c (reading me.0) ws homes) where
   pub reads_on : (i : ℕ) (f : ℕ → ℕ) (tells : ℕ → Sat → Type 0) (sees : Core → Type 0) (b : Bool) (answer : model.Answer) (next : Core) (act : Act (Option Contents))
       → model.Step shape.pages shape.size c model.reads answer next
+      → c.head ≤ next.head
       → sees c
       → Valid homes me.1 act
       → AreWords shape.pages next (slice_set ws i (f (slice_index ws i)))
       → AreHomes shape.pages shape.size next (part_of next b) (homes_after homes me.1 act)
       → (ReadTold shape sees b me (reads (part_of next b), carried_after me.1 act) → tells (slice_index ws i) (reads (part_of next b), carried_after me.1 act))
       → ReaderMoves shape c me ws homes i f tells
-  reads_on i f tells sees b answer next act step seen valid words at_home tell =
+  reads_on i f tells sees b answer next act step head_le seen valid words at_home tell =
       let reached = reached_further shape.pages shape.size shape.start c model.reads answer next s.reached step in
       let stays = reader_leaves_writer shape.pages shape.size c model.reads answer next tt step in
       let is_reading : IsReading next (part_of next b) = record { order_is = refl; spare_is = refl; spare_link_is = refl; reader_is = refl; wish_is = refl; heard_is = refl } in record {
@@ -166,6 +167,7 @@ module _ (shape : Shape) (me : Sat) (c : Core) (ws : List ℕ) (homes : Homes) (
         valid = valid;
         shown = record { pages_fit = s.pages_fit; reached = reached; are_words = words; are_homes = at_home; is_reading = is_reading };
         writer_is = λ k. record { frames = stays.frames k; open_pages = stays.open_pages k; history = stays.history k; done = stays.done k; opened = stays.opened k };
+        head_le = head_le;
         told = tell record {
           view = refl;
           within = reader_within shape next (part_of next b) (reached_kept shape.pages shape.size shape.start next reached) is_reading;
@@ -183,7 +185,7 @@ module _ (shape : Shape) (me : Sat) (is : IsSeatOfReader me) (c : Core) (ws : Li
   loads_on i sees answer reader step seen =
       let same = set-get_or ws i 0 in
       let b : Bool = (reading me.0).keeps_spare in
-      reads_on shape me c ws homes s i (λ k. k) (λ found after. SeatTold shape (sees found) b me after) (sees (slice_index ws i)) b answer (gone_on c reader c.spare_link) keeps step seen tt
+      reads_on shape me c ws homes s i (λ k. k) (λ found after. SeatTold shape (sees found) b me after) (sees (slice_index ws i)) b answer (gone_on c reader c.spare_link) keeps step (omega arith) seen tt
       (subst (AreWords shape.pages (gone_on c reader c.spare_link)) (sym same) (words_on shape.pages c ws reader s.are_words))
       (homes_on shape.pages shape.size c (reading me.0) homes reader c.spare_link b s.are_homes s.are_homes.spare)
       (λ told. (record { view = refl; hand = is.hand ∙ ap (kept_slots b) s.is_reading.spare_is }, told))
@@ -211,7 +213,7 @@ module _ (shape : Shape) (me : Sat) (is : IsSeatOfReader me) (c : Core) (ws : Li
       let (reader, on) = load_on shape.pages c answer behind load in
       let next : Core = gone_on c reader c.spare_link in
       let step : model.Step shape.pages shape.size c model.reads answer next = subst (λ (d : Core). model.Step shape.pages shape.size c model.reads answer d) on made in
-      reads_on shape me c ws homes s (page + 3) (λ k. k) (λ found after. SeatTold shape (IsWordInto shape hint found) false me after) (IsWordInto shape hint (slice_index ws (page + 3))) false answer next gives step
+      reads_on shape me c ws homes s (page + 3) (λ k. k) (λ found after. SeatTold shape (IsWordInto shape hint found) false me after) (IsWordInto shape hint (slice_index ws (page + 3))) false answer next gives step (omega arith)
       record { word_is = sym (word_into shape me c ws homes s page hint page_is); fits = link_fits shape.pages shape.size shape.start c hint s.pages_fit k }
       tt
       (subst (AreWords shape.pages next) (sym (set-get_or ws (page + 3) 0)) (words_on shape.pages c ws reader s.are_words))
@@ -235,7 +237,7 @@ module _ (shape : Shape) (me : Sat) (is : IsSeatOfReader me) (c : Core) (ws : Li
       let none : me.1 ≡ [] = is.hand ∙ ap (λ (b : Bool). kept_slots b (reading me.0).spare) empty in
       reads_on shape me c ws homes s (spare + 3) (λ _. new) (λ _ after. SeatTold shape (λ _. ⊤) true me after) (λ _. ⊤) true model.reading next (takes c.spare None)
       (step_in shape me c ws homes s (storing_link page fill) model.reading next at record { answer_is = refl; after_is = refl })
-      tt
+      (omega arith) tt
       (s.are_homes.spare empty)
       (subst (λ (w : ℕ). AreWords shape.pages next (slice_set ws (spare + 3) w)) (ap word_of (sym header) ∙ sym new_is)
       (subst (λ (p : ℕ). AreWords shape.pages next (slice_set ws (p + 3) (word_of behind))) here (words_set shape.pages c ws reader behind some_pages k.links.apart s.are_words)))

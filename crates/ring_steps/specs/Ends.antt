@@ -1,12 +1,17 @@
 -- What contracts see of the two seats: the part of the ring that each knows, and the table at which both sit.
+use Rattle.std.specs.Prelude.{ℕ}
 use Rattle.atomic_table.specs.Seated.{TableId}
 use Rattle.ring_steps.specs.declared.ends.WriterSeat.{WriterSeat}
 use Rattle.ring_steps.specs.declared.ends.ReaderSeat.{ReaderSeat}
-use Rattle.ring_steps.specs.Views.{Writing, Reading, writing, reading}
+use Rattle.ring_steps.specs.Views.{Writing, Reading, writing, passed, reading}
 
 -- the writer's part, as of its last step on a word
 abbrev pub writing_in : WriterSeat → Writing
 writing_in writer = writing writer.seat.me.0
+
+-- below which each fill is passed, as the writer knows
+abbrev pub passed_in : WriterSeat → ℕ
+passed_in writer = passed writer.seat.me.0
 
 -- the reader's part
 abbrev pub reading_in : ReaderSeat → Reading

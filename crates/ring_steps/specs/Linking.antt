@@ -1,11 +1,11 @@
 -- What the writer's steps ask and tell that load and set links.
-use Rattle.std.specs.Prelude.{◌≡◌, ℕ, ◌+◌, ◌-◌, List, [], ◌∷◌, length, Option, Some, None, slice_index_or}
+use Rattle.std.specs.Prelude.{◌≡◌, ℕ, ◌+◌, ◌-◌, ◌<◌, ◌≤◌, List, [], ◌∷◌, length, Option, Some, None, slice_index_or}
 use Rattle.trace_model.specs.Links.{word_of}
 use Rattle.trace_model.specs.Frames.{Role, looking_next, marking, Frame, noted_fill}
-use Rattle.trace_model.specs.Ring.{link_into}
+use Rattle.trace_model.specs.Ring.{link_into, Core}
 use Rattle.trace_model.specs.Steps.{GoesOn, going, Answer}
 use Rattle.ring_steps.specs.declared.rule.Shape.{Shape}
-use Rattle.ring_steps.specs.Views.{Writing, writing}
+use Rattle.ring_steps.specs.Views.{Writing, writing, passed}
 use Rattle.ring_steps.specs.Seats.{Sat, IsWriting, IsWriterStep, WriterTold}
 use Rattle.ring_steps.specs.Paging.{IsTopIn}
 
@@ -43,13 +43,24 @@ noted_on_top (frame ∷ below) = number_or_zero (noted_fill frame.phase)
 abbrev pub behind_in : ℕ → Writing → ℕ
 behind_in n w = noted_on_top w.frames + 1 - n
 
--- What a step on the word of the link into the position of a fill tells: what was found there is the link's word.
-abbrev pub LinkTold : Shape → Writing → (fill found : ℕ) → Sat → Type 0
-LinkTold shape now fill found after =
-    WriterTold shape now (λ core. word_of (link_into shape.pages core.links fill) ≡ found) going after
+-- what was found in the word of the link into the position of a fill is the link's, and what was known of the head holds
+abbrev pub SeesLink : Shape → (known fill found : ℕ) → Core → Type 0
+SeesLink shape known fill found core =
+    (known ≤ core.head) × (word_of (link_into shape.pages core.links fill) ≡ found)
+
+-- what a step on that word tells
+abbrev pub LinkTold : Shape → Writing → (known fill found : ℕ) → Sat → Type 0
+LinkTold shape now known fill found after =
+    WriterTold shape now known (SeesLink shape known fill found) going after
+
+-- What a claim of the head tells besides: the fill that is lost for the next one is passed, by this claim or before.
+pub record ClaimTold (shape : Shape) (now : Writing) (known found : ℕ) (after : Sat) : Type 0 where
+  pub told : LinkTold shape now known now.opened found after
+  pub lost : now.opened < passed after.0 + shape.pages
 
 -- what a load of the reader's wish tells
-pub record WishTold (shape : Shape) (now : Writing) (found : ℕ) (after : Sat) : Type 0 where
+pub record WishTold (shape : Shape) (now : Writing) (known found : ℕ) (after : Sat) : Type 0 where
   pub seat : IsWriting after
+  pub knows : known ≤ passed after.0
   pub answer : Answer
   pub step : IsWriterStep shape now (λ core. core.wish ≡ found) answer (writing after.0)

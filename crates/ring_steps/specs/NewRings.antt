@@ -10,7 +10,7 @@ use Rattle.ring_steps.specs.declared.ends.WriterSeat.{WriterSeat}
 use Rattle.ring_steps.specs.declared.ends.ReaderSeat.{ReaderSeat}
 use Rattle.ring_steps.specs.Views.{Writing, Reading, whole}
 use Rattle.ring_steps.specs.Seats.{Sat}
-use Rattle.ring_steps.specs.Ends.{writing_in, reading_in, writer_table, reader_table}
+use Rattle.ring_steps.specs.Ends.{writing_in, passed_in, reading_in, writer_table, reader_table}
 
 -- a ring may have this shape
 pub record IsShape (shape : Shape) : Type 0 where
@@ -82,10 +82,12 @@ IsWholeSeat shape me =
     (me.0 ≡ whole (first_writing shape) (first_reading shape))
     × (me.1 ≡ (shape.start % shape.pages, None) ∷ [])
 
--- the two seats of a new ring: one table's, and each with its part of the model's new ring
+-- The two seats of a new ring: one table's, and each with its part of the model's new ring. The writer knows of no fill
+-- that is passed.
 pub record AreNewSeats (shape : Shape) (seats : WriterSeat × ReaderSeat) : Type 0 where
   pub one_table : reader_table seats.1 ≡ writer_table seats.0
   pub writer_shape : seats.0.shape ≡ shape
   pub reader_shape : seats.1.shape ≡ shape
   pub writing_is : writing_in seats.0 ≡ first_writing shape
+  pub passed_is : passed_in seats.0 ≡ 0
   pub reading_is : reading_in seats.1 ≡ first_reading shape

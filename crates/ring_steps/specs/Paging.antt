@@ -1,12 +1,12 @@
 -- What the writer's steps ask and tell that begin a fill and close one: a page comes into its hands, or goes home.
-use Rattle.std.specs.Prelude.{◌≡◌, ⊤, ℕ, List, [], ◌∷◌, ◌++◌, Some}
+use Rattle.std.specs.Prelude.{◌≡◌, ◌≤◌, ⊤, ℕ, List, [], ◌∷◌, ◌++◌, Some}
 use Rattle.trace_model.specs.Frames.{Phase, opening, Frame, no_frame}
 use Rattle.trace_model.specs.Ring.{Core}
 use Rattle.trace_model.specs.Steps.{Answer, refused, begin_answer}
 use Rattle.link_marks.specs.Reached.{IsReached}
 use Rattle.page_image.specs.Contents.{Contents}
 use Rattle.ring_steps.specs.declared.rule.Shape.{Shape}
-use Rattle.ring_steps.specs.Views.{Writing, writing_of, writes, writing}
+use Rattle.ring_steps.specs.Views.{Writing, writing_of, writes, writing, passed}
 use Rattle.ring_steps.specs.Seats.{Sat, emptied, IsWriterStep}
 
 -- the writer's part is that of a state which steps reach
@@ -26,8 +26,9 @@ begun_answer [] = refused no_frame
 begun_answer (frame ∷ below) = begin_answer frame.kind frame.state below
 
 -- What the store that begins a fill tells: the page at its position, of the ring's size, is in the writer's hands.
-pub record OpenTold (shape : Shape) (now : Writing) (after : Sat) : Type 0 where
-  pub view : after.0 ≡ writes (writing after.0)
+pub record OpenTold (shape : Shape) (now : Writing) (known : ℕ) (after : Sat) : Type 0 where
+  pub view : after.0 ≡ writes (writing after.0) (passed after.0)
+  pub knows : known ≤ passed after.0
   pub page : ℕ
   pub position : IsTopIn now.frames (opening now.opened page)
   pub body : Contents

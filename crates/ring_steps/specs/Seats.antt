@@ -9,7 +9,7 @@ use Rattle.link_marks.specs.Reached.{IsReached}
 use Rattle.link_marks.specs.Seats.{IsOfReader, PrivateRun}
 use Rattle.page_image.specs.Contents.{Contents}
 use Rattle.ring_steps.specs.declared.rule.Shape.{Shape}
-use Rattle.ring_steps.specs.Views.{Writing, writing_of, Reading, SeatView, writes, reads, writing, reading}
+use Rattle.ring_steps.specs.Views.{Writing, writing_of, Reading, SeatView, writes, reads, writing, passed, reading}
 use Rattle.ring_steps.specs.Shown.{IsReading}
 
 -- a seat's view, and the slots that are out with it
@@ -32,7 +32,7 @@ emptied pages = map (λ page. (page, None)) pages
 
 -- the writer's seat has the slots of the open pages, the oldest first, whose pages it keeps elsewhere
 pub record IsWriting (me : Sat) : Type 0 where
-  pub view : me.0 ≡ writes (writing me.0)
+  pub view : me.0 ≡ writes (writing me.0) (passed me.0)
   pub hand : me.1 ≡ emptied (writing me.0).open_pages
 
 -- the slots that the reader has: that of the spare, while it keeps it
@@ -99,15 +99,18 @@ pub record IsWriterStep (shape : Shape) (before : Writing) (sees : Core → Type
   pub step : Step shape.pages shape.size core steps answer next
   pub after_is : writing_of next ≡ after
 
--- what each step of the writer tells of its seat; by now its part is this
-pub record WriterTold (shape : Shape) (now : Writing) (sees : Core → Type 0) (answer : Answer) (after : Sat)
+-- What each step of the writer tells of its seat; by now its part is this, and below the known number it knows all fills
+-- to be passed, as it does behind the step.
+pub record WriterTold (shape : Shape) (now : Writing) (known : ℕ) (sees : Core → Type 0) (answer : Answer) (after : Sat)
     : Type 0 where
   pub seat : IsWriting after
+  pub knows : known ≤ passed after.0
   pub step : IsWriterStep shape now sees answer (writing after.0)
 
 -- what a load tells by which the writer's part comes to be this: nothing of a word
-pub record NoteTold (now : Writing) (after : Sat) : Type 0 where
+pub record NoteTold (now : Writing) (known : ℕ) (after : Sat) : Type 0 where
   pub seat : IsWriting after
+  pub knows : known ≤ passed after.0
   pub noted : writing after.0 ≡ now
 
 -- ---- the end

@@ -1,6 +1,6 @@
 -- What the two ends of a running ring know, each of its own part.
 -- docs/MODEL.md, "The running ring".
-use Rattle.std.specs.Prelude.{ℕ, List, [], ◌∷◌, Bool, false}
+use Rattle.std.specs.Prelude.{ℕ, ◌≤◌, List, [], ◌∷◌, Bool, false}
 use Rattle.trace_model.specs.Record.{Record}
 use Rattle.trace_model.specs.History.{Action}
 use Rattle.trace_model.specs.Links.{Link, normal_link}
@@ -37,12 +37,13 @@ pub record Reading : Type 0 where
   pub heard : List Record
   pub keeps_spare : Bool
 
--- What a seat knows. laid: the first one, before it has the tail's slot; whole: and then, before it is split. joined:
--- the one that both became, and spent is what it left.
+-- What a seat knows. laid: the first one, before it has the tail's slot; whole: and then, before it is split. writes:
+-- the writer's, with a number below which each fill is passed. joined: the one that both became, and spent is what it
+-- left.
 pub data SeatView : Type 0 where
   laid : Writing → Reading → SeatView
   whole : Writing → Reading → SeatView
-  writes : Writing → SeatView
+  writes : Writing → (passed : ℕ) → SeatView
   reads : Reading → SeatView
   joined : Writing → Reading → SeatView
   spent : SeatView
@@ -65,24 +66,33 @@ no_reading = record {
 abbrev pub writing : SeatView → Writing
 writing (laid w r) = w
 writing (whole w r) = w
-writing (writes w) = w
+writing (writes w passed) = w
 writing (reads r) = no_writing
 writing (joined w r) = w
 writing spent = no_writing
+
+-- What the writer knows of the head: each fill below this number is taken or lost.
+abbrev pub passed : SeatView → ℕ
+passed (laid w r) = 0
+passed (whole w r) = 0
+passed (writes w number) = number
+passed (reads r) = 0
+passed (joined w r) = 0
+passed spent = 0
 
 -- the reader's part of it
 abbrev pub reading : SeatView → Reading
 reading (laid w r) = r
 reading (whole w r) = r
-reading (writes w) = no_reading
+reading (writes w passed) = no_reading
 reading (reads r) = r
 reading (joined w r) = r
 reading spent = no_reading
 
 -- The views of a ring's seats: at first one knows both parts; then the writer's is the first and the reader's the
--- second; at the end both are one again.
-pub data ArePlaced (w : Writing) (r : Reading) : List SeatView → Type 0 where
-  begun : ArePlaced w r (laid w r ∷ [])
-  made : ArePlaced w r (whole w r ∷ [])
-  running : ArePlaced w r (writes w ∷ reads r ∷ [])
-  settled : ArePlaced w r (joined w r ∷ spent ∷ [])
+-- second; at the end both are one again. What the writer knows to be passed is below the head.
+pub data ArePlaced (w : Writing) (r : Reading) (head : ℕ) : List SeatView → Type 0 where
+  begun : ArePlaced w r head (laid w r ∷ [])
+  made : ArePlaced w r head (whole w r ∷ [])
+  running : (passed : ℕ) → passed ≤ head → ArePlaced w r head (writes w passed ∷ reads r ∷ [])
+  settled : ArePlaced w r head (joined w r ∷ spent ∷ [])

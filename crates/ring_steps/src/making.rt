@@ -20,9 +20,9 @@ use trace_model::{NoMemory, START_FILL};
 struct Ends;
 
 impl Split<View> for Ends {
-    ghost use Rattle.ring_steps.specs.Views.{writes, reads, writing, reading};
+    ghost use Rattle.ring_steps.specs.Views.{writes, reads, writing, passed, reading};
 
-    ghost left = { λ view. writes (writing view) };
+    ghost left = { λ view. writes (writing view) (passed view) };
 
     ghost right = { λ view. reads (reading view) };
 }

@@ -1,5 +1,5 @@
 //! The writer's steps.
-ghost use Rattle.std.specs.Prelude.{◌≡◌, ◌↔◌, ◌+◌, ◌-◌, ◌<◌, ⊤, true, length, slice_index_or};
+ghost use Rattle.std.specs.Prelude.{◌≡◌, ◌↔◌, ◌+◌, ◌-◌, ◌<◌, ◌≤◌, ⊤, true, length, slice_index_or};
 ghost use Rattle.trace_model.specs.declared.limits.TheConstants.{LINK_PAGES};
 ghost use Rattle.trace_model.specs.Links.{FitsWord, normal_link, header_link};
 ghost use Rattle.trace_model.specs.Frames.{looking, claiming, clearing, opening, releasing, wishing};
@@ -8,7 +8,7 @@ ghost use Rattle.trace_model.specs.Steps.{going, Answer};
 ghost use Rattle.link_marks.specs.ModelLinks.{link_of};
 ghost use Rattle.nested_writer.specs.Released.{IsWrittenPage};
 ghost use Rattle.ring_steps.specs.Seats.{Leads, IsWriterStep};
-ghost use Rattle.ring_steps.specs.Ends.{writing_in, writer_table};
+ghost use Rattle.ring_steps.specs.Ends.{writing_in, passed_in, writer_table};
 ghost use Rattle.ring_steps.specs.Paging.{IsTopIn, begun_answer};
 ghost use Rattle.ring_steps.specs.Linking.{tail_in, LooksBehind, MarksBehind};
 
@@ -29,22 +29,26 @@ impl WriterSeat {
         requires due { Leads self.old.shape (writing_in self.old) J.now }
         ensures shape { self.new.shape ≡ self.old.shape }
         ensures table { writer_table self.new ≡ writer_table self.old }
+        ensures knows { passed_in self.old ≤ passed_in self.new }
         ensures noted { writing_in self.new ≡ J.now }
     {
         let _given = given;
         load::<Brand>(&self.board, self.shape, &mut self.seat, OPENED);
     }
 
-    /// A load of the link into the position of the fill to open, which stands in the word of the tail page.
+    /// A load of the link into the position of the fill to open, which stands in the word of the tail page. What the
+    /// seat knew to be passed is at most the head of the state that is seen.
     pub fn load_link<J: Present>(&mut self, tail: u16) -> Link
         requires due { Leads self.old.shape (writing_in self.old) J.now }
         requires phase { IsTopIn J.now.frames (looking J.now.opened) }
         requires tail { tail ≡ tail_in J.now }
         ensures shape { self.new.shape ≡ self.old.shape }
         ensures table { writer_table self.new ≡ writer_table self.old }
+        ensures knows { passed_in self.old ≤ passed_in self.new }
         ensures fits { FitsWord (link_of result) }
         ensures step { IsWriterStep self.old.shape J.now
-            (λ core. link_into self.old.shape.pages core.links J.now.opened ≡ link_of result) going
+            (λ core. (passed_in self.old ≤ core.head)
+            × (link_into self.old.shape.pages core.links J.now.opened ≡ link_of result)) going
             (writing_in self.new) }
     {
         let word = tail as usize + LINKS;
@@ -58,6 +62,7 @@ impl WriterSeat {
         requires phase { LooksBehind self.old.shape.pages J.now page behind.0 }
         ensures shape { self.new.shape ≡ self.old.shape }
         ensures table { writer_table self.new ≡ writer_table self.old }
+        ensures knows { passed_in self.old ≤ passed_in self.new }
         ensures fits { FitsWord (link_of result) }
         ensures step { IsWriterStep self.old.shape J.now
             (λ core. link_into self.old.shape.pages core.links behind.0 ≡ link_of result) going
@@ -75,6 +80,7 @@ impl WriterSeat {
         requires phase { IsTopIn J.now.frames wishing }
         ensures shape { self.new.shape ≡ self.old.shape }
         ensures table { writer_table self.new ≡ writer_table self.old }
+        ensures knows { passed_in self.old ≤ passed_in self.new }
         ensures step { (answer : Answer) × IsWriterStep self.old.shape J.now (λ core. core.wish ≡ result) answer
             (writing_in self.new) }
     {
@@ -83,7 +89,7 @@ impl WriterSeat {
     }
 
     /// A compare and exchange of the link in the tail page's word from HEADER to UPDATE, by which the head, this page
-    /// as this fill, is lost; whether it was done.
+    /// as this fill, is lost; whether it was done. If not, the head was moved on before: the fill is passed either way.
     pub fn claim_head<J: Present>(&mut self, tail: u16, page: u16, lost: FillNo) -> bool
         requires due { Leads self.old.shape (writing_in self.old) J.now }
         requires phase { IsTopIn J.now.frames (claiming J.now.opened page) }
@@ -92,6 +98,8 @@ impl WriterSeat {
         requires fits { page < LINK_PAGES }
         ensures shape { self.new.shape ≡ self.old.shape }
         ensures table { writer_table self.new ≡ writer_table self.old }
+        ensures knows { passed_in self.old ≤ passed_in self.new }
+        ensures passed { lost.0 < passed_in self.new }
         ensures step { IsWriterStep self.old.shape J.now
             (λ core. result ≡ true ↔ link_into self.old.shape.pages core.links J.now.opened ≡ header_link page lost.0)
             going (writing_in self.new) }
@@ -109,6 +117,7 @@ impl WriterSeat {
         requires fits { next < LINK_PAGES }
         ensures shape { self.new.shape ≡ self.old.shape }
         ensures table { writer_table self.new ≡ writer_table self.old }
+        ensures knows { passed_in self.old ≤ passed_in self.new }
         ensures step { IsWriterStep self.old.shape J.now
             (λ core. result ≡ true ↔ link_into self.old.shape.pages core.links behind.0 ≡ normal_link next behind.0)
             going (writing_in self.new) }
@@ -127,6 +136,7 @@ impl WriterSeat {
         requires front { front ≡ slice_index_or J.now.open_pages (noted.0 - 1 - J.now.done) 0 }
         ensures shape { self.new.shape ≡ self.old.shape }
         ensures table { writer_table self.new ≡ writer_table self.old }
+        ensures knows { passed_in self.old ≤ passed_in self.new }
         ensures step { IsWriterStep self.old.shape J.now (λ _. ⊤) going (writing_in self.new) }
     {
         let word = front as usize + LINKS;
@@ -142,6 +152,7 @@ impl WriterSeat {
         requires next { fill.0 ≡ J.now.opened }
         ensures shape { self.new.shape ≡ self.old.shape }
         ensures table { writer_table self.new ≡ writer_table self.old }
+        ensures knows { passed_in self.old ≤ passed_in self.new }
         ensures step { IsWriterStep self.old.shape J.now (λ _. ⊤) (begun_answer J.now.frames)
             (writing_in self.new) }
         ensures body { length result ≡ self.old.shape.size }
@@ -165,6 +176,7 @@ impl WriterSeat {
             (fill_of J.now.history self.old.shape.start J.now.done) page }
         ensures shape { self.new.shape ≡ self.old.shape }
         ensures table { writer_table self.new ≡ writer_table self.old }
+        ensures knows { passed_in self.old ≤ passed_in self.new }
         ensures step { IsWriterStep self.old.shape J.now (λ _. ⊤) going (writing_in self.new) }
     {
         let fill = page.fill();

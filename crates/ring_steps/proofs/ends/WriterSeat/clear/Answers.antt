@@ -24,7 +24,7 @@ store-requires-clause-word g c = let self = c.args.self.now in
 pub store-requires-clause-allowed : goal.store-requires-clause-allowed
 store-requires-clause-allowed g c = let self = c.args.self.now in
     writer_allows self.shape _ _ self.seat.me g.J.Present.now _ _ _ self.is_writing.view c.requires.due
-    (λ core r ws homes s now_is pages. clear_moves self.shape self.seat.me self.is_writing g.J.Present.now core r ws homes s now_is pages
+    (λ core r ws homes s now_is pages low. clear_moves self.shape self.seat.me self.is_writing g.J.Present.now core r ws homes s now_is pages low
     c.args.front c.args.page c.args.noted.0 c.normal_word-to.result c.requires.front c.requires.phase c.normal_word-to.ensures)
 
 pub invariant_of-self-clause-is_writing : goal.invariant_of-self-clause-is_writing

@@ -16,7 +16,7 @@ load-requires-clause-word g c = let self = c.args.self.now in
 pub load-requires-clause-allowed : goal.load-requires-clause-allowed
 load-requires-clause-allowed g c = let self = c.args.self.now in
     writer_allows self.shape _ _ self.seat.me g.J.Present.now _ _ _ self.is_writing.view c.requires.due
-    (λ core r ws homes s now_is pages. load_link_moves self.shape self.seat.me self.is_writing g.J.Present.now core r ws homes s now_is pages c.args.tail c.requires.tail c.requires.phase)
+    (λ core r ws homes s now_is pages low. load_link_moves self.shape self.seat.me self.is_writing g.J.Present.now core r ws homes s now_is pages low c.args.tail c.requires.tail c.requires.phase)
 
 pub invariant_of-self-clause-is_writing : goal.invariant_of-self-clause-is_writing
 invariant_of-self-clause-is_writing g c = c.load.ensures.told.seat
@@ -25,10 +25,10 @@ pub invariant_of-self-clause-reached : goal.invariant_of-self-clause-reached
 invariant_of-self-clause-reached g c = ∣ step_reached c.args.self.now.shape _ _ _ _ c.load.ensures.told.step ∣₁
 
 pub link_in-requires : goal.link_in-requires
-link_in-requires g c = record { mark = λ three. no_mark _ (ap (λ (word : ℕ). word % 4) c.load.ensures.told.step.seen ∙ three) }
+link_in-requires g c = record { mark = λ three. no_mark _ (ap (λ (word : ℕ). word % 4) c.load.ensures.told.step.seen.1 ∙ three) }
 
 pub returns-clause-step : goal.returns-clause-step
 returns-clause-step g c = let self = c.args.self.now in
     seen_as self.shape _ _ _ _ _
-    (λ core reached seen. link_seen self.shape self.table.pages_fit _ _ (link_of c.link_in.result) c.link_in.ensures.fits core reached seen c.link_in.ensures.word)
+    (λ core reached seen. (seen.0, link_seen self.shape self.table.pages_fit _ _ (link_of c.link_in.result) c.link_in.ensures.fits core reached seen.1 c.link_in.ensures.word))
     c.load.ensures.told.step

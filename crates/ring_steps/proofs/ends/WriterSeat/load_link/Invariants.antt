@@ -1,5 +1,6 @@
+use Rattle.ring_steps.specs.Views.{passed}
 use Rattle.ring_steps.specs.Linking.{LinkTold}
 use Rattle.ring_steps.proofs.ends.WriterSeat.load_link.Given as goal
 
 abbrev pub ghosts-load : goal.ghosts-load
-ghosts-load g a = record { tells = λ _ found after. LinkTold a.shape g.J.Present.now g.J.Present.now.opened found after }
+ghosts-load g a = record { tells = λ before found after. LinkTold a.shape g.J.Present.now (passed before.0) g.J.Present.now.opened found after }

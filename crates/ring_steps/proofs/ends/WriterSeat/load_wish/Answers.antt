@@ -6,7 +6,7 @@ use Rattle.ring_steps.proofs.ends.WriterSeat.load_wish.Goals as goal
 pub load-requires-clause-allowed : goal.load-requires-clause-allowed
 load-requires-clause-allowed g c = let self = c.args.self.now in
     writer_allows self.shape _ _ self.seat.me g.J.Present.now _ _ _ self.is_writing.view c.requires.due
-    (λ core r ws homes s now_is pages. load_wish_moves self.shape self.seat.me self.is_writing g.J.Present.now core r ws homes s now_is pages c.requires.phase)
+    (λ core r ws homes s now_is pages low. load_wish_moves self.shape self.seat.me self.is_writing g.J.Present.now core r ws homes s now_is pages low c.requires.phase)
 
 pub invariant_of-self-clause-is_writing : goal.invariant_of-self-clause-is_writing
 invariant_of-self-clause-is_writing g c = c.load.ensures.told.seat

@@ -22,7 +22,7 @@ exchange-requires-clause-word g c = let self = c.args.self.now in let due = c.re
 pub exchange-requires-clause-allowed : goal.exchange-requires-clause-allowed
 exchange-requires-clause-allowed g c = let self = c.args.self.now in
     writer_allows self.shape _ _ self.seat.me g.J.Present.now _ _ _ self.is_writing.view c.requires.due
-    (λ core r ws homes s now_is pages. mark_moves self.shape self.seat.me self.is_writing g.J.Present.now core r ws homes s now_is pages
+    (λ core r ws homes s now_is pages low. mark_moves self.shape self.seat.me self.is_writing g.J.Present.now core r ws homes s now_is pages low
     c.args.page c.args.next c.args.behind.0 c.normal_word-from.result c.header_word-to.result c.requires.phase c.requires.fits c.normal_word-from.ensures c.header_word-to.ensures)
 
 pub invariant_of-self-clause-is_writing : goal.invariant_of-self-clause-is_writing
@@ -38,5 +38,5 @@ returns-clause-step g c = let self = c.args.self.now in
     (sym (marks_behind self.shape.pages g.J.Present.now c.args.page c.args.next c.args.behind.0 c.requires.phase))
     (done_seen self.shape self.table.pages_fit _ _ (normal_link c.args.next c.args.behind.0)
     record { page_fits = c.requires.fits; fill_fits = behind_fits self.shape (writing self.seat.me.0) g.J.Present.now self.reached c.requires.due c.args.page c.args.next c.args.behind.0 c.requires.phase }
-    core reached seen c.normal_word-from.result c.normal_word-from.ensures))
+    core reached seen.1 c.normal_word-from.result c.normal_word-from.ensures))
     c.exchange.ensures.told.step

@@ -8,7 +8,7 @@ use Rattle.ring_steps.proofs.ends.WriterSeat.note.Goals as goal
 pub load-requires-clause-allowed : goal.load-requires-clause-allowed
 load-requires-clause-allowed g c = let self = c.args.self.now in
     writer_allows self.shape _ _ self.seat.me g.J.Present.now _ _ _ self.is_writing.view c.requires.due
-    (λ core r ws homes s now_is pages. note_moves self.shape self.seat.me self.is_writing g.J.Present.now 0 core r ws homes s now_is pages)
+    (λ core r ws homes s now_is pages low. note_moves self.shape self.seat.me self.is_writing g.J.Present.now 0 core r ws homes s now_is pages low)
 
 pub invariant_of-self-clause-is_writing : goal.invariant_of-self-clause-is_writing
 invariant_of-self-clause-is_writing g c = c.load.ensures.told.seat

@@ -16,24 +16,24 @@ store-requires-clause-allowed g c = let self = c.args.self.now in
 
 pub exchange-requires : goal.exchange-requires
 exchange-requires g c = let told = c.store.ensures.told in
-    (search rules, (Some told.body, opened_slot c.args.self.now.shape g.J.Present.now c.store.new.seat.me told c.args.number c.args.fill.0 c.requires.phase))
+    (search rules, (Some told.body, opened_slot c.args.self.now.shape g.J.Present.now _ c.store.new.seat.me told c.args.number c.args.fill.0 c.requires.phase))
 
 pub unreachable-requires : goal.unreachable-requires
 unreachable-requires g c =
-    none_some (sym c.in_default.is ∙ opened_body c.args.self.now.shape g.J.Present.now c.store.new.seat.me c.store.ensures.told c.args.number c.args.fill.0 c.requires.phase c.exchange.result c.exchange.ensures.2)
+    none_some (sym c.in_default.is ∙ opened_body c.args.self.now.shape g.J.Present.now _ c.store.new.seat.me c.store.ensures.told c.args.number c.args.fill.0 c.requires.phase c.exchange.result c.exchange.ensures.2)
 
 pub invariant_of-self-clause-is_writing : goal.invariant_of-self-clause-is_writing
-invariant_of-self-clause-is_writing g c = let told = opened_seat c.args.self.now.shape g.J.Present.now c.store.new.seat.me c.store.ensures.told c.args.number c.args.fill.0 c.requires.phase
+invariant_of-self-clause-is_writing g c = let told = opened_seat c.args.self.now.shape g.J.Present.now _ c.store.new.seat.me c.store.ensures.told c.args.number c.args.fill.0 c.requires.phase
     c.exchange.new.seat.me c.turn.new.self.me c.exchange.ensures.3 c.turn.ensures.2 in told.seat
 
 pub invariant_of-self-clause-reached : goal.invariant_of-self-clause-reached
-invariant_of-self-clause-reached g c = let told = opened_seat c.args.self.now.shape g.J.Present.now c.store.new.seat.me c.store.ensures.told c.args.number c.args.fill.0 c.requires.phase
+invariant_of-self-clause-reached g c = let told = opened_seat c.args.self.now.shape g.J.Present.now _ c.store.new.seat.me c.store.ensures.told c.args.number c.args.fill.0 c.requires.phase
     c.exchange.new.seat.me c.turn.new.self.me c.exchange.ensures.3 c.turn.ensures.2 in ∣ step_reached c.args.self.now.shape _ _ _ _ told.step ∣₁
 
 pub returns-clause-step : goal.returns-clause-step
-returns-clause-step g c = let told = opened_seat c.args.self.now.shape g.J.Present.now c.store.new.seat.me c.store.ensures.told c.args.number c.args.fill.0 c.requires.phase
+returns-clause-step g c = let told = opened_seat c.args.self.now.shape g.J.Present.now _ c.store.new.seat.me c.store.ensures.told c.args.number c.args.fill.0 c.requires.phase
     c.exchange.new.seat.me c.turn.new.self.me c.exchange.ensures.3 c.turn.ensures.2 in told.step
 
 pub returns-clause-body : goal.returns-clause-body
-returns-clause-body g c = c.into_body.ensures ∙ opened_size c.args.self.now.shape g.J.Present.now c.store.new.seat.me c.store.ensures.told c.args.number c.args.fill.0 c.requires.phase
+returns-clause-body g c = c.into_body.ensures ∙ opened_size c.args.self.now.shape g.J.Present.now _ c.store.new.seat.me c.store.ensures.told c.args.number c.args.fill.0 c.requires.phase
     c.exchange.result c.in-Some.page c.exchange.ensures.2 c.in-Some.is
