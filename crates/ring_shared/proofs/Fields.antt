@@ -25,12 +25,12 @@ module _ (w v : ReaderValue) (same : w ≡ v) (is : IsReader v) where
   pub fields : AreFields v.part.reader w.at
   fields = subst (λ (x : ReaderValue). AreFields v.part.reader x.at) (sym same) (is.phase_is, is.hint_is, is.seen_is, is.expected_is)
 
-  -- the fields are the reader's part again
-  pub shown_as : (shape : Shape) (table : TableId) (after : Reading) (reader : ring.Reader) (at : Reader) → shape ≡ w.shape → Stays v.shape v.part after reader
+  -- the fields are the reader's part again, behind a step that takes nothing or a wish
+  pub shown_as : (shape : Shape) (table : TableId) (after : Reading) (reader : ring.Reader) (at : Reader) (wish : ℕ) → shape ≡ w.shape → Stays v.shape (record v.part { wish = wish }) after reader
       → AreFields reader at → KeepsSlot at.phase after.keeps_spare → SawPage at.phase
       → ((done : ℕ) → w.empty_at ≡ Some done → FoundEmpty (record w { shape = shape; table = table; part = after; at = at }) done)
       → IsReader (record w { shape = shape; table = table; part = after; at = at })
-  shown_as shape table after reader at shape_is s (phase, hint, seen, expected) keeps saw empty = record {
+  shown_as shape table after reader at wish shape_is s (phase, hint, seen, expected) keeps saw empty = record {
     part = subst (λ (x : Shape). IsReaderPart x after) (sym (shape_is ∙ ap (λ (x : ReaderValue). x.shape) same)) s.known;
     order_is = s.order_is ∙ (is.order_is ∙ ap (λ (x : ReaderValue). x.order) (sym same));
     spare_is = s.spare_is ∙ (is.spare_is ∙ ap (λ (x : ReaderValue). x.spare) (sym same));
@@ -50,7 +50,7 @@ module _ (w v : ReaderValue) (same : w ≡ v) (is : IsReader v) where
   pub shown : (shape : Shape) (table : TableId) (after : Reading) (reader : ring.Reader) (at : Reader) → v.empty_at ≡ None → shape ≡ w.shape → Stays v.shape v.part after reader
       → AreFields reader at → KeepsSlot at.phase after.keeps_spare → SawPage at.phase
       → IsReader (record w { shape = shape; table = table; part = after; at = at })
-  shown shape table after reader at anew shape_is s fields keeps saw = shown_as shape table after reader at shape_is s fields keeps saw (λ done e. absurd (not_empty anew done e))
+  shown shape table after reader at anew shape_is s fields keeps saw = shown_as shape table after reader at v.part.wish shape_is s fields keeps saw (λ done e. absurd (not_empty anew done e))
 
 -- the order has as many pages as the ring
 pub positions : (v : ReaderValue) → IsReader v → length v.order ≡ v.shape.pages

@@ -1,5 +1,5 @@
 -- Steps of a take, one after the other, and the wish.
-use Rattle.std.proofs.Common.{◌≡◌, ℕ, List, [], ◌∷◌, ◌++◌, length, take, map, refl, sym, ap, ◌∙◌, subst, arith}
+use Rattle.std.proofs.Common.{◌≡◌, ℕ, ◌+◌, List, [], ◌∷◌, ◌++◌, length, take, map, refl, sym, ap, ◌∙◌, arith}
 use Rattle.trace_model.specs.Record.{Record}
 use Rattle.trace_model.specs.History.{as_record, reserved_records}
 use Rattle.trace_model.specs.Ring as ring
@@ -12,11 +12,11 @@ use Rattle.ring_steps.specs.Views.{Reading}
 use Rattle.ring_steps.specs.Seats.{IsReaderStep}
 use Rattle.ring_shared.specs.declared.take.Take.{Take}
 use Rattle.ring_shared.specs.declared.take.Take.TheVariants.{Page, Empty, Moving}
-use Rattle.ring_shared.specs.Takes.{IsReaderPart, ArePassedBelow, TakesNothing, IsInTheWay, IsTake}
+use Rattle.ring_shared.specs.Takes.{TakesNothing, IsSentAway, IsTake}
 use Rattle.ring_shared.proofs.TakeSteps.{Stays, passed_below_hint}
 
 pub nothing_yet : (part : Reading) → TakesNothing part part
-nothing_yet part = record { taken_is = refl; heard_is = refl; expected_is = refl; hint_le = omega arith; seen_le = omega arith }
+nothing_yet part = record { taken_is = refl; heard_is = refl; expected_is = refl; wish_is = refl; hint_le = omega arith; seen_le = omega arith }
 
 pub nothing_more : (before mid after : Reading) → TakesNothing before mid → TakesNothing mid after → TakesNothing before after
 nothing_more before mid after a b =
@@ -24,6 +24,7 @@ nothing_more before mid after a b =
       taken_is = b.taken_is ∙ a.taken_is;
       heard_is = b.heard_is ∙ a.heard_is;
       expected_is = b.expected_is ∙ a.expected_is;
+      wish_is = b.wish_is ∙ a.wish_is;
       hint_le = omega arith;
       seen_le = omega arith;
     }
@@ -31,11 +32,18 @@ nothing_more before mid after a b =
 -- what is answered behind steps that took nothing is the answer of them all
 pub answered : (shape : Shape) (before mid after : Reading) (body had : List ℕ) (took : Take) → TakesNothing before mid → length had ≡ length body → IsTake shape mid had took after → IsTake shape before body took after
 answered shape before mid after body had (Page page missed) a same t =
-    let hint = a.hint_le in let low = t.hint_le in record {
+    let hint = a.hint_le in let low = t.hint_le in let seen = a.seen_le in let no_less = t.seen_le in record {
       taken = t.taken;
       is = t.is;
       one_more = t.one_more ∙ ap (λ (l : List ring.Taken). l ++ t.taken ∷ []) a.taken_is;
+      first_is = t.first_is ∙ ap (λ (e : ℕ). e + missed) a.expected_is;
+      expected_is = t.expected_is;
+      missed_fit = t.missed_fit;
+      numbers_fit = t.numbers_fit;
       hint_le = omega arith;
+      hint_is = t.hint_is;
+      seen_le = omega arith;
+      wish_is = t.wish_is ∙ a.wish_is;
       lost = t.lost;
       lost_are = t.lost_are;
       heard_is = t.heard_is ∙ ap (λ (l : List Record). l ++ t.lost ++ records_of_page page) a.heard_is;
@@ -43,21 +51,22 @@ answered shape before mid after body had (Page page missed) a same t =
     }
 answered shape before mid after body had (Empty done back) a same (given, t) =
     let seen = a.seen_le in let low = t.seen_le in
-    (given ∙ same, record { nothing = nothing_more before mid after a t.nothing; seen_le = omega arith; passed = t.passed; all = t.all })
+    (given ∙ same, record { nothing = nothing_more before mid after a t.nothing; seen_le = omega arith; hint_is = t.hint_is; seen_is = t.seen_is; known = t.known; all = t.all; passed = t.passed })
 answered shape before mid after body had (Moving fill back) a same (given, t) =
     let hint = a.hint_le in let low = t.hint_le in
-    (given ∙ same, record { nothing = nothing_more before mid after a t.nothing; hint_le = omega arith; passed = t.passed })
+    (given ∙ same, record { nothing = nothing_more before mid after a t.nothing; hint_le = omega arith; hint_is = t.hint_is; passed = t.passed })
 
 -- a take that took too many steps
-pub given_up : (shape : Shape) (before after : Reading) (fill : ℕ) → IsReaderPart shape after → TakesNothing before after → after.reader.hint ≡ fill → IsInTheWay shape before fill after
-given_up shape before after fill known a is = let hint = a.hint_le in record {
+pub given_up : (shape : Shape) (before after : Reading) (fill : ℕ) → TakesNothing before after → after.reader.hint ≡ fill → IsSentAway shape before fill after
+given_up shape before after fill a is = let hint = a.hint_le in record {
   nothing = a;
   hint_le = omega arith;
-  passed = subst (ArePassedBelow shape after) is (passed_below_hint shape after known);
+  hint_is = is;
+  passed = passed_below_hint shape after fill is;
 }
 
 -- a wish changes no more than the wish
-pub wish_stays : (shape : Shape) (before after : Reading) (sees : ring.Core → Type 0) (answer : model.Answer) → IsReaderStep shape before sees model.wishes answer after → Stays shape before after before.reader
+pub wish_stays : (shape : Shape) (before after : Reading) (sees : ring.Core → Type 0) (answer : model.Answer) → IsReaderStep shape before sees model.wishes answer after → Stays shape (record before { wish = after.wish }) after before.reader
 wish_stays shape before after sees answer r =
     let is = (steps_are_determined shape.pages shape.size r.core model.wishes answer (model.wished_for r.core.reader.seen) r.next (model.with_wish r.core) r.step (model.wish_step refl refl refl)).1 in record {
       known = record {
@@ -67,6 +76,7 @@ wish_stays shape before after sees answer r =
       };
       order_is = r.after_is.order_is ∙ (ap (λ (d : ring.Core). d.order) is ∙ sym r.before_is.order_is);
       spare_is = r.after_is.spare_is ∙ (ap (λ (d : ring.Core). d.spare) is ∙ sym r.before_is.spare_is);
+      wish_is = refl;
       heard_is = r.after_is.heard_is
           ∙ (ap (λ (d : ring.Core). let heard : List Record = take d.reader.expected (map as_record (reserved_records d.history)) in heard) is ∙ sym r.before_is.heard_is);
       reader_is = r.after_is.reader_is ∙ (ap (λ (d : ring.Core). d.reader) is ∙ sym r.before_is.reader_is);

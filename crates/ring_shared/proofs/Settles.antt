@@ -11,10 +11,8 @@ use Rattle.link_marks.specs.RingKept.{IsRingKept}
 use Rattle.link_marks.proofs.RingsKept.{reached_kept, reached_ring}
 use Rattle.link_marks.proofs.SettledRest.{tail_is_the_rest}
 use Rattle.page_image.specs.Contents.{Contents, records_of_page}
-use Rattle.nested_writer.specs.declared.frame.Frame.{Frame}
 use Rattle.nested_writer.specs.IsStack.{IsStack}
 use Rattle.nested_writer.specs.Released.{IsWrittenPage}
-use Rattle.ring_frames.specs.AreFrames.{ring_frames}
 use Rattle.ring_steps.specs.declared.rule.Shape.{Shape}
 use Rattle.ring_steps.specs.Views.{Writing, Reading}
 use Rattle.ring_steps.specs.Seats.{AreParts}
@@ -102,23 +100,17 @@ module _ (shape : Shape) (writing : Writing) (part : Reading) (settled : Settled
 
 -- ---- by the fields of both ends
 
-module _ (w : WriterValue) (r : ReaderValue) (tail : Contents) (writer : IsWriter w) (reader : IsReader r) (no_frame : w.frames.stack.frames ≡ []) (found : r.empty_at ≡ Some w.frames.stack.done) where
-  frames_gone : w.part.frames ≡ []
-  frames_gone = sym (ap (λ (p : Writing). p.frames) writer.part_is) ∙ writer.frames_are.frames_are
-      ∙ ap (λ (fs : List Frame). ring_frames fs (w.frames.phase ∷ w.frames.below)) no_frame
+-- the writer's part and its frames know alike how many fills are closed
+done_there : (w : WriterValue) → IsWriter w → w.part.done ≡ w.frames.stack.done
+done_there w writer = sym (ap (λ (p : Writing). p.done) writer.part_is) ∙ writer.frames_are.done_is
 
-  done_there : w.part.done ≡ w.frames.stack.done
-  done_there = sym (ap (λ (p : Writing). p.done) writer.part_is) ∙ writer.frames_are.done_is
-
-  hint_there : r.part.reader.hint ≡ w.part.done
-  hint_there = (reader.empty w.frames.stack.done found).hint_is ∙ sym done_there
-
+module _ (w : WriterValue) (r : ReaderValue) (tail : Contents) (writer : IsWriter w) (reader : IsReader r) (at_rest : w.part.frames ≡ []) (found : r.empty_at ≡ Some w.part.done) where
   tail_there : ((start : ℕ) (history : List Action) → IsStack start history w.frames.stack → IsWrittenPage w.frames.stack.size w.frames.stack.done (fill_of history start w.frames.stack.done) tail)
       → IsWrittenPage w.shape.size w.part.done (fill_of w.part.history w.shape.start w.part.done) tail
   tail_there written =
       let page = written w.shape.start writer.core.history writer.frames_are.stack_is in
       subst (λ (h : List Action). IsWrittenPage w.shape.size w.part.done (fill_of h w.shape.start w.part.done) tail) (ap (λ (p : Writing). p.history) writer.part_is)
-      (subst (λ (done : ℕ). IsWrittenPage w.shape.size done (fill_of writer.core.history w.shape.start done) tail) (sym done_there)
+      (subst (λ (done : ℕ). IsWrittenPage w.shape.size done (fill_of writer.core.history w.shape.start done) tail) (sym (done_there w writer))
       (subst (λ (size : ℕ). IsWrittenPage size w.frames.stack.done (fill_of writer.core.history w.shape.start w.frames.stack.done) tail) writer.frames_are.size_is page))
 
   -- what is told of the seats and the frames, of which both ends are shown
@@ -129,5 +121,5 @@ module _ (w : WriterValue) (r : ReaderValue) (tail : Contents) (writer : IsWrite
   ends_settle shown_w shown_r w_is r_is parts written =
       settles w.shape w.part r.part record { tail = tail }
       (subst (λ (v : ReaderValue). AreParts w.shape w.part v.part) r_is (subst (λ (v : WriterValue). AreParts v.shape v.part shown_r.part) w_is parts))
-      frames_gone hint_there
+      at_rest (reader.empty w.part.done found).hint_is
       (tail_there (subst (λ (v : WriterValue). (start : ℕ) (history : List Action) → IsStack start history v.frames.stack → IsWrittenPage v.frames.stack.size v.frames.stack.done (fill_of history start v.frames.stack.done) tail) w_is written))

@@ -1,5 +1,6 @@
 -- What the reader's swap tells of its part.
 use Rattle.std.proofs.Common.{◌≡◌, ◌≢◌, ℕ, ◌+◌, ◌-◌, ◌≤◌, List, [], take, map, sym, ap, ◌∙◌, subst, arith}
+use Rattle.trace_model.specs.declared.limits.TheConstants.{MAX_SIZE}
 use Rattle.trace_model.specs.Record.{Record}
 use Rattle.trace_model.specs.History.{as_record, reserved_records}
 use Rattle.trace_model.specs.Links.{header_link}
@@ -23,18 +24,29 @@ parted shape part known = let kept = reached_kept shape.pages shape.size shape.s
     (subst (λ (x : ring.Reader). IsPartition (take known.core.reader.expected (map as_record (reserved_records known.core.history))) (pieces_of x.taken) []) (sym known.is.reader_is) kept.partition.partition)
 
 module _ (shape : Shape) (before : Reading) (page fill : ℕ) (after : Reading) (at : before.reader.phase ≡ ring.swapping page fill) where
-  pub takes : (taken : Contents) → HeadTaken shape before page fill taken after → IsReaderPart shape after × IsPageTaken shape before taken (taken.first - before.reader.expected) after
-  takes taken h =
+  pub takes : (taken : Contents) → shape.size ≤ MAX_SIZE → HeadTaken shape before page fill taken after → IsReaderPart shape after × IsPageTaken shape before taken (taken.first - before.reader.expected) after
+  takes taken small h =
       let sees : ring.Core → Type 0 = λ core. ring.link_into shape.pages core.links fill ≡ header_link page fill in
       let known : IsReaderPart shape after = known_after shape before after sees (model.swapped h.told) h.step in
       let seen = (facts shape before after sees (model.swapped h.told) h.step (ring.swapping page fill) at).0 in
-      let fill_is = seen.fill_is in let told_is = h.fill_is in let hint = hint_is shape before after sees (model.swapped h.told) h.step in (
+      let fill_is = seen.fill_is in let told_is = h.fill_is in let hint = hint_is shape before after sees (model.swapped h.told) h.step in
+      let first = h.written.first_is in let behind = h.behind in
+      let saw = ap (λ (x : ring.Reader). x.seen) h.reader_is in
+      let counted = h.written.page_reads.counted in
+      let few = h.numbers_fit in (
         known,
         record {
           taken = h.told;
           is = record { written = subst (λ (f : ℕ). IsWrittenPage shape.size f h.told.held taken) (sym h.fill_is) h.written; missed_is = sym h.skipped_is };
           one_more = ap (λ (x : ring.Reader). x.taken) h.reader_is;
+          first_is = omega arith;
+          expected_is = ap (λ (x : ring.Reader). x.expected) h.reader_is ∙ ap (λ (k : ℕ). k + taken.count) h.written.first_is;
+          missed_fit = omega arith;
+          numbers_fit = omega arith;
           hint_le = omega arith;
+          hint_is = ap (λ (x : ring.Reader). x.hint) h.reader_is ∙ ap (λ (f : ℕ). f + 1) (sym h.fill_is);
+          seen_le = omega arith;
+          wish_is = h.wish_is;
           lost = h.lost;
           lost_are = h.lost_are ∙ h.skipped_is;
           heard_is = h.heard_is;
@@ -51,6 +63,7 @@ module _ (shape : Shape) (before : Reading) (page fill : ℕ) (after : Reading) 
           known = known_after shape before after sees model.reading h.step;
           order_is = ap (λ (r : Reading). r.order) h.after_is;
           spare_is = ap (λ (r : Reading). r.spare) h.after_is;
+          wish_is = ap (λ (r : Reading). r.wish) h.after_is;
           heard_is = ap (λ (r : Reading). r.heard) h.after_is;
           reader_is = ap (λ (r : Reading). r.reader) h.after_is;
         },

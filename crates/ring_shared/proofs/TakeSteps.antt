@@ -7,7 +7,6 @@ use Rattle.trace_model.specs.History.{as_record, reserved_records}
 use Rattle.trace_model.specs.Links.{Link, normal_link, header_link, update_link}
 use Rattle.trace_model.specs.Ring.{Core, Reader, ReaderPhase, loading_link, loading_done, storing_link, swapping, link_into}
 use Rattle.trace_model.specs.Steps as model
-use Rattle.link_marks.specs.AnswerLaws.{ArePassed}
 use Rattle.link_marks.specs.KeptLinks.{ReaderKept}
 use Rattle.link_marks.specs.RingKept.{IsRingKept}
 use Rattle.link_marks.proofs.AnswersRight.{passed_below, moving_right}
@@ -22,17 +21,18 @@ use Rattle.ring_steps.proofs.Taking.{gone_on}
 use Rattle.ring_shared.specs.Takes.{IsReaderPart, ArePassedBelow, TakesNothing, IsEmptyFound}
 
 -- each fill below the reader's hint is passed
-pub passed_below_hint : (shape : Shape) (part : Reading) → IsReaderPart shape part → ArePassedBelow shape part part.reader.hint
-passed_below_hint shape part known =
-    let kept = reached_kept shape.pages shape.size shape.start known.core known.reached in
-    let hint = ap (λ (x : Reader). x.hint) known.is.reader_is in let low = kept.links.hint_le in
-    record { known = known; passed = passed_below shape.pages shape.size shape.start known.core kept part.reader.hint (omega arith) }
+pub passed_below_hint : (shape : Shape) (part : Reading) (fill : ℕ) → part.reader.hint ≡ fill → ArePassedBelow shape part fill
+passed_below_hint shape part fill same = λ core reached is.
+    let kept = reached_kept shape.pages shape.size shape.start core reached in
+    let hint = ap (λ (x : Reader). x.hint) is.reader_is in let low = kept.links.hint_le in
+    passed_below shape.pages shape.size shape.start core kept fill (omega arith)
 
--- Behind a step that takes nothing: the reader's part is that of a state, with this reader, and no page moved.
+-- Behind a step that takes nothing: the reader's part is that of a state, with this reader, and no page moved, nor the wish.
 pub record Stays (shape : Shape) (before after : Reading) (reader : Reader) : Type 0 where
   pub known : IsReaderPart shape after
   pub order_is : after.order ≡ before.order
   pub spare_is : after.spare ≡ before.spare
+  pub wish_is : after.wish ≡ before.wish
   pub heard_is : after.heard ≡ before.heard
   pub reader_is : after.reader ≡ reader
 
@@ -44,6 +44,7 @@ nothing shape before after reader s taken expected hint seen =
       taken_is = ap (λ (x : Reader). x.taken) s.reader_is ∙ taken;
       heard_is = s.heard_is;
       expected_is = ap (λ (x : Reader). x.expected) s.reader_is ∙ expected;
+      wish_is = s.wish_is;
       hint_le = omega arith;
       seen_le = omega arith;
     }
@@ -86,6 +87,7 @@ module _ (shape : Shape) (before after : Reading) (sees : Core → Type 0) (answ
     known = known_after;
     order_is = r.after_is.order_is ∙ (ap (λ (d : Core). d.order) is ∙ sym r.before_is.order_is);
     spare_is = r.after_is.spare_is ∙ (ap (λ (d : Core). d.spare) is ∙ sym r.before_is.spare_is);
+    wish_is = r.after_is.wish_is ∙ (ap (λ (d : Core). d.wish) is ∙ sym r.before_is.wish_is);
     heard_is = r.after_is.heard_is
         ∙ (ap (λ (d : Core). let heard : List Record = take d.reader.expected (map as_record (reserved_records d.history)) in heard) is
         ∙ (ap (λ (e : ℕ). let heard : List Record = take e (map as_record (reserved_records r.core.history)) in heard) expected ∙ sym r.before_is.heard_is));
@@ -149,7 +151,7 @@ module _ (shape : Shape) (before after : Reading) (sees : Core → Type 0) (answ
         (subst (λ (d : ℕ). Stays shape before after (record before.reader { phase = storing_link page fill; seen = d })) is (saw (storing_link page fill) model.reading (model.finds_closed (omega arith) refl refl)), omega arith)
 
     pub finds_none : (done : ℕ) → r.core.done ≡ done → done ≤ fill → Stays shape before after (record before.reader { phase = loading_link; seen = done }) × (before.reader.hint ≡ done) × IsEmptyFound shape before done after
-    unfolding passed_below_hint known_after
+    unfolding known_after
     finds_none done is le =
         let low = seen_low in
         let fill_is = (facts (loading_done page fill) at).fill_is in let behind = kept.links.hint_le in let unread = kept.links.head_le in let hint = hint_is in
@@ -162,11 +164,11 @@ module _ (shape : Shape) (before after : Reading) (sees : Core → Type 0) (answ
           record {
             nothing = nothing shape before after (record before.reader { phase = loading_link; seen = done }) s refl refl (omega arith) (omega arith);
             seen_le = omega arith;
-            passed = record {
-              known = known_after;
-              passed = subst (ArePassed shape.pages shape.start r.next) (ap (λ (x : Reader). x.hint) s.reader_is ∙ hint_done) (passed_below_hint shape after known_after).passed;
-            };
+            hint_is = ap (λ (x : Reader). x.hint) s.reader_is ∙ hint_done;
+            seen_is = ap (λ (x : Reader). x.seen) s.reader_is;
+            known = known_after;
             all = ap (λ (d : Core). d.done) same ∙ is;
+            passed = passed_below_hint shape after done (ap (λ (x : Reader). x.hint) s.reader_is ∙ hint_done);
           },
         )
 

@@ -10,9 +10,6 @@ use Rattle.nested_writer.specs.Released.{IsWrittenPage}
 use Rattle.ring_steps.specs.declared.rule.Shape.{Shape}
 use Rattle.ring_steps.specs.Views.{Writing, Reading}
 use Rattle.ring_shared.specs.declared.settling.Settled.{Settled}
-use Rattle.ring_shared.specs.declared.settling.SettleFault.{SettleFault}
-use Rattle.ring_shared.specs.declared.settling.SettleFault.TheVariants.{NoMemory}
-use Rattle.ring_shared.specs.Value.{WriterValue, ReaderValue}
 
 -- the page that no take has answered: the tail, if it holds a record
 abbrev pub unread_page : Settled → Option Contents
@@ -25,20 +22,16 @@ piece_unread (Some page) = record { skipped = 0; records = records_of_page page 
 
 -- a fill that the reader took
 abbrev pub WasTaken : Reading → ℕ → Type 0
-WasTaken part f = (k : ℕ) × (t : Taken) × (slice_get part.reader.taken k ≡ Some t) × (t.fill ≡ f)
+WasTaken reading f = (k : ℕ) × (t : Taken) × (slice_get reading.reader.taken k ≡ Some t) × (t.fill ≡ f)
 
 -- The committed records are what the reader took, with what it tells as missed, and then the unread page's, and nothing
--- else. That page is the tail. Each closed fill was taken, or lost with more than a whole round of fills begun behind
--- it.
-pub record IsSettled (shape : Shape) (writing : Writing) (part : Reading) (settled : Settled) : Type 0 where
+-- else. That page is the tail. Each closed fill was taken, or is lost: the fill a whole turn of the ring's pages behind
+-- it, which took its place, is begun.
+pub record IsSettled (shape : Shape) (writing : Writing) (reading : Reading) (settled : Settled) : Type 0 where
   pub partition : IsPartition (committed_records writing.history)
-      (pieces_of part.reader.taken ++ piece_unread (unread_page settled)) []
+      (pieces_of reading.reader.taken ++ piece_unread (unread_page settled)) []
   pub tail : IsWrittenPage shape.size writing.done (fill_of writing.history shape.start writing.done) settled.tail
   pub passed : (f : ℕ)
       → shape.start ≤ f
       → f < writing.done
-      → WasTaken part f ⊎ (f + shape.pages < writing.opened)
-
--- both ends as they were
-abbrev pub CameBack : SettleFault → WriterValue → ReaderValue → Type 0
-CameBack (NoMemory writer reader) old_writer old_reader = (writer ≡ old_writer) × (reader ≡ old_reader)
+      → WasTaken reading f ⊎ (f + shape.pages < writing.opened)

@@ -1,5 +1,5 @@
 -- What a reader's take answers, and what it knows by it.
-use Rattle.std.specs.Prelude.{◌≡◌, ℕ, ◌<◌, ◌≤◌, Bool, true, false, List, [], ◌∷◌, ◌++◌, length, Option, Some, None}
+use Rattle.std.specs.Prelude.{◌≡◌, ℕ, ◌+◌, ◌^◌, ◌<◌, ◌≤◌, Bool, true, false, List, [], ◌∷◌, ◌++◌, length, Option, Some, None}
 use Rattle.trace_model.specs.declared.limits.TheConstants.{LINK_PAGES}
 use Rattle.trace_model.specs.Record.{Record}
 use Rattle.trace_model.specs.Ring.{Taken, Core}
@@ -66,49 +66,64 @@ pub record IsReader (v : ReaderValue) : Type 0 where
 
 -- ---- takes
 
--- What was taken and heard of stays, and the reader knows no less.
+-- What was taken and heard of stays, and the wish; and the reader knows no less.
 pub record TakesNothing (before after : Reading) : Type 0 where
   pub taken_is : after.reader.taken ≡ before.reader.taken
   pub heard_is : after.heard ≡ before.heard
   pub expected_is : after.reader.expected ≡ before.reader.expected
+  pub wish_is : after.wish ≡ before.wish
   pub hint_le : before.reader.hint ≤ after.reader.hint
   pub seen_le : before.reader.seen ≤ after.reader.seen
 
--- each fill below this one is taken or lost, in a state of which the reader's part is this
-pub record ArePassedBelow (shape : Shape) (part : Reading) (fill : ℕ) : Type 0 where
-  pub known : IsReaderPart shape part
-  pub passed : ArePassed shape.pages shape.start known.core fill
+-- each fill below this one is taken or lost, in each state that steps reach of which the reader's part is this
+abbrev pub ArePassedBelow : Shape → Reading → ℕ → Type 0
+ArePassedBelow shape part fill = (core : Core)
+    → IsReached shape.pages shape.size shape.start core
+    → IsReading core part
+    → ArePassed shape.pages shape.start core fill
 
 -- The page is one more fill that was taken, no earlier one than the reader knew, and so many records were lost in front
--- of it: what the reader has heard of, it and those before it part.
+-- of it: what the reader has heard of, it and those before it part. Its numbers come behind those of the last page and
+-- of what was lost, and fit a parcel. The reader goes on behind this fill, has seen no less, and wishes as before.
 pub record IsPageTaken (shape : Shape) (before : Reading) (page : Contents) (missed : ℕ) (after : Reading)
     : Type 0 where
   pub taken : Taken
   pub is : IsTakenPage shape.size page missed taken
   pub one_more : after.reader.taken ≡ before.reader.taken ++ taken ∷ []
+  pub first_is : taken.held.first ≡ before.reader.expected + missed
+  pub expected_is : after.reader.expected ≡ taken.held.first + page.count
+  pub missed_fit : missed ≤ page.first
+  pub numbers_fit : page.first + length (records_of_page page) < 2 ^ 64
   pub hint_le : before.reader.hint ≤ taken.fill
+  pub hint_is : after.reader.hint ≡ taken.fill + 1
+  pub seen_le : before.reader.seen ≤ after.reader.seen
+  pub wish_is : after.wish ≡ before.wish
   pub lost : List Record
   pub lost_are : length lost ≡ missed
   pub heard_is : after.heard ≡ before.heard ++ lost ++ records_of_page page
   pub partition : IsPartition after.heard (pieces_of after.reader.taken) []
 
--- All closed fills, so many, are taken or lost; no fewer than the reader had seen.
+-- All closed fills, so many, are taken or lost, and the reader knows just that; they are no fewer than it had seen.
 pub record IsEmptyFound (shape : Shape) (before : Reading) (done : ℕ) (after : Reading) : Type 0 where
   pub nothing : TakesNothing before after
   pub seen_le : before.reader.seen ≤ done
+  pub hint_is : after.reader.hint ≡ done
+  pub seen_is : after.reader.seen ≡ done
+  pub known : IsReaderPart shape after
+  pub all : known.core.done ≡ done
   pub passed : ArePassedBelow shape after done
-  pub all : passed.known.core.done ≡ done
 
--- Each fill below this one is taken or lost, and the reader knew of no later one.
-pub record IsInTheWay (shape : Shape) (before : Reading) (fill : ℕ) (after : Reading) : Type 0 where
+-- Each fill below this one is taken or lost, and the reader knows just that; it knew of no later one.
+pub record IsSentAway (shape : Shape) (before : Reading) (fill : ℕ) (after : Reading) : Type 0 where
   pub nothing : TakesNothing before after
   pub hint_le : before.reader.hint ≤ fill
+  pub hint_is : after.reader.hint ≡ fill
   pub passed : ArePassedBelow shape after fill
 
 abbrev pub IsTake : Shape → Reading → List ℕ → Take → Reading → Type 0
 IsTake shape before body (Page page missed) after = IsPageTaken shape before page missed after
 IsTake shape before body (Empty done back) after = (length back ≡ length body) × IsEmptyFound shape before done after
-IsTake shape before body (Moving fill back) after = (length back ≡ length body) × IsInTheWay shape before fill.0 after
+IsTake shape before body (Moving fill back) after = (length back ≡ length body) × IsSentAway shape before fill.0 after
 
 -- the number that the take answered, where it found nothing
 abbrev pub empty_of : Take → Option ℕ

@@ -25,29 +25,29 @@ impl Settled {
     }
 }
 
-/// Why two ends weren't settled. They come back as they were.
+/// Why two ends weren't settled: `settle` takes no memory, and never answers it.
 #[derive(Drop)]
 pub enum SettleFault {
-    /// There was no memory.
+    /// There was no memory. The ends come back.
     NoMemory(Writer, Reader),
 }
 
 ghost use Rattle.std.specs.Prelude.{◌≡◌, [], Some, IfOk, IfErr};
 ghost use Rattle.ring_shared.specs.Calls.{IsWriter};
 ghost use Rattle.ring_shared.specs.Takes.{IsReader};
-ghost use Rattle.ring_shared.specs.Settling.{IsSettled, CameBack};
+ghost use Rattle.ring_shared.specs.Settling.{IsSettled};
 
 /// Joins the two ends of a ring: the pages that its reader took, and then the unread one if there is one, are all
 /// records that its writer committed, but those that are told as missed. No frame of the writer stands, and the last
-/// take found that all closed fills are taken or lost.
+/// take found that all closed fills are taken or lost. Two such ends are always settled.
 pub fn settle(alloc: Global, writer: Writer, reader: Reader) -> Result<Settled, SettleFault>
     requires writer { IsWriter writer }
     requires reader { IsReader reader }
     requires one_ring { reader.table ≡ writer.table }
-    requires at_rest { writer.frames.stack.frames ≡ [] }
-    requires all_read { reader.empty_at ≡ Some writer.frames.stack.done }
+    requires at_rest { writer.part.frames ≡ [] }
+    requires all_read { reader.empty_at ≡ Some writer.part.done }
     ensures settled { IfOk result (λ settled. IsSettled writer.shape writer.part reader.part settled) }
-    ensures refused { IfErr result (λ fault. CameBack fault writer reader) }
+    ensures never { IfErr result (λ _. ⊥) }
 {
     let _alloc = alloc;
     let Writer { seat, frames, .. } = writer;

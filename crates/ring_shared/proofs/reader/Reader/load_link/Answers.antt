@@ -8,19 +8,21 @@ use Rattle.ring_steps.specs.Views.{Reading}
 use Rattle.ring_steps.specs.Ends.{reading_in, reader_table}
 use Rattle.ring_steps.specs.Taking.{IsRead}
 use Rattle.ring_shared.specs.Value.{ReaderValue}
-use Rattle.ring_shared.specs.Takes.{KeepsSlot, SawPage, IsInTheWay, ArePassedBelow}
+use Rattle.ring_shared.specs.Takes.{KeepsSlot, SawPage, IsSentAway}
 use Rattle.ring_shared.proofs.TakeSteps.{Stays, nothing, passed_below_hint}
 use Rattle.ring_shared.proofs.Fields.{SeesLink, fields, positions, shown, at_header, at_update, at_owed, at_passed}
 use Rattle.ring_shared.proofs.reader.Reader.load_link.Goals as goal
 
--- a move of the head in the way, where the reader's hint is this fill
-in_the_way : (v : ReaderValue) (after : Reading) (reader : ring.Reader) (fill : ℕ) → Stays v.shape v.part after reader → reader.taken ≡ v.part.reader.taken → reader.expected ≡ v.part.reader.expected
-    → reader.seen ≡ v.part.reader.seen → reader.hint ≡ fill → v.part.reader.hint ≤ fill → IsInTheWay v.shape v.part fill after
-in_the_way v after reader fill s taken expected seen hint low = record {
-  nothing = nothing v.shape v.part after reader s taken expected (omega arith) (omega arith);
-  hint_le = low;
-  passed = subst (ArePassedBelow v.shape after) (ap (λ (x : ring.Reader). x.hint) s.reader_is ∙ hint) (passed_below_hint v.shape after s.known);
-}
+-- sent away by a move of the head, where the reader's hint is this fill
+sent_away : (v : ReaderValue) (after : Reading) (reader : ring.Reader) (fill : ℕ) → Stays v.shape v.part after reader → reader.taken ≡ v.part.reader.taken → reader.expected ≡ v.part.reader.expected
+    → reader.seen ≡ v.part.reader.seen → reader.hint ≡ fill → v.part.reader.hint ≤ fill → IsSentAway v.shape v.part fill after
+sent_away v after reader fill s taken expected seen hint low =
+    let hint_is = ap (λ (x : ring.Reader). x.hint) s.reader_is ∙ hint in record {
+      nothing = nothing v.shape v.part after reader s taken expected (omega arith) (omega arith);
+      hint_le = low;
+      hint_is = hint_is;
+      passed = passed_below_hint v.shape after fill hint_is;
+    }
 
 pub returns-in-Header-clause-turn : goal.returns-in-Header-clause-turn
 returns-in-Header-clause-turn c =
@@ -45,7 +47,7 @@ returns-in-Update-clause-turn c =
     let read = subst (λ (w : ReaderValue). IsRead w.shape w.part (SeesLink w l) after) c.self.view_is c.load_link-mark.ensures.step in
     let at = c.requires.reader.phase_is ∙ ap reader_phase_of c.requires.phase in
     let (s, low) = at_update v l after read at c.in-Update.is in
-    (refl, in_the_way v after (record v.part.reader { phase = ring.loading_link; hint = l.fill + 1 }) (l.fill + 1) s refl refl refl refl low)
+    (refl, sent_away v after (record v.part.reader { phase = ring.loading_link; hint = l.fill + 1 }) (l.fill + 1) s refl refl refl refl low)
 
 pub returns-in-Update-clause-reader : goal.returns-in-Update-clause-reader
 returns-in-Update-clause-reader c =
@@ -64,7 +66,7 @@ returns-in-Normal-clause-turn c =
     let at = c.requires.reader.phase_is ∙ ap reader_phase_of c.requires.phase in
     let hint = (fields _ v c.self.view_is c.requires.reader).1 in
     let s = at_owed v l after read at c.in-Normal.is (c.if-fill-hint.true ∙ sym hint) in
-    (refl, in_the_way v after v.part.reader c.self.inside.at.hint s refl refl refl hint (omega arith))
+    (refl, sent_away v after v.part.reader c.self.inside.at.hint s refl refl refl hint (omega arith))
 
 pub returns-in-Normal-2-clause-turn : goal.returns-in-Normal-2-clause-turn
 returns-in-Normal-2-clause-turn c =

@@ -1,7 +1,7 @@
 use Rattle.std.proofs.Common.{refl, ap, ◌∙◌, subst, sym}
 use Rattle.ring_steps.specs.declared.rule.Shape.{Shape}
 use Rattle.ring_shared.specs.Value.{ReaderValue}
-use Rattle.ring_shared.specs.Takes.{IsTake, IsInTheWay}
+use Rattle.ring_shared.specs.Takes.{IsTake, IsSentAway}
 use Rattle.ring_shared.proofs.Onward.{nothing_yet, nothing_more, answered, given_up}
 use Rattle.ring_shared.proofs.reader.Reader.look.Goals as goal
 
@@ -26,6 +26,6 @@ pub returns-clause-took : goal.returns-clause-took
 returns-clause-took c = let kept = c.loop.invariant in
     let hint = kept.reader.hint_is ∙ ap (λ (v : ReaderValue). v.at.hint) (sym c.self-2.view_is) in (
       kept.body,
-      subst (λ (shape : Shape). IsInTheWay shape c.args.self.now.part c.self-2.inside.at.hint c.loop.self.part) kept.ring.0
-          (given_up c.loop.self.shape c.args.self.now.part c.loop.self.part c.self-2.inside.at.hint kept.reader.part kept.nothing hint),
+      subst (λ (shape : Shape). IsSentAway shape c.args.self.now.part c.self-2.inside.at.hint c.loop.self.part) kept.ring.0
+          (given_up c.loop.self.shape c.args.self.now.part c.loop.self.part c.self-2.inside.at.hint kept.nothing hint),
     )

@@ -1,4 +1,4 @@
-use Rattle.std.proofs.Common.{◌≡◌, ℕ, ◌+◌, ◌-◌, ◌%◌, length, slice_set, None, refl, sym, ap, ◌∙◌, subst, arith}
+use Rattle.std.proofs.Common.{◌≡◌, ℕ, ◌+◌, ◌-◌, ◌%◌, length, slice_set, None, refl, sym, ap, ◌∙◌, subst, arith, rules}
 use Rattle.trace_model.specs.Ring as ring
 use Rattle.page_image.specs.Contents.{Contents}
 use Rattle.ring_core.specs.Value.{reader_phase_of}
@@ -22,7 +22,7 @@ returns-in-Ok-clause-turn c =
     let h = subst (λ (w : ReaderValue). HeadTaken w.shape w.part c.args.page c.args.fill taken after) c.self.view_is c.in-Ok.ensures.taken in
     let at = c.requires.reader.phase_is ∙ ap reader_phase_of c.requires.phase in
     let old = fields _ v c.self.view_is c.requires.reader in
-    subst (λ (missed : ℕ). IsPageTaken v.shape v.part taken missed after) (λ i. sym c.first-first.ensures i - old.3 i) (takes v.shape v.part c.args.page c.args.fill after at taken h).1
+    subst (λ (missed : ℕ). IsPageTaken v.shape v.part taken missed after) (λ i. sym c.first-first.ensures i - old.3 i) (takes v.shape v.part c.args.page c.args.fill after at taken (search rules) h).1
 
 pub returns-in-Ok-clause-reader : goal.returns-in-Ok-clause-reader
 returns-in-Ok-clause-reader c =
@@ -33,7 +33,7 @@ returns-in-Ok-clause-reader c =
     let order = c.requires.reader.order_is ∙ ap (λ (w : ReaderValue). w.order) (sym c.self.view_is) in
     let spare = c.requires.reader.spare_is ∙ ap (λ (w : ReaderValue). w.spare) (sym c.self.view_is) in
     let pages : c.len-pages.result ≡ v.shape.pages = c.len-pages.ensures ∙ (c.self.inside.order.ok.0 ∙ (ap (λ (w : ReaderValue). length w.order) c.self.view_is ∙ positions v c.requires.reader)) in
-    let known = (takes v.shape v.part c.args.page c.args.fill after at taken h).0 in
+    let known = (takes v.shape v.part c.args.page c.args.fill after at taken (search rules) h).0 in
     record {
       part = subst (λ (x : Shape). IsReaderPart x after) (sym (c.swap-swapped.ensures.shape ∙ ap (λ (w : ReaderValue). w.shape) c.self.view_is)) known;
       order_is = h.order_is ∙ (λ i. slice_set (order i) (c.args.fill % sym pages i) (spare i));
