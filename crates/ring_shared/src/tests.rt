@@ -1,102 +1,241 @@
-//! Both ends of a ring in one thread.
-mod rows;
+//! Both ends of a ring in one thread: lists of calls, with what each is answered.
+mod alike;
+mod ends;
+mod finishing;
+mod halted;
+mod nested;
+mod overwriting;
+mod settled;
+mod wishes;
+mod writing;
 
-ghost use Rattle.std.specs.Prelude.{◌≡◌, ◌≤◌, IfOk};
-ghost use Rattle.ring_shared.specs.Calls.{IsWriter};
-ghost use Rattle.ring_shared.specs.Takes.{IsReader};
-
-use crate::{Answer, Reader, Take, Writer, ring};
-use page_image::Body;
+use crate::{Answer, Take};
+use ends::Ends;
+use nested_writer::{Ended, WriteFault};
+use page_borrow::records;
+use page_image::Page;
 use std::alloc::Global;
-use trace_model::NoMemory;
+use std::process::Abort;
+use trace_model::{FillNo, NoMemory, RecordNo};
 
-/// What a take answered: a page's fill, its first record's number, its records and how many are missing in front; or a
-/// number of fills.
-#[derive(Clone, Copy, Debug, PartialEq)]
-enum Took {
-    Page(u64, u64, u64, u64),
+/// Payloads of 28 bytes.
+const A1: &[u8] = &[1; 28];
+
+const A2: &[u8] = &[2; 28];
+
+const A3: &[u8] = &[3; 28];
+
+const A4: &[u8] = &[4; 28];
+
+const A5: &[u8] = &[5; 28];
+
+const A6: &[u8] = &[6; 28];
+
+const A7: &[u8] = &[7; 28];
+
+/// What is asked of an end.
+#[derive(Clone, Copy, Debug)]
+enum Act {
+    /// A record frame is pushed, with its moment and its payload's length in bytes.
+    Begin(u64, usize),
+    BeginClose,
+    Step,
+    /// So many steps, answered alike.
+    Steps(u32),
+    /// The frame on top is stepped as far as it comes.
+    Finish,
+    /// The payload is written, and the frame ended.
+    End(&'static [u8]),
+    /// A record of this moment and payload is written whole: its frame is pushed, reserves with its first step, is
+    /// ended, and is gone with one more step. What is answered is its reservation.
+    Write(u64, &'static [u8]),
+    /// The same, where the frame begins a fill: it makes so many steps before it reserves, and closes the fill in
+    /// front.
+    Turn(u32, u64, &'static [u8]),
+    /// A record of this moment and payload is written in one call.
+    Put(u64, &'static [u8]),
+    Take,
+    /// The first step of a take.
+    Look,
+    Wish,
+}
+
+/// A record: its moment and its payload.
+#[derive(Clone, Copy, Debug)]
+struct Record(u64, &'static [u8]);
+
+/// A page that is taken.
+#[derive(Clone, Copy, Debug)]
+struct Taken {
+    fill: u64,
+    first: u64,
+    missed: u64,
+    records: &'static [Record],
+}
+
+/// What is answered.
+#[derive(Clone, Copy, Debug)]
+enum Meets {
+    Pushed,
+    Going,
+    Reserved(u64),
+    Full,
+    Pending,
+    Gone,
+    Refused(WriteFault),
+    Written,
+    Looks,
     Empty(u64),
     Moving(u64),
+    Takes(Taken),
+    Wished(u64),
 }
 
-/// The ends of a new ring of so many pages, of 32 bytes each.
-fn ends(alloc: Global, pages: usize) -> Result<(Writer, Reader), NoMemory>
-    requires some { 2 ≤ pages }
-    requires few { pages ≤ 4 }
-    ensures writer { IfOk result (λ ends. IsWriter ends.0) }
-    ensures reader { IfOk result (λ ends. IsReader ends.1) }
-    ensures size { IfOk result (λ ends. ends.1.shape.size ≡ 32) }
-{
-    ring(alloc, pages, 32)
+/// A ring's pages and its first fill, and what is asked of its ends, with what is answered.
+#[derive(Clone, Copy, Debug)]
+struct Run<'a> {
+    pages: usize,
+    start: u64,
+    acts: &'a [(Act, Meets)],
 }
 
-/// A frame is pushed for a record of this moment and length.
-fn begin(writer: &mut Writer, moment: u64, len: usize) -> Answer
-    requires { IsWriter writer.old }
-    ensures { IsWriter writer.new }
-{
-    writer.begin(moment, len)
-}
-
-/// The frame on top makes steps until it stands no more, or has reserved; at most so many. The last answer.
-fn steps(writer: &mut Writer, most: u32) -> Answer
-    requires { IsWriter writer.old }
-    ensures { IsWriter writer.new }
-{
-    let mut last = Answer::Going;
-    for _ in 0..most {
-        last = writer.step();
-        let Answer::Going = &last else {
-            return last;
-        };
+/// Compares a page that is taken.
+fn compare_page(rt: &impl Abort, page: &Page, missed: u64, expected: Taken) {
+    assert_eq!(rt; page.fill(), FillNo(expected.fill));
+    assert_eq!(rt; page.first(), RecordNo(expected.first));
+    assert_eq!(rt; missed, expected.missed);
+    assert_eq!(rt; page.count(), expected.records.len() as u64);
+    assert!(rt; page.first().0.checked_add(page.count()).is_some());
+    let mut seen = 0;
+    for entry in records(page) {
+        assert!(rt; seen < expected.records.len());
+        let Record(moment, payload) = expected.records[seen];
+        assert_eq!(rt; entry.moment.0, moment);
+        assert_eq!(rt; entry.bytes, payload);
+        seen += 1;
     }
-    last
+    assert_eq!(rt; seen, expected.records.len());
 }
 
-/// A record of this moment and length is written whole.
-fn write(writer: &mut Writer, moment: u64, len: usize) -> Answer
-    requires { IsWriter writer.old }
-    ensures { IsWriter writer.new }
-{
-    let _pushed = writer.begin(moment, len);
-    let reserved = steps(writer, 60);
-    let _ended = writer.end();
-    let _gone = steps(writer, 60);
-    reserved
+/// Compares what the writer answers.
+fn compare(rt: &impl Abort, answer: &Answer, expected: Meets) {
+    match (answer, expected) {
+        (Answer::Pushed, Meets::Pushed)
+        | (Answer::Going, Meets::Going)
+        | (Answer::Ended(Ended::Full), Meets::Full)
+        | (Answer::Ended(Ended::Pending), Meets::Pending)
+        | (Answer::Gone, Meets::Gone) => {}
+        (Answer::Reserved(number), Meets::Reserved(expected)) => assert_eq!(rt; number.0, expected),
+        (Answer::Refused(fault), Meets::Refused(expected)) => assert_eq!(rt; *fault, expected),
+        _ => assert!(rt; false, "{answer:?} in place of {expected:?}"),
+    }
 }
 
-/// The frame on top, which was interrupted, goes on to its end.
-fn finish(writer: &mut Writer) -> Answer
-    requires { IsWriter writer.old }
-    ensures { IsWriter writer.new }
-{
-    let _reserved = steps(writer, 60);
-    let _ended = writer.end();
-    steps(writer, 60)
+/// Compares what is answered to a record in one call.
+fn compare_put(rt: &impl Abort, put: Result<(), WriteFault>, expected: Meets) {
+    match (put, expected) {
+        (Ok(()), Meets::Written) => {}
+        (Err(fault), Meets::Refused(expected)) => assert_eq!(rt; fault, expected),
+        _ => assert!(rt; false, "{put:?} in place of {expected:?}"),
+    }
 }
 
-/// The tail page is left.
-fn close(writer: &mut Writer) -> Answer
-    requires { IsWriter writer.old }
-    ensures { IsWriter writer.new }
-{
-    let _pushed = writer.begin_close();
-    steps(writer, 60)
-}
-
-/// A take, with what it answered.
-fn take(reader: &mut Reader, alloc: Global) -> Result<Took, NoMemory>
-    requires reader { IsReader reader.old }
-    requires size { reader.old.shape.size ≡ 32 }
-    ensures reader { IsReader reader.new }
-    ensures size { reader.new.shape.size ≡ 32 }
-{
-    let body = Body::new(alloc, 32)?;
-    Ok(match reader.take(body) {
-        Take::Page(page, missed) => {
-            Took::Page(page.fill().0, page.first().0, page.count(), missed)
+/// Compares what a take answers.
+fn compare_take(rt: &impl Abort, took: &Take, expected: Meets) {
+    match (took, expected) {
+        (Take::Empty(done, _), Meets::Empty(expected)) => assert_eq!(rt; *done, expected),
+        (Take::Moving(fill, _), Meets::Moving(expected)) => assert_eq!(rt; fill.0, expected),
+        (Take::Page(page, missed), Meets::Takes(expected)) => {
+            compare_page(rt, page, *missed, expected)
         }
-        Take::Empty(done, _) => Took::Empty(done),
-        Take::Moving(fill, _) => Took::Moving(fill.0),
-    })
+        _ => assert!(rt; false, "{took:?} in place of {expected:?}"),
+    }
+}
+
+/// Makes so many steps of the frame on top.
+fn step_often(rt: &impl Abort, ends: &mut Ends, count: u32, expected: Meets) {
+    for _ in 0..count {
+        compare(rt, &ends.step(), expected);
+    }
+}
+
+/// Writes a record whole, behind so many steps of its frame, and makes so many more until that is gone.
+fn write_whole(
+    rt: &impl Abort,
+    ends: &mut Ends,
+    record: Record,
+    steps: (u32, u32),
+    expected: Meets,
+) {
+    let Record(moment, payload) = record;
+    let (before, behind) = steps;
+    compare(rt, &ends.begin(moment, payload.len()), Meets::Pushed);
+    step_often(rt, ends, before, Meets::Going);
+    compare(rt, &ends.step(), expected);
+    compare(rt, &ends.end(payload), Meets::Full);
+    step_often(rt, ends, behind, Meets::Going);
+    compare(rt, &ends.step(), Meets::Gone);
+}
+
+/// Asks the writer, and compares what is answered.
+fn ask_writer(rt: &impl Abort, ends: &mut Ends, act: Act, expected: Meets) {
+    match act {
+        Act::Begin(moment, len) => compare(rt, &ends.begin(moment, len), expected),
+        Act::BeginClose => compare(rt, &ends.begin_close(), expected),
+        Act::Step => compare(rt, &ends.step(), expected),
+        Act::Steps(count) => step_often(rt, ends, count, expected),
+        Act::Finish => compare(rt, &ends.finish_top(), expected),
+        Act::Put(moment, payload) => compare_put(rt, ends.write(moment, payload), expected),
+        Act::End(payload) => compare(rt, &ends.end(payload), expected),
+        Act::Write(moment, payload) => {
+            write_whole(rt, ends, Record(moment, payload), (0, 0), expected)
+        }
+        Act::Turn(steps, moment, payload) => {
+            write_whole(rt, ends, Record(moment, payload), (steps, 1), expected)
+        }
+        _ => assert!(rt; false, "{act:?} is asked of the reader"),
+    }
+}
+
+/// Asks an end, and compares what is answered.
+fn ask(
+    rt: &impl Abort,
+    alloc: Global,
+    ends: &mut Ends,
+    act: Act,
+    expected: Meets,
+) -> Result<(), NoMemory> {
+    match (act, expected) {
+        (Act::Take, _) => compare_take(rt, &ends.take(alloc)?, expected),
+        (Act::Look, Meets::Looks) => assert!(rt; ends.looks(alloc)?),
+        (Act::Wish, Meets::Wished(fill)) => assert_eq!(rt; ends.wish(), FillNo(fill)),
+        _ => ask_writer(rt, ends, act, expected),
+    }
+    Ok(())
+}
+
+/// Asks all this, and compares what is answered.
+fn ask_all(
+    rt: &impl Abort,
+    alloc: Global,
+    ends: &mut Ends,
+    acts: &[(Act, Meets)],
+) -> Result<(), NoMemory> {
+    for (act, expected) in acts {
+        ask(rt, alloc, ends, *act, *expected)?;
+    }
+    Ok(())
+}
+
+/// The ends of a new ring, behind a run.
+fn ends_behind(rt: &impl Abort, alloc: Global, run: &Run<'_>) -> Result<Ends, NoMemory> {
+    let mut ends = Ends::new(rt, alloc, run.pages, run.start)?;
+    ask_all(rt, alloc, &mut ends, run.acts)?;
+    Ok(ends)
+}
+
+/// Follows a run from a new ring on.
+fn follow(rt: &impl Abort, alloc: Global, run: &Run<'_>) -> Result<(), NoMemory> {
+    ends_behind(rt, alloc, run)?;
+    Ok(())
 }
