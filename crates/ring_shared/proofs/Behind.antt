@@ -1,8 +1,9 @@
 -- What an event that touches no word makes of the writer's part of a ring: a function of that part, whatever the rest is.
-use Rattle.std.specs.Prelude.{[], Option, Some, None}
+use Rattle.std.specs.Prelude.{ℕ, List, [], length, Option, Some, None}
+use Rattle.trace_model.specs.Words.{padded}
 use Rattle.trace_model.specs.Links.{normal_link}
 use Rattle.trace_model.specs.Ring.{Core, first_reader}
-use Rattle.trace_model.specs.Steps.{Event}
+use Rattle.trace_model.specs.Steps.{Event, pushes, steps, ends}
 use Rattle.link_marks.proofs.StepFunction.{Outcome, step_of}
 use Rattle.ring_steps.specs.declared.rule.Shape.{Shape}
 use Rattle.ring_steps.specs.Views.{Writing, writing_of}
@@ -32,3 +33,8 @@ part_of w (Some outcome) = writing_of outcome.after
 -- the writer's part behind a private event
 abbrev pub behind : Shape → Writing → Event → Writing
 behind shape w event = part_of w (step_of shape.pages shape.size (alone w) event)
+
+-- behind a record that is written at once: its frame is pushed, reserves, and ends with this payload
+abbrev pub behind_write : Shape → Writing → ℕ → List ℕ → Writing
+behind_write shape w moment payload =
+    behind shape (behind shape (behind shape w (pushes moment (length payload))) steps) (ends (padded payload))

@@ -3,15 +3,16 @@ use Rattle.std.proofs.Common.{◌≡◌, ◌≢◌, ℕ, ◌+◌, ◌<◌, ◌�
 use Rattle.trace_model.specs.declared.limits.TheConstants.{MAX_PAGES, LINK_FILLS}
 use Rattle.trace_model.specs.Frames.{Phase, noted_fill}
 use Rattle.link_marks.specs.KeptLinks.{PhaseKept}
+use Rattle.link_marks.specs.SeenLinks.{HasSeenLink, HaveSeenLinks}
 use Rattle.link_marks.specs.KeptProgress.{PhaseAdvances, FramesAdvance}
 use Rattle.link_marks.proofs.FrameChanges.{top_kept}
+use Rattle.link_marks.proofs.SeenLinks.{frames_have_seen_links}
 use Rattle.nested_writer.specs.Stack.{opened}
 use Rattle.ring_steps.specs.Views.{Writing}
 use Rattle.ring_frames.specs.Value.{phase_of}
 use Rattle.ring_shared.specs.Value.{WriterValue}
 use Rattle.ring_shared.specs.Calls.{IsWriter}
 use Rattle.ring_shared.proofs.Standing.{kept_now, top_in}
-use Rattle.ring_shared.proofs.PhasesFit.{PhaseFits, AllFit, reached_fits}
 
 module _ (v : WriterValue) (w : IsWriter v) where
   pub opened_now : opened v.frames.stack ≡ v.part.opened
@@ -49,11 +50,11 @@ module _ (v : WriterValue) (w : IsWriter v) where
         subst (PhaseAdvances v.shape.pages w.core.links w.core.head) (t.phase_is ∙ at)
         (subst (FramesAdvance v.shape.pages w.core.links w.core.head) t.is_top (kept_now v w).progress.advance).0
 
-    pub fits : v.shape.pages ≤ MAX_PAGES → PhaseFits v.shape.pages phase
+    pub fits : v.shape.pages ≤ MAX_PAGES → HasSeenLink v.shape.pages w.core.links w.core.head phase
     fits few =
         let t = top_in v w w.core w.part_is some in
-        subst (PhaseFits v.shape.pages) (t.phase_is ∙ at)
-        (subst (AllFit v.shape.pages) t.is_top (reached_fits v.shape.pages v.shape.size v.shape.start few w.core w.reached)).0
+        subst (HasSeenLink v.shape.pages w.core.links w.core.head) (t.phase_is ∙ at)
+        (subst (HaveSeenLinks v.shape.pages w.core.links w.core.head) t.is_top (frames_have_seen_links v.shape.pages v.shape.size v.shape.start w.core few w.reached)).0
 
     module _ (noted : ℕ) (is : noted_fill phase ≡ Some noted) where
       -- the fill that it noted has a number, behind which there is a whole round of them

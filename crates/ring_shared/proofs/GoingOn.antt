@@ -11,8 +11,8 @@ use Rattle.ring_frames.specs.declared.answer.Answer.TheVariants.{Going}
 use Rattle.ring_frames.specs.Value.{phase_of}
 use Rattle.ring_frames.specs.Steps.{GoesOnIn, IsNotedIn}
 use Rattle.ring_shared.specs.Value.{WriterValue}
-use Rattle.ring_shared.specs.Calls.{IsWriter, Makes}
-use Rattle.ring_shared.proofs.TopSteps.{top_stepped}
+use Rattle.ring_shared.specs.Calls.{IsWriter, MakesSome}
+use Rattle.link_marks.proofs.TopSteps.{top_stepped}
 use Rattle.ring_shared.proofs.Standing.{frames_like, frames_in, top_in, made}
 
 -- the step of the frame on top in a phase makes of the writer's part that the frame goes on in another
@@ -33,7 +33,7 @@ pub goes_on : (v new : WriterValue) (w : IsWriter v) (some : v.frames.stack.fram
     → ((fill : ℕ) → IsNotedIn v.frames.phase chosen fill → GoesOnIn v.frames chosen new.frames)
     → (s : IsWriterStep v.shape v.part sees model.going new.part)
     → Moves v from (phase_of to) s.core s.next
-    → Makes v model.steps Going new
+    → MakesSome v model.steps Going new
 goes_on v new w some from noted chosen to sees at was is same shape_is table_is pages_is on s moves =
     let before = frames_in v w s.core s.before_is in
     let t = top_in v w s.core s.before_is some in
@@ -45,5 +45,5 @@ goes_on v new w some from noted chosen to sees at was is same shape_is table_is 
     (ap (λ (p : Writing). p.open_pages) part ∙ ap (λ (p : Writing). p.open_pages) s.before_is ∙ w.pages_are ∙ sym pages_is)
 
 -- the same of a value, where its view is that one, and of an answer
-pub as_called : (v x new : WriterValue) (result : Answer) → v ≡ x → result ≡ Going → Makes v model.steps Going new → Makes x model.steps result new
-as_called v x new result view_is is makes = subst (λ (r : Answer). Makes x model.steps r new) (sym is) (subst (λ (y : WriterValue). Makes y model.steps Going new) view_is makes)
+pub as_called : (v x new : WriterValue) (result : Answer) → v ≡ x → result ≡ Going → MakesSome v model.steps Going new → MakesSome x model.steps result new
+as_called v x new result view_is is makes = subst (λ (r : Answer). MakesSome x model.steps r new) (sym is) (subst (λ (y : WriterValue). MakesSome y model.steps Going new) view_is makes)

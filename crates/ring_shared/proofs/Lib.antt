@@ -8,10 +8,15 @@ pub mod LinkMoves
 pub mod NewWriter
 pub mod Onward
 pub mod PageMoves
-pub mod PhasesFit
 pub mod Privately
 pub mod Settles
 pub mod Standing
 pub mod Swapped
 pub mod TakeSteps
-pub mod TopSteps
+pub mod Depths
+pub mod Aims
+pub mod Finishes
+pub mod Nearing
+pub mod PushedEnded
+pub mod WholeWrites
+pub mod AtOnce

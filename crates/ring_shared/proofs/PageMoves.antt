@@ -15,8 +15,8 @@ use Rattle.ring_frames.specs.Value.{FramesValue, phase_of}
 use Rattle.ring_frames.specs.Answers.{Tells}
 use Rattle.ring_frames.specs.Fills.{OpensFill, Releases, released_in, LooksForWish, told_in}
 use Rattle.ring_shared.specs.Value.{WriterValue}
-use Rattle.ring_shared.specs.Calls.{IsWriter, Makes}
-use Rattle.ring_shared.proofs.TopSteps.{top_stepped}
+use Rattle.ring_shared.specs.Calls.{IsWriter, MakesSome}
+use Rattle.link_marks.proofs.TopSteps.{top_stepped}
 use Rattle.ring_shared.proofs.Standing.{FramesIn, kept_now, frames_in, top_in, made}
 
 -- a frame that begins anew keeps the writer's pages
@@ -39,7 +39,7 @@ module _ (v new : WriterValue) (w : IsWriter v) (some : v.frames.stack.frames �
       → OpensFill v.frames result new.frames
       → new.pages ≡ v.pages ++ page ∷ []
       → IsWriterStep v.shape v.part sees (begun_answer v.part.frames) new.part
-      → Makes v model.steps result new
+      → MakesSome v model.steps result new
   opens_fill noted page result at now opens pages_is s =
       let answer = begun_answer v.part.frames in
       let t = top_in v w s.core s.before_is some in
@@ -63,7 +63,7 @@ module _ (v new : WriterValue) (w : IsWriter v) (some : v.frames.stack.frames �
       → Releases v.frames page new.frames
       → new.pages ≡ drop 1 v.pages
       → IsWriterStep v.shape v.part sees model.going new.part
-      → Makes v model.steps Going new
+      → MakesSome v model.steps Going new
   closes_fill page releases pages_is s =
       let r = releases v.shape.pages v.shape.size v.shape.start s.core s.reached (frames_in v w s.core s.before_is) in
       let (same, after_is) = steps_are_determined v.shape.pages v.shape.size s.core model.steps model.going model.going s.next (released_in s.core r.frame) s.step r.step in
@@ -77,7 +77,7 @@ module _ (v new : WriterValue) (w : IsWriter v) (some : v.frames.stack.frames �
       → new.pages ≡ v.pages
       → (s : IsWriterStep v.shape v.part sees answer new.part)
       → (sees s.core → s.core.wish ≡ wish)
-      → Makes v model.steps result new
+      → MakesSome v model.steps result new
   looks_for_wish wish result answer looks pages_is s is_wish =
       let l = looks v.shape.pages v.shape.size v.shape.start s.core s.reached (frames_in v w s.core s.before_is) (is_wish s.seen) in
       let (same, after_is) = steps_are_determined v.shape.pages v.shape.size s.core model.steps answer l.answer s.next (told_in s.core l.frames l.history) s.step l.step in

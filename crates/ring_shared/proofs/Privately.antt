@@ -22,7 +22,7 @@ use Rattle.ring_steps.specs.declared.rule.Shape.{Shape}
 use Rattle.ring_steps.specs.Views.{Writing, writing_of}
 use Rattle.ring_steps.specs.Seats.{Leads}
 use Rattle.ring_shared.specs.Value.{WriterValue}
-use Rattle.ring_shared.specs.Calls.{IsWriter, Makes}
+use Rattle.ring_shared.specs.Calls.{IsWriter, MakesSome}
 use Rattle.ring_shared.proofs.Behind.{alone, part_of, behind}
 
 -- ---- the writer's part
@@ -93,7 +93,7 @@ step_leads v w own = leads_behind v.shape v.part model.steps
 -- ---- calls
 
 -- what the frames made in private, and the seat has noted, is a call
-private_call : (old : WriterValue) (event : model.Event) (result : Answer) (new : WriterValue) → IsWriter old → new.shape ≡ old.shape → new.table ≡ old.table → new.part ≡ behind old.shape old.part event → new.pages ≡ old.pages → MakesPrivate old.frames event result new.frames → Makes old event result new
+private_call : (old : WriterValue) (event : model.Event) (result : Answer) (new : WriterValue) → IsWriter old → new.shape ≡ old.shape → new.table ≡ old.table → new.part ≡ behind old.shape old.part event → new.pages ≡ old.pages → MakesPrivate old.frames event result new.frames → MakesSome old event result new
 private_call old event result new w shape table noted pages made =
     let n = old.shape.pages in let size = old.shape.size in let start = old.shape.start in
     let m = made n size start w.core w.reached w.frames_are in
@@ -122,7 +122,7 @@ private_call old event result new w shape table noted pages made =
     }
 
 -- so of the value that the writer is seen as
-pub seen_call : (old now : WriterValue) (event : WriterValue → model.Event) (result : Answer) (new : WriterValue) → old ≡ now → IsWriter now → new.shape ≡ old.shape → new.table ≡ old.table → new.part ≡ behind old.shape old.part (event old) → new.pages ≡ old.pages → MakesPrivate old.frames (event old) result new.frames → Makes now (event now) result new
+pub seen_call : (old now : WriterValue) (event : WriterValue → model.Event) (result : Answer) (new : WriterValue) → old ≡ now → IsWriter now → new.shape ≡ old.shape → new.table ≡ old.table → new.part ≡ behind old.shape old.part (event old) → new.pages ≡ old.pages → MakesPrivate old.frames (event old) result new.frames → MakesSome now (event now) result new
 seen_call old now event result new is w shape table noted pages made =
-    subst (λ (v : WriterValue). Makes v (event v) result new) is
+    subst (λ (v : WriterValue). MakesSome v (event v) result new) is
     (private_call old (event old) result new (subst IsWriter (sym is) w) shape table noted pages made)

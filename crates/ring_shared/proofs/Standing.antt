@@ -18,7 +18,7 @@ use Rattle.ring_frames.specs.Steps.{IsFrames}
 use Rattle.ring_frames.proofs.Same.{same_frames}
 use Rattle.ring_frames.proofs.Tops.{IsTopped, topped}
 use Rattle.ring_shared.specs.Value.{WriterValue}
-use Rattle.ring_shared.specs.Calls.{IsWriter, Makes}
+use Rattle.ring_shared.specs.Calls.{IsWriter, MakesSome}
 
 -- where nothing was done in private, no step is pending
 pub leads_nowhere : (shape : Shape) (part : Writing) → Leads shape part part
@@ -57,7 +57,7 @@ module _ (v : WriterValue) (w : IsWriter v) where
       → Tells v.shape.size result answer
       → FramesIn v.shape new.frames s.next
       → s.next.open_pages ≡ new.pages
-      → Makes v model.steps result new
+      → MakesSome v model.steps result new
   made new sees answer result shape_is table_is s tells are pages = record {
     shape_is = shape_is;
     table_is = table_is;

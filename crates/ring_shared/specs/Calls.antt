@@ -32,7 +32,7 @@ pub record IsCall (shape : Shape) (before : Writing) (event : model.Event) (resu
   pub tells : Tells shape.size result answer
 
 -- so the writer makes of the ring, and is the same one
-pub record Makes (old : WriterValue) (event : model.Event) (result : Answer) (new : WriterValue) : Type 0 where
+pub record MakesSome (old : WriterValue) (event : model.Event) (result : Answer) (new : WriterValue) : Type 0 where
   pub shape_is : new.shape ≡ old.shape
   pub table_is : new.table ≡ old.table
   pub call : IsCall old.shape old.part event result new.part

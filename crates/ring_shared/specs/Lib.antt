@@ -5,3 +5,6 @@ pub mod Takes
 pub mod NewReader
 pub mod NewEnds
 pub mod Settling
+pub mod Nearer
+pub mod Finishing
+pub mod WholeWrites

@@ -1,5 +1,5 @@
 -- What contracts see of the two ends of a running ring.
-use Rattle.std.specs.Prelude.{ℕ, List, Option}
+use Rattle.std.specs.Prelude.{◌≡◌, ℕ, List, Option}
 use Rattle.atomic_table.specs.Seated.{TableId}
 use Rattle.ring_core.specs.declared.phase.Reader.{Reader}
 use Rattle.ring_steps.specs.declared.rule.Shape.{Shape}
@@ -18,11 +18,16 @@ pub record ReaderValue : Type 0 where
   pub at : Reader
   pub empty_at : Option ℕ
 
--- The writer's end: the ring's shape and its table; the writer's part of the ring; and its fields: its frames, and the
--- pages of the fills that are begun and not closed, the oldest first.
+-- The writer's end: the ring's shape and its table; the writer's part of the ring, and a fill below which it knows all to
+-- be passed; and its fields: its frames, and the pages of the fills that are begun and not closed, the oldest first.
 pub record WriterValue : Type 0 where
   pub shape : Shape
   pub table : TableId
   pub part : Writing
+  pub passed : ℕ
   pub frames : FramesValue
   pub pages : List ℕ
+
+-- the end of a ring stays the same one
+abbrev pub SameWriter : WriterValue → WriterValue → Type 0
+SameWriter before after = (after.shape ≡ before.shape) × (after.table ≡ before.table)

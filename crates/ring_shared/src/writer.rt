@@ -1,10 +1,12 @@
 //! The writer's end.
+mod finish;
 mod frames;
 mod head;
 mod new;
 mod pages;
 mod step;
 mod top;
+mod write;
 
 use ring_frames::Frames;
 use ring_steps::WriterSeat;
@@ -24,7 +26,7 @@ pub struct Writer {
 impl Model for Writer {
     ghost use Rattle.std.specs.Prelude.{◌≤◌};
     ghost use Rattle.std.specs.VecDeque.{deque_capacity};
-    ghost use Rattle.ring_steps.specs.Ends.{writing_in, writer_table};
+    ghost use Rattle.ring_steps.specs.Ends.{writing_in, passed_in, writer_table};
     ghost use Rattle.ring_shared.specs.Value.{WriterValue};
 
     ghost Value = { WriterValue };
@@ -33,6 +35,7 @@ impl Model for Writer {
       shape = w.seat.shape;
       table = writer_table w.seat;
       part = writing_in w.seat;
+      passed = passed_in w.seat;
       frames = w.frames;
       pages = w.pages.items;
     } };

@@ -11,15 +11,17 @@ impl Writer {
     ghost use Rattle.nested_writer.specs.Stack.{opened};
     ghost use Rattle.ring_frames.specs.declared.phase.Phase.TheVariants.{Idle};
     ghost use Rattle.ring_frames.specs.Value.{phase_of};
-    ghost use Rattle.ring_frames.specs.Answers.{top_bytes};
-    ghost use Rattle.ring_shared.specs.Calls.{IsWriter, Makes};
+    ghost use Rattle.ring_frames.specs.Answers.{top_bytes, KeepsPayloads};
+    ghost use Rattle.ring_shared.specs.Calls.{IsWriter, MakesSome};
+    ghost use Rattle.ring_shared.specs.Nearer.{IsNearer};
 
     /// A writer begins: a frame is pushed for a record of this moment, below `MOMENT_LIMIT`, and of a payload of `len`
     /// bytes. `Pushed`; or refused, and nothing changed: `TooDeep` where four frames stand, `TooLong` where the record
     /// has no room on an empty page, `LateMoment`, the first of these that holds.
     pub fn begin(&mut self, moment: u64, len: usize) -> Answer
         requires writer { IsWriter self.old }
-        ensures { Makes self.old (model.pushes moment len) result self.new }
+        ensures makes { MakesSome self.old (model.pushes moment len) result self.new }
+        ensures payloads { KeepsPayloads self.old.frames.stack self.new.frames.stack }
     {
         self.seat.note::<Brand, _>(&(moment, len));
         self.frames.push(moment, len)
@@ -28,7 +30,8 @@ impl Writer {
     /// A frame is pushed that leaves the tail page, where that holds a record. `Pushed`, or refused as `TooDeep`.
     pub fn begin_close(&mut self) -> Answer
         requires writer { IsWriter self.old }
-        ensures { Makes self.old model.pushes_close result self.new }
+        ensures makes { MakesSome self.old model.pushes_close result self.new }
+        ensures payloads { KeepsPayloads self.old.frames.stack self.new.frames.stack }
     {
         self.seat.note::<Brand, _>(&());
         self.frames.push_close()
@@ -38,8 +41,9 @@ impl Writer {
     /// and nothing changed, as `NoFrame` or as `NotReserved`.
     pub fn end(&mut self) -> Answer
         requires writer { IsWriter self.old }
-        ensures { Makes self.old (model.ends (top_bytes self.old.frames.stack self.old.frames.stack.frames)) result
+        ensures makes { MakesSome self.old (model.ends (top_bytes self.old.frames.stack self.old.frames.stack.frames)) result
             self.new }
+        ensures payloads { KeepsPayloads self.old.frames.stack self.new.frames.stack }
     {
         self.seat.note::<Brand, _>(&self.frames);
         self.frames.end()
@@ -50,7 +54,9 @@ impl Writer {
         requires writer { IsWriter self.old }
         requires top { self.old.frames.stack.frames ≢ [] }
         requires phase { self.old.frames.phase ≡ Idle }
-        ensures { Makes self.old model.steps result self.new }
+        ensures makes { MakesSome self.old model.steps result self.new }
+        ensures nearer { IsNearer self.old self.new }
+        ensures payloads { KeepsPayloads self.old.frames.stack self.new.frames.stack }
     {
         self.seat.note::<Brand, _>(&());
         self.frames.reserve()
@@ -63,7 +69,9 @@ impl Writer {
         requires passed { (noted : ℕ) × (noted_fill (phase_of self.old.frames.phase) ≡ Some noted)
             × (noted ≢ opened self.old.frames.stack) }
         requires private { PhaseIsPrivate (phase_of self.old.frames.phase) (opened self.old.frames.stack) }
-        ensures { Makes self.old model.steps result self.new }
+        ensures makes { MakesSome self.old model.steps result self.new }
+        ensures nearer { IsNearer self.old self.new }
+        ensures payloads { KeepsPayloads self.old.frames.stack self.new.frames.stack }
     {
         self.seat.note::<Brand, _>(&());
         self.frames.begin_anew().answer()

@@ -7,15 +7,13 @@ use std::marker::Brand;
 use trace_model::FillNo;
 
 impl Writer {
-    ghost use Rattle.std.specs.Prelude.{◌≡◌, ◌≢◌, true, false, []};
+    ghost use Rattle.std.specs.Prelude.{◌≡◌, ◌≢◌, []};
     ghost use Rattle.trace_model.specs.Steps as model;
-    ghost use Rattle.trace_model.specs.Steps.{GoesOn};
-    ghost use Rattle.nested_writer.specs.Stack.{opened};
     ghost use Rattle.ring_frames.specs.declared.phase.Phase.TheVariants.{Looking, Claiming, LookingNext, Marking, Clearing};
-    ghost use Rattle.ring_frames.specs.declared.phase.Role.TheVariants.{Helper};
-    ghost use Rattle.ring_frames.specs.Value.{role_of};
     ghost use Rattle.ring_steps.specs.Linking.{tail_in};
-    ghost use Rattle.ring_shared.specs.Calls.{IsWriter, Makes};
+    ghost use Rattle.ring_frames.specs.Answers.{KeepsPayloads};
+    ghost use Rattle.ring_shared.specs.Calls.{IsWriter, MakesSome};
+    ghost use Rattle.ring_shared.specs.Nearer.{IsNearer};
 
     /// The page of the last fill that is begun.
     fn tail(&self) -> u16
@@ -35,7 +33,9 @@ impl Writer {
         requires writer { IsWriter self.old }
         requires top { self.old.frames.stack.frames ≢ [] }
         requires phase { self.old.frames.phase ≡ Looking noted }
-        ensures { Makes self.old model.steps result self.new }
+        ensures makes { MakesSome self.old model.steps result self.new }
+        ensures nearer { IsNearer self.old self.new }
+        ensures payloads { KeepsPayloads self.old.frames.stack self.new.frames.stack }
     {
         if noted != self.frames.opened() {
             return self.begin_anew();
@@ -61,7 +61,9 @@ impl Writer {
         requires writer { IsWriter self.old }
         requires top { self.old.frames.stack.frames ≢ [] }
         requires phase { self.old.frames.phase ≡ Claiming noted page }
-        ensures { Makes self.old model.steps result self.new }
+        ensures makes { MakesSome self.old model.steps result self.new }
+        ensures nearer { IsNearer self.old self.new }
+        ensures payloads { KeepsPayloads self.old.frames.stack self.new.frames.stack }
     {
         if noted != self.frames.opened() {
             return self.begin_anew();
@@ -86,9 +88,11 @@ impl Writer {
         requires writer { IsWriter self.old }
         requires top { self.old.frames.stack.frames ≢ [] }
         requires phase { self.old.frames.phase ≡ LookingNext role noted page }
-        ensures { Makes self.old model.steps result self.new }
+        ensures makes { MakesSome self.old model.steps result self.new }
+        ensures nearer { IsNearer self.old self.new }
+        ensures payloads { KeepsPayloads self.old.frames.stack self.new.frames.stack }
     {
-        if self.stops(role, noted) {
+        if self.frames.stops(role, noted) {
             return self.begin_anew();
         }
         let behind = noted + 1 - self.frames.pages() as u64;
@@ -100,7 +104,7 @@ impl Writer {
                 page,
                 next: link.page,
             },
-            _ => after_next(role, noted, page),
+            _ => role.after_next(noted, page),
         };
         self.frames.go_on(phase).answer()
     }
@@ -111,14 +115,16 @@ impl Writer {
         requires writer { IsWriter self.old }
         requires top { self.old.frames.stack.frames ≢ [] }
         requires phase { self.old.frames.phase ≡ Marking role noted page next }
-        ensures { Makes self.old model.steps result self.new }
+        ensures makes { MakesSome self.old model.steps result self.new }
+        ensures nearer { IsNearer self.old self.new }
+        ensures payloads { KeepsPayloads self.old.frames.stack self.new.frames.stack }
     {
-        if self.stops(role, noted) {
+        if self.frames.stops(role, noted) {
             return self.begin_anew();
         }
         let behind = noted + 1 - self.frames.pages() as u64;
         let _marked = self.seat.mark_next::<Brand>(page, next, FillNo(behind));
-        self.frames.go_on(after_next(role, noted, page)).answer()
+        self.frames.go_on(role.after_next(noted, page)).answer()
     }
 
     /// A store of the link of the claim, from the frame's own UPDATE to NORMAL.
@@ -127,35 +133,12 @@ impl Writer {
         requires writer { IsWriter self.old }
         requires top { self.old.frames.stack.frames ≢ [] }
         requires phase { self.old.frames.phase ≡ Clearing noted page }
-        ensures { Makes self.old model.steps result self.new }
+        ensures makes { MakesSome self.old model.steps result self.new }
+        ensures nearer { IsNearer self.old self.new }
+        ensures payloads { KeepsPayloads self.old.frames.stack self.new.frames.stack }
     {
         let front = self.pages[(noted - 1 - self.frames.done()) as usize];
         self.seat.clear::<Brand>(front, page, FillNo(noted));
         self.frames.go_on(Phase::Opening { noted, page }).answer()
     }
-
-    /// A helper stops where another frame has begun a fill.
-    fn stops(&self, role: Role, noted: u64) -> bool
-        ensures stops { result ≡ true → (role ≡ Helper) × (noted ≢ opened self.now.frames.stack) }
-        ensures goes_on { result ≡ false → GoesOn (role_of role) noted (opened self.now.frames.stack) }
-    {
-        match role {
-            Role::Owner => false,
-            Role::Helper => noted != self.frames.opened(),
-        }
-    }
 }
-
-/// After the look at the next link: only the owner clears its UPDATE.
-fn after_next(role: Role, noted: u64, page: u16) -> Phase
-    ensures { phase_of result ≡ model.after_next (role_of role) noted page }
-{
-    match role {
-        Role::Owner => Phase::Clearing { noted, page },
-        Role::Helper => Phase::Opening { noted, page },
-    }
-}
-
-ghost use Rattle.std.specs.Prelude.{◌≡◌};
-ghost use Rattle.trace_model.specs.Steps as model;
-ghost use Rattle.ring_frames.specs.Value.{phase_of, role_of};

@@ -9,7 +9,9 @@ impl Writer {
     ghost use Rattle.std.specs.Prelude.{◌≡◌, ◌≢◌, []};
     ghost use Rattle.trace_model.specs.Steps as model;
     ghost use Rattle.ring_frames.specs.declared.phase.Phase.TheVariants.{Opening, Releasing, Wishing};
-    ghost use Rattle.ring_shared.specs.Calls.{IsWriter, Makes};
+    ghost use Rattle.ring_frames.specs.Answers.{KeepsPayloads};
+    ghost use Rattle.ring_shared.specs.Calls.{IsWriter, MakesSome};
+    ghost use Rattle.ring_shared.specs.Nearer.{IsNearer};
 
     /// A store of the number of begun fills: the page to open is taken from its home, and is the tail from now on.
     #[inline(never)]
@@ -17,7 +19,9 @@ impl Writer {
         requires writer { IsWriter self.old }
         requires top { self.old.frames.stack.frames ≢ [] }
         requires phase { self.old.frames.phase ≡ Opening noted page }
-        ensures { Makes self.old model.steps result self.new }
+        ensures makes { MakesSome self.old model.steps result self.new }
+        ensures nearer { IsNearer self.old self.new }
+        ensures payloads { KeepsPayloads self.old.frames.stack self.new.frames.stack }
     {
         if noted != self.frames.opened() {
             return self.begin_anew();
@@ -33,7 +37,9 @@ impl Writer {
         requires writer { IsWriter self.old }
         requires top { self.old.frames.stack.frames ≢ [] }
         requires phase { self.old.frames.phase ≡ Releasing }
-        ensures { Makes self.old model.steps result self.new }
+        ensures makes { MakesSome self.old model.steps result self.new }
+        ensures nearer { IsNearer self.old self.new }
+        ensures payloads { KeepsPayloads self.old.frames.stack self.new.frames.stack }
     {
         let page = self.frames.release();
         match self.pages.pop_front() {
@@ -50,7 +56,9 @@ impl Writer {
         requires writer { IsWriter self.old }
         requires top { self.old.frames.stack.frames ≢ [] }
         requires phase { self.old.frames.phase ≡ Wishing }
-        ensures { Makes self.old model.steps result self.new }
+        ensures makes { MakesSome self.old model.steps result self.new }
+        ensures nearer { IsNearer self.old self.new }
+        ensures payloads { KeepsPayloads self.old.frames.stack self.new.frames.stack }
     {
         let wish = self.seat.load_wish::<Brand, _>(&());
         self.frames.load_wish(wish)

@@ -5,7 +5,9 @@ use ring_frames::{Answer, Phase};
 
 impl Writer {
     ghost use Rattle.trace_model.specs.Steps as model;
-    ghost use Rattle.ring_shared.specs.Calls.{IsWriter, Makes};
+    ghost use Rattle.ring_frames.specs.Answers.{KeepsPayloads};
+    ghost use Rattle.ring_shared.specs.Calls.{IsWriter, MakesSome};
+    ghost use Rattle.ring_shared.specs.Nearer.{IsNearer};
 
     /// One step of the frame on top, in its phase: a step on one word, or one that touches none. `Going` while it
     /// stands and has reserved nothing or has left; `Reserved` with its record's number; `Gone` once it has left the
@@ -13,7 +15,9 @@ impl Writer {
     /// `Crowded` where no page is released, as `Worn` behind the last fill.
     pub fn step(&mut self) -> Answer
         requires writer { IsWriter self.old }
-        ensures { Makes self.old model.steps result self.new }
+        ensures makes { MakesSome self.old model.steps result self.new }
+        ensures nearer { IsNearer self.old self.new }
+        ensures payloads { KeepsPayloads self.old.frames.stack self.new.frames.stack }
     {
         if self.frames.depth() == 0 {
             return Answer::Refused(WriteFault::NoFrame);

@@ -7,6 +7,6 @@ use Rattle.ring_shared.proofs.writer.Writer.begin.Goals as goal
 pub note-requires : goal.note-requires
 note-requires c = record { due = push_leads c.self.inside.seat.shape (writing_in c.self.inside.seat) c.args.moment c.args.len }
 
-pub returns : goal.returns
-returns c =
-    seen_call _ _ (λ _. pushes c.args.moment c.args.len) c.push.result _ c.self.view_is c.requires.writer c.note.ensures.shape c.note.ensures.table c.note.ensures.noted refl c.push.ensures
+pub returns-clause-makes : goal.returns-clause-makes
+returns-clause-makes c =
+    seen_call _ _ (λ _. pushes c.args.moment c.args.len) c.push.result _ c.self.view_is c.requires.writer c.note.ensures.shape c.note.ensures.table c.note.ensures.noted refl c.push.ensures.step

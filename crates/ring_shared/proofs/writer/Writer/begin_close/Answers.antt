@@ -7,6 +7,6 @@ use Rattle.ring_shared.proofs.writer.Writer.begin_close.Goals as goal
 pub note-requires : goal.note-requires
 note-requires c = record { due = close_leads c.self.inside.seat.shape (writing_in c.self.inside.seat) }
 
-pub returns : goal.returns
-returns c =
-    seen_call _ _ (λ _. pushes_close) c.push_close.result _ c.self.view_is c.requires.writer c.note.ensures.shape c.note.ensures.table c.note.ensures.noted refl c.push_close.ensures
+pub returns-clause-makes : goal.returns-clause-makes
+returns-clause-makes c =
+    seen_call _ _ (λ _. pushes_close) c.push_close.result _ c.self.view_is c.requires.writer c.note.ensures.shape c.note.ensures.table c.note.ensures.noted refl c.push_close.ensures.step

@@ -1,4 +1,4 @@
-use Rattle.std.proofs.Common.{◌≡◌, ℕ, ◌+◌, ◌-◌, ◌≤◌, true, false, Some, refl, sym, ap, ◌∙◌, arith}
+use Rattle.std.proofs.Common.{◌≡◌, ℕ, ◌+◌, ◌-◌, ◌≤◌, true, false, Some, refl, sym, ap, ◌∙◌, arith, subst}
 use Rattle.trace_model.specs.declared.limits.TheConstants.{MAX_PAGES}
 use Rattle.trace_model.specs.Frames.{claiming, noted_fill}
 use Rattle.trace_model.specs.Ring.{link_into}
@@ -12,13 +12,15 @@ use Rattle.ring_frames.specs.Value.{phase_of}
 use Rattle.ring_steps.specs.Views.{Writing}
 use Rattle.ring_steps.specs.Linking.{tail_in}
 use Rattle.ring_shared.specs.Value.{WriterValue}
-use Rattle.ring_shared.specs.Calls.{IsWriter, Makes}
+use Rattle.ring_shared.specs.Calls.{IsWriter, MakesSome}
 use Rattle.ring_shared.specs.contracts.writer.Writer.{the_view}
 use Rattle.ring_shared.proofs.Standing.{leads_nowhere, phase_shown}
 use Rattle.ring_shared.proofs.Called.{writer_seen, top_seen, phase_seen}
 use Rattle.ring_shared.proofs.Bounds.{opened_now, fits}
 use Rattle.ring_shared.proofs.GoingOn.{Moves, goes_on, as_called}
 use Rattle.ring_shared.proofs.LinkMoves.{claimed, not_claimed}
+use Rattle.ring_steps.specs.Ends.{passed_in}
+use Rattle.ring_shared.proofs.Nearing.{nearer_claiming}
 use Rattle.ring_shared.proofs.writer.Writer.claim.Goals.{then-claim_head, else-claim_head}
 use Rattle.ring_shared.proofs.writer.Writer.claim.Goals as goal
 
@@ -28,7 +30,7 @@ overflow_sub-lost c =
     let w : IsWriter v = writer_seen c.self.view_is c.requires.writer in
     let pages : c.pages.result ≡ v.shape.pages = c.pages.ensures.pages ∙ w.frames_are.pages_is in
     let most = c.pages.ensures.most in let few : v.shape.pages ≤ MAX_PAGES = omega arith in
-    let (round, low) = fits v w (claiming c.args.noted c.args.page) (top_seen c.self.view_is c.requires.top)
+    let (round, low, seen) = fits v w (claiming c.args.noted c.args.page) (top_seen c.self.view_is c.requires.top)
     (phase_seen c.self.view_is c.requires.phase) few in omega arith
 
 pub claim_head-requires-clause-due : goal.claim_head-requires-clause-due
@@ -51,7 +53,7 @@ claim_head-requires-clause-lost c =
     let w : IsWriter v = writer_seen c.self.view_is c.requires.writer in
     let pages : c.pages.result ≡ v.shape.pages = c.pages.ensures.pages ∙ w.frames_are.pages_is in
     let most = c.pages.ensures.most in let few : v.shape.pages ≤ MAX_PAGES = omega arith in
-    let (round, low) = fits v w (claiming c.args.noted c.args.page) (top_seen c.self.view_is c.requires.top)
+    let (round, low, seen) = fits v w (claiming c.args.noted c.args.page) (top_seen c.self.view_is c.requires.top)
     (phase_seen c.self.view_is c.requires.phase) few in
     let now : c.args.noted ≡ v.part.opened = c.if-noted-opened.false ∙ c.opened.ensures.begun ∙ opened_now v w in omega arith
 
@@ -64,8 +66,8 @@ claim_head-requires-clause-fits c =
     (fits v w (claiming c.args.noted c.args.page) (top_seen c.self.view_is c.requires.top)
     (phase_seen c.self.view_is c.requires.phase) (omega arith)).1
 
-pub returns : goal.returns
-returns c =
+pub returns-clause-makes : goal.returns-clause-makes
+returns-clause-makes c =
     let v : WriterValue = the_view c.self.inside in
     let w : IsWriter v = writer_seen c.self.view_is c.requires.writer in
     let some = top_seen c.self.view_is c.requires.top in
@@ -80,7 +82,7 @@ returns c =
     let s = c.claim_head.ensures.step in
     let here : c.args.noted ≡ s.core.opened = now ∙ ap (λ (p : Writing). p.opened) (sym s.before_is) in
     let there = ap (link_into v.shape.pages s.core.links) now in
-    let goes : (p : Phase) → noted_fill (phase_of p) ≡ Some c.args.noted → c.if-claim_head.phase ≡ p → Moves v (claiming c.args.noted c.args.page) (phase_of p) s.core s.next → Makes v model.steps Going new =
+    let goes : (p : Phase) → noted_fill (phase_of p) ≡ Some c.args.noted → c.if-claim_head.phase ≡ p → Moves v (claiming c.args.noted c.args.page) (phase_of p) s.core s.next → MakesSome v model.steps Going new =
     λ p noted_is is moves. goes_on v new w some (claiming c.args.noted c.args.page) c.args.noted c.if-claim_head.phase p _ at refl noted_is is c.claim_head.ensures.shape c.claim_head.ensures.table refl c.go_on.ensures.goes_on s moves in
     as_called v c.args.self.now new c.answer.result c.self.view_is (c.answer.ensures ∙ ap told c.go_on.ensures.answer)
     (elim c.if-claim_head.branch [
@@ -90,3 +92,17 @@ returns c =
           (λ frame below step. not_claimed v.shape.pages s.core frame below model.going s.next c.args.noted c.args.page lost here sum
           (λ e. let truth : false ≡ true = sym b.if-claim_head.false ∙ s.seen.1 (sym there ∙ e) in cc) step)
     ])
+
+pub returns-clause-nearer : goal.returns-clause-nearer
+returns-clause-nearer c =
+    let v : WriterValue = the_view c.self.inside in
+    let w : IsWriter v = writer_seen c.self.view_is c.requires.writer in
+    let x : WriterValue = c.args.self.now in
+    let m = returns-clause-makes c in
+    let pages : c.pages.result ≡ v.shape.pages = c.pages.ensures.pages ∙ w.frames_are.pages_is in
+    let most = c.pages.ensures.most in let few : v.shape.pages ≤ MAX_PAGES = omega arith in
+    let round : v.shape.pages ≤ c.args.noted = (fits v w (claiming c.args.noted c.args.page) (top_seen c.self.view_is c.requires.top) (phase_seen c.self.view_is c.requires.phase) few).0 in
+    let same = ap (λ (y : WriterValue). y.shape.pages) c.self.view_is in
+    let lost = c.claim_head.ensures.passed in
+    nearer_claiming x _ m.shape_is (subst (λ (y : WriterValue). y.passed ≤ passed_in c.claim_head.new.self) c.self.view_is c.claim_head.ensures.knows) _ c.args.noted c.args.page m
+    (phase_shown x c.requires.writer (claiming c.args.noted c.args.page) c.requires.top (ap phase_of c.requires.phase)) (omega arith)

@@ -1,4 +1,4 @@
-use Rattle.std.proofs.Common.{◌≡◌, ℕ, ◌-◌, List, slice_index_or, refl, sym, ap, ◌∙◌, arith}
+use Rattle.std.proofs.Common.{◌≡◌, ℕ, ◌-◌, List, slice_index_or, refl, sym, ap, ◌∙◌, arith, subst}
 use Rattle.std.proofs.lemmas.List.{get_or_read_under}
 use Rattle.trace_model.specs.Frames.{clearing}
 use Rattle.trace_model.specs.Steps as model
@@ -13,6 +13,9 @@ use Rattle.ring_shared.proofs.Called.{writer_seen, top_seen, phase_seen}
 use Rattle.ring_shared.proofs.Bounds.{done_now, count_now, noted_bounds}
 use Rattle.ring_shared.proofs.GoingOn.{goes_on, as_called}
 use Rattle.ring_shared.proofs.LinkMoves.{cleared}
+use Rattle.std.specs.Prelude.{◌≤◌}
+use Rattle.ring_steps.specs.Ends.{passed_in}
+use Rattle.ring_shared.proofs.Nearing.{nearer_quietly}
 use Rattle.ring_shared.proofs.writer.Writer.clear.Goals as goal
 
 pub overflow_sub-noted : goal.overflow_sub-noted
@@ -60,8 +63,8 @@ clear-requires-clause-front c =
     get_or_read_under v.pages (c.args.noted - 1 - c.done.result) _ c.index-front.result.now 0 c.index-front.ensures (omega arith) refl
     ∙ (ap (λ (pages : List ℕ). slice_index_or pages (c.args.noted - 1 - c.done.result) 0) (sym w.pages_are) ∙ ap (λ (d : ℕ). slice_index_or v.part.open_pages (c.args.noted - 1 - d) 0) done)
 
-pub returns : goal.returns
-returns c =
+pub returns-clause-makes : goal.returns-clause-makes
+returns-clause-makes c =
     let v : WriterValue = the_view c.self.inside in
     let w : IsWriter v = writer_seen c.self.view_is c.requires.writer in
     let some = top_seen c.self.view_is c.requires.top in
@@ -71,3 +74,10 @@ returns c =
     as_called v c.args.self.now new c.answer.result c.self.view_is (c.answer.ensures ∙ ap told c.go_on.ensures.answer)
     (goes_on v new w some (clearing c.args.noted c.args.page) c.args.noted (Opening c.args.noted c.args.page) (Opening c.args.noted c.args.page) _ at refl refl refl c.clear.ensures.shape c.clear.ensures.table refl c.go_on.ensures.goes_on s
     (λ frame below step. cleared v.shape.pages s.core frame below model.going s.next c.args.noted c.args.page step))
+
+pub returns-clause-nearer : goal.returns-clause-nearer
+returns-clause-nearer c =
+    let x : WriterValue = c.args.self.now in
+    let m = returns-clause-makes c in
+    nearer_quietly x _ m.shape_is (subst (λ (y : WriterValue). y.passed ≤ passed_in c.clear.new.self) c.self.view_is c.clear.ensures.knows) _
+    (clearing c.args.noted c.args.page) m (phase_shown x c.requires.writer (clearing c.args.noted c.args.page) c.requires.top (ap phase_of c.requires.phase)) tt

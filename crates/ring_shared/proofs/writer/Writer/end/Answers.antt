@@ -8,6 +8,6 @@ use Rattle.ring_shared.proofs.writer.Writer.end.Goals as goal
 pub note-requires : goal.note-requires
 note-requires c = record { due = end_leads _ (subst IsWriter (sym c.self.view_is) c.requires.writer) }
 
-pub returns : goal.returns
-returns c =
-    seen_call _ _ (λ x. ends (top_bytes x.frames.stack x.frames.stack.frames)) c.end.result _ c.self.view_is c.requires.writer c.note.ensures.shape c.note.ensures.table c.note.ensures.noted refl c.end.ensures
+pub returns-clause-makes : goal.returns-clause-makes
+returns-clause-makes c =
+    seen_call _ _ (λ x. ends (top_bytes x.frames.stack x.frames.stack.frames)) c.end.result _ c.self.view_is c.requires.writer c.note.ensures.shape c.note.ensures.table c.note.ensures.noted refl c.end.ensures.step

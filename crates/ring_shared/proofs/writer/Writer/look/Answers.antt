@@ -14,13 +14,16 @@ use Rattle.ring_frames.specs.declared.phase.Phase.{Phase}
 use Rattle.ring_frames.specs.Value.{phase_of}
 use Rattle.ring_steps.specs.Linking.{tail_in}
 use Rattle.ring_shared.specs.Value.{WriterValue}
-use Rattle.ring_shared.specs.Calls.{IsWriter, Makes}
+use Rattle.ring_shared.specs.Calls.{IsWriter, MakesSome}
 use Rattle.ring_shared.specs.contracts.writer.Writer.{the_view}
 use Rattle.ring_shared.proofs.Standing.{leads_nowhere, phase_shown}
 use Rattle.ring_shared.proofs.Called.{writer_seen, top_seen, phase_seen}
 use Rattle.ring_shared.proofs.Bounds.{opened_now}
 use Rattle.ring_shared.proofs.GoingOn.{Moves, goes_on, as_called}
 use Rattle.ring_shared.proofs.LinkMoves.{found_at, looked}
+use Rattle.ring_steps.specs.Ends.{passed_in}
+use Rattle.ring_shared.specs.Nearer.{IsNearer}
+use Rattle.ring_shared.proofs.Nearing.{nearer_looking}
 use Rattle.ring_shared.proofs.writer.Writer.look.Goals.{in-Normal, in-Header, in-Update}
 use Rattle.ring_shared.proofs.writer.Writer.look.Goals as goal
 
@@ -37,8 +40,8 @@ load_link-link-requires-clause-phase c =
 pub load_link-link-requires-clause-tail : goal.load_link-link-requires-clause-tail
 load_link-link-requires-clause-tail c = c.tail-tail.ensures ∙ ap (λ (x : WriterValue). tail_in x.part) (sym c.self.view_is)
 
-pub returns : goal.returns
-returns c =
+pub returns-clause-makes : goal.returns-clause-makes
+returns-clause-makes c =
     let v : WriterValue = the_view c.self.inside in
     let w : IsWriter v = writer_seen c.self.view_is c.requires.writer in
     let some = top_seen c.self.view_is c.requires.top in
@@ -47,12 +50,12 @@ returns c =
     let new : WriterValue = the_view record { seat = c.load_link-link.new.self; frames = c.go_on.new.self; pages = c.self.inside.pages } in
     let l = c.load_link-link.result in
     let s = c.load_link-link.ensures.step in
-    let link : link_into v.shape.pages s.core.links c.args.noted ≡ link_of l = ap (link_into v.shape.pages s.core.links) now ∙ s.seen in
+    let link : link_into v.shape.pages s.core.links c.args.noted ≡ link_of l = ap (link_into v.shape.pages s.core.links) now ∙ s.seen.1 in
     let here : c.args.noted ≡ s.core.opened = now ∙ ap (λ (p : Writing). p.opened) (sym s.before_is) in
     let found : (m : Mark) → l.mark ≡ m → Moves v (looking c.args.noted) (found_at (mark_of m) c.args.noted l.page) s.core s.next =
     λ m e frame below step. subst (λ (k : Mark). writing_of s.next ≡ writing_of (model.in_phase s.core frame below (found_at (mark_of k) c.args.noted l.page))) e
     (looked v.shape.pages s.core frame below model.going s.next c.args.noted (link_of l) here link step) in
-    let goes : (p : Phase) → noted_fill (phase_of p) ≡ Some c.args.noted → c.match-link.phase ≡ p → Moves v (looking c.args.noted) (phase_of p) s.core s.next → Makes v model.steps Going new =
+    let goes : (p : Phase) → noted_fill (phase_of p) ≡ Some c.args.noted → c.match-link.phase ≡ p → Moves v (looking c.args.noted) (phase_of p) s.core s.next → MakesSome v model.steps Going new =
     λ p noted_is is moves. goes_on v new w some (looking c.args.noted) c.args.noted c.match-link.phase p _ at refl noted_is is c.load_link-link.ensures.shape c.load_link-link.ensures.table refl c.go_on.ensures.goes_on s moves in
     as_called v c.args.self.now new c.answer.result c.self.view_is (c.answer.ensures ∙ ap told c.go_on.ensures.answer)
     (elim c.match-link.branch [
@@ -60,3 +63,13 @@ returns c =
       | in-Header b ↦ goes (Claiming c.args.noted l.page) refl b.phase-is (found Header b.in-Header.is)
       | in-Update b ↦ goes (LookingNext Helper c.args.noted l.page) refl b.phase-is (found Update b.in-Update.is)
     ])
+
+pub returns-clause-nearer : goal.returns-clause-nearer
+returns-clause-nearer c =
+    let v : WriterValue = the_view c.self.inside in
+    let w : IsWriter v = writer_seen c.self.view_is c.requires.writer in
+    let new : WriterValue = the_view record { seat = c.load_link-link.new.self; frames = c.go_on.new.self; pages = c.self.inside.pages } in
+    let s = c.load_link-link.ensures.step in
+    subst (λ (x : WriterValue). IsNearer x new) c.self.view_is
+    (nearer_looking v new c.load_link-link.ensures.shape c.load_link-link.ensures.knows c.args.noted _ model.going s
+    (phase_shown v w (looking c.args.noted) (top_seen c.self.view_is c.requires.top) (phase_seen c.self.view_is c.requires.phase)) s.seen.0)

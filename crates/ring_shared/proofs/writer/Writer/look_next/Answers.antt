@@ -13,13 +13,15 @@ use Rattle.ring_frames.specs.declared.answer.Answer.TheVariants.{Going}
 use Rattle.ring_frames.specs.Phases.{told}
 use Rattle.ring_frames.specs.Value.{phase_of, role_of}
 use Rattle.ring_shared.specs.Value.{WriterValue}
-use Rattle.ring_shared.specs.Calls.{IsWriter, Makes}
+use Rattle.ring_shared.specs.Calls.{IsWriter, MakesSome}
 use Rattle.ring_shared.specs.contracts.writer.Writer.{the_view}
 use Rattle.ring_shared.proofs.Standing.{leads_nowhere, phase_shown}
 use Rattle.ring_shared.proofs.Called.{writer_seen, top_seen, phase_seen}
 use Rattle.ring_shared.proofs.Bounds.{opened_now, noted_bounds, advances}
 use Rattle.ring_shared.proofs.GoingOn.{Moves, goes_on, as_called}
 use Rattle.ring_shared.proofs.LinkMoves.{noted_after, says_normal, waits, is_passed}
+use Rattle.ring_steps.specs.Ends.{passed_in}
+use Rattle.ring_shared.proofs.Nearing.{nearer_quietly}
 use Rattle.ring_shared.proofs.writer.Writer.look_next.Goals.{in-Normal, in_default, in_default-via-in-Normal+else-link-behind, in_default-via-in_default}
 use Rattle.ring_shared.proofs.writer.Writer.look_next.Goals as goal
 
@@ -52,12 +54,12 @@ load_next-link-requires-clause-phase c =
       role = role_of c.args.role;
       noted = c.args.noted;
       phase = phase_shown v w (looking_next (role_of c.args.role) c.args.noted c.args.page) some at;
-      goes_on = subst (GoesOn (role_of c.args.role) c.args.noted) (ap (λ (x : WriterValue). opened x.frames.stack) (sym c.self.view_is) ∙ opened_now v w) (c.stops.ensures.goes_on c.if-stops.false);
+      goes_on = subst (GoesOn (role_of c.args.role) c.args.noted) (opened_now v w) (c.stops.ensures.goes_on c.if-stops.false);
       behind_is = omega arith;
     }
 
-pub returns : goal.returns
-returns c =
+pub returns-clause-makes : goal.returns-clause-makes
+returns-clause-makes c =
     let v : WriterValue = the_view c.self.inside in
     let w : IsWriter v = writer_seen c.self.view_is c.requires.writer in
     let some = top_seen c.self.view_is c.requires.top in
@@ -66,14 +68,14 @@ returns c =
     let new : WriterValue = the_view record { seat = c.load_next-link.new.self; frames = c.go_on.new.self; pages = c.self.inside.pages } in
     let s = c.load_next-link.ensures.step in
     let on : GoesOn (role_of c.args.role) c.args.noted s.core.opened = subst (GoesOn (role_of c.args.role) c.args.noted)
-    (ap (λ (x : WriterValue). opened x.frames.stack) (sym c.self.view_is) ∙ opened_now v w ∙ ap (λ (p : Writing). p.opened) (sym s.before_is)) (c.stops.ensures.goes_on c.if-stops.false) in
+    (opened_now v w ∙ ap (λ (p : Writing). p.opened) (sym s.before_is)) (c.stops.ensures.goes_on c.if-stops.false) in
     let pages : c.pages.result ≡ v.shape.pages = c.pages.ensures.pages ∙ w.frames_are.pages_is in
     let round : v.shape.pages ≤ c.args.noted = advances v w from some at in
     let behind : ℕ = c.args.noted + 1 - c.pages.result in
     let sum : behind + v.shape.pages ≡ c.args.noted + 1 = omega arith in
     let l = c.load_next-link.result in
     let marked : Mark → Link = λ (m : Mark). record { mark = mark_of m; page = l.page; fill = l.fill } in
-    let goes : (p : Phase) → noted_fill (phase_of p) ≡ Some c.args.noted → c.match-link.phase ≡ p → Moves v from (phase_of p) s.core s.next → Makes v model.steps Going new =
+    let goes : (p : Phase) → noted_fill (phase_of p) ≡ Some c.args.noted → c.match-link.phase ≡ p → Moves v from (phase_of p) s.core s.next → MakesSome v model.steps Going new =
     λ p noted_is is moves. goes_on v new w some from c.args.noted c.match-link.phase p _ at refl noted_is is c.load_next-link.ensures.shape c.load_next-link.ensures.table refl c.go_on.ensures.goes_on s moves in
     as_called v c.args.self.now new c.answer.result c.self.view_is (c.answer.ensures ∙ ap told c.go_on.ensures.answer)
     (elim c.match-link.branch [
@@ -88,3 +90,10 @@ returns c =
             | in_default-via-in_default d ↦ d.in_default.not-Normal (says_normal l.mark (ap (λ (k : Link). k.mark) e))
           ]) step))
     ])
+
+pub returns-clause-nearer : goal.returns-clause-nearer
+returns-clause-nearer c =
+    let x : WriterValue = c.args.self.now in
+    let m = returns-clause-makes c in
+    nearer_quietly x _ m.shape_is (subst (λ (y : WriterValue). y.passed ≤ passed_in c.load_next-link.new.self) c.self.view_is c.load_next-link.ensures.knows) _
+    (looking_next (role_of c.args.role) c.args.noted c.args.page) m (phase_shown x c.requires.writer (looking_next (role_of c.args.role) c.args.noted c.args.page) c.requires.top (ap phase_of c.requires.phase)) tt

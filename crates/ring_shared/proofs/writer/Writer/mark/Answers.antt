@@ -15,6 +15,8 @@ use Rattle.ring_shared.proofs.Called.{writer_seen, top_seen, phase_seen}
 use Rattle.ring_shared.proofs.Bounds.{opened_now, noted_bounds, advances, fits}
 use Rattle.ring_shared.proofs.GoingOn.{goes_on, as_called}
 use Rattle.ring_shared.proofs.LinkMoves.{noted_after, marked}
+use Rattle.ring_steps.specs.Ends.{passed_in}
+use Rattle.ring_shared.proofs.Nearing.{nearer_quietly}
 use Rattle.ring_shared.proofs.writer.Writer.mark.Goals as goal
 
 pub overflow_add-behind : goal.overflow_add-behind
@@ -46,7 +48,7 @@ mark_next-marked-requires-clause-phase c =
       role = role_of c.args.role;
       noted = c.args.noted;
       phase = phase_shown v w (marking (role_of c.args.role) c.args.noted c.args.page c.args.next) some at;
-      goes_on = subst (GoesOn (role_of c.args.role) c.args.noted) (ap (λ (x : WriterValue). opened x.frames.stack) (sym c.self.view_is) ∙ opened_now v w) (c.stops.ensures.goes_on c.if-stops.false);
+      goes_on = subst (GoesOn (role_of c.args.role) c.args.noted) (opened_now v w) (c.stops.ensures.goes_on c.if-stops.false);
       behind_is = omega arith;
     }
 
@@ -59,8 +61,8 @@ mark_next-marked-requires-clause-fits c =
     fits v w (marking (role_of c.args.role) c.args.noted c.args.page c.args.next) (top_seen c.self.view_is c.requires.top)
     (phase_seen c.self.view_is c.requires.phase) (omega arith)
 
-pub returns : goal.returns
-returns c =
+pub returns-clause-makes : goal.returns-clause-makes
+returns-clause-makes c =
     let v : WriterValue = the_view c.self.inside in
     let w : IsWriter v = writer_seen c.self.view_is c.requires.writer in
     let some = top_seen c.self.view_is c.requires.top in
@@ -69,10 +71,17 @@ returns c =
     let new : WriterValue = the_view record { seat = c.mark_next-marked.new.self; frames = c.go_on.new.self; pages = c.self.inside.pages } in
     let s = c.mark_next-marked.ensures.step in
     let on : GoesOn (role_of c.args.role) c.args.noted s.core.opened = subst (GoesOn (role_of c.args.role) c.args.noted)
-    (ap (λ (x : WriterValue). opened x.frames.stack) (sym c.self.view_is) ∙ opened_now v w ∙ ap (λ (p : Writing). p.opened) (sym s.before_is)) (c.stops.ensures.goes_on c.if-stops.false) in
+    (opened_now v w ∙ ap (λ (p : Writing). p.opened) (sym s.before_is)) (c.stops.ensures.goes_on c.if-stops.false) in
     let next : Phase = c.after_next.result in
     as_called v c.args.self.now new c.answer.result c.self.view_is (c.answer.ensures ∙ ap told c.go_on.ensures.answer)
     (goes_on v new w some from c.args.noted next next _ at refl (ap noted_fill c.after_next.ensures ∙ noted_after (role_of c.args.role) c.args.noted c.args.page) refl
     c.mark_next-marked.ensures.shape c.mark_next-marked.ensures.table refl c.go_on.ensures.goes_on s
     (λ frame below step. subst (λ (p : ModelPhase). writing_of s.next ≡ writing_of (model.in_phase s.core frame below p)) (sym c.after_next.ensures)
     (marked v.shape.pages s.core frame below model.going s.next (role_of c.args.role) c.args.noted c.args.page c.args.next on step)))
+
+pub returns-clause-nearer : goal.returns-clause-nearer
+returns-clause-nearer c =
+    let x : WriterValue = c.args.self.now in
+    let m = returns-clause-makes c in
+    nearer_quietly x _ m.shape_is (subst (λ (y : WriterValue). y.passed ≤ passed_in c.mark_next-marked.new.self) c.self.view_is c.mark_next-marked.ensures.knows) _
+    (marking (role_of c.args.role) c.args.noted c.args.page c.args.next) m (phase_shown x c.requires.writer (marking (role_of c.args.role) c.args.noted c.args.page c.args.next) c.requires.top (ap phase_of c.requires.phase)) tt

@@ -5,12 +5,16 @@ use Rattle.ring_frames.specs.declared.phase.Phase.TheVariants.{Opening}
 use Rattle.ring_frames.specs.declared.answer.Answer.{Answer}
 use Rattle.ring_frames.specs.Fills.{OpensFill}
 use Rattle.ring_shared.specs.Value.{WriterValue}
-use Rattle.ring_shared.specs.Calls.{IsWriter, Makes}
+use Rattle.ring_shared.specs.Calls.{IsWriter, MakesSome}
 use Rattle.ring_shared.specs.contracts.writer.Writer.{the_view}
 use Rattle.ring_shared.proofs.Standing.{leads_nowhere, phase_shown}
 use Rattle.ring_shared.proofs.Called.{writer_seen, top_seen, phase_seen}
 use Rattle.ring_shared.proofs.Bounds.{opened_now, count_now, noted_bounds}
 use Rattle.ring_shared.proofs.PageMoves.{opens_fill}
+use Rattle.std.specs.Prelude.{◌≤◌}
+use Rattle.ring_frames.specs.Value.{phase_of}
+use Rattle.ring_steps.specs.Ends.{passed_in}
+use Rattle.ring_shared.proofs.Nearing.{nearer_quietly}
 use Rattle.ring_shared.proofs.writer.Writer.open.Goals as goal
 
 pub open-body-requires-clause-due : goal.open-body-requires-clause-due
@@ -41,12 +45,19 @@ pub open-requires-clause-phase : goal.open-requires-clause-phase
 open-requires-clause-phase c =
     (c.args.page, ap (λ (x : WriterValue). x.frames.phase) c.self.view_is ∙ c.requires.phase ∙ ap (λ noted. Opening noted c.args.page) (c.if-noted-opened.false ∙ c.opened.ensures.begun))
 
-pub returns : goal.returns
-returns c =
+pub returns-clause-makes : goal.returns-clause-makes
+returns-clause-makes c =
     let v : WriterValue = the_view c.self.inside in
     let w : IsWriter v = writer_seen c.self.view_is c.requires.writer in
     let new : WriterValue = the_view record { seat = c.open-body.new.self; frames = c.open.new.self; pages = c.push_back_reserved.new.self } in
-    subst (λ (x : WriterValue). Makes x model.steps c.answer.result new) c.self.view_is
+    subst (λ (x : WriterValue). MakesSome x model.steps c.answer.result new) c.self.view_is
     (opens_fill v new w (top_seen c.self.view_is c.requires.top) c.open-body.ensures.shape c.open-body.ensures.table _ c.args.noted c.args.page c.answer.result
     (phase_seen c.self.view_is c.requires.phase) (c.if-noted-opened.false ∙ c.opened.ensures.begun ∙ opened_now v w)
-    (subst (λ (r : Answer). OpensFill v.frames r new.frames) (sym c.answer.ensures) c.open.ensures) c.push_back_reserved.ensures.items c.open-body.ensures.step)
+    (subst (λ (r : Answer). OpensFill v.frames r new.frames) (sym c.answer.ensures) c.open.ensures.opens) c.push_back_reserved.ensures.items c.open-body.ensures.step)
+
+pub returns-clause-nearer : goal.returns-clause-nearer
+returns-clause-nearer c =
+    let x : WriterValue = c.args.self.now in
+    let m = returns-clause-makes c in
+    nearer_quietly x _ m.shape_is (subst (λ (y : WriterValue). y.passed ≤ passed_in c.open-body.new.self) c.self.view_is c.open-body.ensures.knows) _
+    (opening c.args.noted c.args.page) m (phase_shown x c.requires.writer (opening c.args.noted c.args.page) c.requires.top (ap phase_of c.requires.phase)) tt

@@ -4,12 +4,16 @@ use Rattle.trace_model.specs.Frames.{releasing}
 use Rattle.trace_model.specs.Steps as model
 use Rattle.ring_frames.specs.declared.answer.Answer.TheVariants.{Going}
 use Rattle.ring_shared.specs.Value.{WriterValue}
-use Rattle.ring_shared.specs.Calls.{IsWriter, Makes}
+use Rattle.ring_shared.specs.Calls.{IsWriter, MakesSome}
 use Rattle.ring_shared.specs.contracts.writer.Writer.{the_view}
 use Rattle.ring_shared.proofs.Standing.{leads_nowhere, phase_shown}
 use Rattle.ring_shared.proofs.Called.{writer_seen, top_seen, phase_seen}
 use Rattle.ring_shared.proofs.Bounds.{some_open}
 use Rattle.ring_shared.proofs.PageMoves.{closes_fill, is_written}
+use Rattle.std.specs.Prelude.{◌≤◌}
+use Rattle.ring_frames.specs.Value.{phase_of}
+use Rattle.ring_steps.specs.Ends.{passed_in}
+use Rattle.ring_shared.proofs.Nearing.{nearer_quietly}
 use Rattle.ring_shared.proofs.writer.Writer.release.Goals as goal
 
 pub release-requires-clause-due : goal.release-requires-clause-due
@@ -30,7 +34,7 @@ release-requires-clause-oldest c =
 pub release-requires-clause-written : goal.release-requires-clause-written
 release-requires-clause-written c =
     let v : WriterValue = the_view c.self.inside in
-    is_written v (writer_seen c.self.view_is c.requires.writer) c.release-page.result c.release-page.new.self c.release-page.ensures
+    is_written v (writer_seen c.self.view_is c.requires.writer) c.release-page.result c.release-page.new.self c.release-page.ensures.releases
 
 pub unreachable-requires : goal.unreachable-requires
 unreachable-requires c =
@@ -38,11 +42,18 @@ unreachable-requires c =
     let wide = c.self.inside.pages.ok.0 in
     let there = subst IsSome c.in-None.is (c.pop_front.ensures.variant.1 (omega arith)) in cc
 
-pub returns : goal.returns
-returns c =
+pub returns-clause-makes : goal.returns-clause-makes
+returns-clause-makes c =
     let v : WriterValue = the_view c.self.inside in
     let w : IsWriter v = writer_seen c.self.view_is c.requires.writer in
     let new : WriterValue = the_view record { seat = c.release.new.self; frames = c.release-page.new.self; pages = c.pop_front.new.self } in
-    subst (λ (x : WriterValue). Makes x model.steps Going new) c.self.view_is
-    (closes_fill v new w (top_seen c.self.view_is c.requires.top) c.release.ensures.shape c.release.ensures.table _ c.release-page.result c.release-page.ensures
+    subst (λ (x : WriterValue). MakesSome x model.steps Going new) c.self.view_is
+    (closes_fill v new w (top_seen c.self.view_is c.requires.top) c.release.ensures.shape c.release.ensures.table _ c.release-page.result c.release-page.ensures.releases
     (sym (ap (drop 1) c.in-Some.ensures.items)) c.release.ensures.step)
+
+pub returns-clause-nearer : goal.returns-clause-nearer
+returns-clause-nearer c =
+    let x : WriterValue = c.args.self.now in
+    let m = returns-clause-makes c in
+    nearer_quietly x _ m.shape_is (subst (λ (y : WriterValue). y.passed ≤ passed_in c.release.new.self) c.self.view_is c.release.ensures.knows) _
+    (releasing) m (phase_shown x c.requires.writer (releasing) c.requires.top (ap phase_of c.requires.phase)) tt

@@ -7,6 +7,11 @@ use Rattle.ring_frames.specs.Value.{phase_of}
 use Rattle.ring_shared.specs.Value.{WriterValue}
 use Rattle.ring_shared.specs.Calls.{IsWriter}
 use Rattle.ring_shared.proofs.Privately.{step_leads, seen_call}
+use Rattle.std.specs.Prelude.{◌≤◌}
+use Rattle.trace_model.specs.Frames.{idle}
+use Rattle.ring_steps.specs.Ends.{passed_in}
+use Rattle.ring_shared.proofs.Standing.{phase_shown}
+use Rattle.ring_shared.proofs.Nearing.{nearer_quietly}
 use Rattle.ring_shared.proofs.writer.Writer.reserve.Goals as goal
 
 pub note-requires : goal.note-requires
@@ -16,6 +21,13 @@ note-requires c = let idle = ap (λ (x : WriterValue). x.frames.phase) c.self.vi
           (subst (λ (p : Phase). PhaseIsPrivate (phase_of p) (opened c.self.inside.frames.stack)) (sym idle) tt);
     }
 
-pub returns : goal.returns
-returns c =
-    seen_call _ _ (λ _. steps) c.reserve.result _ c.self.view_is c.requires.writer c.note.ensures.shape c.note.ensures.table c.note.ensures.noted refl c.reserve.ensures
+pub returns-clause-makes : goal.returns-clause-makes
+returns-clause-makes c =
+    seen_call _ _ (λ _. steps) c.reserve.result _ c.self.view_is c.requires.writer c.note.ensures.shape c.note.ensures.table c.note.ensures.noted refl c.reserve.ensures.step
+
+pub returns-clause-nearer : goal.returns-clause-nearer
+returns-clause-nearer c =
+    let x : WriterValue = c.args.self.now in
+    let m = returns-clause-makes c in
+    nearer_quietly x _ m.shape_is (subst (λ (y : WriterValue). y.passed ≤ passed_in c.note.new.self) c.self.view_is c.note.ensures.knows) _
+    (idle) m (phase_shown x c.requires.writer (idle) c.requires.top (ap phase_of c.requires.phase)) tt

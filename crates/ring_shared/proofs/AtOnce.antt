@@ -1,0 +1,224 @@
+-- A record that is written at once: the private steps behind it, and the look for the reader's wish.
+use Rattle.std.specs.Prelude.{◌⊎◌, ◌==◌, Bool, if◌then◌else◌}
+use Rattle.std.proofs.Common.{◌≡◌, ◌≢◌, ℕ, ◌+◌, List, [], ◌∷◌, length, refl, sym, ap, ◌∙◌, subst, inl, inr, eq-eqb, arith}
+use Rattle.trace_model.specs.declared.numbers.RecordNo.{RecordNo}
+use Rattle.trace_model.specs.Words.{padded}
+use Rattle.trace_model.specs.Frames.{for_record, left, wishing, Frame}
+use Rattle.trace_model.specs.Ring.{Core}
+use Rattle.trace_model.specs.Steps as model
+use Rattle.link_marks.specs.Reached.{IsReached}
+use Rattle.link_marks.specs.Seats.{IsPrivate}
+use Rattle.link_marks.specs.FrameOutcomes.{IsLeaving}
+use Rattle.link_marks.proofs.PrivateSteps.{private_result, changes_privately}
+use Rattle.link_marks.proofs.RingsKept.{reached_further}
+use Rattle.link_marks.proofs.TopSteps.{top_stepped}
+use Rattle.nested_writer.specs.declared.frame.Frame as stack
+use Rattle.nested_writer.specs.declared.stack.leave.Ended.TheVariants.{Full}
+use Rattle.nested_writer.specs.Stack.{Stack, opened, next_number}
+use Rattle.nested_writer.specs.AtOnce.{with_record}
+use Rattle.ring_frames.specs.declared.answer.Answer.{Answer}
+use Rattle.ring_frames.specs.declared.answer.Answer.TheVariants.{Pushed, Going, Reserved, Ended}
+use Rattle.ring_frames.specs.declared.phase.Phase.{Phase}
+use Rattle.ring_frames.specs.declared.phase.Phase.TheVariants.{Releasing, Wishing}
+use Rattle.ring_frames.specs.Value.{FramesValue, phase_of}
+use Rattle.ring_frames.specs.Phases.{closing_phase}
+use Rattle.ring_frames.specs.AreFrames.{ring_frames}
+use Rattle.ring_frames.specs.Steps.{IsFrames}
+use Rattle.ring_frames.specs.AtOnce.{IsWriteAtOnce, WritesAtOnce, IsWrittenAlone}
+use Rattle.ring_steps.specs.declared.rule.Shape.{Shape}
+use Rattle.ring_steps.specs.Views.{Writing, writing_of}
+use Rattle.ring_steps.specs.Seats.{Leads}
+use Rattle.ring_steps.specs.Paging.{IsTopIn}
+use Rattle.ring_shared.specs.Value.{WriterValue}
+use Rattle.ring_shared.specs.Calls.{IsWriter, IsCall}
+use Rattle.ring_shared.specs.Finishing.{at_once, Reserves, Leaves, is_gone, Finishes}
+use Rattle.ring_shared.specs.WholeWrites.{IsWritten}
+use Rattle.ring_shared.proofs.Behind.{behind, behind_write}
+use Rattle.ring_shared.proofs.Privately.{behind_is}
+use Rattle.ring_shared.proofs.Standing.{frames_in, kept_now, phase_shown}
+use Rattle.ring_shared.proofs.Aims.{frames_of}
+use Rattle.ring_shared.proofs.Finishes.{reserving_first, reserving_ends, leaves_behind}
+use Rattle.ring_shared.proofs.WholeWrites.{HasBegun, has_begun, finished_leaving}
+
+-- ---- the look for the reader's wish
+
+-- the frame goes on, or is gone, and then none stood below it
+pub data Wished (frame : Frame) (below : List Frame) (answer : model.Answer) (after : List Frame) : Type 0 where
+  wishes_on : (next : Frame) → answer ≡ model.going → after ≡ next ∷ below → next.kind ≡ frame.kind → next.state ≡ frame.state → Wished frame below answer after
+  wished_gone : answer ≡ model.gone → after ≡ below → Wished frame below answer after
+
+wish_outcome : (n : ℕ) (c : Core) (frame : Frame) (below : List Frame) (answer : model.Answer) (after : Core) → model.WishStep n c frame below answer after → Wished frame below answer after.frames
+wish_outcome n c frame below answer after (model.grants alone granted a is) = wishes_on _ a (ap (λ (d : Core). d.frames) is) refl refl
+wish_outcome n c frame below answer after (model.closes_more alone denied more a is) = wishes_on _ a (ap (λ (d : Core). d.frames) is) refl refl
+wish_outcome n c frame below answer after (model.goes_away alone denied last a is) = wished_gone a (ap (λ (d : Core). d.frames) is ∙ sym alone)
+
+-- ---- private steps
+
+open_stay : (n size : ℕ) (c : Core) (event : model.Event) (answer : model.Answer) (after : Core) → IsPrivate c event → model.Step n size c event answer after → after.open_pages ≡ c.open_pages
+open_stay n size c event answer after own step = ap (λ (d : Core). d.open_pages) (changes_privately c after (private_result n size c event answer after own step))
+
+module _ (v : WriterValue) (w : IsWriter v) (moment : ℕ) (payload : List ℕ) (frames : FramesValue) (wrote : WritesAtOnce v.frames moment payload frames) (alone : IsWrittenAlone v.frames moment payload frames) where
+  abbrev n : ℕ
+  n = v.shape.pages
+
+  abbrev size : ℕ
+  size = v.shape.size
+
+  abbrev start : ℕ
+  start = v.shape.start
+
+  abbrev now : Writing
+  now = behind_write v.shape v.part moment payload
+
+  abbrev pub mid : WriterValue
+  mid = record v { part = now; frames = frames }
+
+  module _ (c : Core) (reached : IsReached n size start c) (is : writing_of c ≡ v.part) where
+    abbrev h : IsWriteAtOnce n size start c moment payload (next_number v.frames.stack) frames
+    h = wrote n size start c reached (frames_in v w c is)
+
+    pushed_part : writing_of h.pushed ≡ behind v.shape v.part (model.pushes moment (length payload))
+    pushed_part = behind_is v.shape v.part c (model.pushes moment (length payload)) model.pushed h.pushed is h.push_private h.push
+
+    reserved_part : writing_of h.reserved ≡ behind v.shape (behind v.shape v.part (model.pushes moment (length payload))) model.steps
+    reserved_part = behind_is v.shape (behind v.shape v.part (model.pushes moment (length payload))) h.pushed model.steps (model.reserved_as (next_number v.frames.stack)) h.reserved pushed_part h.reserve_private h.reserve
+
+    now_part : writing_of h.after ≡ now
+    now_part = behind_is v.shape (behind v.shape (behind v.shape v.part (model.pushes moment (length payload))) model.steps) h.reserved (model.ends (padded payload)) model.full h.after reserved_part h.end_private h.end
+
+  pub leads_write : Leads v.shape v.part now
+  leads_write = λ c reached is. (
+    record { event = model.pushes moment (length payload); answer = model.pushed } ∷ record { event = model.steps; answer = model.reserved_as (next_number v.frames.stack) } ∷ record { event = model.ends (padded payload); answer = model.full } ∷ [],
+    (h c reached is).after,
+    (
+      (h c reached is).push_private,
+      (h c reached is).pushed,
+      (h c reached is).push,
+      (
+        (h c reached is).reserve_private,
+        (h c reached is).reserved,
+        (h c reached is).reserve,
+        ((h c reached is).end_private, (h c reached is).after, (h c reached is).end, refl),
+      ),
+    ),
+    now_part c reached is,
+  )
+
+  abbrev first : IsWriteAtOnce n size start w.core moment payload (next_number v.frames.stack) frames
+  first = h w.core w.reached w.part_is
+
+  pushed_reached : IsReached n size start first.pushed
+  pushed_reached = reached_further n size start w.core (model.pushes moment (length payload)) model.pushed first.pushed w.reached first.push
+
+  reserved_reached : IsReached n size start first.reserved
+  reserved_reached = reached_further n size start first.pushed model.steps (model.reserved_as (next_number v.frames.stack)) first.reserved pushed_reached first.reserve
+
+  after_reached : IsReached n size start first.after
+  after_reached = reached_further n size start first.reserved (model.ends (padded payload)) model.full first.after reserved_reached first.end
+
+  pages_stay : now.open_pages ≡ v.part.open_pages
+  pages_stay = ap (λ (x : Writing). x.open_pages) (sym (now_part w.core w.reached w.part_is))
+      ∙ (open_stay n size first.reserved (model.ends (padded payload)) model.full first.after first.end_private first.end
+      ∙ (open_stay n size first.pushed model.steps (model.reserved_as (next_number v.frames.stack)) first.reserved first.reserve_private first.reserve
+      ∙ (open_stay n size w.core (model.pushes moment (length payload)) model.pushed first.pushed first.push_private first.push
+      ∙ ap (λ (x : Writing). x.open_pages) w.part_is)))
+
+  -- the writer behind them
+  pub writer_mid : IsWriter mid
+  writer_mid = record {
+    core = first.after;
+    reached = after_reached;
+    part_is = now_part w.core w.reached w.part_is;
+    frames_are = first.are;
+    pages_are = pages_stay ∙ w.pages_are;
+  }
+
+  pub frames_mid : IsFrames frames
+  frames_mid = (n, size, start, first.after, record { reached = after_reached; are = first.are })
+
+  -- ---- it looks for the wish
+
+  stack_at_rest : v.frames.stack.done + 1 ≡ opened v.frames.stack
+  stack_at_rest =
+      let none : w.core.frames ≡ [] = w.frames_are.frames_are ∙ ap (λ (fs : List stack.Frame). ring_frames fs (v.frames.phase ∷ v.frames.below)) alone.none in
+      let rest = (kept_now v w).stack.at_rest none in let done = w.frames_are.done_is in let begun = w.frames_are.opened_is in omega arith
+
+  pub wishes_next : frames.phase ≡ Wishing
+  wishes_next = alone.phase ∙ (ap closing_phase alone.stack
+      ∙ subst (λ (b : Bool). (let phase : Phase = if b then Wishing else Releasing in phase) ≡ Wishing) (sym (eq-eqb (v.frames.stack.done + 1) (opened v.frames.stack) stack_at_rest)) refl)
+
+  abbrev bottom : Frame
+  bottom = record { kind = for_record moment (length payload); state = left; phase = wishing }
+
+  bottom_is : now.frames ≡ bottom ∷ []
+  bottom_is = frames_of mid writer_mid
+      ∙ (ap (λ (s : Stack). ring_frames s.frames (frames.phase ∷ frames.below)) alone.stack
+      ∙ (ap (λ (p : Phase). ring_frames (with_record v.frames.stack moment payload).frames (p ∷ frames.below)) wishes_next
+      ∙ ap (λ (ps : List Phase). ring_frames (with_record v.frames.stack moment payload).frames (Wishing ∷ ps)) alone.below))
+
+  pub some_mid : frames.stack.frames ≢ []
+  some_mid none = let one = ap (λ (s : Stack). length s.frames) alone.stack in let zero = ap (length {A = stack.Frame}) none in absurd (omega arith)
+
+  pub wishing_mid : IsTopIn now.frames wishing
+  wishing_mid = subst (λ (fs : List Frame). IsTopIn fs wishing) (sym bottom_is) refl
+
+  -- ---- the record
+
+  abbrev number : RecordNo
+  number = record { 0 = next_number v.frames.stack }
+
+  abbrev pushed_as : Writing
+  pushed_as = writing_of first.pushed
+
+  push_call : IsCall v.shape v.part (model.pushes moment (length payload)) Pushed pushed_as
+  push_call = record { core = w.core; next = first.pushed; answer = model.pushed; reached = w.reached; before_is = w.part_is; step = first.push; after_is = refl; tells = refl }
+
+  reserve_call : IsCall v.shape pushed_as model.steps (Reserved number) (writing_of first.reserved)
+  reserve_call = record { core = first.pushed; next = first.reserved; answer = model.reserved_as (next_number v.frames.stack); reached = pushed_reached; before_is = refl; step = first.reserve; after_is = refl; tells = refl }
+
+  end_call : IsCall v.shape (writing_of first.reserved) (model.ends (padded payload)) (Ended Full) now
+  end_call = record { core = first.reserved; next = first.after; answer = model.full; reached = reserved_reached; before_is = refl; step = first.end; after_is = now_part w.core w.reached w.part_is; tells = refl }
+
+  abbrev begun : HasBegun moment (length payload) v.part pushed_as
+  begun = (has_begun v.shape v.part pushed_as moment (length payload) Pushed push_call (λ (fault, e). cc)).0
+
+  reserves_it : Reserves v.shape (for_record moment (length payload)) v.part.frames pushed_as (Reserved number) (writing_of first.reserved)
+  reserves_it = subst (λ (k : Rattle.trace_model.specs.Frames.Kind). Reserves v.shape k v.part.frames pushed_as (Reserved number) (writing_of first.reserved)) begun.kind_is
+      (reserving_ends v.shape begun.frame.kind v.part.frames pushed_as pushed_as (writing_of first.reserved) (Reserved number)
+      (reserving_first v.shape begun.frame v.part.frames pushed_as begun.top begun.reserves) reserve_call (λ e. cc))
+
+  written_then : (last : Answer) (after : Writing) → Leaves v.shape [] now last after → IsWritten v.shape v.part moment payload after
+  written_then last after leaves = record {
+    pushed = pushed_as;
+    reserved = writing_of first.reserved;
+    ended = now;
+    number = number;
+    how = Full;
+    push = push_call;
+    reserve = reserves_it;
+    end = end_call;
+    goes = (last, leaves);
+  }
+
+  module _ (result : Answer) (after : Writing) (call : IsCall v.shape now model.steps result after) where
+    outcome : Wished bottom [] call.answer call.next.frames
+    outcome = wish_outcome n call.core bottom [] call.answer call.next
+        (top_stepped n size call.core bottom [] wishing call.answer call.next (ap (λ (x : Writing). x.frames) call.before_is ∙ bottom_is) refl call.step)
+
+    goes_so : Wished bottom [] call.answer call.next.frames → result ≢ Going → after.frames ≡ []
+    goes_so (wishes_on next a top kind state) ne = absurd (ne (Rattle.ring_shared.proofs.Finishes.is_going size result call.answer call.tells a))
+    goes_so (wished_gone a top) ne = ap (λ (x : Writing). x.frames) (sym call.after_is) ∙ top
+
+    -- the frame is gone
+    pub written_at_once : result ≢ Going → IsWritten v.shape v.part moment payload after
+    written_at_once ne = written_then result after (is_gone now now after result at_once call (goes_so outcome ne))
+
+    stands_so : Wished bottom [] call.answer call.next.frames → result ≡ Going → (next : Frame) × (after.frames ≡ next ∷ []) × IsLeaving next.kind next.state
+    stands_so (wishes_on next a top kind state) e = (next, ap (λ (x : Writing). x.frames) (sym call.after_is) ∙ top, subst (λ (s : Rattle.trace_model.specs.Frames.FrameState). IsLeaving next.kind s) (sym state) (subst (λ (k : Rattle.trace_model.specs.Frames.Kind). IsLeaving k left) (sym kind) tt))
+    stands_so (wished_gone a top) e = absurd (let tells = subst (λ (x : Answer). Rattle.ring_frames.specs.Answers.Tells size x call.answer) e call.tells in let both : model.going ≡ model.gone = sym tells ∙ a in cc)
+
+    -- it goes on, and is finished
+    pub written_behind : (last : Answer) (end : Writing) → result ≡ Going → Finishes v.shape after last end → IsWritten v.shape v.part moment payload end
+    written_behind last end e f =
+        let (next, top, leaves) = stands_so outcome e in
+        written_then last end (leaves_behind v.shape [] now after end last (subst (λ (x : Answer). IsCall v.shape now model.steps x after) e call) (finished_leaving v.shape after last end next [] top f leaves))

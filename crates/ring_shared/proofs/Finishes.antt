@@ -1,0 +1,248 @@
+-- The frame on top, stepped as far as it comes by itself: what one step more makes of what came before it.
+use Rattle.std.specs.Prelude.{Option, Some, None, ◌⊎◌, ◌<◌}
+use Rattle.std.proofs.Common.{◌≡◌, ◌≢◌, ℕ, suc, List, [], ◌∷◌, length, refl, sym, ap, ◌∙◌, subst, inl, inr, arith}
+use Rattle.trace_model.specs.Frames.{Refusal, Kind, FrameState, number_of, Frame}
+use Rattle.trace_model.specs.Ring.{Core}
+use Rattle.trace_model.specs.Steps as model
+use Rattle.link_marks.specs.FrameOutcomes.{IsReserving, IsLeaving, Reserving, reserves_on, has_reserved, is_refused as refused_to, Leaving, leaves_on, is_gone as gone_from}
+use Rattle.link_marks.proofs.RingsKept.{reached_kept}
+use Rattle.link_marks.proofs.FrameOutcomes.{frames_reserve, frames_leave}
+use Rattle.nested_writer.specs.declared.fault.WriteFault.{WriteFault}
+use Rattle.ring_frames.specs.declared.answer.Answer.{Answer}
+use Rattle.ring_frames.specs.declared.answer.Answer.TheVariants.{Pushed, Going, Reserved, Ended, Gone, Refused, Looking, Empty, Moving, Taken, Wished}
+use Rattle.nested_writer.specs.declared.stack.leave.Ended.TheVariants.{Pending, Full}
+use Rattle.ring_frames.specs.Answers.{refusal_of, Tells}
+use Rattle.ring_steps.specs.declared.rule.Shape.{Shape}
+use Rattle.ring_steps.specs.Views.{Writing, writing_of}
+use Rattle.ring_shared.specs.Value.{WriterValue, SameWriter}
+use Rattle.ring_shared.specs.Calls.{IsCall, MakesSome}
+use Rattle.ring_shared.specs.Finishing.{GoesOn, at_once, one_more, IsReservedOr, is_reserved, stays_refused, is_refused, Reserves, Leaves, is_gone, was_refused, met_behind, told_behind}
+
+-- ---- what an answer tells
+
+pub is_going : (size : ℕ) (result : Answer) (told : model.Answer) → Tells size result told → told ≡ model.going → result ≡ Going
+is_going size Pushed told t e = absurd (let both : model.pushed ≡ model.going = sym t ∙ e in cc)
+is_going size Going told t e = refl
+is_going size (Reserved number) told t e = absurd (let both : model.reserved_as number.0 ≡ model.going = sym t ∙ e in cc)
+is_going size (Ended Pending) told t e = absurd (let both : model.pending ≡ model.going = sym t ∙ e in cc)
+is_going size (Ended Full) told t e = absurd (let both : model.full ≡ model.going = sym t ∙ e in cc)
+is_going size Gone told t e = absurd (let both : model.gone ≡ model.going = sym t ∙ e in cc)
+is_going size (Refused fault) told t e = absurd (let both : model.refused (refusal_of fault) ≡ model.going = sym t ∙ e in cc)
+is_going size (Looking body) told t e = absurd (let both : model.reading ≡ model.going = sym t ∙ e in cc)
+is_going size (Empty done body) told t e = absurd (let both : model.empty done ≡ model.going = sym t ∙ e in cc)
+is_going size (Moving fill body) told t e = absurd (let both : model.moving fill.0 ≡ model.going = sym t ∙ e in cc)
+is_going size (Taken page missed) told t e = absurd (let both : model.swapped t.0 ≡ model.going = sym t.1 ∙ e in cc)
+is_going size (Wished fill) told t e = absurd (let both : model.wished_for fill.0 ≡ model.going = sym t ∙ e in cc)
+
+-- it refuses
+abbrev pub IsRefusal : Answer → Type 0
+IsRefusal result = (fault : WriteFault) × (result ≡ Refused fault)
+
+pub is_refusal : (size : ℕ) (result : Answer) (told : model.Answer) (why : Refusal) → Tells size result told → told ≡ model.refused why → IsRefusal result
+is_refusal size Pushed told why t e = absurd (let both : model.pushed ≡ model.refused why = sym t ∙ e in cc)
+is_refusal size Going told why t e = absurd (let both : model.going ≡ model.refused why = sym t ∙ e in cc)
+is_refusal size (Reserved number) told why t e = absurd (let both : model.reserved_as number.0 ≡ model.refused why = sym t ∙ e in cc)
+is_refusal size (Ended Pending) told why t e = absurd (let both : model.pending ≡ model.refused why = sym t ∙ e in cc)
+is_refusal size (Ended Full) told why t e = absurd (let both : model.full ≡ model.refused why = sym t ∙ e in cc)
+is_refusal size Gone told why t e = absurd (let both : model.gone ≡ model.refused why = sym t ∙ e in cc)
+is_refusal size (Refused fault) told why t e = (fault, refl)
+is_refusal size (Looking body) told why t e = absurd (let both : model.reading ≡ model.refused why = sym t ∙ e in cc)
+is_refusal size (Empty done body) told why t e = absurd (let both : model.empty done ≡ model.refused why = sym t ∙ e in cc)
+is_refusal size (Moving fill body) told why t e = absurd (let both : model.moving fill.0 ≡ model.refused why = sym t ∙ e in cc)
+is_refusal size (Taken page missed) told why t e = absurd (let both : model.swapped t.0 ≡ model.refused why = sym t.1 ∙ e in cc)
+is_refusal size (Wished fill) told why t e = absurd (let both : model.wished_for fill.0 ≡ model.refused why = sym t ∙ e in cc)
+
+-- it tells the record's number
+abbrev TellsNumber : Answer → ℕ → Type 0
+TellsNumber result number = (told : Rattle.trace_model.specs.declared.numbers.RecordNo.RecordNo) × (result ≡ Reserved told) × (told.0 ≡ number)
+
+is_number : (size : ℕ) (result : Answer) (told : model.Answer) (number : ℕ) → Tells size result told → told ≡ model.reserved_as number → TellsNumber result number
+is_number size Pushed told n t e = absurd (let both : model.pushed ≡ model.reserved_as n = sym t ∙ e in cc)
+is_number size Going told n t e = absurd (let both : model.going ≡ model.reserved_as n = sym t ∙ e in cc)
+is_number size (Reserved number) told n t e = (number, refl, (let both : model.reserved_as number.0 ≡ model.reserved_as n = sym t ∙ e in cc))
+is_number size (Ended Pending) told n t e = absurd (let both : model.pending ≡ model.reserved_as n = sym t ∙ e in cc)
+is_number size (Ended Full) told n t e = absurd (let both : model.full ≡ model.reserved_as n = sym t ∙ e in cc)
+is_number size Gone told n t e = absurd (let both : model.gone ≡ model.reserved_as n = sym t ∙ e in cc)
+is_number size (Refused fault) told n t e = absurd (let both : model.refused (refusal_of fault) ≡ model.reserved_as n = sym t ∙ e in cc)
+is_number size (Looking body) told n t e = absurd (let both : model.reading ≡ model.reserved_as n = sym t ∙ e in cc)
+is_number size (Empty done body) told n t e = absurd (let both : model.empty done ≡ model.reserved_as n = sym t ∙ e in cc)
+is_number size (Moving fill body) told n t e = absurd (let both : model.moving fill.0 ≡ model.reserved_as n = sym t ∙ e in cc)
+is_number size (Taken page missed) told n t e = absurd (let both : model.swapped t.0 ≡ model.reserved_as n = sym t.1 ∙ e in cc)
+is_number size (Wished fill) told n t e = absurd (let both : model.wished_for fill.0 ≡ model.reserved_as n = sym t ∙ e in cc)
+
+-- a frame that hasn't reserved has no number
+pub reserving_unnumbered : (kind : Kind) (state : FrameState) → IsReserving kind state → number_of state ≡ None
+reserving_unnumbered kind Rattle.trace_model.specs.Frames.waiting is = refl
+reserving_unnumbered kind (Rattle.trace_model.specs.Frames.reserved number) is = absurd is
+reserving_unnumbered kind Rattle.trace_model.specs.Frames.left is = refl
+
+pub leaving_unnumbered : (kind : Kind) (state : FrameState) → IsLeaving kind state → number_of state ≡ None
+leaving_unnumbered kind Rattle.trace_model.specs.Frames.waiting is = refl
+leaving_unnumbered kind (Rattle.trace_model.specs.Frames.reserved number) is = absurd is
+leaving_unnumbered kind Rattle.trace_model.specs.Frames.left is = refl
+
+-- ---- runs
+
+module _ (shape : Shape) where
+  -- one step in front of others
+  first_goes : (before between after : Writing) → IsCall shape before model.steps Going between → GoesOn shape between after → GoesOn shape before after
+  first_goes before between after call at_once = one_more before after at_once call
+  first_goes before between after call (one_more last end goes more) = one_more last after (first_goes before between last call goes) more
+
+  pub reserves_behind : (kind : Kind) (below : List Frame) (before between after : Writing) (result : Answer) → IsCall shape before model.steps Going between → Reserves shape kind below between result after → Reserves shape kind below before result after
+  reserves_behind kind below before between after result call r = record { between = r.between; goes = first_goes before between r.between call r.goes; last = r.last; ends = r.ends }
+
+  pub leaves_behind : (below : List Frame) (before between after : Writing) (answer : Answer) → IsCall shape before model.steps Going between → Leaves shape below between answer after → Leaves shape below before answer after
+  leaves_behind below before between after answer call (is_gone from mid end last goes more at) = is_gone before mid after answer (first_goes before between mid call goes) more at
+  leaves_behind below before between after answer call (was_refused from mid left end fault last goes more rest) = was_refused before mid left after fault last (first_goes before between mid call goes) more rest
+
+  -- ---- one step
+
+  module _ (before after : Writing) (result : Answer) (call : IsCall shape before model.steps result after) where
+    frames_before : (frames : List Frame) → before.frames ≡ frames → call.core.frames ≡ frames
+    frames_before frames is = ap (λ (w : Writing). w.frames) call.before_is ∙ is
+
+    frames_after : (frames : List Frame) → call.next.frames ≡ frames → after.frames ≡ frames
+    frames_after frames is = ap (λ (w : Writing). w.frames) (sym call.after_is) ∙ is
+
+    reserving_step : (frame : Frame) (below : List Frame) → before.frames ≡ frame ∷ below → IsReserving frame.kind frame.state → Reserving frame below call.answer call.next.frames
+    reserving_step frame below top is =
+        frames_reserve shape.pages shape.size shape.start call.core frame below call.answer call.next
+        (reached_kept shape.pages shape.size shape.start call.core call.reached) (frames_before (frame ∷ below) top) is call.step
+
+    leaving_step : (frame : Frame) (below : List Frame) → before.frames ≡ frame ∷ below → IsLeaving frame.kind frame.state → Leaving below call.answer call.next.frames
+    leaving_step frame below top is =
+        frames_leave shape.pages shape.size shape.start call.core frame below call.answer call.next
+        (reached_kept shape.pages shape.size shape.start call.core call.reached) (frames_before (frame ∷ below) top) is call.step
+
+-- ---- amid
+
+-- Amid steps to a record: it is still to be reserved, and as it goes on from here, so it does from the first.
+pub record IsAmidReserving (shape : Shape) (kind : Kind) (below : List Frame) (before now : Writing) : Type 0 where
+  pub frame : Frame
+  pub top : now.frames ≡ frame ∷ below
+  pub kind_is : frame.kind ≡ kind
+  pub reserves : IsReserving frame.kind frame.state
+  pub ends : (answer : Answer) (after : Writing) → Reserves shape kind below now answer after → Reserves shape kind below before answer after
+
+pub reserving_first : (shape : Shape) (frame : Frame) (below : List Frame) (before : Writing) → before.frames ≡ frame ∷ below → IsReserving frame.kind frame.state → IsAmidReserving shape frame.kind below before before
+reserving_first shape frame below before top is = record { frame = frame; top = top; kind_is = refl; reserves = is; ends = λ answer after r. r }
+
+module _ (shape : Shape) (kind : Kind) (below : List Frame) (before now next : Writing) (result : Answer) (a : IsAmidReserving shape kind below before now) (call : IsCall shape now model.steps result next) where
+  goes_with : Reserving a.frame below call.answer call.next.frames → result ≡ Going → IsAmidReserving shape kind below before next
+  goes_with (reserves_on frame answer_is top kind_is state_is) e = record {
+    frame = frame;
+    top = frames_after shape now next result call (frame ∷ below) top;
+    kind_is = kind_is ∙ a.kind_is;
+    reserves = subst (λ (k : Kind). IsReserving k frame.state) (sym kind_is) (subst (IsReserving a.frame.kind) (sym state_is) a.reserves);
+    ends = λ answer after r. a.ends answer after (reserves_behind shape kind below now next after answer (subst (λ (x : Answer). IsCall shape now model.steps x next) e call) r);
+  }
+  goes_with (has_reserved frame number answer_is top kind_is state_is) e =
+      let (told, is, at) = is_number shape.size result call.answer number call.tells answer_is in absurd (let both : Going ≡ Reserved told = sym e ∙ is in cc)
+  goes_with (refused_to why answer_is leaves) e =
+      let (fault, is) = is_refusal shape.size result call.answer why call.tells answer_is in absurd (let both : Going ≡ Refused fault = sym e ∙ is in cc)
+
+  -- it goes on
+  pub reserving_on : result ≡ Going → IsAmidReserving shape kind below before next
+  reserving_on e = goes_with (reserving_step shape now next result call a.frame below a.top a.reserves) e
+
+  pub reserving_stands : result ≡ Going → length next.frames ≡ length now.frames
+  reserving_stands e = ap (length {A = Frame}) (reserving_on e).top ∙ ap (length {A = Frame}) (sym a.top)
+
+  refused_how : (fault : WriteFault) → Leaving below call.answer call.next.frames → IsReservedOr kind below (Refused fault) next.frames
+  refused_how fault (leaves_on frame answer_is top leaves) = stays_refused fault frame next.frames (frames_after shape now next result call (frame ∷ below) top) leaves
+  refused_how fault (gone_from top) = is_refused fault next.frames (frames_after shape now next result call below top)
+
+  ends_with : Reserving a.frame below call.answer call.next.frames → result ≢ Going → IsReservedOr kind below result next.frames
+  ends_with (reserves_on frame answer_is top kind_is state_is) ne = absurd (ne (is_going shape.size result call.answer call.tells answer_is))
+  ends_with (has_reserved frame number answer_is top kind_is state_is) ne =
+      let (told, is, at) = is_number shape.size result call.answer number call.tells answer_is in
+      subst (λ (x : Answer). IsReservedOr kind below x next.frames) (sym is)
+      (is_reserved frame told next.frames (frames_after shape now next result call (frame ∷ below) top) (kind_is ∙ a.kind_is) (state_is ∙ ap Rattle.trace_model.specs.Frames.reserved (sym at)))
+  ends_with (refused_to why answer_is leaves) ne =
+      let (fault, is) = is_refusal shape.size result call.answer why call.tells answer_is in
+      subst (λ (x : Answer). IsReservedOr kind below x next.frames) (sym is) (refused_how fault leaves)
+
+  -- it comes to its end
+  pub reserving_ends : result ≢ Going → Reserves shape kind below before result next
+  reserving_ends ne = a.ends result next record {
+    between = now;
+    goes = at_once;
+    last = call;
+    ends = ends_with (reserving_step shape now next result call a.frame below a.top a.reserves) ne;
+  }
+
+-- Amid the steps of a frame that leaves, which was refused before, or not.
+pub record IsAmidLeaving (shape : Shape) (below : List Frame) (before : Writing) (met : Option WriteFault) (now : Writing) : Type 0 where
+  pub frame : Frame
+  pub top : now.frames ≡ frame ∷ below
+  pub leaves : IsLeaving frame.kind frame.state
+  pub ends : (answer : Answer) (after : Writing) → Leaves shape below now answer after → Leaves shape below before (told_behind met answer) after
+
+pub leaving_first : (shape : Shape) (frame : Frame) (below : List Frame) (before : Writing) → before.frames ≡ frame ∷ below → IsLeaving frame.kind frame.state → IsAmidLeaving shape below before None before
+leaving_first shape frame below before top is = record { frame = frame; top = top; leaves = is; ends = λ answer after l. l }
+
+met_going : (met : Option WriteFault) → met_behind met Going ≡ met
+met_going None = refl
+met_going (Some fault) = refl
+
+told_refused : (met : Option WriteFault) (fault : WriteFault) (last : Answer) → told_behind met (Refused fault) ≡ told_behind (met_behind met (Refused fault)) last
+told_refused None fault last = refl
+told_refused (Some first) fault last = refl
+
+module _ (shape : Shape) (below : List Frame) (before : Writing) (met : Option WriteFault) (now next : Writing) (result : Answer) (a : IsAmidLeaving shape below before met now) (call : IsCall shape now model.steps result next) where
+  leaves_with : (frame : Frame) → next.frames ≡ frame ∷ below → IsLeaving frame.kind frame.state → (result ≡ Going) ⊎ IsRefusal result → IsAmidLeaving shape below before (met_behind met result) next
+  leaves_with frame top leaves (inl e) = record {
+    frame = frame;
+    top = top;
+    leaves = leaves;
+    ends = λ answer after l.
+        subst (λ (m : Option WriteFault). Leaves shape below before (told_behind m answer) after) (sym (ap (met_behind met) e ∙ met_going met))
+        (a.ends answer after (leaves_behind shape below now next after answer (subst (λ (x : Answer). IsCall shape now model.steps x next) e call) l));
+  }
+  leaves_with frame top leaves (inr (fault, e)) = record {
+    frame = frame;
+    top = top;
+    leaves = leaves;
+    ends = λ answer after l.
+        subst (λ (x : Answer). Leaves shape below before x after) (told_refused met fault answer ∙ ap (λ (x : Answer). told_behind (met_behind met x) answer) (sym e))
+        (a.ends (Refused fault) after (was_refused now now next after fault answer at_once (subst (λ (x : Answer). IsCall shape now model.steps x next) e call) l));
+  }
+
+  answered : (call.answer ≡ model.going) ⊎ ((why : Refusal) × (call.answer ≡ model.refused why)) → (result ≡ Going) ⊎ IsRefusal result
+  answered (inl e) = inl (is_going shape.size result call.answer call.tells e)
+  answered (inr (why, e)) = inr (is_refusal shape.size result call.answer why call.tells e)
+
+  step : Leaving below call.answer call.next.frames
+  step = leaving_step shape now next result call a.frame below a.top a.leaves
+
+  wide : length now.frames ≡ suc (length below)
+  wide = ap (length {A = Frame}) a.top
+
+  leaves_more : Leaving below call.answer call.next.frames → (length next.frames < length now.frames → ⊥) → IsAmidLeaving shape below before (met_behind met result) next
+  leaves_more (leaves_on frame answer_is top leaves) stands = leaves_with frame (frames_after shape now next result call (frame ∷ below) top) leaves (answered answer_is)
+  leaves_more (gone_from top) stands = let short = ap (length {A = Frame}) (frames_after shape now next result call below top) in absurd (stands (let w = wide in omega arith))
+
+  -- it stays
+  pub leaving_on : (length next.frames < length now.frames → ⊥) → IsAmidLeaving shape below before (met_behind met result) next
+  leaving_on stands = leaves_more step stands
+
+  pub leaving_stands : (length next.frames < length now.frames → ⊥) → length next.frames ≡ length now.frames
+  leaving_stands stands = ap (length {A = Frame}) (leaving_on stands).top ∙ ap (length {A = Frame}) (sym a.top)
+
+  gone_to : Leaving below call.answer call.next.frames → length next.frames < length now.frames → next.frames ≡ below
+  gone_to (leaves_on frame answer_is top leaves) less = let same = ap (length {A = Frame}) (frames_after shape now next result call (frame ∷ below) top) in let w = wide in absurd (omega arith)
+  gone_to (gone_from top) less = frames_after shape now next result call below top
+
+  -- it is gone
+  pub leaving_ends : length next.frames < length now.frames → Leaves shape below before (told_behind met result) next
+  leaving_ends less = a.ends result next (is_gone now now next result at_once call (gone_to step less))
+
+-- ---- of a writer's value
+
+-- the step that was made is a call in the ring of this shape
+pub call_in : (shape : Shape) (old new : WriterValue) (result : Answer) → old.shape ≡ shape → MakesSome old model.steps result new → IsCall shape old.part model.steps result new.part
+call_in shape old new result same makes = subst (λ (s : Shape). IsCall s old.part model.steps result new.part) same makes.call
+
+pub same_writer : (first old new : WriterValue) (result : Answer) → SameWriter first old → MakesSome old model.steps result new → SameWriter first new
+same_writer first old new result same makes = (makes.shape_is ∙ same.0, makes.table_is ∙ same.1)

@@ -1,0 +1,118 @@
+-- What it means that the frame on top is stepped as far as it comes by itself.
+use Rattle.std.specs.Prelude.{◌≡◌, ℕ, List, [], ◌∷◌, Option, Some, None}
+use Rattle.trace_model.specs.declared.numbers.RecordNo.{RecordNo}
+use Rattle.trace_model.specs.Frames.{Kind, for_record, for_close, FrameState, waiting, reserved, left, Frame}
+use Rattle.trace_model.specs.Steps as model
+use Rattle.link_marks.specs.FrameOutcomes.{IsReserving, IsLeaving}
+use Rattle.nested_writer.specs.declared.fault.WriteFault.{WriteFault}
+use Rattle.nested_writer.specs.declared.frame.Frame as stack
+use Rattle.nested_writer.specs.Stack.{kind_of, state_of}
+use Rattle.ring_frames.specs.declared.answer.Answer.{Answer}
+use Rattle.ring_frames.specs.declared.answer.Answer.TheVariants.{Pushed, Going, Reserved, Ended, Gone, Refused, Looking, Empty, Moving, Taken, Wished}
+use Rattle.ring_steps.specs.declared.rule.Shape.{Shape}
+use Rattle.ring_steps.specs.Views.{Writing}
+use Rattle.ring_shared.specs.declared.writer.finish.Aim.{Aim}
+use Rattle.ring_shared.specs.declared.writer.finish.Aim.TheVariants as aim
+use Rattle.ring_shared.specs.Calls.{IsCall}
+
+-- ---- runs
+
+-- the frame on top makes steps, one after the other, each of which is answered `Going`
+pub data GoesOn (shape : Shape) (before : Writing) : Writing → Type 0 where
+  at_once : GoesOn shape before before
+  one_more : (between after : Writing)
+      → GoesOn shape before between
+      → IsCall shape between model.steps Going after
+      → GoesOn shape before after
+
+-- this frame's record is reserved under a number; or the frame is refused, and stands no more or has left
+pub data IsReservedOr (kind : Kind) (below : List Frame) : Answer → List Frame → Type 0 where
+  is_reserved : (next : Frame) (number : RecordNo) (after : List Frame)
+      → after ≡ next ∷ below
+      → next.kind ≡ kind
+      → next.state ≡ reserved number.0
+      → IsReservedOr kind below (Reserved number) after
+  stays_refused : (fault : WriteFault) (next : Frame) (after : List Frame)
+      → after ≡ next ∷ below
+      → IsLeaving next.kind next.state
+      → IsReservedOr kind below (Refused fault) after
+  is_refused : (fault : WriteFault) (after : List Frame)
+      → after ≡ below
+      → IsReservedOr kind below (Refused fault) after
+
+-- The frame on top, above these, makes steps until its record is reserved, or it is refused.
+pub record Reserves (shape : Shape) (kind : Kind) (below : List Frame) (before : Writing) (result : Answer)
+    (after : Writing)
+    : Type 0 where
+  pub between : Writing
+  pub goes : GoesOn shape before between
+  pub last : IsCall shape between model.steps result after
+  pub ends : IsReservedOr kind below result after.frames
+
+-- It makes steps until it is gone, and answers as the last of them; or it is refused amid them and stays on, and it
+-- answers so.
+pub data Leaves (shape : Shape) (below : List Frame) : Writing → Answer → Writing → Type 0 where
+  is_gone : (before between after : Writing) (answer : Answer)
+      → GoesOn shape before between
+      → IsCall shape between model.steps answer after
+      → after.frames ≡ below
+      → Leaves shape below before answer after
+  was_refused : (before between left after : Writing) (fault : WriteFault) (answer : Answer)
+      → GoesOn shape before between
+      → IsCall shape between model.steps (Refused fault) left
+      → Leaves shape below left answer after
+      → Leaves shape below before (Refused fault) after
+
+-- ---- the frame on top
+
+-- A record frame is stepped until it has reserved or is refused; a close frame, or one that has left, until it is gone;
+-- and one that has reserved answers its number again.
+abbrev pub FinishesFrame : Shape → Kind → FrameState → List Frame → Writing → Answer → Writing → Type 0
+FinishesFrame shape (for_record moment len) waiting below before result after =
+    Reserves shape (for_record moment len) below before result after
+FinishesFrame shape for_close waiting below before result after = Leaves shape below before result after
+FinishesFrame shape kind (reserved number) below before result after = IsCall shape before model.steps result after
+FinishesFrame shape kind left below before result after = Leaves shape below before result after
+
+abbrev pub FinishesTop : Shape → List Frame → Writing → Answer → Writing → Type 0
+FinishesTop shape [] before result after = IsCall shape before model.steps result after
+FinishesTop shape (frame ∷ below) before result after =
+    FinishesFrame shape frame.kind frame.state below before result after
+
+-- the frame on top is stepped as far as it comes; with none, the one step is refused
+abbrev pub Finishes : Shape → Writing → Answer → Writing → Type 0
+Finishes shape before result after = FinishesTop shape before.frames before result after
+
+-- ---- what it is stepped to
+
+abbrev pub IsAimOf : Kind → FrameState → Aim → Type 0
+IsAimOf kind state aim.Record = IsReserving kind state
+IsAimOf kind state aim.End = IsLeaving kind state
+IsAimOf kind state aim.Step = (number : ℕ) × (state ≡ reserved number)
+
+-- what the stack's frame on top is stepped to
+abbrev pub IsAim : Option stack.Frame → Aim → Type 0
+IsAim None to = to ≡ aim.Step
+IsAim (Some frame) to = IsAimOf (kind_of frame.purpose) (state_of frame.progress) to
+
+-- ---- refusals
+
+-- the refusal that is met first, where this one was met before the answer
+abbrev pub met_behind : Option WriteFault → Answer → Option WriteFault
+met_behind (Some fault) answer = Some fault
+met_behind None Pushed = None
+met_behind None Going = None
+met_behind None (Reserved number) = None
+met_behind None (Ended ended) = None
+met_behind None Gone = None
+met_behind None (Refused fault) = Some fault
+met_behind None (Looking body) = None
+met_behind None (Empty done body) = None
+met_behind None (Moving fill body) = None
+met_behind None (Taken page missed) = None
+met_behind None (Wished fill) = None
+
+-- it is told, or else the last answer is
+abbrev pub told_behind : Option WriteFault → Answer → Answer
+told_behind None last = last
+told_behind (Some fault) last = Refused fault

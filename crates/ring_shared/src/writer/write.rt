@@ -1,0 +1,123 @@
+//! A record that is written whole.
+use crate::writer::Writer;
+use crate::writer::finish::met_first;
+use nested_writer::frame::Slot;
+use nested_writer::{Ended, WriteFault, Wrote};
+use ring_frames::Answer;
+use std::marker::Brand;
+
+impl Writer {
+    ghost use Rattle.std.specs.Prelude.{◌≡◌, length};
+    ghost use Rattle.nested_writer.specs.Calls.{IsTopSlot};
+    ghost use Rattle.ring_shared.specs.Value.{SameWriter};
+    ghost use Rattle.ring_shared.specs.Calls.{IsWriter};
+    ghost use Rattle.ring_shared.specs.WholeWrites.{IsWritten, IsRefusedWrite, IsReserved, EndsRecord};
+
+    /// Writes a record of this moment and payload in one call: what `begin`, `finish_top`, the payload's copy into what
+    /// `payload_mut` lends, `end` and `finish_top` do together, nested in the frames that stand. Refused as `begin` is,
+    /// or as `Crowded` or `Worn`, and then no record is left behind.
+    #[inline(always)]
+    pub fn write(&mut self, moment: u64, payload: &[u8]) -> Result<(), WriteFault>
+        requires writer { IsWriter self.old }
+        ensures written { result ≡ Ok tt → IsWritten self.old.shape self.old.part moment payload.now self.new.part }
+        ensures refused { (fault : WriteFault) → result ≡ Err fault
+            → IsRefusedWrite self.old.shape self.old.part moment (length payload.now) fault self.new.part }
+        ensures ring { SameWriter self.old self.new }
+        ensures writer { IsWriter self.new }
+    {
+        let Wrote::Record = self.frames.write(moment, payload) else {
+            return self.write_by_steps(moment, payload);
+        };
+        let wish = self.seat.load_wish::<Brand, _>(&(moment, payload));
+        if goes_on(self.frames.load_wish(wish)) {
+            let _gone = met_first(None, self.finish_top());
+        }
+        Ok(())
+    }
+
+    /// `write`, by single steps.
+    #[inline(never)]
+    fn write_by_steps(&mut self, moment: u64, payload: &[u8]) -> Result<(), WriteFault>
+        requires writer { IsWriter self.old }
+        ensures written { result ≡ Ok tt → IsWritten self.old.shape self.old.part moment payload.now self.new.part }
+        ensures refused { (fault : WriteFault) → result ≡ Err fault
+            → IsRefusedWrite self.old.shape self.old.part moment (length payload.now) fault self.new.part }
+        ensures ring { SameWriter self.old self.new }
+        ensures writer { IsWriter self.new }
+    {
+        let slot = self.reserve_record(moment, payload.len())?;
+        put_padded(self.payload_mut(slot), payload);
+        self.end_record(slot);
+        Ok(())
+    }
+
+    /// A frame is pushed for a record, which is reserved: where it lies.
+    fn reserve_record(&mut self, moment: u64, len: usize) -> Result<Slot, WriteFault>
+        requires writer { IsWriter self.old }
+        ensures reserved { (slot : Slot) → result ≡ Ok slot
+            → IsReserved self.old.shape self.old.part moment len self.new.part }
+        ensures slot { (slot : Slot) → result ≡ Ok slot → IsTopSlot self.new.frames.stack.frames slot }
+        ensures refused { (fault : WriteFault) → result ≡ Err fault
+            → IsRefusedWrite self.old.shape self.old.part moment len fault self.new.part }
+        ensures ring { SameWriter self.old self.new }
+        ensures writer { IsWriter self.new }
+    {
+        let depth = self.depth();
+        if let Some(fault) = met_first(None, self.begin(moment, len)) {
+            return Err(fault);
+        }
+        if let Some(fault) = met_first(None, self.finish_top()) {
+            if self.depth() > depth {
+                let _gone = met_first(None, self.finish_top());
+            }
+            return Err(fault);
+        }
+        match self.top_slot() {
+            Ok(slot) => Ok(slot),
+            Err(_) => unreachable!(),
+        }
+    }
+
+    /// The frame on top, whose record lies in this slot, ends; where none stands below it, it makes steps until it is
+    /// gone.
+    fn end_record(&mut self, slot: Slot)
+        requires writer { IsWriter self.old }
+        requires slot { IsTopSlot self.old.frames.stack.frames slot }
+        ensures ends { EndsRecord self.old self.new }
+        ensures ring { SameWriter self.old self.new }
+        ensures writer { IsWriter self.new }
+    {
+        let _slot = slot;
+        if stands_alone(self.end()) {
+            let _gone = met_first(None, self.finish_top());
+        }
+    }
+}
+
+/// Puts the payload to the front of the slot, and zeros behind it.
+fn put_padded(slot: &mut [u8], payload: &[u8])
+    requires { length payload.now ≤ length slot.old }
+    ensures { slot.new ≡ payload.now ++ replicate (length slot.old - length payload.now) 0 }
+{
+    let (front, behind) = slot.split_at_mut(payload.len());
+    front.copy_from_slice(payload);
+    behind.fill(0);
+}
+
+/// Whether the frame that looked for the reader's wish goes on.
+fn goes_on(answer: Answer) -> bool
+    ensures { result ≡ true ↔ answer ≡ Going }
+{
+    matches!(answer, Answer::Going)
+}
+
+/// Whether the frame that was ended stands on, as the only one.
+fn stands_alone(answer: Answer) -> bool
+    ensures { result ≡ true ↔ answer ≡ HasEnded Full }
+{
+    matches!(answer, Answer::Ended(Ended::Full))
+}
+
+ghost use Rattle.std.specs.Prelude.{◌≡◌, ◌≤◌, ◌-◌, ◌++◌, ◌↔◌, true, length, replicate};
+ghost use Rattle.nested_writer.specs.declared.stack.leave.Ended.TheVariants.{Full};
+ghost use Rattle.ring_frames.specs.declared.answer.Answer.TheVariants.{Going, Ended as HasEnded};
