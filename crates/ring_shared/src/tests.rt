@@ -6,6 +6,7 @@ mod halted;
 mod nested;
 mod overwriting;
 mod settled;
+mod threads;
 mod wishes;
 mod writing;
 
