@@ -21,7 +21,7 @@ use trace_model::NoMemory;
 const PAGES: usize = 4;
 
 /// How often a new ring is run.
-const RUNS: usize = 8;
+const RUNS: usize = 2;
 
 /// How often the writer's thread writes one record, or three that are nested, or closes the tail.
 const ROUNDS: usize = 16_000;
@@ -29,7 +29,7 @@ const ROUNDS: usize = 16_000;
 /// The most takes of the reader's thread.
 const TAKES: usize = 200_000;
 
-/// The most takes at rest: one for each page of the ring, one that finds nothing, and more that find a wish heard.
+/// The takes at rest: more than there can be closed pages, so that the last finds nothing.
 const LAST_TAKES: usize = 16;
 
 // ---- payloads
