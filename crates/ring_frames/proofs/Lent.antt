@@ -78,7 +78,7 @@ overwritten_there bytes start len part long within =
     ∙ take_at part behind len long
 
 -- the page of the slot, as it is when bytes are written there
-page_written : (s : Stack) (slot : Slot) (part : List ℕ) (page : Contents) → s.tail.fill ≡ tail_fill s → IsOpenPage s.done s.older s.tail slot.fill page → (open_page (with_slot s slot part) slot.fill).bytes ≡ (with_payload page slot.place.start part).bytes
+pub page_written : (s : Stack) (slot : Slot) (part : List ℕ) (page : Contents) → s.tail.fill ≡ tail_fill s → IsOpenPage s.done s.older s.tail slot.fill page → (open_page (with_slot s slot part) slot.fill).bytes ≡ (with_payload page slot.place.start part).bytes
 page_written s slot part page tail_is (is_tail at is) =
     let here = eq-eqb slot.fill s.tail.fill (at ∙ sym tail_is) in
     ap (λ (t : Stack). (open_page t slot.fill).bytes) (cond-true _ _ _ here)

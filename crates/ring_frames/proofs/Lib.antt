@@ -20,4 +20,5 @@ pub mod Wishing
 pub mod NewFrames
 pub mod AtOnce
 pub mod Lent
+pub mod Others
 pub mod FirstStates

@@ -85,16 +85,20 @@ record LiesIn (s : Stack) (slot : Slot) : Type 0 where
 lies_in : (s : Stack) (slot : Slot) (records : List Reservation) (len : ℕ) → LiesOpen s.done s.older s.tail records len slot → LiesIn s slot
 lies_in s slot records len lies = record { page = lies.page; open_page = lies.open_page; inside = place-within lies.page.bytes slot.place.start slot.place.len lies.place.place }
 
-slot_lies : (start : ℕ) (h : List Action) (s : Stack) (slot : Slot) → IsStack start h s → HoldSlot s.frames slot → LiesIn s slot
-slot_lies start h s slot k held = by_frames s.frames held k.holds.frames_are
+-- its record lies open
+pub held_open : (start : ℕ) (h : List Action) (s : Stack) (slot : Slot) → IsStack start h s → HoldSlot s.frames slot → (len : ℕ) × LiesOpen s.done s.older s.tail (reserved_records h) len slot
+held_open start h s slot k held = by_frames s.frames held k.holds.frames_are
   where
-    by_frames : (frames : List Frame) → HoldSlot frames slot → FramesStand s.size s.done s.older s.tail (opens_of h) (reserved_records h) (is_wished h) frames → LiesIn s slot
+    by_frames : (frames : List Frame) → HoldSlot frames slot → FramesStand s.size s.done s.older s.tail (opens_of h) (reserved_records h) (is_wished h) frames → (len : ℕ) × LiesOpen s.done s.older s.tail (reserved_records h) len slot
     by_frames [] none st = absurd none
-    by_frames (f ∷ below) (inl is) st = let (moment, len, kind, lies) = subst (StandsAt s.size s.done s.older s.tail (opens_of h) (reserved_records h) (is_wished h) (kind_of f.purpose)) is st.1 in lies_in s slot (reserved_records h) len lies
+    by_frames (f ∷ below) (inl is) st = let (moment, len, kind, lies) = subst (StandsAt s.size s.done s.older s.tail (opens_of h) (reserved_records h) (is_wished h) (kind_of f.purpose)) is st.1 in (len, lies)
     by_frames (f ∷ below) (inr there) st = by_frames below there st.4
 
+slot_lies : (start : ℕ) (h : List Action) (s : Stack) (slot : Slot) → IsStack start h s → HoldSlot s.frames slot → LiesIn s slot
+slot_lies start h s slot k held = let (len, lies) = held_open start h s slot k held in lies_in s slot (reserved_records h) len lies
+
 -- the bytes in a slot, by its page
-by_page : (s : Stack) (slot : Slot) (page : Contents) → s.tail.fill ≡ tail_fill s → IsOpenPage s.done s.older s.tail slot.fill page → bytes_in s slot ≡ bytes_at slot.place.start slot.place.len page.bytes
+pub by_page : (s : Stack) (slot : Slot) (page : Contents) → s.tail.fill ≡ tail_fill s → IsOpenPage s.done s.older s.tail slot.fill page → bytes_in s slot ≡ bytes_at slot.place.start slot.place.len page.bytes
 by_page s slot page fill there = ap (λ (p : Contents). bytes_at slot.place.start slot.place.len p.bytes) (page_found s slot.fill page fill there)
 
 -- ---- a record more

@@ -5,9 +5,12 @@ use Rattle.trace_model.specs.Words.{slot_len}
 use Rattle.trace_model.specs.Frames.{for_record, Frame as ModelFrame}
 use Rattle.trace_model.specs.Ring.{Core}
 use Rattle.nested_writer.specs.declared.frame.Slot.{Slot}
+use Rattle.nested_writer.specs.declared.frame.Frame.{Frame}
+use Rattle.nested_writer.specs.Stack.{Stack}
 use Rattle.nested_writer.specs.Lending.{with_slot}
 use Rattle.ring_frames.specs.Value.{FramesValue}
 use Rattle.ring_frames.specs.AreFrames.{AreFrames}
+use Rattle.ring_frames.specs.Answers.{bytes_in, HoldSlot}
 use Rattle.ring_frames.specs.contracts.frames.Frames.{the_row}
 
 -- the frames with these bytes in a slot
@@ -32,3 +35,10 @@ FitsFrame v slot = (n size start : ℕ) (c : Core) (frame : ModelFrame) (below :
     → c.frames ≡ frame ∷ below
     → frame.kind ≡ for_record moment len
     → slot.place.len ≡ slot_len len
+
+-- whatever is written there, each slot that a frame below the one on top has reserved holds the same bytes
+abbrev pub LeavesOthers : Stack → Slot → Type 0
+LeavesOthers s slot = (top : Frame) (below : List Frame) (other : Slot) (part : List ℕ)
+    → s.frames ≡ top ∷ below
+    → HoldSlot below other
+    → bytes_in (with_slot s slot part) other ≡ bytes_in s other

@@ -9,7 +9,7 @@ impl Frames {
     ghost use Rattle.nested_writer.specs.Calls.{LacksSlot, IsTopSlot};
     ghost use Rattle.nested_writer.specs.Lending.{with_slot};
     ghost use Rattle.ring_frames.specs.Answers.{top_bytes};
-    ghost use Rattle.ring_frames.specs.Lending.{FitsFrame, LendsSlot, StaysFrames};
+    ghost use Rattle.ring_frames.specs.Lending.{FitsFrame, LeavesOthers, LendsSlot, StaysFrames};
     ghost use Rattle.ring_frames.specs.Steps.{IsShown};
 
     /// Where the record of the frame on top stands. Refused with `NoFrame` where none stands, and with `NotReserved`
@@ -24,8 +24,8 @@ impl Frames {
         self.stack.top_slot()
     }
 
-    /// The payload in the slot of the frame on top, to be written. All else stays as it is, and the frames are those of
-    /// the same states whatever is written.
+    /// The payload in the slot of the frame on top, to be written. All else stays as it is, so the payloads of the
+    /// other frames; and the frames are those of the same states whatever is written.
     #[inline(always)]
     pub fn payload_mut(&mut self, slot: Slot) -> &mut [u8]
         requires shown { IsShown self.old }
@@ -36,6 +36,7 @@ impl Frames {
         ensures fits { FitsFrame self.old slot }
         ensures written { (part : List ℕ) → length part ≡ slot.place.len
             → top_bytes (with_slot self.old.stack slot part) self.old.stack.frames ≡ part }
+        ensures others { LeavesOthers self.old.stack slot }
         ensures stays { StaysFrames self.old slot }
     {
         self.stack.payload_mut(slot)
