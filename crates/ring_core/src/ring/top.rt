@@ -8,6 +8,7 @@ impl Core {
     ghost use Rattle.std.specs.Borrow.{sem};
     ghost use Rattle.nested_writer.specs.Calls.{LacksSlot, IsTopSlot};
     ghost use Rattle.ring_frames.specs.Answers.{top_bytes};
+    ghost use Rattle.ring_frames.specs.Lending.{LeavesOthers};
     ghost use Rattle.ring_core.specs.Lending.{FitsFrame, LendsSlot, StaysRing, with_slot_payload};
     ghost use Rattle.nested_writer.specs.Lending.{with_slot};
     ghost use Rattle.ring_core.specs.Steps.{IsRing};
@@ -24,8 +25,8 @@ impl Core {
         self.frames.top_slot()
     }
 
-    /// The payload in the slot of the frame on top, to be written. All else stays as it is, and the ring is in the same
-    /// state whatever is written.
+    /// The payload in the slot of the frame on top, to be written. All else stays as it is, so the payloads of the
+    /// other frames; and the ring is in the same state whatever is written.
     #[inline(always)]
     pub fn payload_mut(&mut self, slot: Slot) -> &mut [u8]
         requires ring { IsRing self.old }
@@ -36,6 +37,7 @@ impl Core {
         ensures fits { FitsFrame self.old slot }
         ensures written { (part : List ℕ) → length part ≡ slot.place.len
             → top_bytes (with_slot self.old.stack slot part) self.old.stack.frames ≡ part }
+        ensures others { LeavesOthers self.old.stack slot }
         ensures stays { StaysRing self.old }
         ensures ring { (part : List ℕ) → length part ≡ slot.place.len → IsRing (with_slot_payload self.old slot part) }
     {

@@ -2,6 +2,7 @@ use Rattle.std.proofs.Common.{◌≡◌, ℕ, List, length, refl, sym, ap, ◌�
 use Rattle.nested_writer.specs.Calls.{IsTopSlot}
 use Rattle.nested_writer.specs.Lending.{with_slot}
 use Rattle.ring_frames.specs.Answers.{top_bytes}
+use Rattle.ring_frames.specs.Lending.{LeavesOthers}
 use Rattle.ring_core.specs.Value.{CoreValue}
 use Rattle.ring_core.specs.Inside.{shown}
 use Rattle.ring_core.specs.Lending.{FitsFrame, with_slot_payload, StaysRing}
@@ -26,6 +27,7 @@ returns c =
         len = c.payload_mut.ensures.len;
         fits = subst (λ (x : CoreValue). FitsFrame x c.args.slot) c.self.view_is (λ n' size' start' s' frame below moment long core' top kind. c.payload_mut.ensures.fits n' size' start' s' frame below moment long core'.shows.frames top kind);
         written = subst (λ (x : CoreValue). (part : List ℕ) → length part ≡ c.args.slot.place.len → top_bytes (with_slot x.stack c.args.slot part) x.stack.frames ≡ part) c.self.view_is c.payload_mut.ensures.written;
+        others = subst (λ (x : CoreValue). LeavesOthers x.stack c.args.slot) c.self.view_is c.payload_mut.ensures.others;
         ring = subst (λ (x : CoreValue). (part : List ℕ) → length part ≡ c.args.slot.place.len → IsRing (with_slot_payload x c.args.slot part)) c.self.view_is (λ part long. (n, size, start, s, slot_stays n size start v s c.args.slot part core c.payload_mut.ensures.stays long));
         payload = c.payload_mut.ensures.payload ∙ ap (λ (x : CoreValue). top_bytes x.stack x.stack.frames) c.self.view_is;
         stays = subst StaysRing c.self.view_is (λ n' size' start' s' part core' long. top_stays n' size' start' v s' c.args.slot part core' slot_is c.payload_mut.ensures.stays (long ∙ fills));
