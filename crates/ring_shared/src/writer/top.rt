@@ -9,6 +9,7 @@ impl Writer {
     ghost use Rattle.nested_writer.specs.Calls.{LacksSlot, IsTopSlot};
     ghost use Rattle.nested_writer.specs.Lending.{with_slot};
     ghost use Rattle.ring_frames.specs.Answers.{top_bytes};
+    ghost use Rattle.ring_frames.specs.Lending.{LeavesOthers};
     ghost use Rattle.ring_shared.specs.Calls.{IsWriter};
     ghost use Rattle.ring_shared.specs.Lending.{FitsFrame, LendsSlot, StaysWriter};
 
@@ -24,8 +25,8 @@ impl Writer {
         self.frames.top_slot()
     }
 
-    /// The payload in the slot of the frame on top, to be written. All else stays as it is: it touches no word of the
-    /// ring.
+    /// The payload in the slot of the frame on top, to be written. All else stays as it is, so the payloads of the
+    /// other frames; and it touches no word of the ring.
     #[inline(always)]
     pub fn payload_mut(&mut self, slot: Slot) -> &mut [u8]
         requires writer { IsWriter self.old }
@@ -36,6 +37,7 @@ impl Writer {
         ensures fits { FitsFrame self.old slot }
         ensures written { (part : List ℕ) → length part ≡ slot.place.len
             → top_bytes (with_slot self.old.frames.stack slot part) self.old.frames.stack.frames ≡ part }
+        ensures others { LeavesOthers self.old.frames.stack slot }
         ensures writer { StaysWriter self.old slot }
     {
         self.frames.payload_mut(slot)

@@ -1,6 +1,7 @@
 use Rattle.std.proofs.Common.{◌≡◌, ℕ, List, length, refl, sym, ap, ◌∙◌, subst}
 use Rattle.nested_writer.specs.Lending.{with_slot}
 use Rattle.ring_frames.specs.Answers.{top_bytes}
+use Rattle.ring_frames.specs.Lending.{LeavesOthers}
 use Rattle.ring_steps.specs.Views.{Writing}
 use Rattle.ring_shared.specs.Value.{WriterValue}
 use Rattle.ring_shared.specs.Calls.{IsWriter}
@@ -19,6 +20,7 @@ returns c =
         fits = subst (λ (x : WriterValue). FitsFrame x c.args.slot) c.self.view_is
             (λ frame below moment len top kind. c.payload_mut.ensures.fits shape.pages shape.size shape.start w.core frame below moment len w.frames_are (ap (λ (x : Writing). x.frames) w.part_is ∙ top) kind);
         written = subst (λ (x : WriterValue). (part : List ℕ) → length part ≡ c.args.slot.place.len → top_bytes (with_slot x.frames.stack c.args.slot part) x.frames.stack.frames ≡ part) c.self.view_is c.payload_mut.ensures.written;
+        others = subst (λ (x : WriterValue). LeavesOthers x.frames.stack c.args.slot) c.self.view_is c.payload_mut.ensures.others;
         writer = subst (λ (x : WriterValue). StaysWriter x c.args.slot) c.self.view_is (λ part long. record {
           core = w.core;
           reached = w.reached;
