@@ -10,6 +10,7 @@ pub mod LinkSteps
 pub mod Histories
 pub mod HistorySteps
 pub mod Happenings
+pub mod StepsAppend
 pub mod PageChanges
 pub mod OpenPageSteps
 pub mod OtherPageSteps

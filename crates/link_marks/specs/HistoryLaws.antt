@@ -7,12 +7,28 @@ use Rattle.trace_model.specs.History.{Action, IsHistory, Reservation, reserved_r
 use Rattle.trace_model.specs.Packing.{fills_of, tail_of, IsPacked}
 use Rattle.trace_model.specs.Partition.{IsPartition}
 use Rattle.trace_model.specs.Ring.{Taken, Core, first_of_fill, AreFillsOf}
+use Rattle.trace_model.specs.Steps.{Event, Answer, Step}
 use Rattle.link_marks.specs.KeptPartition.{pieces_of, HaveFirsts}
 use Rattle.link_marks.specs.RingKept.{IsRingKept}
+use Rattle.link_marks.specs.Appended.{Appends}
 
 -- ---- histories
 
--- what the frames did keeps the discipline of the stack: each action is one that the frames that stood allowed
+-- An event appends to what the frames did the actions that its answer tells, and nothing else.
+abbrev pub StepsAppend : Type 0
+StepsAppend = (n size start : ℕ) (c : Core) (event : Event) (answer : Answer) (after : Core)
+    → IsRingKept n size start c
+    → Step n size c event answer after
+    → (actions : List Action) × (after.history ≡ c.history ++ actions) × Appends n c event answer actions
+
+-- By the state in front of the event, and its answer, these are just one list.
+abbrev pub AppendedIsOne : Type 0
+AppendedIsOne = (n : ℕ) (c : Core) (event : Event) (answer : Answer) (some others : List Action)
+    → Appends n c event answer some
+    → Appends n c event answer others
+    → some ≡ others
+
+-- What the frames did keeps the discipline of the stack: each action is one that the frames that stood allowed
 abbrev pub RunsAreHistories : Type 0
 RunsAreHistories = (n size start : ℕ) (c : Core) → IsRingKept n size start c → IsHistory c.history
 

@@ -14,6 +14,8 @@ pub mod RingKept
 pub mod Reached
 pub mod ToldRuns
 pub mod Seats
+-- what each event appends to the history
+pub mod Appended
 -- the laws, by subject
 pub mod RingLaws
 pub mod WindowLaws

@@ -1,9 +1,16 @@
 //! Laws of what a ring's frames did, and of the partition of its records.
-ghost use Rattle.link_marks.specs.HistoryLaws.{RecordNumbersFit, RecordsAreFew, RestIsUnread, RunsAreHistories, RunsArePacked, TailIsTheRest, TakenAreFills, TakenHoldRecords, TakenPartitionCommitted};
+ghost use Rattle.link_marks.specs.HistoryLaws.{AppendedIsOne, RecordNumbersFit, RecordsAreFew, RestIsUnread, RunsAreHistories, RunsArePacked, StepsAppend, TailIsTheRest, TakenAreFills, TakenHoldRecords, TakenPartitionCommitted};
 
 /// What the frames did is a history: each action is one that the stack allowed.
 pub fn runs_are_histories()
     ensures histories { RunsAreHistories }
+{}
+
+/// An event appends to it what its answer tells, and nothing else: a push its push, an end its leave with the payload,
+/// and a step of the frame on top what that frame does.
+pub fn steps_append()
+    ensures append { StepsAppend }
+    ensures one { AppendedIsOne }
 {}
 
 /// The fills have room in their pages, and each was begun where one had to be: behind one that isn't empty, for

@@ -1,0 +1,122 @@
+-- What each event of a ring appends to the history of its frames, by its answer.
+-- docs/FORMATS.md, "Writer frames".
+use Rattle.std.specs.Prelude.{◌≡◌, ◌≢◌, ℕ, ◌⊎◌, List, [], ◌∷◌, length, Some, None}
+use Rattle.trace_model.specs.History.{Action, push, push_close, open_fill, reserve, leave, wished, reserved_records}
+use Rattle.trace_model.specs.Packing.{tail_of}
+use Rattle.trace_model.specs.Frames.{Kind, for_record, for_close, FrameState, waiting, reserved, left, Phase, idle, opening, wishing, noted_fill, owned_update, Frame, Refusal, crowded, worn, no_frame, not_reserved}
+use Rattle.trace_model.specs.Ring.{Core}
+use Rattle.trace_model.specs.Steps.{Event, pushes, pushes_close, steps, ends, reads, wishes, Answer, pushed, going, reserved_as, gone, refused, leave_answer, end_answer, IsGranted}
+
+-- ---- a push, and an end
+
+-- A frame that is pushed appends its push; one that is refused appends nothing.
+pub data PushAppends (action : Action) (answer : Answer) (actions : List Action) : Type 0 where
+  is_pushed : answer ≡ pushed → actions ≡ action ∷ [] → PushAppends action answer actions
+  isnt_pushed : (why : Refusal) → answer ≡ refused why → actions ≡ [] → PushAppends action answer actions
+
+-- A frame that has reserved leaves with the payload; the end of any other is refused, and appends nothing.
+abbrev pub EndAppends : List ℕ → FrameState → List Frame → Answer → List Action → Type 0
+EndAppends payload waiting below answer actions = (answer ≡ refused not_reserved) × (actions ≡ [])
+EndAppends payload (reserved number) below answer actions =
+    (answer ≡ end_answer below) × (actions ≡ leave (Some payload) ∷ [])
+EndAppends payload left below answer actions = (answer ≡ refused not_reserved) × (actions ≡ [])
+
+abbrev pub TopEndAppends : List ℕ → List Frame → Answer → List Action → Type 0
+TopEndAppends payload [] answer actions = (answer ≡ refused no_frame) × (actions ≡ [])
+TopEndAppends payload (frame ∷ below) answer actions = EndAppends payload frame.state below answer actions
+
+-- ---- a step of the frame on top
+
+-- the frame is about to begin a fill, and no other has begun it
+abbrev pub IsOpening : Core → Phase → Type 0
+IsOpening c phase = (page : ℕ) × (phase ≡ opening c.opened page)
+
+-- a frame that needs a page is refused one
+abbrev pub IsRefusedPage : Answer → Type 0
+IsRefusedPage answer = (answer ≡ refused crowded) ⊎ (answer ≡ refused worn)
+
+-- A record frame that waits: it reserves, under the number of records before it; or it is refused, and leaves without
+-- a record; or it begins a fill, and goes on; or it just goes on.
+pub data RecordAppends (c : Core) (phase : Phase) (answer : Answer) (actions : List Action) : Type 0 where
+  record_reserved :
+      answer ≡ reserved_as (length (reserved_records c.history))
+      → actions ≡ reserve ∷ []
+      → RecordAppends c phase answer actions
+  record_refused : IsRefusedPage answer → actions ≡ leave None ∷ [] → RecordAppends c phase answer actions
+  record_opens : IsOpening c phase → answer ≡ going → actions ≡ open_fill ∷ [] → RecordAppends c phase answer actions
+  record_goes_on :
+      (IsOpening c phase → ⊥)
+      → answer ≡ going
+      → actions ≡ []
+      → RecordAppends c phase answer actions
+
+-- A close frame has what it wanted: the tail page is empty; or another frame has begun a fill since this one noted
+-- which to begin, and this one owns no UPDATE that it must clear first.
+pub data HasWhatItWants (c : Core) (phase : Phase) : Type 0 where
+  tail_is_empty : phase ≡ idle → tail_of c.history ≡ [] → HasWhatItWants c phase
+  was_faster : (noted : ℕ)
+      → noted_fill phase ≡ Some noted
+      → noted ≢ c.opened
+      → owned_update phase ≡ None
+      → HasWhatItWants c phase
+
+-- A close frame that waits: it is refused, and leaves; or it begins a fill and leaves, or leaves since it has what it
+-- wanted; or it goes on.
+pub data CloseAppends (c : Core) (phase : Phase) (below : List Frame) (answer : Answer) (actions : List Action)
+    : Type 0 where
+  close_refused : IsRefusedPage answer → actions ≡ leave None ∷ [] → CloseAppends c phase below answer actions
+  close_opens :
+      IsOpening c phase
+      → answer ≡ leave_answer below
+      → actions ≡ open_fill ∷ leave None ∷ []
+      → CloseAppends c phase below answer actions
+  close_leaves :
+      HasWhatItWants c phase
+      → answer ≡ leave_answer below
+      → actions ≡ leave None ∷ []
+      → CloseAppends c phase below answer actions
+  close_goes_on :
+      (IsOpening c phase → ⊥)
+      → (HasWhatItWants c phase → ⊥)
+      → answer ≡ going
+      → actions ≡ []
+      → CloseAppends c phase below answer actions
+
+-- it looks for the reader's wish, and grants it
+abbrev pub Grants : ℕ → Core → Phase → Type 0
+Grants n c phase = (phase ≡ wishing) × IsGranted n c
+
+-- A frame that has left: it begins a fill, for the reader, or finds the reader's wish; or it goes on, or is gone.
+pub data LeftAppends (n : ℕ) (c : Core) (phase : Phase) (answer : Answer) (actions : List Action) : Type 0 where
+  left_opens : IsOpening c phase → answer ≡ going → actions ≡ open_fill ∷ [] → LeftAppends n c phase answer actions
+  left_grants : Grants n c phase → answer ≡ going → actions ≡ wished ∷ [] → LeftAppends n c phase answer actions
+  left_stays :
+      (IsOpening c phase → ⊥)
+      → (Grants n c phase → ⊥)
+      → (answer ≡ going) ⊎ (answer ≡ gone)
+      → actions ≡ []
+      → LeftAppends n c phase answer actions
+
+-- one that has reserved is told its number again
+abbrev pub FrameAppends : ℕ → Core → Kind → FrameState → Phase → List Frame → Answer → List Action → Type 0
+FrameAppends n c (for_record moment len) waiting phase below answer actions = RecordAppends c phase answer actions
+FrameAppends n c for_close waiting phase below answer actions = CloseAppends c phase below answer actions
+FrameAppends n c kind (reserved number) phase below answer actions = (answer ≡ reserved_as number) × (actions ≡ [])
+FrameAppends n c kind left phase below answer actions = LeftAppends n c phase answer actions
+
+abbrev pub TopAppends : ℕ → Core → List Frame → Answer → List Action → Type 0
+TopAppends n c [] answer actions = (answer ≡ refused no_frame) × (actions ≡ [])
+TopAppends n c (frame ∷ below) answer actions =
+    FrameAppends n c frame.kind frame.state frame.phase below answer actions
+
+-- ---- each event
+
+-- The event, asked of a ring of n positions in this state and answered so, appends these actions to the history. The
+-- reader's events append none.
+abbrev pub Appends : ℕ → Core → Event → Answer → List Action → Type 0
+Appends n c (pushes moment len) answer actions = PushAppends (push moment len) answer actions
+Appends n c pushes_close answer actions = PushAppends push_close answer actions
+Appends n c steps answer actions = TopAppends n c c.frames answer actions
+Appends n c (ends payload) answer actions = TopEndAppends payload c.frames answer actions
+Appends n c reads answer actions = actions ≡ []
+Appends n c wishes answer actions = actions ≡ []
