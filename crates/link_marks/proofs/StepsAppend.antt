@@ -225,7 +225,7 @@ going_not_refused why e = cc
 number_not_refused : (number : ℕ) (why : Refusal) → reserved_as number ≢ refused why
 number_not_refused number why e = cc
 
-leave_not_refused : (below : List Frame) (why : Refusal) → leave_answer below ≢ refused why
+pub leave_not_refused : (below : List Frame) (why : Refusal) → leave_answer below ≢ refused why
 leave_not_refused [] why e = cc
 leave_not_refused (next ∷ below) why e = cc
 

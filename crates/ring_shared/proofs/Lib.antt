@@ -20,3 +20,4 @@ pub mod Nearing
 pub mod PushedEnded
 pub mod WholeWrites
 pub mod AtOnce
+pub mod CallsAppend

@@ -8,3 +8,4 @@ pub mod Settling
 pub mod Nearer
 pub mod Finishing
 pub mod WholeWrites
+pub mod Laws

@@ -5,6 +5,7 @@
 //! closed and unread, and knows how many records were lost in front of it.
 #![tactic(auto)]
 
+pub mod laws;
 mod making;
 pub mod reader;
 pub mod settling;
