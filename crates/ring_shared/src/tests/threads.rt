@@ -301,8 +301,9 @@ fn account(rt: &impl Abort, alloc: Global, writing: Writing, reading: Reading)
     let Reading { reader, seen } = reading;
     assert_eq!(rt; writer.depth(), 0);
     assert_eq!(rt; reader.empty_at(), Some(writer.done()));
-    if let Ok(settled) = settle(alloc, writer, reader) {
-        seen.check_total(rt, &settled, next);
+    match settle(alloc, writer, reader) {
+        Ok(settled) => seen.check_total(rt, &settled, next),
+        Err(_) => unreachable!(),
     }
 }
 
