@@ -13,7 +13,7 @@ use Rattle.link_marks.proofs.TopSteps.{top_stepped}
 left_behind : (frame : Frame) (below : List Frame) (c : Core) (answer : Answer) (after : Core) (others : List Frame) → below ≡ others → (answer ≡ leave_answer others) ⊎ ((why : Refusal) × (answer ≡ refused why)) → after.frames ≡ frames_after_leave c frame others → Leaving below answer after.frames
 left_behind frame below c answer after [] none (inl a) e = subst (λ (b : List Frame). Leaving b answer after.frames) (sym none) (leaves_on _ (inl a) e tt)
 left_behind frame below c answer after [] none (inr a) e = subst (λ (b : List Frame). Leaving b answer after.frames) (sym none) (leaves_on _ (inr a) e tt)
-left_behind frame below c answer after (next ∷ others) some a e = is_gone (e ∙ sym some)
+left_behind frame below c answer after (next ∷ others) some a e = is_gone a (e ∙ sym some)
 
 -- ---- a frame that has a record to reserve
 
@@ -136,7 +136,7 @@ module _ (frame : Frame) (below : List Frame) (is : IsLeaving frame.kind frame.s
     leaving_in releasing p top (releases_last alone last a e) = goes_on wishing _ refl a e
     leaving_in wishing p top (grants alone granted a e) = goes_on (looking c.opened) _ refl a e
     leaving_in wishing p top (closes_more alone denied more a e) = goes_on releasing _ refl a e
-    leaving_in wishing p top (goes_away alone denied none a e) = is_gone (ap (λ (d : Core). d.frames) e ∙ sym alone)
+    leaving_in wishing p top (goes_away alone denied none a e) = is_gone (inl a) (ap (λ (d : Core). d.frames) e ∙ sym alone)
 
 pub frames_leave : FramesLeave
 frames_leave n size start c frame below answer after kept top is step =

@@ -2,7 +2,7 @@
 use Rattle.std.specs.Prelude.{◌≡◌, ℕ, ◌⊎◌, List, ◌∷◌}
 use Rattle.trace_model.specs.Frames.{Kind, for_record, for_close, FrameState, waiting, reserved, left, Refusal, Frame}
 use Rattle.trace_model.specs.Ring.{Core}
-use Rattle.trace_model.specs.Steps.{steps, going, reserved_as, refused, Answer, Step}
+use Rattle.trace_model.specs.Steps.{steps, going, gone, reserved_as, refused, Answer, Step}
 use Rattle.link_marks.specs.RingKept.{IsRingKept}
 
 -- a frame that has a record to reserve
@@ -19,14 +19,14 @@ IsLeaving for_close waiting = Unit {0}
 IsLeaving kind (reserved number) = ⊥
 IsLeaving kind left = Unit {0}
 
--- it stays, above the same frames, perhaps refused; or it is gone
+-- it stays, above the same frames, perhaps refused; or it is gone, and the answer says so, or the refusal
 pub data Leaving (below : List Frame) (answer : Answer) (after : List Frame) : Type 0 where
   leaves_on : (next : Frame)
       → (answer ≡ going) ⊎ ((why : Refusal) × (answer ≡ refused why))
       → after ≡ next ∷ below
       → IsLeaving next.kind next.state
       → Leaving below answer after
-  is_gone : after ≡ below → Leaving below answer after
+  is_gone : (answer ≡ gone) ⊎ ((why : Refusal) × (answer ≡ refused why)) → after ≡ below → Leaving below answer after
 
 -- It goes on for the same record, above the same frames; or the record is reserved; or it is refused, and leaves.
 pub data Reserving (frame : Frame) (below : List Frame) (answer : Answer) (after : List Frame) : Type 0 where

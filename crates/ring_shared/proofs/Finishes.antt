@@ -151,7 +151,7 @@ module _ (shape : Shape) (kind : Kind) (below : List Frame) (before now next : W
 
   refused_how : (fault : WriteFault) → Leaving below call.answer call.next.frames → IsReservedOr kind below (Refused fault) next.frames
   refused_how fault (leaves_on frame answer_is top leaves) = stays_refused fault frame next.frames (frames_after shape now next result call (frame ∷ below) top) leaves
-  refused_how fault (gone_from top) = is_refused fault next.frames (frames_after shape now next result call below top)
+  refused_how fault (gone_from how top) = is_refused fault next.frames (frames_after shape now next result call below top)
 
   ends_with : Reserving a.frame below call.answer call.next.frames → result ≢ Going → IsReservedOr kind below result next.frames
   ends_with (reserves_on frame answer_is top kind_is state_is) ne = absurd (ne (is_going shape.size result call.answer call.tells answer_is))
@@ -221,7 +221,7 @@ module _ (shape : Shape) (below : List Frame) (before : Writing) (met : Option W
 
   leaves_more : Leaving below call.answer call.next.frames → (length next.frames < length now.frames → ⊥) → IsAmidLeaving shape below before (met_behind met result) next
   leaves_more (leaves_on frame answer_is top leaves) stands = leaves_with frame (frames_after shape now next result call (frame ∷ below) top) leaves (answered answer_is)
-  leaves_more (gone_from top) stands = let short = ap (length {A = Frame}) (frames_after shape now next result call below top) in absurd (stands (let w = wide in omega arith))
+  leaves_more (gone_from how top) stands = let short = ap (length {A = Frame}) (frames_after shape now next result call below top) in absurd (stands (let w = wide in omega arith))
 
   -- it stays
   pub leaving_on : (length next.frames < length now.frames → ⊥) → IsAmidLeaving shape below before (met_behind met result) next
@@ -232,7 +232,7 @@ module _ (shape : Shape) (below : List Frame) (before : Writing) (met : Option W
 
   gone_to : Leaving below call.answer call.next.frames → length next.frames < length now.frames → next.frames ≡ below
   gone_to (leaves_on frame answer_is top leaves) less = let same = ap (length {A = Frame}) (frames_after shape now next result call (frame ∷ below) top) in let w = wide in absurd (omega arith)
-  gone_to (gone_from top) less = frames_after shape now next result call below top
+  gone_to (gone_from how top) less = frames_after shape now next result call below top
 
   -- it is gone
   pub leaving_ends : length next.frames < length now.frames → Leaves shape below before (told_behind met result) next
