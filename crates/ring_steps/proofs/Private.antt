@@ -19,6 +19,24 @@ closed_is_other n size start c f k low high i inside e =
     let some = k.links.some_pages in let le = k.links.head_le in let room = k.links.opened_le in let count = k.open_pages.count in
     pages_differ n c.order c.spare c.head (c.done + i) f (omega arith) k.links.apart (omega arith) (omega arith) low (omega arith) (λ same. omega arith) (sym (k.open_pages.each i inside) ∙ e)
 
+-- the reader's part is the same one
+stays_read : (n size start : ℕ) (c : Core) (event : Event) (answer : Answer) (after : Core) (r : Reading) → IsReached n size start c → Step n size c event answer after → IsPrivateOf c after → IsReading c r → IsReading after r
+stays_read n size start c event answer after r reached step is reading_is =
+    let heard = heard_stays n size start c event answer after (reached_kept n size start c reached) step in record {
+      order_is = reading_is.order_is ∙ sym (ap (λ (d : Core). d.order) is);
+      spare_is = reading_is.spare_is ∙ sym (ap (λ (d : Core). d.spare) is);
+      spare_link_is = reading_is.spare_link_is ∙ sym (ap (λ (d : Core). d.spare_link) is);
+      reader_is = reading_is.reader_is ∙ sym (ap (λ (d : Core). d.reader) is);
+      wish_is = reading_is.wish_is ∙ sym (ap (λ (d : Core). d.wish) is);
+      heard_is = reading_is.heard_is ∙ (sym heard ∙ sym (ap (λ (x : Rattle.trace_model.specs.Ring.Reader). first_records x.expected after.history) (ap (λ (d : Core). d.reader) is)));
+    }
+
+pub private_read : (n size start : ℕ) (c aside : Core) (exchanges : List Exchange) (r : Reading) → IsReached n size start c → PrivateRun n size c exchanges aside → IsReading c r → IsReading aside r
+private_read n size start c aside [] r reached run reading_is = subst (λ (d : Core). IsReading d r) run reading_is
+private_read n size start c aside (x ∷ exchanges) r reached (own, between, step, run) reading_is =
+    private_read n size start between aside exchanges r (reached_further n size start c x.event x.answer between reached step) run
+    (stays_read n size start c x.event x.answer between r reached step (changes_privately c between (private_result n size c x.event x.answer between own step)) reading_is)
+
 -- the frames, the history and what pages hold are others; the pages of closed fills hold what they held
 pub stays_shown : (n size start : ℕ) (c : Core) (event : Event) (answer : Answer) (after : Core) (r : Reading) (words : List ℕ) (homes : Homes)
     → IsShown n size start c r words homes
@@ -27,7 +45,6 @@ pub stays_shown : (n size start : ℕ) (c : Core) (event : Event) (answer : Answ
     → ((f : ℕ) → c.head ≤ f → f < c.done → contents_of after (page_at n c.order f) ≡ contents_of c (page_at n c.order f))
     → IsShown n size start after r words homes
 stays_shown n size start c event answer after r words homes s step is holds =
-    let heard = heard_stays n size start c event answer after (reached_kept n size start c s.reached) step in
     let words_are : AreWords n after words = subst (λ (d : Core). AreWords n d words) (sym is) record {
       count = s.are_words.count;
       opened = s.are_words.opened;
@@ -43,7 +60,6 @@ stays_shown n size start c event answer after r words homes s step is holds =
     let opened = ap (λ (d : Core). d.opened) is in
     let order = ap (λ (d : Core). d.order) is in
     let spare = ap (λ (d : Core). d.spare) is in
-    let reader = ap (λ (d : Core). d.reader) is in
     record {
       pages_fit = s.pages_fit;
       reached = reached_further n size start c event answer after s.reached step;
@@ -54,14 +70,7 @@ stays_shown n size start c event answer after r words homes s step is holds =
         free = λ f low high. subst (λ (o : List ℕ). Rattle.ring_steps.specs.Shown.HasBody homes size (page_at n o f)) (sym order) (s.are_homes.free f (omega arith) (omega arith));
         spare = λ at_home. ap (lib.ListN.get_elem? homes) spare ∙ s.are_homes.spare at_home;
       };
-      is_reading = record {
-        order_is = s.is_reading.order_is ∙ sym order;
-        spare_is = s.is_reading.spare_is ∙ sym spare;
-        spare_link_is = s.is_reading.spare_link_is ∙ sym (ap (λ (d : Core). d.spare_link) is);
-        reader_is = s.is_reading.reader_is ∙ sym reader;
-        wish_is = s.is_reading.wish_is ∙ sym (ap (λ (d : Core). d.wish) is);
-        heard_is = s.is_reading.heard_is ∙ (sym heard ∙ sym (ap (λ (x : Rattle.trace_model.specs.Ring.Reader). first_records x.expected after.history) reader));
-      };
+      is_reading = stays_read n size start c event answer after r s.reached step is s.is_reading;
     }
 
 pub private_shown : (n size start : ℕ) (c aside : Core) (exchanges : List Exchange) (r : Reading) (words : List ℕ) (homes : Homes) → IsShown n size start c r words homes → PrivateRun n size c exchanges aside → IsShown n size start aside r words homes

@@ -3,11 +3,11 @@ use Rattle.std.specs.Prelude.{ℕ}
 use Rattle.atomic_table.specs.Seated.{TableId}
 use Rattle.ring_steps.specs.declared.ends.WriterSeat.{WriterSeat}
 use Rattle.ring_steps.specs.declared.ends.ReaderSeat.{ReaderSeat}
-use Rattle.ring_steps.specs.Views.{Writing, Reading, writing, passed, reading}
+use Rattle.ring_steps.specs.Views.{Writing, Reading, passed, reading}
 
--- the writer's part, as of its last step on a word
+-- the writer's part, as of its last step on a word or note of what it did in private
 abbrev pub writing_in : WriterSeat → Writing
-writing_in writer = writing writer.seat.me.0
+writing_in writer = writer.memo.now
 
 -- below which each fill is passed, as the writer knows
 abbrev pub passed_in : WriterSeat → ℕ

@@ -107,12 +107,6 @@ pub record WriterTold (shape : Shape) (now : Writing) (known : ℕ) (sees : Core
   pub knows : known ≤ passed after.0
   pub step : IsWriterStep shape now sees answer (writing after.0)
 
--- what a load tells by which the writer's part comes to be this: nothing of a word
-pub record NoteTold (now : Writing) (known : ℕ) (after : Sat) : Type 0 where
-  pub seat : IsWriting after
-  pub knows : known ≤ passed after.0
-  pub noted : writing after.0 ≡ now
-
 -- ---- the end
 
 -- There is a state that steps reach, of which these are the writer's part and the reader's.

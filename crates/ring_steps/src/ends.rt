@@ -2,24 +2,27 @@
 ghost use Rattle.std.specs.Prelude.{◌≡◌};
 ghost use Rattle.std.specs.Arc.{arc_value};
 ghost use Rattle.ring_steps.specs.Views.{writing, reading};
-ghost use Rattle.ring_steps.specs.Seats.{IsTableOf, IsWriting, IsSeatOfReader, IsReaderWithin};
+ghost use Rattle.ring_steps.specs.Seats.{IsTableOf, IsWriting, IsSeatOfReader, IsReaderWithin, Leads};
 ghost use Rattle.ring_steps.specs.Paging.{IsWriterReached};
 
+use crate::memo::Memo;
 use crate::plays::Place;
 use crate::rule::{Board, Shape};
 use std::sync::Arc;
 
-/// The writer's seat.
+/// The writer's seat, and what the writer did in private since its last step on a word.
 #[derive(Drop)]
 pub struct WriterSeat {
     pub(crate) board: Arc<Board>,
     pub(crate) seat: Place,
+    pub(crate) memo: Memo,
     pub shape: Shape,
     ghost key_is: { (arc_value board).shared.key ≡ shape },
     ghost table: { IsTableOf shape (arc_value board).shared.table_id },
     ghost seated: { seat.table_id ≡ (arc_value board).shared.table_id },
     ghost is_writing: { IsWriting seat.me },
     ghost reached: { ∥ IsWriterReached shape (writing seat.me.0) ∥₁ },
+    ghost pending: { ∥ Leads shape (writing seat.me.0) memo.now ∥₁ },
 }
 
 /// The reader's seat.

@@ -7,6 +7,7 @@ ghost use Rattle.ring_steps.specs.Views.{laid};
 
 use crate::ends::{ReaderSeat, WriterSeat};
 use crate::laying::{first_slots, first_words};
+use crate::memo::memo_at_rest;
 use crate::plays::{Place, load};
 use crate::rule::{Board, Shape};
 use crate::views::View;
@@ -78,8 +79,14 @@ pub fn seats_at(
     let board = Arc::new(alloc, table)?;
     let other = Arc::try_clone(&board)?;
     let reader = board.shared.split_seat::<Ends>(&mut seat);
+    let memo = memo_at_rest(&seat);
     Ok((
-        WriterSeat { board, seat, shape },
+        WriterSeat {
+            board,
+            seat,
+            memo,
+            shape,
+        },
         ReaderSeat {
             board: other,
             seat: reader,

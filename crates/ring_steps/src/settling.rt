@@ -42,10 +42,12 @@ pub fn settle(writer: WriterSeat, reader: ReaderSeat)
     requires no_slot { (reading_in reader).keeps_spare ≡ false }
     ensures { AreParts writer.shape (writing_in writer) (reading_in reader) }
 {
+    writer.recall();
     let WriterSeat {
         board,
         mut seat,
         shape,
+        ..
     } = writer;
     let ReaderSeat { seat: other, .. } = reader;
     board.shared.join_seat::<Both>(&mut seat, other);

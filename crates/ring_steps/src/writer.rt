@@ -7,6 +7,7 @@ ghost use Rattle.trace_model.specs.Ring.{link_into, fill_of};
 ghost use Rattle.trace_model.specs.Steps.{going, Answer};
 ghost use Rattle.link_marks.specs.ModelLinks.{link_of};
 ghost use Rattle.nested_writer.specs.Released.{IsWrittenPage};
+ghost use Rattle.ring_steps.specs.Views.{writing};
 ghost use Rattle.ring_steps.specs.Seats.{Leads, IsWriterStep};
 ghost use Rattle.ring_steps.specs.Ends.{writing_in, passed_in, writer_table};
 ghost use Rattle.ring_steps.specs.Paging.{IsTopIn, begun_answer};
@@ -14,6 +15,7 @@ ghost use Rattle.ring_steps.specs.Linking.{tail_in, LooksBehind, MarksBehind};
 
 use crate::ends::WriterSeat;
 use crate::links::{header_word, link_in, normal_word, update_word};
+use crate::memo::{memo_at_rest, memo_of};
 use crate::plays::{exchange, load, store};
 use crate::rule::{DONE, LINKS, OPENED, WISH};
 use link_marks::Link;
@@ -22,9 +24,10 @@ use std::marker::Brand;
 use trace_model::FillNo;
 
 impl WriterSeat {
-    /// A load of the number of begun fills, which the writer knows: by it what the writer did in private since its last
-    /// step on a word comes to stand in what its seat knows. Behind it no step is pending. `given` is what a caller
-    /// tells the proof of that; no code reads it.
+    /// Notes what the writer did in private since its last step on a word: by it the writer's part comes to be what it
+    /// is by now. No word is loaded or stored, and the next step on one is from there. `given` is what a caller tells
+    /// the proof of that; no code reads it.
+    #[inline(always)]
     pub fn note<J: Present, G>(&mut self, given: &G)
         requires due { Leads self.old.shape (writing_in self.old) J.now }
         ensures shape { self.new.shape ≡ self.old.shape }
@@ -32,9 +35,15 @@ impl WriterSeat {
         ensures knows { passed_in self.old ≤ passed_in self.new }
         ensures noted { writing_in self.new ≡ J.now }
     {
-        let _given = given;
-        load::<Brand>(&self.board, self.shape, &mut self.seat, OPENED);
+        self.memo = memo_of::<J, G>(given);
     }
+
+    /// What the writer did in private since its last step on a word leads from the part that its seat knows to its part
+    /// by now.
+    #[inline(always)]
+    pub(crate) fn recall(&self)
+        ensures { Leads self.now.shape (writing self.now.seat.me.0) (writing_in self.now) }
+    {}
 
     /// A load of the link into the position of the fill to open, which stands in the word of the tail page. What the
     /// seat knew to be passed is at most the head of the state that is seen.
@@ -51,8 +60,11 @@ impl WriterSeat {
             × (link_into self.old.shape.pages core.links J.now.opened ≡ link_of result)) going
             (writing_in self.new) }
     {
+        self.recall();
         let word = tail as usize + LINKS;
-        link_in(load::<Brand>(&self.board, self.shape, &mut self.seat, word))
+        let found = load::<Brand>(&self.board, self.shape, &mut self.seat, word);
+        self.memo = memo_at_rest(&self.seat);
+        link_in(found)
     }
 
     /// A load of the next link, which stands in the word of this page: that into the position of the fill behind the
@@ -69,8 +81,11 @@ impl WriterSeat {
             (writing_in self.new) }
     {
         let _behind = behind;
+        self.recall();
         let word = page as usize + LINKS;
-        link_in(load::<Brand>(&self.board, self.shape, &mut self.seat, word))
+        let found = load::<Brand>(&self.board, self.shape, &mut self.seat, word);
+        self.memo = memo_at_rest(&self.seat);
+        link_in(found)
     }
 
     /// A load of the reader's wish, when no fill is left to close. `given` is what a caller tells the proof of what was
@@ -85,7 +100,10 @@ impl WriterSeat {
             (writing_in self.new) }
     {
         let _given = given;
-        load::<Brand>(&self.board, self.shape, &mut self.seat, WISH)
+        self.recall();
+        let wish = load::<Brand>(&self.board, self.shape, &mut self.seat, WISH);
+        self.memo = memo_at_rest(&self.seat);
+        wish
     }
 
     /// A compare and exchange of the link in the tail page's word from HEADER to UPDATE, by which the head, this page
@@ -104,10 +122,13 @@ impl WriterSeat {
             (λ core. result ≡ true ↔ link_into self.old.shape.pages core.links J.now.opened ≡ header_link page lost.0)
             going (writing_in self.new) }
     {
+        self.recall();
         let word = tail as usize + LINKS;
         let from = header_word(page, lost);
         let to = update_word(page, lost);
-        exchange::<Brand>(&self.board, self.shape, &mut self.seat, word, from, to) == from
+        let found = exchange::<Brand>(&self.board, self.shape, &mut self.seat, word, from, to);
+        self.memo = memo_at_rest(&self.seat);
+        found == from
     }
 
     /// A compare and exchange of the next link, in the word of this page, from NORMAL to HEADER; whether it was done.
@@ -122,10 +143,13 @@ impl WriterSeat {
             (λ core. result ≡ true ↔ link_into self.old.shape.pages core.links behind.0 ≡ normal_link next behind.0)
             going (writing_in self.new) }
     {
+        self.recall();
         let word = page as usize + LINKS;
         let from = normal_word(next, behind);
         let to = header_word(next, behind);
-        exchange::<Brand>(&self.board, self.shape, &mut self.seat, word, from, to) == from
+        let found = exchange::<Brand>(&self.board, self.shape, &mut self.seat, word, from, to);
+        self.memo = memo_at_rest(&self.seat);
+        found == from
     }
 
     /// A store of the link in the word of the page in front, from the frame's own UPDATE to NORMAL. It need not be
@@ -139,9 +163,11 @@ impl WriterSeat {
         ensures knows { passed_in self.old ≤ passed_in self.new }
         ensures step { IsWriterStep self.old.shape J.now (λ _. ⊤) going (writing_in self.new) }
     {
+        self.recall();
         let word = front as usize + LINKS;
         let to = normal_word(page, noted);
         store::<Brand>(&self.board, self.shape, &mut self.seat, word, to);
+        self.memo = memo_at_rest(&self.seat);
     }
 
     /// A store of the number of begun fills: the next fill, which the frame on top noted, is begun on the page of this
@@ -157,12 +183,14 @@ impl WriterSeat {
             (writing_in self.new) }
         ensures body { length result ≡ self.old.shape.size }
     {
+        self.recall();
         store::<Brand>(&self.board, self.shape, &mut self.seat, OPENED, fill.0 + 1);
         let slot = number as usize;
         let Some(page) = self.board.shared.exchange(&mut self.seat, slot, None) else {
             unreachable!()
         };
         self.seat.turn();
+        self.memo = memo_at_rest(&self.seat);
         page.into_body()
     }
 
@@ -179,10 +207,12 @@ impl WriterSeat {
         ensures knows { passed_in self.old ≤ passed_in self.new }
         ensures step { IsWriterStep self.old.shape J.now (λ _. ⊤) going (writing_in self.new) }
     {
+        self.recall();
         let fill = page.fill();
         let slot = number as usize;
         self.board.shared.exchange(&mut self.seat, slot, Some(page));
         store::<Brand>(&self.board, self.shape, &mut self.seat, DONE, fill.0 + 1);
+        self.memo = memo_at_rest(&self.seat);
     }
 }
 

@@ -8,6 +8,7 @@ use Rattle.ring_steps.specs.NewRings.{first_writing, first_reading}
 use Rattle.ring_steps.specs.Paging.{IsWriterReached}
 use Rattle.ring_steps.proofs.Starts.{first_within, first_reached}
 use Rattle.ring_steps.proofs.FirstSteps.{cut, is_whole}
+use Rattle.ring_steps.proofs.Notes.{rests}
 use Rattle.ring_steps.proofs.making.seats_at.Goals as goal
 
 pub split_seat-reader-requires : goal.split_seat-reader-requires
@@ -34,3 +35,7 @@ invariant_of-result-clause-reached c = let shape : Shape = record { pages = c.ar
     let none : List (ℕ × Option Contents) = [] in
     let seat_is : writing c.split_seat-reader.new.seat.me.0 ≡ first_writing shape = ap (λ (m : Sat). writing m.0) c.split_seat-reader.ensures.2 ∙ ap writing c.take_tail.ensures.seat.0 in
     ∣ subst (IsWriterReached shape) (sym seat_is) (first_reached shape (search rules)) ∣₁
+
+pub invariant_of-result-clause-pending : goal.invariant_of-result-clause-pending
+invariant_of-result-clause-pending c = let shape : Shape = record { pages = c.args.pages; size = c.args.size; start = c.args.start } in
+    rests shape _ _ c.memo_at_rest-memo.ensures
