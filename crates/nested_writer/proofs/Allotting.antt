@@ -1,7 +1,7 @@
 -- What allot makes of a stack, by its answer.
 use Rattle.std.proofs.Common.{◌≡◌, ℕ, ◌≤◌, List, [], ◌∷◌, ◌++◌, Option, Some, None, Ok, Err, refl, sym, ap, ◌∙◌, subst, arith, append-nil}
 use Rattle.std.specs.Prelude.{unwrap_or}
-use Rattle.trace_model.specs.History.{Action, leave, reserved_records}
+use Rattle.trace_model.specs.History.{Action, reserve, leave, reserved_records}
 use Rattle.trace_model.specs.Packing.{opens_of, is_wished}
 use Rattle.trace_model.specs.Frames.{waiting}
 use Rattle.record_words.specs.declared.put.Place.{Place}
@@ -12,9 +12,11 @@ use Rattle.nested_writer.specs.declared.frame.Purpose.TheVariants.{Record, Close
 use Rattle.nested_writer.specs.declared.frame.Progress.{Progress}
 use Rattle.nested_writer.specs.declared.frame.Progress.TheVariants.{Waiting, Through, Reserved, Left}
 use Rattle.nested_writer.specs.declared.frame.Frame.{Frame}
+use Rattle.nested_writer.specs.declared.frame.Pushed.{Pushed}
 use Rattle.nested_writer.specs.Stack.{Stack, opened, kind_of, state_of}
-use Rattle.nested_writer.specs.Calls.{with_progress, after_leave, WantsPage}
+use Rattle.nested_writer.specs.Calls.{with_progress, after_leave, IsTop, IsReserved, WantsPage}
 use Rattle.nested_writer.specs.Allotted.{HasActed, HasFit, first_try, IsAllotted}
+use Rattle.nested_writer.specs.PlainTop.{IsPlainTop}
 use Rattle.nested_writer.specs.IsStack.{IsNoted, StandsAt, FramesStand, IsStack}
 use Rattle.nested_writer.proofs.Leaving.{left_none, noted_record, noted_close, gone_through}
 
@@ -78,3 +80,7 @@ module _ (s after : Stack) (top : Frame) (below : List Frame) (top_is : s.frames
   pub stayed_through : (noted : ℕ) (place : Place) → top.purpose ≡ Close → top.progress ≡ Through noted → place.len ≡ 0 → after ≡ with_progress s top below (Through noted) → IsAllotted s s.frames (Ok (Fits place)) after
   stayed_through noted place p q none is = subst (λ (fs : List Frame). IsAllotted s fs (Ok (Fits place)) after) (sym top_is) (subst (λ (x : Purpose). HasFit s top below x top.progress place after) (sym p) (subst (λ (x : Progress). HasFit s top below Close x place after) (sym q)
       (none, is, passes noted p (ap state_of q) (λ start h k. (stands (Through noted) q start h k).1) is)))
+
+-- a record as nearly all are is reserved
+pub plain_after : (s after : Stack) (pushed : Pushed) (place : Place) → IsPlainTop s pushed → ((top : Frame) (below : List Frame) → IsTop s top below → IsReserved s top below pushed.moment pushed.len place after) → HasActed s (reserve ∷ []) after → IsAllotted s s.frames (Ok (Fits place)) after
+plain_after s after pushed place p reserved acted = subst (λ (fs : List Frame). IsAllotted s fs (Ok (Fits place)) after) (sym p.on_top) (reserved record { purpose = Record pushed.moment pushed.len; progress = Waiting None } p.below p.on_top, acted)

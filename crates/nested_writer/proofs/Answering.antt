@@ -14,9 +14,11 @@ use Rattle.nested_writer.specs.declared.frame.Purpose.TheVariants.{Record, Close
 use Rattle.nested_writer.specs.declared.frame.Progress.{Progress}
 use Rattle.nested_writer.specs.declared.frame.Progress.TheVariants.{Waiting, Through, Reserved, Left}
 use Rattle.nested_writer.specs.declared.frame.Frame.{Frame}
+use Rattle.nested_writer.specs.declared.frame.Pushed.{Pushed}
 use Rattle.nested_writer.specs.Stack.{Stack, opened, next_number, kind_of}
 use Rattle.nested_writer.specs.Calls.{end_with, IsUnchanged, WantsPage, IsCrowded, IsWorn}
 use Rattle.nested_writer.specs.Answered.{FitsTail, IsBegunSince, WantsFill, HasItsFill, IsAnsweredTop, IsAnswered}
+use Rattle.nested_writer.specs.PlainTop.{IsPlainTop}
 use Rattle.nested_writer.specs.IsStack.{StandsAt, FramesStand, IsStack}
 use Rattle.nested_writer.proofs.Reserving.{number_is, end_is}
 use Rattle.nested_writer.proofs.Releasing.{tail_empty, tail_holds}
@@ -87,3 +89,7 @@ module _ (start : ℕ) (h : List Action) (s : Stack) (k : IsStack start h s) whe
         let stands = (subst (FramesStand s.size s.done s.older s.tail (opens_of h) (reserved_records h) (is_wished h)) top_is k.holds.frames_are).1 in
         let closes = (subst (StandsAt s.size s.done s.older s.tail (opens_of h) (reserved_records h) (is_wished h) (kind_of top.purpose)) q stands).0 in
         let record_closes = sym (ap kind_of p) ∙ closes in cc
+
+  -- a record as nearly all are
+  pub plain_answer : (pushed : Pushed) (place : Place) → IsPlainTop s pushed → IsAnswered s h s.frames (Ok (Fits place))
+  plain_answer pushed place p = fits_answer record { purpose = Record pushed.moment pushed.len; progress = Waiting None } p.below p.on_top None place refl (λ wants. let room = p.fits.room in omega arith)

@@ -12,7 +12,6 @@ use Rattle.trace_model.specs.Reading.{records_in, EndsInRecord, IsPlaceIn}
 use Rattle.trace_model.specs.Overwriting.{overwritten, bytes_at, IsPlaceOf}
 use Rattle.trace_model.specs.History.{Action, push, reserve, leave, Reservation, PushedFrame, record_frame, records_with_payload, writer_after, reserved_records, MayLeave, IsHistory}
 use Rattle.trace_model.specs.Steps.{IsTooLong}
-use Rattle.trace_model.specs.Packing.{opens_of, is_wished}
 use Rattle.trace_model.specs.Fitting.{AreFit}
 use Rattle.trace_model.proofs.Allowed.{IsHistory-push}
 use Rattle.trace_model.proofs.NextAction.{left_stack}
@@ -29,14 +28,18 @@ use Rattle.page_image.specs.Lending.{with_payload}
 use Rattle.record_words.specs.declared.put.Place.{Place}
 use Rattle.nested_writer.specs.declared.frame.Purpose.TheVariants.{Record as ForRecord}
 use Rattle.nested_writer.specs.declared.frame.Slot.{Slot}
+use Rattle.nested_writer.specs.declared.frame.Progress.{Progress}
 use Rattle.nested_writer.specs.declared.frame.Progress.TheVariants.{Waiting, Reserved, Left}
 use Rattle.nested_writer.specs.declared.frame.Frame.{Frame}
-use Rattle.trace_model.specs.Frames.{pushed_of}
-use Rattle.nested_writer.specs.Stack.{Stack, tail_fill, next_number, model_frames}
+use Rattle.trace_model.specs.Frames.{pushed_onto, pushed_of}
+use Rattle.nested_writer.specs.Stack.{Stack, tail_fill, next_number, kind_of, state_of, model_frames}
 use Rattle.nested_writer.specs.Inside.{frames_from}
 use Rattle.nested_writer.specs.Calls.{after_leave}
+use Rattle.nested_writer.specs.AtOnce.{MayStand, with_left}
 use Rattle.nested_writer.specs.IsStack.{is_tail, IsStack}
+use Rattle.trace_model.specs.Packing.{opens_of, is_wished}
 use Rattle.nested_writer.proofs.Pushing.{pushed_record, same_of}
+use Rattle.nested_writer.proofs.Leaving.{of_left}
 use Rattle.nested_writer.proofs.Reserving.{IsPut, reserved_record}
 use Rattle.nested_writer.proofs.Lending.{in_tail}
 use Rattle.nested_writer.proofs.Written.{written}
@@ -155,6 +158,43 @@ left_alike start h s moment len number below p q same stack fills k =
           (opens_of-leave h (Some p) ∙ sym (opens_of-leave h (Some q))) (records_left h f below (Some p) stack ∙ same_padded number p q (reserved_records h) same ∙ sym (records_left h f below (Some q) stack)) (is_wished-leave h (Some p) ∙ sym (is_wished-leave h (Some q))) k.holds;
     }
 
+-- ---- frames that have left
+
+-- one that isn't too long fits a page
+pub fits_page : (size len : ℕ) → (IsTooLong size len → ⊥) → encoded_len len 0 true ≤ size
+fits_page size len fits = dite (dec_le (encoded_len len 0 true) size) (λ low. low) (λ past. absurd (fits (inr (omega arith))))
+
+-- a frame that has left may stand where none does
+pub stands_again : (start : ℕ) (h : List Action) (s : Stack) (moment len : ℕ) → s.frames ≡ [] → MayStand s moment len → IsStack start h s → IsStack start h (with_left s moment len)
+stands_again start h s moment len none may k = record {
+  keeps = k.keeps;
+  stack_is = k.stack_is ∙ ap (λ (fs : List Frame). pushed_of (model_frames fs)) none;
+  fit = k.fit;
+  holds = of_left start (opens_of h) (reserved_records h) (is_wished h) s (record { purpose = ForRecord moment len; progress = Left None }) [] (fits_page s.size len may.0, may.1) tt k.holds;
+}
+
+-- and goes again
+pub goes_again : (start : ℕ) (h : List Action) (s : Stack) (f : Frame) → s.frames ≡ f ∷ [] → f.progress ≡ Left None → IsStack start h s → IsStack start h (record s { frames = [] })
+goes_again start h s f top_is gone k =
+    let o = k.holds in
+    record {
+      keeps = k.keeps;
+      stack_is = k.stack_is ∙ ap (λ (fs : List Frame). pushed_of (model_frames fs)) top_is ∙ ap (λ (p : Progress). pushed_onto (kind_of f.purpose) (state_of p) []) gone;
+      fit = k.fit;
+      holds = record {
+        begun = o.begun;
+        from_start = o.from_start;
+        rising = o.rising;
+        room = o.room;
+        last_is = o.last_is;
+        in_time = o.in_time;
+        large = o.large;
+        older_are = o.older_are;
+        tail_is = o.tail_is;
+        frames_are = tt;
+      };
+    }
+
 -- ---- the stack
 
 module _ (start : ℕ) (h : List Action) (s : Stack) (moment : ℕ) (payload : List ℕ) (tail' : Contents) (place : Place) (none : s.frames ≡ []) (fits : encoded_len (length payload) 0 true ≤ s.size) (early : moment < MOMENT_LIMIT) (low : length tail'.bytes ≤ s.size) (p : IsPutWith s.tail tail' s.last_moment (max moment s.last_moment) (length payload) (padded payload) place) (k : IsStack start h s) where
@@ -209,15 +249,19 @@ module _ (start : ℕ) (h : List Action) (s : Stack) (moment : ℕ) (payload : L
       left_alike start before (after_leave filled holds []) moment (length payload) (next_number s) [] payload (padded payload) (sym (padded_twice payload)) (is_filled.stack_is ∙ ap (λ (fs : List Frame). pushed_of (model_frames fs)) frames) refl
       (subst (λ (b : List ℕ). IsStack start (before ++ leave (Some b) ∷ []) (after_leave filled holds [])) there (ended start before filled holds [] slot tail' frames refl (is_tail refl refl) is_filled))
 
-  pub written_at_once : IsStack start (h ++ push moment (length payload) ∷ reserve ∷ leave (Some payload) ∷ []) (record s { tail = tail'; frames = record { purpose = ForRecord moment (length payload); progress = Left None } ∷ []; last_moment = max moment s.last_moment })
-  written_at_once = subst (λ (g : List Action). IsStack start g (record s { tail = tail'; frames = has_left ∷ []; last_moment = raised }))
+  is_written : IsStack start (h ++ push moment (length payload) ∷ reserve ∷ leave (Some payload) ∷ []) (record s { tail = tail'; frames = record { purpose = ForRecord moment (length payload); progress = Left None } ∷ []; last_moment = max moment s.last_moment })
+  is_written = subst (λ (g : List Action). IsStack start g (record s { tail = tail'; frames = has_left ∷ []; last_moment = raised }))
       (append_assoc (h ++ push moment (length payload) ∷ []) (reserve ∷ []) (leave (Some payload) ∷ []) ∙ append_assoc h (push moment (length payload) ∷ []) (reserve ∷ leave (Some payload) ∷ [])) is_left
+
+  -- and its frame may be taken off again
+  pub written_at_once : IsStack start (h ++ push moment (length payload) ∷ reserve ∷ leave (Some payload) ∷ []) (record s { tail = tail'; last_moment = max moment s.last_moment })
+  written_at_once =
+      let actions : List Action = push moment (length payload) ∷ reserve ∷ leave (Some payload) ∷ [] in
+      let after : Stack = record s { tail = tail'; frames = has_left ∷ []; last_moment = raised } in
+      subst (λ (fs : List Frame). IsStack start (h ++ actions) (record s { tail = tail'; frames = fs; last_moment = raised })) (sym none)
+      (goes_again start (h ++ actions) after has_left refl refl is_written)
 
 -- where no frame stands, none is below
 pub none_below : (top : Option Frame) (items : List Frame) → frames_from top items ≡ [] → items ≡ []
 none_below None items e = e
 none_below (Some top) items e = cc
-
--- one that isn't too long fits a page
-pub fits_page : (size len : ℕ) → (IsTooLong size len → ⊥) → encoded_len len 0 true ≤ size
-fits_page size len fits = dite (dec_le (encoded_len len 0 true) size) (λ low. low) (λ past. absurd (fits (inr (omega arith))))

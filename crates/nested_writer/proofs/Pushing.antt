@@ -1,9 +1,9 @@
 -- A frame that is pushed.
-use Rattle.std.proofs.Common.{◌≡◌, ℕ, ◌<◌, ◌≤◌, true, List, [], ◌∷◌, ◌++◌, None, sym, ap, ◌∙◌, subst}
-use Rattle.std.specs.Prelude.{Bool}
+use Rattle.std.proofs.Common.{◌≡◌, ℕ, ◌+◌, ◌-◌, ◌<◌, ◌≤◌, true, false, List, [], ◌∷◌, ◌++◌, None, sym, ap, ◌∙◌, subst, arith}
+use Rattle.std.specs.Prelude.{Bool, if◌then◌else◌, nat_le}
 use Rattle.std.proofs.lemmas.Option.{none-some}
-use Rattle.trace_model.specs.declared.limits.TheConstants.{MOMENT_LIMIT}
-use Rattle.trace_model.specs.Words.{encoded_len}
+use Rattle.trace_model.specs.declared.limits.TheConstants.{MIN_SIZE, MOMENT_LIMIT}
+use Rattle.trace_model.specs.Words.{slot_len, encoded_len}
 use Rattle.trace_model.specs.History.{Action, push, push_close, Reservation, WriterState, PushedFrame, record_frame, close_frame, reserved_records}
 use Rattle.trace_model.specs.Packing.{opens_of, is_wished}
 use Rattle.trace_model.proofs.Allowed.{IsHistory-push}
@@ -35,6 +35,14 @@ of_pushed start cuts records found s purpose may k = record {
   tail_is = k.tail_is;
   frames_are = (may, (tt, (λ e. absurd (none-some _ e))), tt, (λ e. cc), k.frames_are);
 }
+
+-- a record that is this much shorter than a page has room in an empty one
+pub surely_fits : (size len : ℕ) → MIN_SIZE ≤ size → len ≤ size - 12 → encoded_len len 0 true ≤ size
+surely_fits size len some low = let slot : slot_len len ≤ len + 4 = omega arith in let word = word_len (nat_le (slot_len len) 112) in omega arith
+  where
+    word_len : (short : Bool) → (if short then 4 else 8) ≤ 8
+    word_len true = omega arith
+    word_len false = omega arith
 
 pub pushed_record : (start : ℕ) (h : List Action) (s : Stack) (moment len : ℕ) → encoded_len len 0 true ≤ s.size → moment < MOMENT_LIMIT → IsStack start h s → IsStack start (h ++ push moment len ∷ []) (with_frame s record { purpose = Record moment len; progress = Waiting None })
 pushed_record start h s moment len fits early k = record {

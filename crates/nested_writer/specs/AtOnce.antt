@@ -10,6 +10,10 @@ use Rattle.nested_writer.specs.declared.frame.Progress.TheVariants.{Left}
 use Rattle.nested_writer.specs.Stack.{Stack}
 use Rattle.nested_writer.specs.Calls.{HasRecordRoom}
 
+-- A record of this moment, for a payload of len bytes, may be written, so that its frame may stand.
+abbrev pub MayStand : Stack → (moment len : ℕ) → Type 0
+MayStand s moment len = (IsTooLong s.size len → ⊥) × (moment < MOMENT_LIMIT)
+
 -- No frame stands, and a record of this moment, for a payload of len bytes, may be written and has room in the tail.
 abbrev pub FitsAtOnce : Stack → (moment len : ℕ) → Type 0
 FitsAtOnce s moment len =
@@ -24,14 +28,22 @@ page_with page prev moment payload = record page {
   bytes = page.bytes ++ encoding (moment - prev) (is_blank page.bytes) (padded payload);
 }
 
--- the stack with a record in its tail, whose frame has left and stays at the bottom; the moment is raised to the last
--- record's
-abbrev pub with_record : Stack → (moment : ℕ) → List ℕ → Stack
-with_record s moment payload = record s {
+-- the stack with a record in its tail, of which no frame is left; the moment is raised to the last record's
+abbrev pub with_written : Stack → (moment : ℕ) → List ℕ → Stack
+with_written s moment payload = record s {
   tail = page_with s.tail s.last_moment (max moment s.last_moment) payload;
-  frames = record { purpose = Record moment (length payload); progress = Left None } ∷ [];
   last_moment = max moment s.last_moment;
 }
+
+-- the stack with one frame, that of a record of this moment, for a payload of len bytes, which has left
+abbrev pub with_left : Stack → (moment len : ℕ) → Stack
+with_left s moment len = record s {
+  frames = record { purpose = Record moment len; progress = Left None } ∷ [];
+}
+
+-- the stack with a record in its tail, whose frame has left and stays at the bottom
+abbrev pub with_record : Stack → (moment : ℕ) → List ℕ → Stack
+with_record s moment payload = with_left (with_written s moment payload) moment (length payload)
 
 -- No frame stands, and the record comes in the short form behind another one, at no earlier moment.
 pub record IsPlain (s : Stack) (moment len : ℕ) : Type 0 where

@@ -9,4 +9,5 @@ pub mod Ends
 pub mod Lending
 pub mod OnTop
 pub mod AtOnce
+pub mod PlainTop
 pub mod Runs

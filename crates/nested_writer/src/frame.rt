@@ -15,6 +15,15 @@ pub enum Purpose {
     Close,
 }
 
+/// What a record frame was pushed with.
+#[derive(Clone, Copy, Debug)]
+pub struct Pushed {
+    /// The moment.
+    pub moment: u64,
+    /// The payload's length in bytes.
+    pub len: usize,
+}
+
 /// A reserved record: its number, and where its payload lies, in which fill.
 #[derive(Clone, Copy, Debug)]
 pub struct Slot {

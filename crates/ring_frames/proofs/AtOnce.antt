@@ -1,5 +1,6 @@
 -- A record that is written at once, as three private steps: its frame is pushed, reserves and ends.
-use Rattle.std.proofs.Common.{◌≡◌, ℕ, ◌<◌, List, [], ◌∷◌, ◌++◌, length, Some, None, refl, sym, ap, ◌∙◌, subst, arith, append_assoc}
+use Rattle.std.specs.Prelude.{Bool, if◌then◌else◌}
+use Rattle.std.proofs.Common.{◌≡◌, ℕ, ◌+◌, ◌<◌, List, [], ◌∷◌, ◌++◌, length, Some, None, refl, sym, ap, ◌∙◌, subst, eq-eqb, arith, append_assoc}
 use Rattle.trace_model.specs.declared.limits.TheConstants.{MAX_FRAMES}
 use Rattle.trace_model.specs.Words.{slot_len, padded}
 use Rattle.trace_model.specs.History.{Action, push, reserve, leave, record_frame, writer_after, reserved_records}
@@ -16,17 +17,19 @@ use Rattle.nested_writer.specs.declared.frame.Frame.{Frame}
 use Rattle.nested_writer.specs.Stack.{Stack, opened, next_number, model_frames}
 use Rattle.nested_writer.specs.Calls.{with_frame}
 use Rattle.nested_writer.specs.IsStack.{IsStack}
-use Rattle.nested_writer.specs.AtOnce.{FitsAtOnce, with_record}
+use Rattle.nested_writer.specs.AtOnce.{FitsAtOnce, with_written, with_left, with_record}
 use Rattle.nested_writer.specs.Allotted.{HasActed}
 use Rattle.nested_writer.proofs.Pushing.{pushed_record}
 use Rattle.nested_writer.proofs.Answering.{number_counts, record_fits}
-use Rattle.nested_writer.proofs.AtOnce.{padded_twice, left_alike, fits_page}
+use Rattle.nested_writer.proofs.AtOnce.{padded_twice, left_alike, fits_page, stands_again}
+use Rattle.ring_frames.specs.declared.phase.Phase.{Phase}
+use Rattle.ring_frames.specs.declared.phase.Phase.TheVariants.{Releasing, Wishing}
 use Rattle.ring_frames.specs.Phases.{closing_phase}
 use Rattle.ring_frames.specs.Value.{FramesValue}
 use Rattle.ring_frames.specs.AreFrames.{ring_frames, AreBelow, AreNotedAlike, AreFrames}
 use Rattle.ring_frames.specs.Steps.{IsFrames}
-use Rattle.ring_frames.specs.AtOnce.{IsWriteAtOnce, WritesAtOnce, IsWrittenAlone}
-use Rattle.ring_frames.proofs.Privately.{top_is_private}
+use Rattle.ring_frames.specs.AtOnce.{with_left_frame, IsWriteAtOnce, WritesAtOnce, IsWrittenAlone}
+use Rattle.ring_frames.proofs.Privately.{kept_of, top_is_private}
 use Rattle.ring_frames.proofs.Pushed.{new_frame, has_room}
 use Rattle.ring_frames.proofs.Left.{closing_is, left_notes}
 use Rattle.ring_frames.proofs.Reshown.{reshown}
@@ -143,8 +146,35 @@ module _ (n size start : ℕ) (v : FramesValue) (c : Core) (k : AreFrames n size
     are = shown acted;
   }
 
-  pub written_alone : IsWrittenAlone v moment payload (closing_value v stack)
-  written_alone = record { none = none; stack = is; phase = refl; below = none_below }
+-- its frame may stand behind it, which has left
+left_acted : (s stack : Stack) (moment : ℕ) (payload : List ℕ) → FitsAtOnce s moment (length payload) → stack ≡ with_written s moment payload → HasActed s (push moment (length payload) ∷ reserve ∷ leave (Some payload) ∷ []) stack → HasActed s (push moment (length payload) ∷ reserve ∷ leave (Some payload) ∷ []) (with_left stack moment (length payload))
+left_acted s stack moment payload fits is acted = λ start h k.
+    let none : stack.frames ≡ [] = ap (λ (x : Stack). x.frames) is ∙ fits.0 in
+    let short = subst (λ (z : ℕ). model.IsTooLong z (length payload) → ⊥) (sym (ap (λ (x : Stack). x.size) is)) fits.1 in
+    stands_again start (h ++ push moment (length payload) ∷ reserve ∷ leave (Some payload) ∷ []) stack moment (length payload) none (short, fits.2) (acted start h k)
+
+pub writes_at_once : (v : FramesValue) (stack : Stack) (moment : ℕ) (payload : List ℕ) → FitsAtOnce v.stack moment (length payload) → stack ≡ with_written v.stack moment payload → HasActed v.stack (push moment (length payload) ∷ reserve ∷ leave (Some payload) ∷ []) stack → WritesAtOnce v moment payload (with_left_frame (record v { stack = stack }) moment (length payload))
+writes_at_once v stack moment payload fits is acted = λ n size start c reached are.
+    written n size start v c are moment payload fits (with_left stack moment (length payload)) (ap (λ (s : Stack). with_left s moment (length payload)) is) (left_acted v.stack stack moment payload fits is acted)
+
+-- where no frame stands, no fill is left to close
+pub closed_at_rest : (v : FramesValue) → IsFrames v → v.stack.frames ≡ [] → closing_phase v.stack ≡ Wishing
+closed_at_rest v (n, size, start, c, core) none =
+    let k = core.are in
+    let bare : c.frames ≡ [] = k.frames_are ∙ ap (λ (fs : List Frame). ring_frames fs (v.phase ∷ v.below)) none in
+    let rest = (kept_of n size start v c core).stack.at_rest bare in
+    let done = k.done_is in let begun = k.opened_is in
+    let last : v.stack.done + 1 ≡ opened v.stack = omega arith in
+    subst (λ (b : Bool). (let phase : Phase = if b then Wishing else Releasing in phase) ≡ Wishing) (sym (eq-eqb (v.stack.done + 1) (opened v.stack) last)) refl
+
+pub written_alone : (v : FramesValue) (stack : Stack) (moment : ℕ) (payload : List ℕ) → IsFrames v → FitsAtOnce v.stack moment (length payload) → stack ≡ with_written v.stack moment payload → IsWrittenAlone v moment payload (record v { stack = stack })
+written_alone v stack moment payload (n, size, start, c, core) fits is = record {
+  none = fits.0;
+  stack = is;
+  phase = refl;
+  below = subst (λ (fs : List Frame). AreBelow fs v.below) fits.0 core.are.below_are;
+  closed = ap closing_phase is ∙ closed_at_rest v (n, size, start, c, core) fits.0;
+}
 
 -- behind it the frames are those of a state that steps reach
 pub frames_behind_write : (old : FramesValue) (moment : ℕ) (payload : List ℕ) (new : FramesValue) → IsFrames old → WritesAtOnce old moment payload new → IsFrames new

@@ -11,6 +11,7 @@ pub mod Closing
 pub mod Anew
 pub mod Late
 pub mod Reserves
+pub mod Plain
 pub mod PhaseMoves
 pub mod Tops
 pub mod Bottom
@@ -19,6 +20,7 @@ pub mod Releasing
 pub mod Wishing
 pub mod NewFrames
 pub mod AtOnce
+pub mod Staying
 pub mod Lent
 pub mod Others
 pub mod FirstStates

@@ -284,9 +284,9 @@ module _ (n size start : ℕ) (v : FramesValue) (c : Core) (core : HasFrames n s
   without_slot (Record moment len) (Left noted) place stack told purpose_is progress_is agree has fit is none = absurd fit
   without_slot Close (Left noted) place stack told purpose_is progress_is agree has fit is none = absurd fit
 
-  pub fits_slot : (place : Place) (stack : Stack) (told : Frame) (slot : Slot) → IsAnswered v.stack c.history v.stack.frames (Ok (Fits place)) → IsAllotted v.stack v.stack.frames (Ok (Fits place)) stack → IsTold stack told → told.progress ≡ Reserved slot → IsPrivateStep n size start c model.steps (ReservedAs record { 0 = slot.number }) (record v { stack = stack })
-  fits_slot place stack told slot answered allotted is has =
-      with_slot top.purpose top.progress place stack told slot refl refl alike (subst (λ (fs : List Frame). IsAnswered v.stack c.history fs (Ok (Fits place))) stack_is answered) (subst (λ (fs : List Frame). IsAllotted v.stack fs (Ok (Fits place)) stack) stack_is allotted) is has
+  pub fits_slot : (place other : Place) (stack : Stack) (told : Frame) (slot : Slot) → IsAnswered v.stack c.history v.stack.frames (Ok (Fits other)) → IsAllotted v.stack v.stack.frames (Ok (Fits place)) stack → IsTold stack told → told.progress ≡ Reserved slot → IsPrivateStep n size start c model.steps (ReservedAs record { 0 = slot.number }) (record v { stack = stack })
+  fits_slot place other stack told slot answered allotted is has =
+      with_slot top.purpose top.progress place stack told slot refl refl alike (subst (λ (fs : List Frame). IsAnswered v.stack c.history fs (Ok (Fits other))) stack_is answered) (subst (λ (fs : List Frame). IsAllotted v.stack fs (Ok (Fits place)) stack) stack_is allotted) is has
 
   pub fits_close : (place : Place) (stack : Stack) (told : Frame) → IsAnswered v.stack c.history v.stack.frames (Ok (Fits place)) → IsAllotted v.stack v.stack.frames (Ok (Fits place)) stack → IsTold stack told → ((slot : Slot) → told.progress ≡ Reserved slot → ⊥) → IsClosing v c top rest stack
   fits_close place stack told answered allotted is none =

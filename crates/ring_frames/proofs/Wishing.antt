@@ -87,20 +87,20 @@ module _ (n size start : ℕ) (v : FramesValue) (c : Core) (core : HasFrames n s
         noted = subst (λ (fs : List stack.Frame). AreNotedAlike fs (Releasing ∷ v.below)) (sym one.frames_are) ((λ o e. absurd (none_some e)), tt);
       })
 
-  pub goes_away : (later : Stack) → (model.IsGranted n c → ⊥) → opened v.stack ≤ v.stack.done + 1 → later ≡ record v.stack { frames = [] } → HasActed v.stack [] later → IsLookForWish n size start c Gone (record v { stack = later })
-  goes_away later none last popped acted = let s = core.are in let begun = s.opened_is in let done = s.done_is in
+  pub goes_away : (later : Stack) (phase : Phase) → (model.IsGranted n c → ⊥) → opened v.stack ≤ v.stack.done + 1 → later ≡ record v.stack { frames = [] } → HasActed v.stack [] later → IsLookForWish n size start c Gone (record v { stack = later; phase = phase })
+  goes_away later phase none last popped acted = let s = core.are in let begun = s.opened_is in let done = s.done_is in
       let no_frames : later.frames ≡ [] = ap (λ (x : Stack). x.frames) popped in
-      looks Gone (record v { stack = later }) model.gone [] c.history
+      looks Gone (record v { stack = later; phase = phase }) model.gone [] c.history
       (model.goes_away refl none (omega arith) refl refl) refl
-      (reshown n size start v c later v.phase v.below [] c.history c.held s record {
+      (reshown n size start v c later phase v.below [] c.history c.held s record {
         pages_is = ap (λ (x : Stack). x.pages) popped;
         size_is = ap (λ (x : Stack). x.size) popped;
         done_is = ap (λ (x : Stack). x.done) popped;
         opened_is = ap opened popped;
         stack_is = subst (λ (h : List Action). IsStack start h later) (append-nil c.history) (acted start c.history s.stack_is);
-        frames_are = ap (λ (fs : List stack.Frame). ring_frames fs (v.phase ∷ v.below)) (sym no_frames);
+        frames_are = ap (λ (fs : List stack.Frame). ring_frames fs (phase ∷ v.below)) (sym no_frames);
         below_are = subst (λ (fs : List stack.Frame). AreBelow fs v.below) (sym no_frames) one.below_is;
-        noted = subst (λ (fs : List stack.Frame). AreNotedAlike fs (v.phase ∷ v.below)) (sym no_frames) tt;
+        noted = subst (λ (fs : List stack.Frame). AreNotedAlike fs (phase ∷ v.below)) (sym no_frames) tt;
       })
 
 -- ---- what a test tells

@@ -8,10 +8,15 @@ use Rattle.trace_model.specs.Steps as model
 use Rattle.link_marks.specs.Reached.{IsReached}
 use Rattle.link_marks.specs.Seats.{IsPrivate}
 use Rattle.nested_writer.specs.Stack.{next_number}
-use Rattle.nested_writer.specs.AtOnce.{with_record}
+use Rattle.nested_writer.specs.AtOnce.{with_written, with_left}
+use Rattle.ring_frames.specs.declared.phase.Phase.TheVariants.{Wishing}
 use Rattle.ring_frames.specs.Phases.{closing_phase}
 use Rattle.ring_frames.specs.Value.{FramesValue}
 use Rattle.ring_frames.specs.AreFrames.{AreFrames}
+
+-- the frame that was pushed for a record of this moment and length has left, and stands at the bottom
+abbrev pub with_left_frame : FramesValue → (moment len : ℕ) → FramesValue
+with_left_frame v moment len = record v { stack = with_left v.stack moment len; phase = closing_phase v.stack }
 
 -- In this state three private steps of the model follow one another: a frame is pushed for a record of this moment and
 -- payload; its record, the next one, is reserved under this number; and it ends, with the payload and the zeros up to
@@ -37,9 +42,10 @@ WritesAtOnce old moment payload new = (n size start : ℕ) (c : Core)
     → AreFrames n size start old c
     → IsWriteAtOnce n size start c moment payload (next_number old.stack) new
 
--- No frame stood; that of the record stands alone, has left, and closes fills or looks for a wish.
+-- No frame stood, and none stands: the record is in the tail, and all other fills are closed.
 pub record IsWrittenAlone (old : FramesValue) (moment : ℕ) (payload : List ℕ) (new : FramesValue) : Type 0 where
   pub none : old.stack.frames ≡ []
-  pub stack : new.stack ≡ with_record old.stack moment payload
-  pub phase : new.phase ≡ closing_phase new.stack
+  pub stack : new.stack ≡ with_written old.stack moment payload
+  pub phase : new.phase ≡ old.phase
   pub below : new.below ≡ []
+  pub closed : closing_phase new.stack ≡ Wishing

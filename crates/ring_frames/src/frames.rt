@@ -7,6 +7,7 @@ mod top;
 mod write;
 
 use crate::phase::{Phase, Role};
+use crate::stage::Stage;
 use nested_writer::WriterStack;
 use nested_writer::frame::Frame;
 use std::alloc::Global;
@@ -20,7 +21,7 @@ pub struct Frames {
     /// The frames, the pages that they write, and how many fills are begun and closed.
     stack: WriterStack,
     /// How far the frame on top has come. Where none stands it says nothing.
-    phase: Phase,
+    phase: Stage,
     /// How far those below it have come, the upper ones first.
     below: VecDeque<Phase>,
 }
@@ -61,7 +62,7 @@ impl Frames {
         let below = VecDeque::with_capacity(alloc, MAX_FRAMES)?;
         Ok(Frames {
             stack,
-            phase: Phase::Idle,
+            phase: Stage::idle(),
             below,
         })
     }
@@ -138,6 +139,6 @@ impl Frames {
     pub fn phase(&self) -> Phase
         ensures { result ≡ self.now.phase }
     {
-        self.phase
+        self.phase.get()
     }
 }

@@ -8,6 +8,7 @@ pub mod answer;
 pub mod frames;
 pub mod laws;
 pub mod phase;
+mod stage;
 
 pub use answer::Answer;
 pub use frames::Frames;

@@ -1,6 +1,5 @@
 -- A record that is written at once: the private steps behind it, and the look for the reader's wish.
-use Rattle.std.specs.Prelude.{◌⊎◌, ◌==◌, Bool, if◌then◌else◌}
-use Rattle.std.proofs.Common.{◌≡◌, ◌≢◌, ℕ, ◌+◌, List, [], ◌∷◌, length, refl, sym, ap, ◌∙◌, subst, inl, inr, eq-eqb, arith}
+use Rattle.std.proofs.Common.{◌≡◌, ◌≢◌, ℕ, List, [], ◌∷◌, length, refl, sym, ap, ◌∙◌, subst, arith}
 use Rattle.trace_model.specs.declared.numbers.RecordNo.{RecordNo}
 use Rattle.trace_model.specs.Words.{padded}
 use Rattle.trace_model.specs.Frames.{for_record, left, wishing, Frame}
@@ -14,31 +13,28 @@ use Rattle.link_marks.proofs.RingsKept.{reached_further}
 use Rattle.link_marks.proofs.TopSteps.{top_stepped}
 use Rattle.nested_writer.specs.declared.frame.Frame as stack
 use Rattle.nested_writer.specs.declared.stack.leave.Ended.TheVariants.{Full}
-use Rattle.nested_writer.specs.Stack.{Stack, opened, next_number}
-use Rattle.nested_writer.specs.AtOnce.{with_record}
+use Rattle.nested_writer.specs.Stack.{Stack, next_number}
 use Rattle.ring_frames.specs.declared.answer.Answer.{Answer}
 use Rattle.ring_frames.specs.declared.answer.Answer.TheVariants.{Pushed, Going, Reserved, Ended}
 use Rattle.ring_frames.specs.declared.phase.Phase.{Phase}
-use Rattle.ring_frames.specs.declared.phase.Phase.TheVariants.{Releasing, Wishing}
-use Rattle.ring_frames.specs.Value.{FramesValue, phase_of}
-use Rattle.ring_frames.specs.Phases.{closing_phase}
+use Rattle.ring_frames.specs.declared.phase.Phase.TheVariants.{Wishing}
+use Rattle.ring_frames.specs.Value.{FramesValue}
 use Rattle.ring_frames.specs.AreFrames.{ring_frames}
 use Rattle.ring_frames.specs.Steps.{IsFrames}
-use Rattle.ring_frames.specs.AtOnce.{IsWriteAtOnce, WritesAtOnce, IsWrittenAlone}
-use Rattle.ring_steps.specs.declared.rule.Shape.{Shape}
+use Rattle.ring_frames.specs.AtOnce.{with_left_frame, IsWriteAtOnce, WritesAtOnce, IsWrittenAlone}
 use Rattle.ring_steps.specs.Views.{Writing, writing_of}
 use Rattle.ring_steps.specs.Seats.{Leads}
 use Rattle.ring_steps.specs.Paging.{IsTopIn}
 use Rattle.ring_shared.specs.Value.{WriterValue}
 use Rattle.ring_shared.specs.Calls.{IsWriter, IsCall}
-use Rattle.ring_shared.specs.Finishing.{at_once, Reserves, Leaves, is_gone, Finishes}
+use Rattle.ring_shared.specs.Finishing.{at_once, Reserves, Leaves, is_gone}
 use Rattle.ring_shared.specs.WholeWrites.{IsWritten}
 use Rattle.ring_shared.proofs.Behind.{behind, behind_write}
 use Rattle.ring_shared.proofs.Privately.{behind_is}
-use Rattle.ring_shared.proofs.Standing.{frames_in, kept_now, phase_shown}
+use Rattle.ring_shared.proofs.Standing.{frames_in}
 use Rattle.ring_shared.proofs.Aims.{frames_of}
 use Rattle.ring_shared.proofs.Finishes.{reserving_first, reserving_ends, leaves_behind}
-use Rattle.ring_shared.proofs.WholeWrites.{HasBegun, has_begun, finished_leaving}
+use Rattle.ring_shared.proofs.WholeWrites.{HasBegun, has_begun}
 
 -- ---- the look for the reader's wish
 
@@ -57,7 +53,10 @@ wish_outcome n c frame below answer after (model.goes_away alone denied last a i
 open_stay : (n size : ℕ) (c : Core) (event : model.Event) (answer : model.Answer) (after : Core) → IsPrivate c event → model.Step n size c event answer after → after.open_pages ≡ c.open_pages
 open_stay n size c event answer after own step = ap (λ (d : Core). d.open_pages) (changes_privately c after (private_result n size c event answer after own step))
 
-module _ (v : WriterValue) (w : IsWriter v) (moment : ℕ) (payload : List ℕ) (frames : FramesValue) (wrote : WritesAtOnce v.frames moment payload frames) (alone : IsWrittenAlone v.frames moment payload frames) where
+module _ (v : WriterValue) (w : IsWriter v) (moment : ℕ) (payload : List ℕ) (gone : FramesValue) (wrote : WritesAtOnce v.frames moment payload (with_left_frame gone moment (length payload))) (alone : IsWrittenAlone v.frames moment payload gone) where
+  abbrev pub frames : FramesValue
+  frames = with_left_frame gone moment (length payload)
+
   abbrev n : ℕ
   n = v.shape.pages
 
@@ -138,26 +137,23 @@ module _ (v : WriterValue) (w : IsWriter v) (moment : ℕ) (payload : List ℕ) 
 
   -- ---- it looks for the wish
 
-  stack_at_rest : v.frames.stack.done + 1 ≡ opened v.frames.stack
-  stack_at_rest =
-      let none : w.core.frames ≡ [] = w.frames_are.frames_are ∙ ap (λ (fs : List stack.Frame). ring_frames fs (v.frames.phase ∷ v.frames.below)) alone.none in
-      let rest = (kept_now v w).stack.at_rest none in let done = w.frames_are.done_is in let begun = w.frames_are.opened_is in omega arith
-
   pub wishes_next : frames.phase ≡ Wishing
-  wishes_next = alone.phase ∙ (ap closing_phase alone.stack
-      ∙ subst (λ (b : Bool). (let phase : Phase = if b then Wishing else Releasing in phase) ≡ Wishing) (sym (eq-eqb (v.frames.stack.done + 1) (opened v.frames.stack) stack_at_rest)) refl)
+  wishes_next = alone.closed
 
   abbrev bottom : Frame
   bottom = record { kind = for_record moment (length payload); state = left; phase = wishing }
 
   bottom_is : now.frames ≡ bottom ∷ []
   bottom_is = frames_of mid writer_mid
-      ∙ (ap (λ (s : Stack). ring_frames s.frames (frames.phase ∷ frames.below)) alone.stack
-      ∙ (ap (λ (p : Phase). ring_frames (with_record v.frames.stack moment payload).frames (p ∷ frames.below)) wishes_next
-      ∙ ap (λ (ps : List Phase). ring_frames (with_record v.frames.stack moment payload).frames (Wishing ∷ ps)) alone.below))
+      ∙ (ap (λ (p : Phase). ring_frames frames.stack.frames (p ∷ gone.below)) wishes_next
+      ∙ ap (λ (ps : List Phase). ring_frames frames.stack.frames (Wishing ∷ ps)) alone.below)
 
   pub some_mid : frames.stack.frames ≢ []
-  some_mid none = let one = ap (λ (s : Stack). length s.frames) alone.stack in let zero = ap (length {A = stack.Frame}) none in absurd (omega arith)
+  some_mid none = let zero = ap (length {A = stack.Frame}) none in absurd (omega arith)
+
+  -- no frame is left of those that are looked through
+  pub none_left : gone.stack.frames ≡ []
+  none_left = ap (λ (s : Stack). s.frames) alone.stack ∙ alone.none
 
   pub wishing_mid : IsTopIn now.frames wishing
   wishing_mid = subst (λ (fs : List Frame). IsTopIn fs wishing) (sym bottom_is) refl
@@ -217,8 +213,12 @@ module _ (v : WriterValue) (w : IsWriter v) (moment : ℕ) (payload : List ℕ) 
     stands_so (wishes_on next a top kind state) e = (next, ap (λ (x : Writing). x.frames) (sym call.after_is) ∙ top, subst (λ (s : Rattle.trace_model.specs.Frames.FrameState). IsLeaving next.kind s) (sym state) (subst (λ (k : Rattle.trace_model.specs.Frames.Kind). IsLeaving k left) (sym kind) tt))
     stands_so (wished_gone a top) e = absurd (let tells = subst (λ (x : Answer). Rattle.ring_frames.specs.Answers.Tells size x call.answer) e call.tells in let both : model.going ≡ model.gone = sym tells ∙ a in cc)
 
-    -- it goes on, and is finished
-    pub written_behind : (last : Answer) (end : Writing) → result ≡ Going → Finishes v.shape after last end → IsWritten v.shape v.part moment payload end
-    written_behind last end e f =
+    -- it goes on
+    pub stands_still : result ≡ Going → (next : Frame) × (others : List Frame) × (after.frames ≡ next ∷ others) × IsLeaving next.kind next.state
+    stands_still e = let (next, top, leaves) = stands_so outcome e in (next, [], top, leaves)
+
+    -- and makes steps until it is gone
+    pub written_behind : (last : Answer) (end : Writing) → result ≡ Going → ((frame : Frame) (below : List Frame) → after.frames ≡ frame ∷ below → Leaves v.shape below after last end) → IsWritten v.shape v.part moment payload end
+    written_behind last end e rest =
         let (next, top, leaves) = stands_so outcome e in
-        written_then last end (leaves_behind v.shape [] now after end last (subst (λ (x : Answer). IsCall v.shape now model.steps x after) e call) (finished_leaving v.shape after last end next [] top f leaves))
+        written_then last end (leaves_behind v.shape [] now after end last (subst (λ (x : Answer). IsCall v.shape now model.steps x after) e call) (rest next [] top))

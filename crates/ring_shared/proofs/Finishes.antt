@@ -1,8 +1,7 @@
 -- The frame on top, stepped as far as it comes by itself: what one step more makes of what came before it.
 use Rattle.std.specs.Prelude.{Option, Some, None, ◌⊎◌, ◌<◌}
-use Rattle.std.proofs.Common.{◌≡◌, ◌≢◌, ℕ, suc, List, [], ◌∷◌, length, refl, sym, ap, ◌∙◌, subst, inl, inr, arith}
+use Rattle.std.proofs.Common.{◌≡◌, ◌≢◌, ℕ, suc, List, ◌∷◌, length, refl, sym, ap, ◌∙◌, subst, inl, inr, arith}
 use Rattle.trace_model.specs.Frames.{Refusal, Kind, FrameState, number_of, Frame}
-use Rattle.trace_model.specs.Ring.{Core}
 use Rattle.trace_model.specs.Steps as model
 use Rattle.link_marks.specs.FrameOutcomes.{IsReserving, IsLeaving, Reserving, reserves_on, has_reserved, is_refused as refused_to, Leaving, leaves_on, is_gone as gone_from}
 use Rattle.link_marks.proofs.RingsKept.{reached_kept}
@@ -13,10 +12,10 @@ use Rattle.ring_frames.specs.declared.answer.Answer.TheVariants.{Pushed, Going, 
 use Rattle.nested_writer.specs.declared.stack.leave.Ended.TheVariants.{Pending, Full}
 use Rattle.ring_frames.specs.Answers.{refusal_of, Tells}
 use Rattle.ring_steps.specs.declared.rule.Shape.{Shape}
-use Rattle.ring_steps.specs.Views.{Writing, writing_of}
+use Rattle.ring_steps.specs.Views.{Writing}
 use Rattle.ring_shared.specs.Value.{WriterValue, SameWriter}
 use Rattle.ring_shared.specs.Calls.{IsCall, MakesSome}
-use Rattle.ring_shared.specs.Finishing.{GoesOn, at_once, one_more, IsReservedOr, is_reserved, stays_refused, is_refused, Reserves, Leaves, is_gone, was_refused, met_behind, told_behind}
+use Rattle.ring_shared.specs.Finishing.{GoesOn, at_once, one_more, IsReservedOr, is_reserved, stays_refused, is_refused, Reserves, Leaves, is_gone, was_refused, met_behind, told_behind, IsGoneOrRefused}
 
 -- ---- what an answer tells
 
@@ -51,6 +50,20 @@ is_refusal size (Empty done body) told why t e = absurd (let both : model.empty 
 is_refusal size (Moving fill body) told why t e = absurd (let both : model.moving fill.0 ≡ model.refused why = sym t ∙ e in cc)
 is_refusal size (Taken page missed) told why t e = absurd (let both : model.swapped t.0 ≡ model.refused why = sym t.1 ∙ e in cc)
 is_refusal size (Wished fill) told why t e = absurd (let both : model.wished_for fill.0 ≡ model.refused why = sym t ∙ e in cc)
+
+pub is_gone_told : (size : ℕ) (result : Answer) (told : model.Answer) → Tells size result told → told ≡ model.gone → result ≡ Gone
+is_gone_told size Pushed told t e = absurd (let both : model.pushed ≡ model.gone = sym t ∙ e in cc)
+is_gone_told size Going told t e = absurd (let both : model.going ≡ model.gone = sym t ∙ e in cc)
+is_gone_told size (Reserved number) told t e = absurd (let both : model.reserved_as number.0 ≡ model.gone = sym t ∙ e in cc)
+is_gone_told size (Ended Pending) told t e = absurd (let both : model.pending ≡ model.gone = sym t ∙ e in cc)
+is_gone_told size (Ended Full) told t e = absurd (let both : model.full ≡ model.gone = sym t ∙ e in cc)
+is_gone_told size Gone told t e = refl
+is_gone_told size (Refused fault) told t e = absurd (let both : model.refused (refusal_of fault) ≡ model.gone = sym t ∙ e in cc)
+is_gone_told size (Looking body) told t e = absurd (let both : model.reading ≡ model.gone = sym t ∙ e in cc)
+is_gone_told size (Empty done body) told t e = absurd (let both : model.empty done ≡ model.gone = sym t ∙ e in cc)
+is_gone_told size (Moving fill body) told t e = absurd (let both : model.moving fill.0 ≡ model.gone = sym t ∙ e in cc)
+is_gone_told size (Taken page missed) told t e = absurd (let both : model.swapped t.0 ≡ model.gone = sym t.1 ∙ e in cc)
+is_gone_told size (Wished fill) told t e = absurd (let both : model.wished_for fill.0 ≡ model.gone = sym t ∙ e in cc)
 
 -- it tells the record's number
 abbrev TellsNumber : Answer → ℕ → Type 0
@@ -237,6 +250,38 @@ module _ (shape : Shape) (below : List Frame) (before : Writing) (met : Option W
   -- it is gone
   pub leaving_ends : length next.frames < length now.frames → Leaves shape below before (told_behind met result) next
   leaving_ends less = a.ends result next (is_gone now now next result at_once call (gone_to step less))
+
+  gone_how : Leaving below call.answer call.next.frames → length next.frames < length now.frames → IsGoneOrRefused (told_behind met result)
+  gone_how (leaves_on frame answer_is top leaves) less = let same = ap (length {A = Frame}) (frames_after shape now next result call (frame ∷ below) top) in let w = wide in absurd (omega arith)
+  gone_how (gone_from how top) less = told_how met result (how_told how)
+    where
+      how_told : (call.answer ≡ model.gone) ⊎ ((why : Refusal) × (call.answer ≡ model.refused why)) → IsGoneOrRefused result
+      how_told (inl e) = inl (is_gone_told shape.size result call.answer call.tells e)
+      how_told (inr (why, e)) = inr (is_refusal shape.size result call.answer why call.tells e)
+
+      told_how : (met : Option WriteFault) (last : Answer) → IsGoneOrRefused last → IsGoneOrRefused (told_behind met last)
+      told_how None last how = how
+      told_how (Some fault) last how = inr (fault, refl)
+
+  pub leaving_told : length next.frames < length now.frames → IsGoneOrRefused (told_behind met result)
+  leaving_told less = gone_how step less
+
+  -- its step answers that it goes on, or that it is gone
+  going_stays : Leaving below call.answer call.next.frames → result ≡ Going → length next.frames < length now.frames → ⊥
+  going_stays (leaves_on frame answer_is top leaves) e less = let same = ap (length {A = Frame}) (frames_after shape now next result call (frame ∷ below) top) in let w = wide in omega arith
+  going_stays (gone_from (inl g) top) e less = let told = is_gone_told shape.size result call.answer call.tells g in let both : Going ≡ Gone = sym e ∙ told in cc
+  going_stays (gone_from (inr (why, r)) top) e less = let (fault, told) = is_refusal shape.size result call.answer why call.tells r in let both : Going ≡ Refused fault = sym e ∙ told in cc
+
+  pub leaving_going : result ≡ Going → IsAmidLeaving shape below before met next
+  leaving_going e = subst (λ (m : Option WriteFault). IsAmidLeaving shape below before m next) (ap (met_behind met) e ∙ met_going met) (leaving_on (going_stays step e))
+
+  gone_short : Leaving below call.answer call.next.frames → result ≡ Gone → length next.frames < length now.frames
+  gone_short (leaves_on frame (inl g) top leaves) e = let told = is_going shape.size result call.answer call.tells g in absurd (let both : Gone ≡ Going = sym e ∙ told in cc)
+  gone_short (leaves_on frame (inr (why, r)) top leaves) e = let (fault, told) = is_refusal shape.size result call.answer why call.tells r in absurd (let both : Gone ≡ Refused fault = sym e ∙ told in cc)
+  gone_short (gone_from how top) e = let same = ap (length {A = Frame}) (frames_after shape now next result call below top) in let w = wide in omega arith
+
+  pub leaving_gone : result ≡ Gone → Leaves shape below before (told_behind met result) next
+  leaving_gone e = leaving_ends (gone_short step e)
 
 -- ---- of a writer's value
 

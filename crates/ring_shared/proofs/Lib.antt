@@ -21,3 +21,4 @@ pub mod PushedEnded
 pub mod WholeWrites
 pub mod AtOnce
 pub mod CallsAppend
+pub mod FinishParts

@@ -1,10 +1,9 @@
 -- A record that is written whole: its parts, one behind the other.
 use Rattle.std.specs.Prelude.{Some, None, ◌⊎◌, ◌<◌, ◌-◌, ◌==◌, slice_set, slice_index_or}
 use Rattle.std.proofs.lemmas.Bool.{cond_both}
-use Rattle.std.proofs.Common.{◌≡◌, ◌≢◌, ℕ, suc, List, [], ◌∷◌, length, refl, sym, ap, ◌∙◌, subst, inl, inr, arith}
+use Rattle.std.proofs.Common.{◌≡◌, ◌≢◌, ℕ, List, [], ◌∷◌, length, refl, sym, ap, ◌∙◌, subst, inl, inr, arith}
 use Rattle.trace_model.specs.Words.{slot_len, padded}
 use Rattle.trace_model.specs.Frames.{Kind, for_record, for_close, FrameState, waiting, reserved, left, Refusal, Frame}
-use Rattle.trace_model.specs.Ring.{Core}
 use Rattle.trace_model.specs.Steps as model
 use Rattle.link_marks.specs.FrameOutcomes.{IsReserving, IsLeaving}
 use Rattle.nested_writer.specs.declared.fault.WriteFault.{WriteFault}
@@ -28,8 +27,8 @@ use Rattle.ring_shared.specs.Value.{WriterValue}
 use Rattle.ring_shared.specs.Lending.{with_slot_payload, FitsFrame}
 use Rattle.ring_shared.specs.Calls.{IsWriter, IsCall}
 use Rattle.ring_shared.specs.Finishing.{IsReservedOr, is_reserved, stays_refused, is_refused, Reserves, Leaves, FinishesFrame, FinishesTop, Finishes, met_behind}
-use Rattle.ring_shared.specs.WholeWrites.{GoesAway, IsReserved, EndsRecord, IsRefusedAmid, IsRefusedWrite, IsWritten}
-use Rattle.ring_shared.proofs.Aims.{IsOnTop, frames_of}
+use Rattle.ring_shared.specs.WholeWrites.{GoesAway, IsReserved, EndsRecord, IsRefusedWrite, IsWritten}
+use Rattle.ring_shared.proofs.Aims.{frames_of}
 use Rattle.ring_shared.proofs.Finishes.{IsRefusal, is_refusal}
 use Rattle.ring_shared.proofs.PushedEnded.{IsPushed, push_answers, HasEnded, end_answers}
 

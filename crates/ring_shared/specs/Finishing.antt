@@ -1,5 +1,5 @@
 -- What it means that the frame on top is stepped as far as it comes by itself.
-use Rattle.std.specs.Prelude.{◌≡◌, ℕ, List, [], ◌∷◌, Option, Some, None}
+use Rattle.std.specs.Prelude.{◌≡◌, ◌⊎◌, ℕ, List, [], ◌∷◌, Option, Some, None}
 use Rattle.trace_model.specs.declared.numbers.RecordNo.{RecordNo}
 use Rattle.trace_model.specs.Frames.{Kind, for_record, for_close, FrameState, waiting, reserved, left, Frame}
 use Rattle.trace_model.specs.Steps as model
@@ -111,6 +111,10 @@ met_behind None (Empty done body) = None
 met_behind None (Moving fill body) = None
 met_behind None (Taken page missed) = None
 met_behind None (Wished fill) = None
+
+-- a frame that is gone answers so, or its refusal
+abbrev pub IsGoneOrRefused : Answer → Type 0
+IsGoneOrRefused result = (result ≡ Gone) ⊎ ((fault : WriteFault) × (result ≡ Refused fault))
 
 -- it is told, or else the last answer is
 abbrev pub told_behind : Option WriteFault → Answer → Answer

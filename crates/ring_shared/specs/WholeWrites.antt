@@ -1,5 +1,5 @@
 -- What it means that a record is written whole, in one call.
-use Rattle.std.specs.Prelude.{◌≡◌, ℕ, ◌⊎◌, List, [], ◌∷◌, length}
+use Rattle.std.specs.Prelude.{◌≡◌, ℕ, ◌⊎◌, List, [], length}
 use Rattle.trace_model.specs.declared.numbers.RecordNo.{RecordNo}
 use Rattle.trace_model.specs.Words.{padded}
 use Rattle.trace_model.specs.Frames.{for_record}

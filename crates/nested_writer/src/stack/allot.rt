@@ -1,8 +1,7 @@
 //! What the frame on top is allotted: the place of its record, or the answer that a page is needed.
 use crate::fault::WriteFault;
-use crate::frame::{Frame, Progress, Purpose, Slot};
+use crate::frame::{Frame, Progress, Purpose, Pushed, Slot};
 use crate::stack::WriterStack;
-use crate::stack::top::Pushed;
 use record_words::{EXTEND_FROM, Place, SHORT_LIMIT, size_of};
 use trace_model::LINK_FILLS;
 
@@ -16,15 +15,18 @@ pub enum Allot {
 }
 
 impl WriterStack {
-    ghost use Rattle.std.specs.Prelude.{◌≡◌, ℕ, ◌+◌, ◌-◌, ◌≤◌, ◌<◌, ◌↔◌, max, [], ◌∷◌, ◌++◌, List, Option, length, IsTrue, ◌⊎◌, IfOk, IfErr, OnOk, OnErr, IsOk};
+    ghost use Rattle.std.specs.Prelude.{◌≡◌, ℕ, ◌+◌, ◌-◌, ◌≤◌, ◌<◌, ◌↔◌, max, [], ◌∷◌, ◌++◌, List, Option, None, length, IsTrue, ◌⊎◌, IfSome, IfOk, IfErr, OnOk, OnErr, IsOk};
     ghost use Rattle.trace_model.specs.declared.limits.TheConstants.{MAX_FRAMES, MOMENT_LIMIT};
     ghost use Rattle.trace_model.specs.History.{Action, reserve, leave};
     ghost use Rattle.page_image.specs.Contents.{Contents};
     ghost use Rattle.nested_writer.specs.Stack.{opened, tail_fill, next_number};
-    ghost use Rattle.nested_writer.specs.Calls.{with_progress, after_leave, IsTop, HasLeft, IsUnchanged, WantsPage, NeedsPage, IsCrowded, IsWorn, IsReserved, HasRecordRoom, HasTopLeft};
+    ghost use Rattle.nested_writer.specs.Calls.{with_progress, after_leave, IsTop, HasLeft, IsUnchanged, WantsPage, NeedsPage, IsCrowded, IsWorn, IsReserved, HasRecordRoom, HasTopLeft, IsTopSlot};
+    ghost use Rattle.nested_writer.specs.PlainTop.{FitsPlainly, IsPlainTop};
     ghost use Rattle.nested_writer.specs.IsStack.{IsStack, Stands};
     ghost use Rattle.nested_writer.specs.Allotted.{IsAllotted, HasActed};
     ghost use Rattle.nested_writer.specs.Answered.{IsAnswered};
+    ghost use Rattle.record_words.specs.declared.put.Place.{Place};
+    ghost use Rattle.nested_writer.specs.declared.frame.Slot.{Slot};
     ghost use Rattle.nested_writer.specs.declared.frame.Frame.{Frame};
     ghost use Rattle.nested_writer.specs.declared.frame.Purpose.TheVariants.{Record, Close};
     ghost use Rattle.nested_writer.specs.declared.frame.Progress.TheVariants.{Waiting, Through, Reserved, Left};
@@ -111,17 +113,20 @@ impl WriterStack {
         Ok(Allot::NeedsPage)
     }
 
-    /// Reserves the record of the frame on top, which fits in the tail, and whose moment is raised to `raised`.
+    /// Reserves the record of the frame on top, which tried nothing yet and fits in the tail, and whose moment is
+    /// raised to `raised`.
     #[inline(always)]
-    fn reserve(&mut self, moment: u64, raised: u64, len: usize) -> Place
+    fn reserve(&mut self, moment: u64, raised: u64, len: usize) -> Slot
         requires stack { Stands self.old }
-        requires top { (top : Frame) × (below : List Frame) × (noted : Option ℕ) × IsTop self.old top below
-            × (top.purpose ≡ Record moment len) × (top.progress ≡ Waiting noted) }
+        requires top { (below : List Frame)
+            × IsTop self.old (record { purpose = Record moment len; progress = Waiting None }) below }
         requires raised { raised ≡ max moment self.old.last_moment }
         requires room { HasRecordRoom self.old moment len }
         ensures reserved { (top : Frame) (below : List Frame) → IsTop self.old top below
-            → IsReserved self.old top below moment len result self.new }
+            → IsReserved self.old top below moment len result.place self.new }
         ensures stack { HasActed self.old (reserve ∷ []) self.new }
+        ensures number { result.number ≡ next_number self.old }
+        ensures slot { IsTopSlot self.new.frames result }
     {
         let number = self.tail.first().0 + self.tail.count();
         let fill = self.tail.fill().0;
@@ -132,8 +137,24 @@ impl WriterStack {
             fill,
             place,
         };
-        self.top.reserve(moment, len, slot);
-        place
+        self.top.hold(slot);
+        slot
+    }
+
+    /// `reserve`, where the frame on top may have noted that it needed a page.
+    #[inline(always)]
+    fn reserve_any(&mut self, moment: u64, raised: u64, len: usize) -> Place
+        requires stack { Stands self.old }
+        requires top { (top : Frame) × (below : List Frame) × (noted : Option ℕ) × IsTop self.old top below
+            × (top.purpose ≡ Record moment len) × (top.progress ≡ Waiting noted) }
+        requires raised { raised ≡ max moment self.old.last_moment }
+        requires room { HasRecordRoom self.old moment len }
+        ensures reserved { (top : Frame) (below : List Frame) → IsTop self.old top below
+            → IsReserved self.old top below moment len result self.new }
+        ensures stack { HasActed self.old (reserve ∷ []) self.new }
+    {
+        self.top.wait(moment, len);
+        self.reserve(moment, raised, len).place
     }
 
     /// Whether a record of this moment, of a payload of `len` bytes, is one as nearly all are: in the short form,
@@ -141,8 +162,7 @@ impl WriterStack {
     #[inline(always)]
     fn fits_plainly(&self, moment: u64, len: usize) -> bool
         requires stack { Stands self.now }
-        ensures room { IsTrue result → HasRecordRoom self.now moment len }
-        ensures order { IsTrue result → self.now.last_moment ≤ moment }
+        ensures { IsTrue result → FitsPlainly self.now moment len }
     {
         let delta = moment.wrapping_sub(self.last_moment);
         let end = self.tail.end();
@@ -151,6 +171,39 @@ impl WriterStack {
             && end > 0
             && delta < EXTEND_FROM
             && end + (4 + SHORT_LIMIT) <= self.tail.size()
+    }
+
+    /// What the frame on top was pushed with, where it is a record frame that tried nothing yet, and its record is one
+    /// as nearly all are: in the short form, behind another one, and far enough from the page's end for any such
+    /// record. `None` may stand for one that is near the end too.
+    #[inline(always)]
+    pub fn plain_top(&self) -> Option<Pushed>
+        requires stack { Stands self.now }
+        ensures { IfSome result (λ pushed. IsPlainTop self.now pushed) }
+    {
+        let pushed = self.top.waiting()?;
+        if !self.fits_plainly(pushed.moment, pushed.len) {
+            return None;
+        }
+        Some(pushed)
+    }
+
+    /// Reserves the record of the frame on top, which `plain_top` told, and answers its number: what `allot` does with
+    /// it.
+    #[inline(always)]
+    pub fn reserve_plain(&mut self, pushed: Pushed) -> u64
+        requires stack { Stands self.old }
+        requires plain { IsPlainTop self.old pushed }
+        ensures number { result ≡ next_number self.old }
+        ensures slot { (slot : Slot) × IsTopSlot self.new.frames slot × (slot.number ≡ result) }
+        ensures after { (place : Place) × IsAllotted self.old self.old.frames (Ok (Allot.Fits place)) self.new }
+        ensures stays { Stands self.new }
+        ensures answered { (start : ℕ) (history : List Action)
+            → IsStack start history self.old
+            → (place : Place) × IsAnswered self.old history self.old.frames (Ok (Allot.Fits place)) }
+    {
+        self.reserve(pushed.moment, pushed.moment, pushed.len)
+            .number
     }
 
     /// `allot`, however far the frame on top has come.
@@ -185,7 +238,7 @@ impl WriterStack {
         match top.purpose {
             Purpose::Record { moment, len } => {
                 let raised = moment.max(self.last_moment);
-                Ok(Allot::Fits(self.reserve(moment, raised, len)))
+                Ok(Allot::Fits(self.reserve_any(moment, raised, len)))
             },
             Purpose::Close => {
                 let noted = noted.unwrap_or(self.opened());
@@ -215,12 +268,12 @@ impl WriterStack {
             → IsStack start history self.old
             → IsAnswered self.old history self.old.frames result }
     {
-        let Some(Pushed { moment, len }) = self.top.waiting() else {
+        let Some(pushed) = self.plain_top() else {
             return self.allot_any();
         };
-        if !self.fits_plainly(moment, len) {
-            return self.allot_any();
-        }
-        Ok(Allot::Fits(self.reserve(moment, moment, len)))
+        Ok(Allot::Fits(self.reserve(pushed.moment, pushed.moment, pushed.len).place))
     }
 }
+
+#[cfg(test)]
+mod tests;

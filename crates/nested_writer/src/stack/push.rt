@@ -54,29 +54,6 @@ impl WriterStack {
         }
     }
 
-    /// `admit`, whatever stands.
-    #[inline(never)]
-    fn admit_any(&self, moment: u64, len: usize) -> Result<(), WriteFault>
-        ensures too_deep { result ≡ Err WriteFault.TooDeep ↔ MAX_FRAMES ≤ length self.now.frames }
-        ensures too_long { result ≡ Err WriteFault.TooLong
-            ↔ ((length self.now.frames < MAX_FRAMES) × IsTooLong self.now.size len) }
-        ensures late { result ≡ Err WriteFault.LateMoment
-            ↔ ((length self.now.frames < MAX_FRAMES) × (IsTooLong self.now.size len → ⊥) × (MOMENT_LIMIT ≤ moment)) }
-        ensures begun { IsOk result
-            ↔ ((length self.now.frames < MAX_FRAMES) × (IsTooLong self.now.size len → ⊥) × (moment < MOMENT_LIMIT)) }
-    {
-        if self.depth() >= MAX_FRAMES {
-            return Err(WriteFault::TooDeep);
-        }
-        if len > self.size || size_of(len, 0, true) > self.size {
-            return Err(WriteFault::TooLong);
-        }
-        if moment >= MOMENT_LIMIT {
-            return Err(WriteFault::LateMoment);
-        }
-        Ok(())
-    }
-
     /// Whether a frame for a record of this moment and of a payload of `len` bytes may be pushed.
     #[inline(always)]
     fn admit(&self, moment: u64, len: usize) -> Result<(), WriteFault>
@@ -90,10 +67,39 @@ impl WriterStack {
         ensures ok { OnOk result
             ((length self.now.frames < MAX_FRAMES) × (IsTooLong self.now.size len → ⊥) × (moment < MOMENT_LIMIT)) }
     {
-        if self.top.is_none() && len <= self.size - MOST_AROUND && moment < MOMENT_LIMIT {
-            return Ok(());
+        if self.depth() >= MAX_FRAMES {
+            return Err(WriteFault::TooDeep);
         }
-        self.admit_any(moment, len)
+        if len > self.size || size_of(len, 0, true) > self.size {
+            return Err(WriteFault::TooLong);
+        }
+        if moment >= MOMENT_LIMIT {
+            return Err(WriteFault::LateMoment);
+        }
+        Ok(())
+    }
+
+    /// `begin`, whatever stands.
+    #[inline(never)]
+    fn begin_any(&mut self, moment: u64, len: usize) -> Result<(), WriteFault>
+        ensures too_deep { result ≡ Err WriteFault.TooDeep ↔ MAX_FRAMES ≤ length self.old.frames }
+        ensures too_long { result ≡ Err WriteFault.TooLong
+            ↔ ((length self.old.frames < MAX_FRAMES) × IsTooLong self.old.size len) }
+        ensures late { result ≡ Err WriteFault.LateMoment
+            ↔ ((length self.old.frames < MAX_FRAMES) × (IsTooLong self.old.size len → ⊥) × (MOMENT_LIMIT ≤ moment)) }
+        ensures begun { IsOk result
+            ↔ ((length self.old.frames < MAX_FRAMES) × (IsTooLong self.old.size len → ⊥) × (moment < MOMENT_LIMIT)) }
+        ensures ok { OnOk result
+            (self.new ≡ with_frame self.old (record { purpose = Record moment len; progress = Waiting None })) }
+        ensures err { OnErr result (self.new ≡ self.old) }
+        ensures stays { Stands self.old → Stands self.new }
+        ensures pushed { OnOk result ((start : ℕ) (history : List Action)
+            → IsStack start history self.old
+            → IsStack start (history ++ push moment len ∷ []) self.new) }
+    {
+        self.admit(moment, len)?;
+        self.push(Purpose::Record { moment, len });
+        Ok(())
     }
 
     /// Pushes a frame for a record of this moment and of a payload of `len` bytes.
@@ -114,9 +120,11 @@ impl WriterStack {
             → IsStack start history self.old
             → IsStack start (history ++ push moment len ∷ []) self.new) }
     {
-        self.admit(moment, len)?;
-        self.push(Purpose::Record { moment, len });
-        Ok(())
+        if self.top.is_none() && len <= self.size - MOST_AROUND && moment < MOMENT_LIMIT {
+            self.top.wait(moment, len);
+            return Ok(());
+        }
+        self.begin_any(moment, len)
     }
 
     /// Pushes a frame that leaves the tail page, where that holds a record.

@@ -6,7 +6,7 @@ ghost use Rattle.nested_writer.specs.declared.frame.Slot.{Slot};
 ghost use Rattle.nested_writer.specs.declared.frame.Purpose.TheVariants.{Record};
 ghost use Rattle.nested_writer.specs.declared.frame.Progress.TheVariants.{Waiting, Reserved, Left};
 
-use crate::frame::{Frame, Progress, Purpose, Slot};
+use crate::frame::{Frame, Progress, Purpose, Pushed, Slot};
 use record_words::Place;
 use std::marker::Model;
 
@@ -21,15 +21,8 @@ enum Phase {
     Holds,
     /// A record frame that left and noted nothing: what it was pushed with.
     Gone,
-    /// Any frame: itself.
+    /// Any frame but a record frame that noted nothing: itself.
     Other,
-}
-
-/// What a record frame was pushed with: a moment, and the payload's length in bytes.
-#[derive(Clone, Copy, Debug)]
-pub(crate) struct Pushed {
-    pub(crate) moment: u64,
-    pub(crate) len: usize,
 }
 
 /// The frame on top, if one stands.
@@ -44,11 +37,13 @@ pub(crate) struct Top {
 impl Model for Top {
     ghost use Rattle.std.specs.Prelude.{Option};
     ghost use Rattle.nested_writer.specs.declared.frame.Frame.{Frame};
-    ghost use Rattle.nested_writer.specs.OnTop.{frame_on_top};
+    ghost use Rattle.nested_writer.specs.OnTop.{frame_on_top, IsTold};
 
     ghost Value = { Option Frame };
 
     ghost view = { frame_on_top };
+
+    ghost invariant = { IsTold };
 }
 
 impl Top {
@@ -156,8 +151,13 @@ impl Top {
     pub(crate) fn put(&mut self, frame: Frame)
         ensures { self.new ≡ Some frame }
     {
-        self.phase = Phase::Other;
-        self.other = frame;
+        match (frame.purpose, frame.progress) {
+            (Purpose::Record { moment, len }, Progress::Waiting(None)) => self.wait(moment, len),
+            _ => {
+                self.phase = Phase::Other;
+                self.other = frame;
+            }
+        }
     }
 
     /// It is a record frame that tried nothing yet.
@@ -169,13 +169,15 @@ impl Top {
         self.pushed = Pushed { moment, len };
     }
 
-    /// It is a record frame whose record is reserved.
+    /// The record frame, which tried nothing yet, has this slot.
     #[inline(always)]
-    pub(crate) fn reserve(&mut self, moment: u64, len: usize, slot: Slot)
-        ensures { self.new ≡ Some (record { purpose = Record moment len; progress = Reserved slot }) }
+    pub(crate) fn hold(&mut self, slot: Slot)
+        requires { (moment : ℕ) × (len : ℕ) × (self.old
+            ≡ Some (record { purpose = Record moment len; progress = Waiting None })) }
+        ensures { (frame : Frame) → self.old ≡ Some frame
+            → self.new ≡ Some (record frame { progress = Reserved slot }) }
     {
         self.phase = Phase::Holds;
-        self.pushed = Pushed { moment, len };
         self.slot = slot;
     }
 

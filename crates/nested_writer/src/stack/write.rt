@@ -6,7 +6,7 @@ use trace_model::MOMENT_LIMIT;
 /// What was written at once.
 #[derive(Clone, Copy, Debug, PartialEq, Eq)]
 pub enum Wrote {
-    /// The record, and its frame was ended: the bottom frame, which stays until all closed fills are released.
+    /// The record, which was pushed, reserved, filled and ended.
     Record,
     /// Nothing, and nothing has changed: the record is written, or refused, by `begin` and the calls that follow it.
     Nothing,
@@ -20,22 +20,15 @@ impl WriterStack {
     ghost use Rattle.trace_model.specs.Words.{padded};
     ghost use Rattle.page_image.specs.Contents.{records_of_page};
     ghost use Rattle.nested_writer.specs.Allotted.{HasActed};
-    ghost use Rattle.nested_writer.specs.AtOnce.{FitsAtOnce, with_record, IsPlain};
+    ghost use Rattle.nested_writer.specs.AtOnce.{MayStand, FitsAtOnce, with_written, with_left, with_record, IsPlain};
     ghost use Rattle.nested_writer.specs.IsStack.{Stands};
 
-    /// Whether no frame stands and the record is one as nearly all are: in the short form, behind another one.
+    /// Whether no frame stands.
     #[inline(always)]
-    fn is_plain(&self, moment: u64, len: usize) -> bool
-        requires stack { Stands self.now }
-        ensures { IsTrue result → IsPlain self.now moment len }
+    fn is_empty(&self) -> bool
+        ensures { IsTrue result ↔ self.now.frames ≡ [] }
     {
-        let delta = moment.wrapping_sub(self.last_moment);
-        1 <= len
-            && len <= SHORT_LIMIT
-            && self.top.is_none()
-            && self.tail.end() > 0
-            && delta < EXTEND_FROM
-            && moment < MOMENT_LIMIT
+        self.top.is_none()
     }
 
     /// Writes a record whose moment is raised to `raised`.
@@ -44,7 +37,7 @@ impl WriterStack {
         requires stack { Stands self.old }
         requires fits { FitsAtOnce self.old moment (length payload.now) }
         requires raised { raised ≡ max moment self.old.last_moment }
-        ensures with_record { self.new ≡ with_record self.old moment payload.now }
+        ensures written { self.new ≡ with_written self.old moment payload.now }
         ensures records { records_of_page self.new.tail
             ≡ records_of_page self.old.tail ++ record { moment = raised; bytes = padded payload.now } ∷ [] }
         ensures stack { HasActed self.old (push moment (length payload.now) ∷ reserve ∷ leave (Some payload.now) ∷ [])
@@ -54,15 +47,14 @@ impl WriterStack {
         let prev = self.last_moment;
         self.last_moment = raised;
         self.tail.put_payload(prev, raised, payload);
-        self.top.leave(moment, payload.len());
     }
 
-    /// `write`, whatever the record.
+    /// `write_alone`, whatever the record.
     #[inline(never)]
     fn write_any(&mut self, moment: u64, payload: &[u8]) -> Wrote
         requires stack { Stands self.old }
         ensures wrote { result ≡ Wrote.Record ↔ FitsAtOnce self.old moment (length payload.now) }
-        ensures with_record { result ≡ Wrote.Record → self.new ≡ with_record self.old moment payload.now }
+        ensures written { result ≡ Wrote.Record → self.new ≡ with_written self.old moment payload.now }
         ensures records { result ≡ Wrote.Record → records_of_page self.new.tail
             ≡ records_of_page self.old.tail
             ++ record { moment = max moment self.old.last_moment; bytes = padded payload.now } ∷ [] }
@@ -72,7 +64,7 @@ impl WriterStack {
         ensures nothing { result ≡ Wrote.Nothing → self.new ≡ self.old }
     {
         let len = payload.len();
-        if !self.top.is_none()
+        if !self.is_empty()
             || len > self.size
             || size_of(len, 0, true) > self.size
             || moment >= MOMENT_LIMIT
@@ -86,6 +78,89 @@ impl WriterStack {
         }
         self.put_record(moment, raised, payload);
         Wrote::Record
+    }
+
+    /// `write_alone`, for a record as nearly all are.
+    #[inline(always)]
+    fn write_plain(&mut self, moment: u64, payload: &[u8]) -> Wrote
+        requires stack { Stands self.old }
+        requires plain { IsPlain self.old moment (length payload.now) }
+        ensures wrote { result ≡ Wrote.Record ↔ FitsAtOnce self.old moment (length payload.now) }
+        ensures written { result ≡ Wrote.Record → self.new ≡ with_written self.old moment payload.now }
+        ensures records { result ≡ Wrote.Record → records_of_page self.new.tail
+            ≡ records_of_page self.old.tail
+            ++ record { moment = max moment self.old.last_moment; bytes = padded payload.now } ∷ [] }
+        ensures stack { result ≡ Wrote.Record
+            → HasActed self.old (push moment (length payload.now) ∷ reserve ∷ leave (Some payload.now) ∷ []) self.new }
+        ensures stays { Stands self.new }
+        ensures nothing { result ≡ Wrote.Nothing → self.new ≡ self.old }
+    {
+        let size = size_of(payload.len(), moment - self.last_moment, false);
+        if self.size < self.tail.end() + size {
+            return Wrote::Nothing;
+        }
+        self.put_record(moment, moment, payload);
+        Wrote::Record
+    }
+
+    /// Writes a record of this moment and payload in one call, where no frame stands and it fits in the tail: what
+    /// `begin`, `allot`, the payload's copy into what `payload_mut` lends, `end` and `pop_bottom` do. No frame stands
+    /// behind it. Anywhere else, and where `begin` would refuse it, nothing changes.
+    #[inline(always)]
+    pub fn write_alone(&mut self, moment: u64, payload: &[u8]) -> Wrote
+        requires stack { Stands self.old }
+        ensures wrote { result ≡ Wrote.Record ↔ FitsAtOnce self.old moment (length payload.now) }
+        ensures written { result ≡ Wrote.Record → self.new ≡ with_written self.old moment payload.now }
+        ensures records { result ≡ Wrote.Record → records_of_page self.new.tail
+            ≡ records_of_page self.old.tail
+            ++ record { moment = max moment self.old.last_moment; bytes = padded payload.now } ∷ [] }
+        ensures stack { result ≡ Wrote.Record
+            → HasActed self.old (push moment (length payload.now) ∷ reserve ∷ leave (Some payload.now) ∷ []) self.new }
+        ensures stays { Stands self.new }
+        ensures nothing { result ≡ Wrote.Nothing → self.new ≡ self.old }
+    {
+        if !self.is_empty() {
+            return self.write_any(moment, payload);
+        }
+        // Fewer than 1 byte, or more than `SHORT_LIMIT`.
+        if payload.len().wrapping_sub(1) >= SHORT_LIMIT {
+            return self.write_any(moment, payload);
+        }
+        if self.tail.end() == 0 {
+            return self.write_any(moment, payload);
+        }
+        if moment >= MOMENT_LIMIT {
+            return self.write_any(moment, payload);
+        }
+        if moment.wrapping_sub(self.last_moment) >= EXTEND_FROM {
+            return self.write_any(moment, payload);
+        }
+        self.write_plain(moment, payload)
+    }
+
+    /// `stand_again`, in line.
+    #[inline(always)]
+    fn put_left(&mut self, moment: u64, len: usize)
+        requires none { self.old.frames ≡ [] }
+        requires may { MayStand self.old moment len }
+        ensures left { self.new ≡ with_left self.old moment len }
+        ensures stack { HasActed self.old [] self.new }
+        ensures stays { Stands self.old → Stands self.new }
+    {
+        self.top.leave(moment, len);
+    }
+
+    /// Where no frame stands, one stands again at the bottom, which has left: that of a record of this moment and of a
+    /// payload of `len` bytes. Then fills can be closed, or the tail be asked for, until `pop_bottom` takes it off.
+    #[inline(never)]
+    pub fn stand_again(&mut self, moment: u64, len: usize)
+        requires none { self.old.frames ≡ [] }
+        requires may { MayStand self.old moment len }
+        ensures left { self.new ≡ with_left self.old moment len }
+        ensures stack { HasActed self.old [] self.new }
+        ensures stays { Stands self.old → Stands self.new }
+    {
+        self.put_left(moment, len);
     }
 
     /// Writes a record of this moment and payload in one call, where no frame stands and it fits in the tail: what
@@ -104,15 +179,13 @@ impl WriterStack {
         ensures stays { Stands self.new }
         ensures nothing { result ≡ Wrote.Nothing → self.new ≡ self.old }
     {
-        if !self.is_plain(moment, payload.len()) {
-            return self.write_any(moment, payload);
+        match self.write_alone(moment, payload) {
+            Wrote::Record => {
+                self.put_left(moment, payload.len());
+                Wrote::Record
+            }
+            Wrote::Nothing => Wrote::Nothing,
         }
-        let size = size_of(payload.len(), moment - self.last_moment, false);
-        if self.size < self.tail.end() + size {
-            return Wrote::Nothing;
-        }
-        self.put_record(moment, moment, payload);
-        Wrote::Record
     }
 }
 

@@ -62,6 +62,6 @@ impl Core {
         requires phase { self.old.phase ≡ Wishing }
         ensures { Makes self.old model.steps result self.new }
     {
-        self.frames.load_wish(self.wish)
+        self.frames.load_wish(self.wish).answer()
     }
 }

@@ -1,6 +1,5 @@
 //! The halves of those steps by which pages come to the writer and go, and of the look for the reader's wish, that
 //! are made in the frames.
-use crate::answer::Answer;
 use crate::frames::Frames;
 use crate::phase::{Phase, Turned};
 use page_image::{Body, Page};
@@ -44,7 +43,7 @@ impl Frames {
         ensures payloads { KeepsPayloads self.old.stack self.new.stack }
     {
         let page = self.stack.drop_front();
-        self.phase = self.closing_phase();
+        self.start_closing();
         page
     }
 
@@ -62,23 +61,23 @@ impl Frames {
     /// What is made of the reader's wish: where it is for the tail, and the tail holds a record and isn't the last
     /// fill, the frame on top notes the next fill; else it closes what was begun meanwhile, or is gone.
     #[inline(always)]
-    pub fn load_wish(&mut self, wish: u64) -> Answer
+    pub fn load_wish(&mut self, wish: u64) -> Turned
         requires frames { IsFrames self.old }
         requires top { self.old.stack.frames ≢ [] }
         requires phase { self.old.phase ≡ Wishing }
-        ensures looks { LooksForWish self.old wish result self.new }
+        ensures looks { LooksForWish self.old wish (told result) self.new }
         ensures payloads { KeepsPayloads self.old.stack self.new.stack }
     {
         if self.grant_wish(wish) {
-            return Answer::Going;
+            return Turned::Going;
         }
         let opened = self.stack.opened();
         if self.stack.done() + 1 < opened {
-            self.phase = Phase::Releasing;
-            return Answer::Going;
+            self.phase.close();
+            return Turned::Going;
         }
         self.stack.pop_bottom();
-        Answer::Gone
+        Turned::Gone
     }
 
     /// Whether the reader's wish is for the tail, which holds a record and isn't the last fill: then the frame notes
@@ -98,7 +97,7 @@ impl Frames {
         if !self.stack.ask_close() {
             return false;
         }
-        self.phase = Phase::Looking { noted: opened };
+        self.phase.put(Phase::Looking { noted: opened });
         true
     }
 }

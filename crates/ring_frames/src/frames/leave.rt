@@ -1,7 +1,7 @@
 //! Frames that leave.
 use crate::answer::Answer;
 use crate::frames::Frames;
-use crate::phase::{Phase, Turned};
+use crate::phase::Turned;
 
 impl Frames {
     ghost use Rattle.std.specs.Prelude.{◌≡◌, ◌≢◌, []};
@@ -33,7 +33,7 @@ impl Frames {
         ensures phase { self.new ≡ with_left_phase self.old }
     {
         if self.below.is_empty() {
-            self.phase = self.closing_phase();
+            self.start_closing();
             Turned::Going
         } else {
             self.uncover_phase();
@@ -48,21 +48,21 @@ impl Frames {
         ensures phase { self.new ≡ with_left_phase self.old }
     {
         match self.below.pop_front() {
-            Some(phase) => self.phase = phase,
+            Some(phase) => self.phase.put(phase),
             None => unreachable!(),
         }
     }
 
-    /// What a frame that has left does: it closes fills, or where none is left to close looks for a wish.
+    /// The frame on top, which has left, closes fills, or where none is left to close looks for a wish.
     #[inline(always)]
-    pub(crate) fn closing_phase(&self) -> Phase
-        ensures { result ≡ closing_phase self.now.stack }
+    pub(crate) fn start_closing(&mut self)
+        ensures { self.new ≡ record self.old { phase = closing_phase self.old.stack } }
     {
         let opened = self.stack.opened();
         if self.stack.done() + 1 == opened {
-            Phase::Wishing
+            self.phase.look_for_wish();
         } else {
-            Phase::Releasing
+            self.phase.close();
         }
     }
 }

@@ -1,10 +1,9 @@
 //! Frames that are pushed.
 use crate::answer::Answer;
 use crate::frames::Frames;
-use crate::phase::Phase;
 
 impl Frames {
-    ghost use Rattle.std.specs.Prelude.{◌≡◌, ◌<◌, length};
+    ghost use Rattle.std.specs.Prelude.{◌≡◌, ◌<◌, ◌↔◌, length, IsTrue};
     ghost use Rattle.trace_model.specs.declared.limits.TheConstants.{MAX_FRAMES};
     ghost use Rattle.trace_model.specs.Steps as model;
     ghost use Rattle.ring_frames.specs.Steps.{MakesPrivate, IsShown};
@@ -18,8 +17,9 @@ impl Frames {
         ensures step { MakesPrivate self.old (model.pushes moment len) result self.new }
         ensures payloads { KeepsPayloads self.old.stack self.new.stack }
     {
+        let covers = self.stack.depth() > 0;
         match self.stack.begin(moment, len) {
-            Ok(()) => self.push_phase(),
+            Ok(()) => self.push_phase(covers),
             Err(fault) => Answer::Refused(fault),
         }
     }
@@ -30,23 +30,25 @@ impl Frames {
         ensures step { MakesPrivate self.old model.pushes_close result self.new }
         ensures payloads { KeepsPayloads self.old.stack self.new.stack }
     {
+        let covers = self.stack.depth() > 0;
         match self.stack.begin_close() {
-            Ok(()) => self.push_phase(),
+            Ok(()) => self.push_phase(covers),
             Err(fault) => Answer::Refused(fault),
         }
     }
 
-    /// The frame that was pushed has noted nothing.
+    /// The frame that was pushed has noted nothing; `covers` tells whether one stands below it.
     #[inline(always)]
-    fn push_phase(&mut self) -> Answer
+    fn push_phase(&mut self, covers: bool) -> Answer
         requires room { length self.old.below < MAX_FRAMES }
+        requires covers { IsTrue covers ↔ 1 < length self.old.stack.frames }
         ensures pushed { result ≡ Answer.Pushed }
         ensures phase { self.new ≡ with_pushed_phase self.old }
     {
-        if self.stack.depth() > 1 {
-            self.below.push_front_reserved(self.phase);
+        if covers {
+            self.below.push_front_reserved(self.phase.get());
         }
-        self.phase = Phase::Idle;
+        self.phase.rest();
         Answer::Pushed
     }
 }

@@ -3,11 +3,11 @@ use crate::answer::Answer;
 use crate::frames::Frames;
 use crate::phase::{Phase, Turned};
 use nested_writer::Allot;
-use nested_writer::frame::{Progress, Purpose};
+use nested_writer::frame::{Progress, Purpose, Pushed};
 use trace_model::RecordNo;
 
 impl Frames {
-    ghost use Rattle.std.specs.Prelude.{◌≡◌, ◌≢◌, ℕ, [], ◌∷◌, List, Some};
+    ghost use Rattle.std.specs.Prelude.{◌≡◌, ◌≢◌, ℕ, [], ◌∷◌, List, Some, IfSome};
     ghost use Rattle.trace_model.specs.Steps as model;
     ghost use Rattle.trace_model.specs.Frames.{noted_fill};
     ghost use Rattle.trace_model.specs.History.{Action};
@@ -15,12 +15,36 @@ impl Frames {
     ghost use Rattle.nested_writer.specs.Stack.{opened};
     ghost use Rattle.nested_writer.specs.Ends.{MayEndTop, IsEnd};
     ghost use Rattle.nested_writer.specs.IsStack.{IsStack};
+    ghost use Rattle.nested_writer.specs.PlainTop.{IsPlainTop};
     ghost use Rattle.ring_frames.specs.declared.phase.Turned.TheVariants.{Going};
     ghost use Rattle.ring_frames.specs.declared.phase.Phase.TheVariants.{Idle};
     ghost use Rattle.ring_frames.specs.Value.{phase_of};
     ghost use Rattle.ring_frames.specs.Answers.{KeepsPayloads, ZerosSlot};
     ghost use Rattle.ring_frames.specs.Phases.{with_left_phase, left_answer, told};
     ghost use Rattle.ring_frames.specs.Steps.{MakesPrivate, IsFrames, IsShown, GoesOnIn, IsNotedIn, BeginsAnew, LeavesWithout, IsCloseTop};
+
+    /// What the frame on top was pushed with, where it is a record frame that tried nothing yet, and its record is one as
+    /// nearly all are: in the short form, behind another one, and far enough from the page's end for any such record.
+    /// `None` may stand for one that is near the end too.
+    #[inline(always)]
+    pub fn plain_top(&self) -> Option<Pushed>
+        requires shown { IsShown self.now }
+        ensures { IfSome result (λ pushed. IsPlainTop self.now.stack pushed) }
+    {
+        self.stack.plain_top()
+    }
+
+    /// The record of the frame on top, which `plain_top` told, is reserved in the tail page: its number.
+    #[inline(always)]
+    pub fn reserve_plain(&mut self, pushed: Pushed) -> RecordNo
+        requires frames { IsFrames self.old }
+        requires plain { IsPlainTop self.old.stack pushed }
+        ensures step { MakesPrivate self.old model.steps (Answer.Reserved result) self.new }
+        ensures payloads { KeepsPayloads self.old.stack self.new.stack }
+        ensures zeros { ZerosSlot self.old.stack (Answer.Reserved result) self.new.stack }
+    {
+        RecordNo(self.stack.reserve_plain(pushed))
+    }
 
     /// The record of the frame on top is reserved in the tail page, or there is nothing to close; or a page is needed,
     /// and refused or noted. A frame that has reserved gets its number again.
@@ -46,9 +70,8 @@ impl Frames {
                 }
             }
             Ok(Allot::NeedsPage) => {
-                self.phase = Phase::Looking {
-                    noted: self.stack.opened(),
-                };
+                let noted = self.stack.opened();
+                self.phase.put(Phase::Looking { noted });
                 Answer::Going
             }
             Err(fault) => {
@@ -76,7 +99,7 @@ impl Frames {
     /// A fill was begun since the frame on top noted what to open: a record frame tries again, a close frame has what
     /// it wanted and leaves, and one that has left goes on to close fills. Where another frame has begun the fill, that
     /// is a step by itself.
-    #[inline(never)]
+    #[inline(always)]
     pub fn begin_anew(&mut self) -> Turned
         requires shown { IsShown self.old }
         requires top { self.old.stack.frames ≢ [] }
@@ -109,8 +132,8 @@ impl Frames {
                 Purpose::Close => self.leave_closed(),
             },
             Progress::Left(_) => {
-                let phase = self.closing_phase();
-                self.go_on(phase)
+                self.start_closing();
+                Turned::Going
             }
             Progress::Through(_) | Progress::Reserved(_) => self.go_on(Phase::Idle),
         }
@@ -124,7 +147,7 @@ impl Frames {
         ensures goes_on { (noted : ℕ) → IsNotedIn self.old.phase phase noted → GoesOnIn self.old phase self.new }
         ensures payloads { KeepsPayloads self.old.stack self.new.stack }
     {
-        self.phase = phase;
+        self.phase.put(phase);
         Turned::Going
     }
 

@@ -1,32 +1,61 @@
 //! A record that is written at once.
 use crate::frames::Frames;
+use crate::phase::Turned;
 use nested_writer::Wrote;
 
 impl Frames {
-    ghost use Rattle.std.specs.Prelude.{◌≡◌, ◌↔◌, length};
+    ghost use Rattle.std.specs.Prelude.{◌≡◌, ◌↔◌, ℕ, [], length, false};
     ghost use Rattle.nested_writer.specs.AtOnce.{FitsAtOnce};
+    ghost use Rattle.ring_frames.specs.declared.phase.Phase.TheVariants.{Wishing};
+    ghost use Rattle.ring_frames.specs.declared.answer.Answer.TheVariants.{Gone};
     ghost use Rattle.ring_frames.specs.Answers.{KeepsPayloads};
-    ghost use Rattle.ring_frames.specs.Steps.{IsShown};
-    ghost use Rattle.ring_frames.specs.AtOnce.{WritesAtOnce, IsWrittenAlone};
+    ghost use Rattle.ring_frames.specs.Phases.{closing_phase, told};
+    ghost use Rattle.ring_frames.specs.Steps.{IsFrames};
+    ghost use Rattle.ring_frames.specs.Fills.{LooksForWish};
+    ghost use Rattle.ring_frames.specs.AtOnce.{with_left_frame, WritesAtOnce, IsWrittenAlone};
 
-    /// Writes a record of this moment and payload in one call, where no frame stands and it fits in the tail: its frame
-    /// has left then, and stands at the bottom to close fills or look for a wish. Anywhere else, and where `push` would
-    /// refuse it as too long for a page or at too late a moment, nothing changes.
+    /// Writes a record of this moment and payload in one call, where no frame stands and it fits in the tail. No frame
+    /// is left then: it is as if the record's frame had left and looked for no wish yet, which `is_wished`, and where
+    /// that says so `stay`, make up for. Anywhere else, and where `push` would refuse it as too long for a page or at
+    /// too late a moment, nothing changes.
     #[inline(always)]
     pub fn write(&mut self, moment: u64, payload: &[u8]) -> Wrote
-        requires shown { IsShown self.old }
+        requires frames { IsFrames self.old }
         ensures fits { result ≡ Wrote.Record ↔ FitsAtOnce self.old.stack moment (length payload.now) }
-        ensures wrote { result ≡ Wrote.Record → WritesAtOnce self.old moment payload.now self.new }
+        ensures wrote { result ≡ Wrote.Record
+            → WritesAtOnce self.old moment payload.now (with_left_frame self.new moment (length payload.now)) }
         ensures alone { result ≡ Wrote.Record → IsWrittenAlone self.old moment payload.now self.new }
         ensures nothing { result ≡ Wrote.Nothing → self.new ≡ self.old }
         ensures payloads { KeepsPayloads self.old.stack self.new.stack }
     {
-        match self.stack.write(moment, payload) {
-            Wrote::Record => {
-                self.phase = self.closing_phase();
-                Wrote::Record
-            }
-            Wrote::Nothing => Wrote::Nothing,
-        }
+        self.stack.write_alone(moment, payload)
+    }
+
+    /// Whether the reader's wish is for the next fill, where none but the tail is open: else a frame that has left, and
+    /// looks for it, is gone.
+    #[inline(always)]
+    pub fn is_wished(&self, wish: u64) -> bool
+        ensures unasked { result ≡ false → (moment len : ℕ)
+            → self.now.stack.frames ≡ []
+            → self.now.below ≡ []
+            → closing_phase self.now.stack ≡ Wishing
+            → LooksForWish (with_left_frame self.now moment len) wish Gone self.now }
+    {
+        wish.wrapping_sub(1) == self.stack.done()
+    }
+
+    /// The frame of a record of this moment and of `len` bytes, which was written at once and has left, stands at the
+    /// bottom, and looks for this wish.
+    #[inline(never)]
+    pub fn stay(&mut self, moment: u64, len: usize, wish: u64) -> Turned
+        requires none { self.old.stack.frames ≡ [] }
+        requires below { self.old.below ≡ [] }
+        requires frames { IsFrames (with_left_frame self.old moment len) }
+        requires closed { closing_phase self.old.stack ≡ Wishing }
+        ensures looks { LooksForWish (with_left_frame self.old moment len) wish (told result) self.new }
+    {
+        self.stack.stand_again(moment, len);
+        self.phase.look_for_wish();
+        self.load_wish(wish)
     }
 }

@@ -2,7 +2,8 @@
 use crate::writer::Writer;
 use nested_writer::WriteFault;
 use nested_writer::frame::{Frame, Progress, Purpose};
-use ring_frames::Answer;
+use ring_frames::{Answer, Phase, Turned};
+use trace_model::RecordNo;
 
 /// What the frame on top is stepped to.
 enum Aim {
@@ -20,25 +21,120 @@ impl Writer {
     ghost use Rattle.link_marks.specs.FrameOutcomes.{IsReserving, IsLeaving};
     ghost use Rattle.ring_shared.specs.Value.{SameWriter};
     ghost use Rattle.ring_shared.specs.Calls.{IsWriter};
-    ghost use Rattle.ring_shared.specs.Finishing.{Finishes, Reserves, Leaves};
+    ghost use Rattle.ring_shared.specs.Finishing.{Finishes, Reserves, Leaves, IsGoneOrRefused, met_behind};
 
     /// Steps a close frame, or one that was ended or refused, until it is gone, and any other record frame until its
     /// record is reserved, or it is refused. It answers the refusal that it met, if any, else as its last step does.
     /// Each of its steps is one of `step`; where no frame stands, it is refused with `NoFrame`.
+    #[inline(always)]
     pub fn finish_top(&mut self) -> Answer
         requires writer { IsWriter self.old }
         ensures finished { Finishes self.old.shape self.old.part result self.new.part }
         ensures ring { SameWriter self.old self.new }
         ensures writer { IsWriter self.new }
     {
+        if let Some(pushed) = self.frames.plain_top() {
+            return Answer::Reserved(self.reserve_plain(pushed));
+        }
         match aim_of(self.frames.top()) {
-            Aim::Record => self.reserve_top(),
-            Aim::End => self.leave_top(),
+            Aim::Record => self.finish_record(),
+            Aim::End => self.finish_end(),
             Aim::Step => self.step(),
         }
     }
 
+    /// The frame on top makes steps until its record is reserved, or it is refused: mostly one.
+    #[inline(always)]
+    fn finish_record(&mut self) -> Answer
+        requires writer { IsWriter self.old }
+        requires top { (frame : ModelFrame) × (below : List ModelFrame) × (self.old.part.frames ≡ frame ∷ below)
+            × IsReserving frame.kind frame.state }
+        ensures reserves { (frame : ModelFrame) (below : List ModelFrame) → self.old.part.frames ≡ frame ∷ below
+            → Reserves self.old.shape frame.kind below self.old.part result self.new.part }
+        ensures ring { SameWriter self.old self.new }
+        ensures writer { IsWriter self.new }
+    {
+        if let Some(last) = unless_going(self.step()) {
+            return last;
+        }
+        match self.reserve_on() {
+            Some(fault) => Answer::Refused(fault),
+            None => match self.top_slot() {
+                Ok(slot) => Answer::Reserved(RecordNo(slot.number)),
+                Err(_) => unreachable!(),
+            },
+        }
+    }
+
+    /// The frame on top makes steps until it is gone: mostly one, which finds that the reader has no wish.
+    #[inline(always)]
+    fn finish_end(&mut self) -> Answer
+        requires writer { IsWriter self.old }
+        requires top { (frame : ModelFrame) × (below : List ModelFrame) × (self.old.part.frames ≡ frame ∷ below)
+            × IsLeaving frame.kind frame.state }
+        ensures leaves { (frame : ModelFrame) (below : List ModelFrame) → self.old.part.frames ≡ frame ∷ below
+            → Leaves self.old.shape below self.old.part result self.new.part }
+        ensures ring { SameWriter self.old self.new }
+        ensures writer { IsWriter self.new }
+    {
+        match self.frames.phase() {
+            Phase::Wishing => match self.load_wish() {
+                Turned::Going => self.finish_leaving(),
+                Turned::Gone => Answer::Gone,
+            },
+            _ => self.finish_leaving(),
+        }
+    }
+
+    /// The frame on top makes steps until it is gone, however many.
+    #[inline(always)]
+    fn finish_leaving(&mut self) -> Answer
+        requires writer { IsWriter self.old }
+        requires top { (frame : ModelFrame) × (below : List ModelFrame) × (self.old.part.frames ≡ frame ∷ below)
+            × IsLeaving frame.kind frame.state }
+        ensures leaves { (frame : ModelFrame) (below : List ModelFrame) → self.old.part.frames ≡ frame ∷ below
+            → Leaves self.old.shape below self.old.part result self.new.part }
+        ensures ring { SameWriter self.old self.new }
+        ensures writer { IsWriter self.new }
+    {
+        match self.leave_on() {
+            Some(fault) => Answer::Refused(fault),
+            None => Answer::Gone,
+        }
+    }
+
+    /// The frame on top makes steps until its record is reserved, or it is refused: the refusal, if any.
+    #[inline(never)]
+    fn reserve_on(&mut self) -> Option<WriteFault>
+        requires writer { IsWriter self.old }
+        requires top { (frame : ModelFrame) × (below : List ModelFrame) × (self.old.part.frames ≡ frame ∷ below)
+            × IsReserving frame.kind frame.state }
+        ensures reserves { (answer : Answer) × (result ≡ met_behind None answer)
+            × ((frame : ModelFrame) (below : List ModelFrame) → self.old.part.frames ≡ frame ∷ below
+            → Reserves self.old.shape frame.kind below self.old.part answer self.new.part) }
+        ensures ring { SameWriter self.old self.new }
+        ensures writer { IsWriter self.new }
+    {
+        met_first(None, self.reserve_top())
+    }
+
+    /// The frame on top makes steps until it is gone: the refusal that it met, if any.
+    #[inline(never)]
+    pub(crate) fn leave_on(&mut self) -> Option<WriteFault>
+        requires writer { IsWriter self.old }
+        requires top { (frame : ModelFrame) × (below : List ModelFrame) × (self.old.part.frames ≡ frame ∷ below)
+            × IsLeaving frame.kind frame.state }
+        ensures leaves { (answer : Answer) × (result ≡ met_behind None answer) × IsGoneOrRefused answer
+            × ((frame : ModelFrame) (below : List ModelFrame) → self.old.part.frames ≡ frame ∷ below
+            → Leaves self.old.shape below self.old.part answer self.new.part) }
+        ensures ring { SameWriter self.old self.new }
+        ensures writer { IsWriter self.new }
+    {
+        met_first(None, self.leave_top())
+    }
+
     /// The frame on top makes steps until its record is reserved, or it is refused.
+    #[inline(always)]
     fn reserve_top(&mut self) -> Answer
         requires writer { IsWriter self.old }
         requires top { (frame : ModelFrame) × (below : List ModelFrame) × (self.old.part.frames ≡ frame ∷ below)
@@ -49,26 +145,28 @@ impl Writer {
         ensures writer { IsWriter self.new }
     {
         loop {
-            if let Some(last) = unless_going(self.step()) {
+            if let Some(last) = unless_going(self.step_amid()) {
                 return last;
             }
         }
     }
 
     /// The frame on top makes steps until it is gone.
+    #[inline(always)]
     fn leave_top(&mut self) -> Answer
         requires writer { IsWriter self.old }
         requires top { (frame : ModelFrame) × (below : List ModelFrame) × (self.old.part.frames ≡ frame ∷ below)
             × IsLeaving frame.kind frame.state }
         ensures leaves { (frame : ModelFrame) (below : List ModelFrame) → self.old.part.frames ≡ frame ∷ below
             → Leaves self.old.shape below self.old.part result self.new.part }
+        ensures gone { IsGoneOrRefused result }
         ensures ring { SameWriter self.old self.new }
         ensures writer { IsWriter self.new }
     {
         let depth = self.depth();
         let mut met = None;
         loop {
-            let answer = self.step();
+            let answer = self.step_amid();
             if self.depth() < depth {
                 return told(met, answer);
             }

@@ -1,7 +1,9 @@
 //! What frames do in private: each of it is one load more, by which the writer's seat knows of it.
 use crate::writer::Writer;
-use ring_frames::Answer;
+use nested_writer::frame::Pushed;
+use ring_frames::{Answer, Turned};
 use std::marker::Brand;
+use trace_model::RecordNo;
 
 impl Writer {
     ghost use Rattle.std.specs.Prelude.{◌≡◌, ◌≢◌, ℕ, [], Some};
@@ -9,15 +11,18 @@ impl Writer {
     ghost use Rattle.trace_model.specs.Frames.{noted_fill};
     ghost use Rattle.link_marks.specs.Seats.{PhaseIsPrivate};
     ghost use Rattle.nested_writer.specs.Stack.{opened};
+    ghost use Rattle.nested_writer.specs.PlainTop.{IsPlainTop};
     ghost use Rattle.ring_frames.specs.declared.phase.Phase.TheVariants.{Idle};
     ghost use Rattle.ring_frames.specs.Value.{phase_of};
     ghost use Rattle.ring_frames.specs.Answers.{top_bytes, KeepsPayloads};
+    ghost use Rattle.ring_frames.specs.Phases.{told};
     ghost use Rattle.ring_shared.specs.Calls.{IsWriter, MakesSome};
     ghost use Rattle.ring_shared.specs.Nearer.{IsNearer};
 
     /// A writer begins: a frame is pushed for a record of this moment, below `MOMENT_LIMIT`, and of a payload of `len`
     /// bytes. `Pushed`; or refused, and nothing changed: `TooDeep` where four frames stand, `TooLong` where the record
     /// has no room on an empty page, `LateMoment`, the first of these that holds.
+    #[inline(always)]
     pub fn begin(&mut self, moment: u64, len: usize) -> Answer
         requires writer { IsWriter self.old }
         ensures makes { MakesSome self.old (model.pushes moment len) result self.new }
@@ -39,6 +44,7 @@ impl Writer {
 
     /// The frame on top, whose record is reserved, ends with the payload that stands in its slot. `Ended`; or refused,
     /// and nothing changed, as `NoFrame` or as `NotReserved`.
+    #[inline(always)]
     pub fn end(&mut self) -> Answer
         requires writer { IsWriter self.old }
         ensures makes { MakesSome self.old (model.ends (top_bytes self.old.frames.stack self.old.frames.stack.frames)) result
@@ -50,6 +56,7 @@ impl Writer {
     }
 
     /// The record of the frame on top is reserved, or a page is needed, or the frame is refused.
+    #[inline(always)]
     pub(crate) fn reserve(&mut self) -> Answer
         requires writer { IsWriter self.old }
         requires top { self.old.frames.stack.frames ≢ [] }
@@ -62,18 +69,30 @@ impl Writer {
         self.frames.reserve()
     }
 
+    /// The record of the frame on top, which is as nearly all are, is reserved: its number.
+    #[inline(always)]
+    pub(crate) fn reserve_plain(&mut self, pushed: Pushed) -> RecordNo
+        requires writer { IsWriter self.old }
+        requires plain { IsPlainTop self.old.frames.stack pushed }
+        ensures makes { MakesSome self.old model.steps (Answer.Reserved result) self.new }
+    {
+        self.seat.note::<Brand, _>(&pushed);
+        self.frames.reserve_plain(pushed)
+    }
+
     /// A fill was begun since the frame on top noted what to open, so that it begins anew.
-    pub(crate) fn begin_anew(&mut self) -> Answer
+    #[inline(always)]
+    pub(crate) fn begin_anew(&mut self) -> Turned
         requires writer { IsWriter self.old }
         requires top { self.old.frames.stack.frames ≢ [] }
         requires passed { (noted : ℕ) × (noted_fill (phase_of self.old.frames.phase) ≡ Some noted)
             × (noted ≢ opened self.old.frames.stack) }
         requires private { PhaseIsPrivate (phase_of self.old.frames.phase) (opened self.old.frames.stack) }
-        ensures makes { MakesSome self.old model.steps result self.new }
+        ensures makes { MakesSome self.old model.steps (told result) self.new }
         ensures nearer { IsNearer self.old self.new }
         ensures payloads { KeepsPayloads self.old.frames.stack self.new.frames.stack }
     {
         self.seat.note::<Brand, _>(&());
-        self.frames.begin_anew().answer()
+        self.frames.begin_anew()
     }
 }

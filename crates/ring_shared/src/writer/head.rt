@@ -2,7 +2,7 @@
 //! free position, and where there is none moves the head.
 use crate::writer::Writer;
 use link_marks::Mark;
-use ring_frames::{Answer, Phase, Role};
+use ring_frames::{Phase, Role, Turned};
 use std::marker::Brand;
 use trace_model::FillNo;
 
@@ -12,6 +12,7 @@ impl Writer {
     ghost use Rattle.ring_frames.specs.declared.phase.Phase.TheVariants.{Looking, Claiming, LookingNext, Marking, Clearing};
     ghost use Rattle.ring_steps.specs.Linking.{tail_in};
     ghost use Rattle.ring_frames.specs.Answers.{KeepsPayloads};
+    ghost use Rattle.ring_frames.specs.Phases.{told};
     ghost use Rattle.ring_shared.specs.Calls.{IsWriter, MakesSome};
     ghost use Rattle.ring_shared.specs.Nearer.{IsNearer};
 
@@ -28,12 +29,12 @@ impl Writer {
 
     /// A load of the link into the position of the fill to open, from the tail's word: it is free, or its page is the
     /// head, or a frame below is moving the head.
-    #[inline(never)]
-    pub(crate) fn look(&mut self, noted: u64) -> Answer
+    #[inline(always)]
+    pub(crate) fn look(&mut self, noted: u64) -> Turned
         requires writer { IsWriter self.old }
         requires top { self.old.frames.stack.frames ≢ [] }
         requires phase { self.old.frames.phase ≡ Looking noted }
-        ensures makes { MakesSome self.old model.steps result self.new }
+        ensures makes { MakesSome self.old model.steps (told result) self.new }
         ensures nearer { IsNearer self.old self.new }
         ensures payloads { KeepsPayloads self.old.frames.stack self.new.frames.stack }
     {
@@ -52,16 +53,16 @@ impl Writer {
                 page,
             },
         };
-        self.frames.go_on(phase).answer()
+        self.frames.go_on(phase)
     }
 
     /// A compare and exchange of that link from HEADER to UPDATE, by which the head is lost.
-    #[inline(never)]
-    pub(crate) fn claim(&mut self, noted: u64, page: u16) -> Answer
+    #[inline(always)]
+    pub(crate) fn claim(&mut self, noted: u64, page: u16) -> Turned
         requires writer { IsWriter self.old }
         requires top { self.old.frames.stack.frames ≢ [] }
         requires phase { self.old.frames.phase ≡ Claiming noted page }
-        ensures makes { MakesSome self.old model.steps result self.new }
+        ensures makes { MakesSome self.old model.steps (told result) self.new }
         ensures nearer { IsNearer self.old self.new }
         ensures payloads { KeepsPayloads self.old.frames.stack self.new.frames.stack }
     {
@@ -79,16 +80,16 @@ impl Writer {
         } else {
             Phase::Looking { noted }
         };
-        self.frames.go_on(phase).answer()
+        self.frames.go_on(phase)
     }
 
     /// A load of the next link, from the word of the page that is passed: does it still wait for the HEADER?
-    #[inline(never)]
-    pub(crate) fn look_next(&mut self, role: Role, noted: u64, page: u16) -> Answer
+    #[inline(always)]
+    pub(crate) fn look_next(&mut self, role: Role, noted: u64, page: u16) -> Turned
         requires writer { IsWriter self.old }
         requires top { self.old.frames.stack.frames ≢ [] }
         requires phase { self.old.frames.phase ≡ LookingNext role noted page }
-        ensures makes { MakesSome self.old model.steps result self.new }
+        ensures makes { MakesSome self.old model.steps (told result) self.new }
         ensures nearer { IsNearer self.old self.new }
         ensures payloads { KeepsPayloads self.old.frames.stack self.new.frames.stack }
     {
@@ -106,16 +107,16 @@ impl Writer {
             },
             _ => role.after_next(noted, page),
         };
-        self.frames.go_on(phase).answer()
+        self.frames.go_on(phase)
     }
 
     /// A compare and exchange of the next link from NORMAL to HEADER.
-    #[inline(never)]
-    pub(crate) fn mark(&mut self, role: Role, noted: u64, page: u16, next: u16) -> Answer
+    #[inline(always)]
+    pub(crate) fn mark(&mut self, role: Role, noted: u64, page: u16, next: u16) -> Turned
         requires writer { IsWriter self.old }
         requires top { self.old.frames.stack.frames ≢ [] }
         requires phase { self.old.frames.phase ≡ Marking role noted page next }
-        ensures makes { MakesSome self.old model.steps result self.new }
+        ensures makes { MakesSome self.old model.steps (told result) self.new }
         ensures nearer { IsNearer self.old self.new }
         ensures payloads { KeepsPayloads self.old.frames.stack self.new.frames.stack }
     {
@@ -124,21 +125,21 @@ impl Writer {
         }
         let behind = noted + 1 - self.frames.pages() as u64;
         let _marked = self.seat.mark_next::<Brand>(page, next, FillNo(behind));
-        self.frames.go_on(role.after_next(noted, page)).answer()
+        self.frames.go_on(role.after_next(noted, page))
     }
 
     /// A store of the link of the claim, from the frame's own UPDATE to NORMAL.
-    #[inline(never)]
-    pub(crate) fn clear(&mut self, noted: u64, page: u16) -> Answer
+    #[inline(always)]
+    pub(crate) fn clear(&mut self, noted: u64, page: u16) -> Turned
         requires writer { IsWriter self.old }
         requires top { self.old.frames.stack.frames ≢ [] }
         requires phase { self.old.frames.phase ≡ Clearing noted page }
-        ensures makes { MakesSome self.old model.steps result self.new }
+        ensures makes { MakesSome self.old model.steps (told result) self.new }
         ensures nearer { IsNearer self.old self.new }
         ensures payloads { KeepsPayloads self.old.frames.stack self.new.frames.stack }
     {
         let front = self.pages[(noted - 1 - self.frames.done()) as usize];
         self.seat.clear::<Brand>(front, page, FillNo(noted));
-        self.frames.go_on(Phase::Opening { noted, page }).answer()
+        self.frames.go_on(Phase::Opening { noted, page })
     }
 }

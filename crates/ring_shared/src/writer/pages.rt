@@ -1,7 +1,7 @@
 //! The steps by which pages come to the writer and go: a fill is begun, fills are closed, and the reader's wish is
 //! looked for.
 use crate::writer::Writer;
-use ring_frames::Answer;
+use ring_frames::Turned;
 use std::marker::Brand;
 use trace_model::FillNo;
 
@@ -10,16 +10,17 @@ impl Writer {
     ghost use Rattle.trace_model.specs.Steps as model;
     ghost use Rattle.ring_frames.specs.declared.phase.Phase.TheVariants.{Opening, Releasing, Wishing};
     ghost use Rattle.ring_frames.specs.Answers.{KeepsPayloads};
+    ghost use Rattle.ring_frames.specs.Phases.{told};
     ghost use Rattle.ring_shared.specs.Calls.{IsWriter, MakesSome};
     ghost use Rattle.ring_shared.specs.Nearer.{IsNearer};
 
     /// A store of the number of begun fills: the page to open is taken from its home, and is the tail from now on.
-    #[inline(never)]
-    pub(crate) fn open(&mut self, noted: u64, page: u16) -> Answer
+    #[inline(always)]
+    pub(crate) fn open(&mut self, noted: u64, page: u16) -> Turned
         requires writer { IsWriter self.old }
         requires top { self.old.frames.stack.frames ≢ [] }
         requires phase { self.old.frames.phase ≡ Opening noted page }
-        ensures makes { MakesSome self.old model.steps result self.new }
+        ensures makes { MakesSome self.old model.steps (told result) self.new }
         ensures nearer { IsNearer self.old self.new }
         ensures payloads { KeepsPayloads self.old.frames.stack self.new.frames.stack }
     {
@@ -28,16 +29,16 @@ impl Writer {
         }
         let body = self.seat.open::<Brand>(page, FillNo(noted));
         self.pages.push_back_reserved(page);
-        self.frames.open(body).answer()
+        self.frames.open(body)
     }
 
     /// A store of the number of closed fills: the oldest fill that isn't closed is, and its page goes home.
-    #[inline(never)]
-    pub(crate) fn release(&mut self) -> Answer
+    #[inline(always)]
+    pub(crate) fn release(&mut self) -> Turned
         requires writer { IsWriter self.old }
         requires top { self.old.frames.stack.frames ≢ [] }
         requires phase { self.old.frames.phase ≡ Releasing }
-        ensures makes { MakesSome self.old model.steps result self.new }
+        ensures makes { MakesSome self.old model.steps (told result) self.new }
         ensures nearer { IsNearer self.old self.new }
         ensures payloads { KeepsPayloads self.old.frames.stack self.new.frames.stack }
     {
@@ -46,17 +47,17 @@ impl Writer {
             Some(number) => self.seat.release::<Brand>(number, page),
             None => unreachable!(),
         }
-        Answer::Going
+        Turned::Going
     }
 
     /// A load of the reader's wish: where it is for the tail, and the tail holds a record and isn't the last fill, the
     /// frame closes it; else it closes what was begun meanwhile, or is gone.
     #[inline(always)]
-    pub(crate) fn load_wish(&mut self) -> Answer
+    pub(crate) fn load_wish(&mut self) -> Turned
         requires writer { IsWriter self.old }
         requires top { self.old.frames.stack.frames ≢ [] }
         requires phase { self.old.frames.phase ≡ Wishing }
-        ensures makes { MakesSome self.old model.steps result self.new }
+        ensures makes { MakesSome self.old model.steps (told result) self.new }
         ensures nearer { IsNearer self.old self.new }
         ensures payloads { KeepsPayloads self.old.frames.stack self.new.frames.stack }
     {

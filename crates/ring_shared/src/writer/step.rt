@@ -1,11 +1,14 @@
 //! One step of the frame on top.
 use crate::writer::Writer;
 use nested_writer::WriteFault;
-use ring_frames::{Answer, Phase};
+use ring_frames::{Answer, Phase, Turned};
 
 impl Writer {
+    ghost use Rattle.std.specs.Prelude.{◌≢◌, []};
     ghost use Rattle.trace_model.specs.Steps as model;
+    ghost use Rattle.ring_frames.specs.declared.phase.Phase.TheVariants.{Idle};
     ghost use Rattle.ring_frames.specs.Answers.{KeepsPayloads};
+    ghost use Rattle.ring_frames.specs.Phases.{told};
     ghost use Rattle.ring_shared.specs.Calls.{IsWriter, MakesSome};
     ghost use Rattle.ring_shared.specs.Nearer.{IsNearer};
 
@@ -13,6 +16,7 @@ impl Writer {
     /// stands and has reserved nothing or has left; `Reserved` with its record's number; `Gone` once it has left the
     /// stack. Refused with `NoFrame` where no frame stands; and a frame that needs a page is refused, and leaves, as
     /// `Crowded` where no page is released, as `Worn` behind the last fill.
+    #[inline(always)]
     pub fn step(&mut self) -> Answer
         requires writer { IsWriter self.old }
         ensures makes { MakesSome self.old model.steps result self.new }
@@ -24,6 +28,53 @@ impl Writer {
         }
         match self.frames.phase() {
             Phase::Idle => self.reserve(),
+            Phase::Wishing => self.load_wish().answer(),
+            _ => self.turn_once().answer(),
+        }
+    }
+
+    /// `step`, in a loop that makes many: what is rare there is inlined too.
+    #[inline(always)]
+    pub(crate) fn step_amid(&mut self) -> Answer
+        requires writer { IsWriter self.old }
+        ensures makes { MakesSome self.old model.steps result self.new }
+        ensures nearer { IsNearer self.old self.new }
+        ensures payloads { KeepsPayloads self.old.frames.stack self.new.frames.stack }
+    {
+        if self.frames.depth() == 0 {
+            return Answer::Refused(WriteFault::NoFrame);
+        }
+        match self.frames.phase() {
+            Phase::Idle => self.reserve(),
+            _ => self.turn().answer(),
+        }
+    }
+
+    /// `turn`, called where it is rare.
+    #[inline(never)]
+    fn turn_once(&mut self) -> Turned
+        requires writer { IsWriter self.old }
+        requires top { self.old.frames.stack.frames ≢ [] }
+        requires busy { self.old.frames.phase ≢ Idle }
+        ensures makes { MakesSome self.old model.steps (told result) self.new }
+        ensures nearer { IsNearer self.old self.new }
+        ensures payloads { KeepsPayloads self.old.frames.stack self.new.frames.stack }
+    {
+        self.turn()
+    }
+
+    /// One step of the frame on top, which has more to do at the words.
+    #[inline(always)]
+    fn turn(&mut self) -> Turned
+        requires writer { IsWriter self.old }
+        requires top { self.old.frames.stack.frames ≢ [] }
+        requires busy { self.old.frames.phase ≢ Idle }
+        ensures makes { MakesSome self.old model.steps (told result) self.new }
+        ensures nearer { IsNearer self.old self.new }
+        ensures payloads { KeepsPayloads self.old.frames.stack self.new.frames.stack }
+    {
+        match self.frames.phase() {
+            Phase::Idle => unreachable!(),
             Phase::Looking { noted } => self.look(noted),
             Phase::Claiming { noted, page } => self.claim(noted, page),
             Phase::LookingNext { role, noted, page } => self.look_next(role, noted, page),

@@ -3,7 +3,7 @@ use crate::writer::Writer;
 use crate::writer::finish::met_first;
 use nested_writer::frame::Slot;
 use nested_writer::{Ended, WriteFault, Wrote};
-use ring_frames::Answer;
+use ring_frames::{Answer, Turned};
 use std::marker::Brand;
 
 impl Writer {
@@ -29,10 +29,16 @@ impl Writer {
             return self.write_by_steps(moment, payload);
         };
         let wish = self.seat.load_wish::<Brand, _>(&(moment, payload));
-        if goes_on(self.frames.load_wish(wish)) {
-            let _gone = met_first(None, self.finish_top());
+        if !self.frames.is_wished(wish) {
+            return Ok(());
         }
-        Ok(())
+        match self.frames.stay(moment, payload.len(), wish) {
+            Turned::Gone => Ok(()),
+            Turned::Going => {
+                let _refusal = self.leave_on();
+                Ok(())
+            }
+        }
     }
 
     /// `write`, by single steps.
@@ -104,13 +110,6 @@ fn put_padded(slot: &mut [u8], payload: &[u8])
     behind.fill(0);
 }
 
-/// Whether the frame that looked for the reader's wish goes on.
-fn goes_on(answer: Answer) -> bool
-    ensures { result ≡ true ↔ answer ≡ Going }
-{
-    matches!(answer, Answer::Going)
-}
-
 /// Whether the frame that was ended stands on, as the only one.
 fn stands_alone(answer: Answer) -> bool
     ensures { result ≡ true ↔ answer ≡ HasEnded Full }
@@ -120,4 +119,4 @@ fn stands_alone(answer: Answer) -> bool
 
 ghost use Rattle.std.specs.Prelude.{◌≡◌, ◌≤◌, ◌-◌, ◌++◌, ◌↔◌, true, length, replicate};
 ghost use Rattle.nested_writer.specs.declared.stack.leave.Ended.TheVariants.{Full};
-ghost use Rattle.ring_frames.specs.declared.answer.Answer.TheVariants.{Going, Ended as HasEnded};
+ghost use Rattle.ring_frames.specs.declared.answer.Answer.TheVariants.{Ended as HasEnded};

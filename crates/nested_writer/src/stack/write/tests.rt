@@ -130,3 +130,26 @@ fn nothing_under_a_frame(rt: HostRuntime) -> Result<(), Fail> {
     assert_eq!(rt; stack.depth(), 1);
     Ok(())
 }
+
+/// A record that is written alone leaves no frame, so that the next one is written too; a frame can stand again then.
+#[test]
+fn records_without_a_frame(rt: HostRuntime) -> Result<(), Fail> {
+    let mut stack = WriterStack::new(rt.alloc(), 2, 32)?;
+    assert_eq!(rt; stack.write_alone(9, b""), Record);
+    assert_eq!(rt; stack.write_alone(9, b"abcd"), Record);
+    assert_eq!(rt; stack.write_alone(9, b"123456789abcdefg"), Nothing);
+    assert_eq!(rt; stack.depth(), 0);
+    let wrote = stack.write_alone(10, b"xy");
+    assert_eq!(rt; wrote, Record);
+    stack.stand_again(10, 2);
+    assert!(rt; stack.is_at_bottom());
+    assert_eq!(rt; stack.write_alone(11, b"z"), Nothing);
+    stack.pop_bottom();
+    let tail = stack.into_tail();
+    assert_eq!(rt; tail.count(), 3);
+    assert_eq!(rt;
+        tail.data(),
+        b"\x01\0\0\0\0\0\0\0\x01\0\0\0abcd\x21\0\0\0xy\0\0".as_slice()
+    );
+    Ok(())
+}

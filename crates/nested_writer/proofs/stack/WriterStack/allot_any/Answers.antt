@@ -32,7 +32,7 @@ returns-in-Record-clause-answered c = λ start history k.
     let s : Stack = c.args.self.now in
     let frames : s.frames ≡ c.in-Some.top ∷ c.self.inside.below.items = ap (λ (x : Stack). x.frames) (sym c.self.view_is) ∙ ap (λ (t : Option Frame). frames_from t c.self.inside.below.items) (sym c.get.ensures ∙ c.in-Some.is) in
     elim c.match-top.branch [
-      | in-Waiting w ↦ fits_answer start history s k c.in-Some.top c.self.inside.below.items frames w.in-Waiting.noted c.reserve.result w.in-Waiting.is (search rules)
+      | in-Waiting w ↦ fits_answer start history s k c.in-Some.top c.self.inside.below.items frames w.in-Waiting.noted c.reserve_any.result w.in-Waiting.is (search rules)
       | in-Through w ↦ absurd (through_closes start history s k c.in-Some.top c.self.inside.below.items frames w.in-Through.noted c.in-Record.moment c.in-Record.len c.in-Record.is w.in-Through.is)
     ]
 
@@ -49,7 +49,7 @@ pub returns-then-wants_page-clause-stays : goal.returns-then-wants_page-clause-s
 returns-then-wants_page-clause-stays c = allotted_stays c.args.self.now c.note_need.new.self c.note_need.result c.note_need.ensures.after c.requires.stack
 
 pub returns-in-Record-clause-stays : goal.returns-in-Record-clause-stays
-returns-in-Record-clause-stays c = let (start, history, k) = c.requires.stack in (start, history ++ reserve ∷ [], c.reserve.ensures.stack start history k)
+returns-in-Record-clause-stays c = let (start, history, k) = c.requires.stack in (start, history ++ reserve ∷ [], c.reserve_any.ensures.stack start history k)
 
 pub returns-in-Close-clause-stays : goal.returns-in-Close-clause-stays
 returns-in-Close-clause-stays c = allotted_stays c.args.self.now c.go_on.new.self _ (returns-in-Close-clause-after c) c.requires.stack

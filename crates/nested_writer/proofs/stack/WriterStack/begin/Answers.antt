@@ -1,14 +1,24 @@
-use Rattle.std.proofs.Common.{◌∷◌, []}
+use Rattle.std.proofs.Common.{◌≡◌, ◌∷◌, [], ◌++◌, List, Option, None, refl, sym, ap, subst}
 use Rattle.trace_model.specs.History.{push}
-use Rattle.nested_writer.proofs.AtOnce.{fits_page}
-use Rattle.nested_writer.proofs.Pushing.{pushed_record}
+use Rattle.nested_writer.specs.declared.frame.Purpose.TheVariants.{Record}
+use Rattle.nested_writer.specs.declared.frame.Progress.TheVariants.{Waiting}
+use Rattle.nested_writer.specs.declared.frame.Frame.{Frame}
+use Rattle.nested_writer.specs.Stack.{Stack}
+use Rattle.nested_writer.specs.Inside.{shown, frames_from}
+use Rattle.nested_writer.specs.IsStack.{IsStack}
+use Rattle.nested_writer.proofs.Pushing.{surely_fits, pushed_record}
 use Rattle.nested_writer.proofs.Staying.{acted_stays}
 use Rattle.nested_writer.proofs.stack.WriterStack.begin.Goals as goal
 
-pub returns-clause-pushed : goal.returns-clause-pushed
-returns-clause-pushed c = λ start history k.
-    let (room, fits, early) = c.in_ok-admit.ensures.ok in
-    rw c.push.ensures (pushed_record start history c.args.self.now c.args.moment c.args.len (fits_page c.args.self.now.size c.args.len fits) early k)
+pub returns-then-moment-lt-MOMENT_LIMIT-clause-pushed : goal.returns-then-moment-lt-MOMENT_LIMIT-clause-pushed
+returns-then-moment-lt-MOMENT_LIMIT-clause-pushed c = λ start history old.
+    let s : Stack = shown c.self.inside in
+    let k : IsStack start history s = subst (IsStack start history) (sym c.self.view_is) old in
+    let none : c.self.inside.top ≡ None = c.if-is_none.ensures.0 refl in
+    let waits : Frame = record { purpose = Record c.args.moment c.args.len; progress = Waiting None } in
+    let fits = surely_fits s.size c.args.len c.self.invariant.small c.if-len-self.true in
+    rw c.wait.ensures (subst (λ (fs : List Frame). IsStack start (history ++ push c.args.moment c.args.len ∷ []) (record s { frames = waits ∷ fs })) (ap (λ (t : Option Frame). frames_from t c.self.inside.below.items) none)
+    (pushed_record start history s c.args.moment c.args.len fits c.if-moment-lt-MOMENT_LIMIT.true k))
 
-pub returns-clause-stays : goal.returns-clause-stays
-returns-clause-stays c = acted_stays c.args.self.now _ (push c.args.moment c.args.len ∷ []) (returns-clause-pushed c)
+pub returns-then-moment-lt-MOMENT_LIMIT-clause-stays : goal.returns-then-moment-lt-MOMENT_LIMIT-clause-stays
+returns-then-moment-lt-MOMENT_LIMIT-clause-stays c = acted_stays c.args.self.now _ (push c.args.moment c.args.len ∷ []) (returns-then-moment-lt-MOMENT_LIMIT-clause-pushed c)

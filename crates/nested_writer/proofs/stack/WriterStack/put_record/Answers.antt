@@ -1,19 +1,16 @@
-use Rattle.std.proofs.Common.{◌≡◌, ℕ, ◌+◌, ◌-◌, ◌≤◌, max, Bool, true, List, [], ◌∷◌, ◌++◌, length, Some, None, sym, ap, ◌∙◌, subst, arith, length-append}
+use Rattle.std.proofs.Common.{◌≡◌, ℕ, ◌+◌, ◌-◌, ◌≤◌, max, Bool, true, List, [], ◌∷◌, ◌++◌, length, Some, sym, ap, ◌∙◌, subst, arith, length-append}
 use Rattle.trace_model.specs.History.{Action, push, reserve, leave, reserved_records}
 use Rattle.trace_model.specs.Packing.{opens_of, is_wished}
 use Rattle.trace_model.specs.Words.{padded, encoding, encoded_len}
 use Rattle.trace_model.proofs.Lengths.{length-padded, length-encoding}
 use Rattle.record_words.specs.declared.put.Place.{Place}
 use Rattle.page_image.specs.Contents.{Contents, is_blank}
-use Rattle.nested_writer.specs.declared.frame.Purpose.TheVariants.{Record}
-use Rattle.nested_writer.specs.declared.frame.Progress.TheVariants.{Left}
-use Rattle.nested_writer.specs.declared.frame.Frame.{Frame}
 use Rattle.nested_writer.specs.Stack.{Stack}
 use Rattle.nested_writer.specs.AtOnce.{FitsAtOnce}
 use Rattle.nested_writer.specs.Inside.{shown}
 use Rattle.nested_writer.specs.IsStack.{IsStack}
 use Rattle.nested_writer.proofs.Bounds.{tail_ends_at}
-use Rattle.nested_writer.proofs.AtOnce.{IsPutWith, written_at_once, none_below, fits_page}
+use Rattle.nested_writer.proofs.AtOnce.{IsPutWith, written_at_once, fits_page}
 use Rattle.nested_writer.proofs.stack.WriterStack.put_record.Goals as goal
 
 pub put_payload-requires-clause-last : goal.put_payload-requires-clause-last
@@ -56,10 +53,8 @@ returns-clause-stack c = λ start history old.
     let none : s.frames ≡ [] = fits.0 in
     let short : encoded_len (length payload) 0 true ≤ s.size = fits_page s.size (length payload) fits.1 in
     let done = written_at_once start history s c.args.moment payload tail' place none short fits.2 (omega (arith, long, room)) (subst (λ (m : ℕ). IsPutWith s.tail tail' s.last_moment m (length payload) (padded payload) place) raised is) k in
-    let left : Frame = record { purpose = Record c.args.moment (length payload); progress = Left None } in
     let actions : List Action = push c.args.moment (length payload) ∷ reserve ∷ leave (Some payload) ∷ [] in
-    rw c.leave.ensures (subst (λ (fs : List Frame). IsStack start (history ++ actions) (record s { tail = tail'; frames = left ∷ fs; last_moment = c.args.raised })) (sym (none_below c.self.inside.top c.self.inside.below.items none))
-    (subst (λ (m : ℕ). IsStack start (history ++ actions) (record s { tail = tail'; frames = left ∷ []; last_moment = m })) (sym raised) done))
+    subst (λ (m : ℕ). IsStack start (history ++ actions) (record s { tail = tail'; last_moment = m })) (sym raised) done
 
 pub returns-clause-stays : goal.returns-clause-stays
 returns-clause-stays c = let (start, history, k) = c.requires.stack in (start, _, returns-clause-stack c start history k)

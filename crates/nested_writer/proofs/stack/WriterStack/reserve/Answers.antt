@@ -1,4 +1,4 @@
-use Rattle.std.proofs.Common.{◌≡◌, ℕ, ◌+◌, ◌-◌, ◌≤◌, max, Bool, ◌∷◌, List, length, replicate, refl, sym, ap, ◌∙◌, subst, arith, length-append}
+use Rattle.std.proofs.Common.{◌≡◌, ℕ, ◌+◌, ◌-◌, ◌≤◌, max, Bool, ◌∷◌, List, None, length, replicate, refl, sym, ap, ◌∙◌, subst, arith, length-append}
 use Rattle.std.proofs.lemmas.List.{length-replicate}
 use Rattle.trace_model.specs.History.{reserved_records}
 use Rattle.trace_model.specs.Packing.{opens_of, is_wished}
@@ -35,11 +35,10 @@ pub returns-clause-stack : goal.returns-clause-stack
 returns-clause-stack c = λ start history old.
     let s : Stack = shown c.self.inside in
     let k : IsStack start history s = subst (IsStack start history) (sym c.self.view_is) old in
-    let (top, below, noted, on_top, purpose, waits) = c.requires.top in
-    let on_top' : frames_from c.self.inside.top c.self.inside.below.items ≡ top ∷ below = ap (λ (x : Stack). x.frames) c.self.view_is ∙ on_top in
-    let waiting : Frame = record { purpose = Record c.args.moment c.args.len; progress = Waiting noted } in
-    let same : top ≡ waiting = λ i. record { purpose = purpose i; progress = waits i } in
-    let found = top_is c.self.inside.top c.self.inside.below.items top below c.self.invariant.top_first on_top' in
+    let (below, on_top) = c.requires.top in
+    let waiting : Frame = record { purpose = Record c.args.moment c.args.len; progress = Waiting None } in
+    let on_top' : frames_from c.self.inside.top c.self.inside.below.items ≡ waiting ∷ below = ap (λ (x : Stack). x.frames) c.self.view_is ∙ on_top in
+    let found = top_is c.self.inside.top c.self.inside.below.items waiting below c.self.invariant.top_first on_top' in
     let put = c.put-place.ensures in
     let fill_is : c.fill-fill.result.0 ≡ tail_fill s = c.fill-fill.ensures ∙ k.holds.tail_is.fill_is in
     let delta : ℕ = c.args.raised - s.last_moment in
@@ -50,8 +49,8 @@ returns-clause-stack c = λ start history old.
     let raised : c.args.raised ≡ max c.args.moment s.last_moment = c.requires.raised ∙ ap (λ (x : Stack). max c.args.moment x.last_moment) (sym c.self.view_is) in
     let room = subst (λ (x : Stack). HasRecordRoom x c.args.moment c.args.len) (sym c.self.view_is) c.requires.room in
     let room' : length s.tail.bytes + encoded_len c.args.len delta blank ≤ s.size = subst (λ (m : ℕ). length s.tail.bytes + encoded_len c.args.len (m - s.last_moment) blank ≤ s.size) (sym raised) room in
-    rw c.reserve.ensures (reserved_with start history s waiting c.self.inside.below.items c.args.moment c.args.len noted c.put-place.new.self c.put-place.result c.args.raised (c.first.result.0 + c.count.result) c.fill-fill.result.0
-    raised (omega (arith, c.first.ensures, c.count.ensures.count)) fill_is (on_top' ∙ (λ i. same i ∷ sym found.1 i)) refl refl (omega (arith, long, room')) record {
+    rw (c.hold.ensures waiting found.0) (reserved_with start history s waiting c.self.inside.below.items c.args.moment c.args.len None c.put-place.new.self c.put-place.result c.args.raised (c.first.result.0 + c.count.result) c.fill-fill.result.0
+    raised (omega (arith, c.first.ensures, c.count.ensures.count)) fill_is (on_top' ∙ ap (λ (fs : List Frame). waiting ∷ fs) (sym found.1)) refl refl (omega (arith, long, room')) record {
       page = put.page;
       records = put.records;
       long = long;

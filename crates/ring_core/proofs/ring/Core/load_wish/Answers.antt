@@ -1,5 +1,6 @@
 use Rattle.std.proofs.Common.{sym, subst}
 use Rattle.trace_model.specs.Steps.{steps}
+use Rattle.ring_frames.specs.Phases.{told}
 use Rattle.ring_core.specs.Value.{CoreValue}
 use Rattle.ring_core.specs.Inside.{shown}
 use Rattle.ring_core.specs.Steps.{IsRing, Makes}
@@ -12,5 +13,6 @@ load_wish-requires-clause-frames c =
     (n, size, start, m, record { reached = core.reached; are = core.shows.frames })
 
 pub returns : goal.returns
-returns c = subst (λ (x : CoreValue). Makes x steps c.load_wish.result (shown record c.self.inside { frames = c.load_wish.new.self })) c.self.view_is
-    (looked_for_wish (shown c.self.inside) c.load_wish.result c.load_wish.new.self c.load_wish.ensures.looks)
+returns c = rw c.answer.ensures
+    (subst (λ (x : CoreValue). Makes x steps (told c.load_wish.result) (shown record c.self.inside { frames = c.load_wish.new.self })) c.self.view_is
+    (looked_for_wish (shown c.self.inside) (told c.load_wish.result) c.load_wish.new.self c.load_wish.ensures.looks))

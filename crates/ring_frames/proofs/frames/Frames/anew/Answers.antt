@@ -1,4 +1,4 @@
-use Rattle.std.proofs.Common.{◌≡◌, ◌⊎◌, ℕ, Option, sym, ap, ◌∙◌, inl, inr}
+use Rattle.std.proofs.Common.{◌≡◌, ◌⊎◌, ℕ, Option, refl, sym, ap, ◌∙◌, inl, inr}
 use Rattle.nested_writer.specs.declared.frame.Purpose.{Purpose}
 use Rattle.nested_writer.specs.declared.frame.Purpose.TheVariants.{Record, Close}
 use Rattle.nested_writer.specs.declared.frame.Slot.{Slot}
@@ -6,7 +6,7 @@ use Rattle.nested_writer.specs.declared.frame.Progress.{Progress}
 use Rattle.nested_writer.specs.declared.frame.Progress.TheVariants.{Waiting, Through, Reserved, Left}
 use Rattle.nested_writer.specs.Calls.{top_of}
 use Rattle.ring_frames.specs.Value.{FramesValue}
-use Rattle.ring_frames.specs.Phases.{told}
+use Rattle.ring_frames.specs.Phases.{closing_phase, told}
 use Rattle.ring_frames.proofs.Anew.{top_from, closes_anew, leaver_anew, tries_anew}
 use Rattle.ring_frames.proofs.frames.Frames.anew.Goals as goal
 
@@ -63,8 +63,8 @@ pub returns-in-Left-clause-anew : goal.returns-in-Left-clause-anew
 returns-in-Left-clause-anew c =
     let v : FramesValue = c.args.self.now in
     let (below, is) = top_from v.stack.frames c.in-Some.top (c.in-Some.ensures ∙ ap (λ (x : FramesValue). top_of x.stack.frames) c.self.view_is) in
-    rw (c.go_on-in-Left.ensures.answer, c.go_on-in-Left.ensures.phase)
-    (leaver_anew v c.in-Some.top below _ c.closing_phase-phase.result is c.in-Left.is c.closing_phase-phase.ensures)
+    rw c.start_closing.ensures
+    (leaver_anew v c.in-Some.top below _ (closing_phase v.stack) is c.in-Left.is refl)
 
 pub returns-in-Through-clause-anew : goal.returns-in-Through-clause-anew
 returns-in-Through-clause-anew c =

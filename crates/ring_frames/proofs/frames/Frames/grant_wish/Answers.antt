@@ -35,5 +35,6 @@ returns-clause-granted c = λ _ n size start m reached now asks.
     let yes = c.if-not-ask_close.false in let begun = c.opened-opened.ensures.begun in
     let wide = c.pages.ensures.pages in
     let room = c.if-opened-pages-ge-LINK_FILLS.false in
-    subst (λ (o : ℕ). IsLookForWish n size start m Going (record v { stack = c.ask_close.new.self; phase = Looking o })) (sym begun)
-    (granted n size start v m core some is c.ask_close.new.self (asks ∙ c.if-wish-opened.false ∙ begun) (omega arith) ((c.ask_close.ensures.holds_record start m.history core.are.stack_is).0 yes) (c.ask_close.ensures.yes yes) (c.ask_close.ensures.wished yes))
+    rw c.put.ensures
+    (subst (λ (o : ℕ). IsLookForWish n size start m Going (record v { stack = c.ask_close.new.self; phase = Looking o })) (sym begun)
+    (granted n size start v m core some is c.ask_close.new.self (asks ∙ c.if-wish-opened.false ∙ begun) (omega arith) ((c.ask_close.ensures.holds_record start m.history core.are.stack_is).0 yes) (c.ask_close.ensures.yes yes) (c.ask_close.ensures.wished yes)))

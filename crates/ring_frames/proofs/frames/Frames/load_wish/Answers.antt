@@ -13,9 +13,10 @@ returns-then-done-opened-clause-looks c = λ n size start m reached now asks.
     let v : FramesValue = shown c.self.inside in
     let (none, stays) = c.grant_wish.ensures.refused c.if-grant_wish.false in
     let same : c.args.self.now ≡ v = sym (c.self.view_is ∙ stays) in
-    closes_more n size start v m record { reached = reached; are = subst (λ (x : FramesValue). AreFrames n size start x m) same now } (subst (λ (x : FramesValue). x.stack.frames ≢ []) same c.requires.top)
+    rw c.close.ensures
+    (closes_more n size start v m record { reached = reached; are = subst (λ (x : FramesValue). AreFrames n size start x m) same now } (subst (λ (x : FramesValue). x.stack.frames ≢ []) same c.requires.top)
     (subst (λ (x : FramesValue). x.phase ≡ Wishing) same c.requires.phase) (none n size start m now asks)
-    (let begun = c.opened-opened.ensures.begun in let done = c.done.ensures in let more = c.if-done-opened.true in omega arith)
+    (let begun = c.opened-opened.ensures.begun in let done = c.done.ensures in let more = c.if-done-opened.true in omega arith))
 
 pub pop_bottom-requires-clause-bottom : goal.pop_bottom-requires-clause-bottom
 pop_bottom-requires-clause-bottom c =
@@ -31,7 +32,7 @@ returns-clause-looks c = λ n size start m reached now asks.
     let (none, stays) = c.grant_wish.ensures.refused c.if-grant_wish.false in
     let same : c.args.self.now ≡ v = sym (c.self.view_is ∙ stays) in
     goes_away n size start v m record { reached = reached; are = subst (λ (x : FramesValue). AreFrames n size start x m) same now } (subst (λ (x : FramesValue). x.stack.frames ≢ []) same c.requires.top)
-    (subst (λ (x : FramesValue). x.phase ≡ Wishing) same c.requires.phase) c.pop_bottom.new.self (none n size start m now asks)
+    (subst (λ (x : FramesValue). x.phase ≡ Wishing) same c.requires.phase) c.pop_bottom.new.self v.phase (none n size start m now asks)
     (let begun = c.opened-opened.ensures.begun in let done = c.done.ensures in let last = c.if-done-opened.false in omega arith)
     c.pop_bottom.ensures.popped c.pop_bottom.ensures.stack
 

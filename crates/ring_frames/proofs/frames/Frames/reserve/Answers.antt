@@ -47,7 +47,7 @@ returns-in-Reserved-clause-step c = λ n size start s reached now.
     let v : FramesValue = shown c.self.inside in
     let core : HasFrames n size start v s = record { reached = reached; are = subst (λ (x : FramesValue). AreFrames n size start x s) (sym c.self.view_is) now } in
     let (top, rest, is) = some_top v.stack.frames (λ none. c.requires.top (ap (λ (x : FramesValue). x.stack.frames) (sym c.self.view_is) ∙ none)) in
-    fits_slot n size start v s core (ap (λ (x : FramesValue). x.phase) c.self.view_is ∙ c.requires.phase) top rest is c.in-Ok-Fits.field-0-0 c.allot.new.self c.in-Some.top c.in-Reserved.slot
+    fits_slot n size start v s core (ap (λ (x : FramesValue). x.phase) c.self.view_is ∙ c.requires.phase) top rest is c.in-Ok-Fits.field-0-0 c.in-Ok-Fits.field-0-0 c.allot.new.self c.in-Some.top c.in-Reserved.slot
     (subst (λ (a : Allot). IsAnswered v.stack s.history v.stack.frames (Ok a)) c.in-Ok-Fits.field-0-is (c.in-Ok-Fits.ensures.answered start s.history core.are.stack_is))
     (subst (λ (a : Allot). IsAllotted v.stack v.stack.frames (Ok a) c.allot.new.self) c.in-Ok-Fits.field-0-is c.in-Ok-Fits.ensures.after)
     c.in-Some.ensures c.in-Reserved.is
@@ -84,10 +84,11 @@ returns-in-Ok-NeedsPage-clause-step c = λ n size start s reached now.
     let v : FramesValue = shown c.self.inside in
     let core : HasFrames n size start v s = record { reached = reached; are = subst (λ (x : FramesValue). AreFrames n size start x s) (sym c.self.view_is) now } in
     let (top, rest, is) = some_top v.stack.frames (λ none. c.requires.top (ap (λ (x : FramesValue). x.stack.frames) (sym c.self.view_is) ∙ none)) in
-    page_noted n size start v s core (ap (λ (x : FramesValue). x.phase) c.self.view_is ∙ c.requires.phase) top rest is c.allot.new.self c.opened.result
+    rw c.put.ensures
+    (page_noted n size start v s core (ap (λ (x : FramesValue). x.phase) c.self.view_is ∙ c.requires.phase) top rest is c.allot.new.self c.opened-noted.result
     (subst (λ (a : Allot). IsAnswered v.stack s.history v.stack.frames (Ok a)) c.in-Ok-NeedsPage.field-0-is (c.in-Ok-NeedsPage.ensures.answered start s.history core.are.stack_is))
     (subst (λ (a : Allot). IsAllotted v.stack v.stack.frames (Ok a) c.allot.new.self) c.in-Ok-NeedsPage.field-0-is c.in-Ok-NeedsPage.ensures.after)
-    c.opened.ensures.begun
+    c.opened-noted.ensures.begun)
 
 pub returns-in-Err-clause-step : goal.returns-in-Err-clause-step
 returns-in-Err-clause-step c = λ n size start s reached now.

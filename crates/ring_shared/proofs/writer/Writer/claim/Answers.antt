@@ -84,7 +84,7 @@ returns-clause-makes c =
     let there = ap (link_into v.shape.pages s.core.links) now in
     let goes : (p : Phase) → noted_fill (phase_of p) ≡ Some c.args.noted → c.if-claim_head.phase ≡ p → Moves v (claiming c.args.noted c.args.page) (phase_of p) s.core s.next → MakesSome v model.steps Going new =
     λ p noted_is is moves. goes_on v new w some (claiming c.args.noted c.args.page) c.args.noted c.if-claim_head.phase p _ at refl noted_is is c.claim_head.ensures.shape c.claim_head.ensures.table refl c.go_on.ensures.goes_on s moves in
-    as_called v c.args.self.now new c.answer.result c.self.view_is (c.answer.ensures ∙ ap told c.go_on.ensures.answer)
+    as_called v c.args.self.now new (told c.go_on.result) c.self.view_is (ap told c.go_on.ensures.answer)
     (elim c.if-claim_head.branch [
       | then-claim_head b ↦ goes (LookingNext Owner c.args.noted c.args.page) refl b.phase-is
           (λ frame below step. claimed v.shape.pages s.core frame below model.going s.next c.args.noted c.args.page lost here sum (there ∙ s.seen.0 b.if-claim_head.true) step)

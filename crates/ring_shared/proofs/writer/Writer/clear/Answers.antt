@@ -71,7 +71,7 @@ returns-clause-makes c =
     let at : phase_of v.frames.phase ≡ clearing c.args.noted c.args.page = phase_seen c.self.view_is c.requires.phase in
     let new : WriterValue = the_view record { seat = c.clear.new.self; frames = c.go_on.new.self; pages = c.self.inside.pages } in
     let s = c.clear.ensures.step in
-    as_called v c.args.self.now new c.answer.result c.self.view_is (c.answer.ensures ∙ ap told c.go_on.ensures.answer)
+    as_called v c.args.self.now new (told c.go_on.result) c.self.view_is (ap told c.go_on.ensures.answer)
     (goes_on v new w some (clearing c.args.noted c.args.page) c.args.noted (Opening c.args.noted c.args.page) (Opening c.args.noted c.args.page) _ at refl refl refl c.clear.ensures.shape c.clear.ensures.table refl c.go_on.ensures.goes_on s
     (λ frame below step. cleared v.shape.pages s.core frame below model.going s.next c.args.noted c.args.page step))
 

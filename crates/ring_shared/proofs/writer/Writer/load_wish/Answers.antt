@@ -9,6 +9,7 @@ use Rattle.ring_shared.proofs.Called.{writer_seen, top_seen, phase_seen}
 use Rattle.ring_shared.proofs.PageMoves.{looks_for_wish}
 use Rattle.std.specs.Prelude.{◌≤◌}
 use Rattle.ring_frames.specs.Value.{phase_of}
+use Rattle.ring_frames.specs.Phases.{told}
 use Rattle.ring_steps.specs.Ends.{passed_in}
 use Rattle.ring_shared.proofs.Nearing.{nearer_quietly}
 use Rattle.ring_shared.proofs.writer.Writer.load_wish.Goals as goal
@@ -28,8 +29,8 @@ returns-clause-makes c =
     let w : IsWriter v = writer_seen c.self.view_is c.requires.writer in
     let new : WriterValue = the_view record { seat = c.load_wish-wish.new.self; frames = c.load_wish.new.self; pages = c.self.inside.pages } in
     let (answer, step) = c.load_wish-wish.ensures.step in
-    subst (λ (x : WriterValue). MakesSome x model.steps c.load_wish.result new) c.self.view_is
-    (looks_for_wish v new w (top_seen c.self.view_is c.requires.top) c.load_wish-wish.ensures.shape c.load_wish-wish.ensures.table _ c.load_wish-wish.result c.load_wish.result answer
+    subst (λ (x : WriterValue). MakesSome x model.steps (told c.load_wish.result) new) c.self.view_is
+    (looks_for_wish v new w (top_seen c.self.view_is c.requires.top) c.load_wish-wish.ensures.shape c.load_wish-wish.ensures.table _ c.load_wish-wish.result (told c.load_wish.result) answer
     c.load_wish.ensures.looks refl step (λ is. is))
 
 pub returns-clause-nearer : goal.returns-clause-nearer

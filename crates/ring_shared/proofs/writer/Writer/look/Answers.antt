@@ -21,7 +21,6 @@ use Rattle.ring_shared.proofs.Called.{writer_seen, top_seen, phase_seen}
 use Rattle.ring_shared.proofs.Bounds.{opened_now}
 use Rattle.ring_shared.proofs.GoingOn.{Moves, goes_on, as_called}
 use Rattle.ring_shared.proofs.LinkMoves.{found_at, looked}
-use Rattle.ring_steps.specs.Ends.{passed_in}
 use Rattle.ring_shared.specs.Nearer.{IsNearer}
 use Rattle.ring_shared.proofs.Nearing.{nearer_looking}
 use Rattle.ring_shared.proofs.writer.Writer.look.Goals.{in-Normal, in-Header, in-Update}
@@ -57,7 +56,7 @@ returns-clause-makes c =
     (looked v.shape.pages s.core frame below model.going s.next c.args.noted (link_of l) here link step) in
     let goes : (p : Phase) → noted_fill (phase_of p) ≡ Some c.args.noted → c.match-link.phase ≡ p → Moves v (looking c.args.noted) (phase_of p) s.core s.next → MakesSome v model.steps Going new =
     λ p noted_is is moves. goes_on v new w some (looking c.args.noted) c.args.noted c.match-link.phase p _ at refl noted_is is c.load_link-link.ensures.shape c.load_link-link.ensures.table refl c.go_on.ensures.goes_on s moves in
-    as_called v c.args.self.now new c.answer.result c.self.view_is (c.answer.ensures ∙ ap told c.go_on.ensures.answer)
+    as_called v c.args.self.now new (told c.go_on.result) c.self.view_is (ap told c.go_on.ensures.answer)
     (elim c.match-link.branch [
       | in-Normal b ↦ goes (Opening c.args.noted l.page) refl b.phase-is (found Normal b.in-Normal.is)
       | in-Header b ↦ goes (Claiming c.args.noted l.page) refl b.phase-is (found Header b.in-Header.is)

@@ -5,7 +5,6 @@ use Rattle.trace_model.specs.Steps as model
 use Rattle.trace_model.specs.Steps.{GoesOn}
 use Rattle.link_marks.specs.declared.link.Mark.{Mark}
 use Rattle.link_marks.specs.ModelLinks.{mark_of, link_of}
-use Rattle.nested_writer.specs.Stack.{opened}
 use Rattle.ring_steps.specs.Views.{Writing, writing_of}
 use Rattle.ring_frames.specs.declared.phase.Phase.TheVariants.{Marking}
 use Rattle.ring_frames.specs.declared.phase.Phase.{Phase}
@@ -77,7 +76,7 @@ returns-clause-makes c =
     let marked : Mark → Link = λ (m : Mark). record { mark = mark_of m; page = l.page; fill = l.fill } in
     let goes : (p : Phase) → noted_fill (phase_of p) ≡ Some c.args.noted → c.match-link.phase ≡ p → Moves v from (phase_of p) s.core s.next → MakesSome v model.steps Going new =
     λ p noted_is is moves. goes_on v new w some from c.args.noted c.match-link.phase p _ at refl noted_is is c.load_next-link.ensures.shape c.load_next-link.ensures.table refl c.go_on.ensures.goes_on s moves in
-    as_called v c.args.self.now new c.answer.result c.self.view_is (c.answer.ensures ∙ ap told c.go_on.ensures.answer)
+    as_called v c.args.self.now new (told c.go_on.result) c.self.view_is (ap told c.go_on.ensures.answer)
     (elim c.match-link.branch [
       | in-Normal b ↦ goes (Marking c.args.role c.args.noted c.args.page l.page) refl b.phase-is
           (λ frame below step. waits v.shape.pages s.core frame below model.going s.next (role_of c.args.role) c.args.noted c.args.page behind (link_of l) on sum s.seen

@@ -2,7 +2,6 @@ use Rattle.std.proofs.Common.{◌≡◌, ◌≤◌, refl, sym, ap, ◌∙◌, su
 use Rattle.trace_model.specs.Frames.{Phase as ModelPhase, marking, noted_fill}
 use Rattle.trace_model.specs.Steps as model
 use Rattle.trace_model.specs.Steps.{GoesOn}
-use Rattle.nested_writer.specs.Stack.{opened}
 use Rattle.ring_steps.specs.Views.{Writing, writing_of}
 use Rattle.ring_frames.specs.declared.phase.Phase.{Phase}
 use Rattle.ring_frames.specs.Phases.{told}
@@ -73,7 +72,7 @@ returns-clause-makes c =
     let on : GoesOn (role_of c.args.role) c.args.noted s.core.opened = subst (GoesOn (role_of c.args.role) c.args.noted)
     (opened_now v w ∙ ap (λ (p : Writing). p.opened) (sym s.before_is)) (c.stops.ensures.goes_on c.if-stops.false) in
     let next : Phase = c.after_next.result in
-    as_called v c.args.self.now new c.answer.result c.self.view_is (c.answer.ensures ∙ ap told c.go_on.ensures.answer)
+    as_called v c.args.self.now new (told c.go_on.result) c.self.view_is (ap told c.go_on.ensures.answer)
     (goes_on v new w some from c.args.noted next next _ at refl (ap noted_fill c.after_next.ensures ∙ noted_after (role_of c.args.role) c.args.noted c.args.page) refl
     c.mark_next-marked.ensures.shape c.mark_next-marked.ensures.table refl c.go_on.ensures.goes_on s
     (λ frame below step. subst (λ (p : ModelPhase). writing_of s.next ≡ writing_of (model.in_phase s.core frame below p)) (sym c.after_next.ensures)

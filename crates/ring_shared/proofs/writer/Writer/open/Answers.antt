@@ -1,9 +1,8 @@
-use Rattle.std.proofs.Common.{◌≡◌, sym, ap, ◌∙◌, subst, refl, arith}
+use Rattle.std.proofs.Common.{◌≡◌, ap, ◌∙◌, subst, refl, arith}
 use Rattle.trace_model.specs.Frames.{opening}
 use Rattle.trace_model.specs.Steps as model
 use Rattle.ring_frames.specs.declared.phase.Phase.TheVariants.{Opening}
-use Rattle.ring_frames.specs.declared.answer.Answer.{Answer}
-use Rattle.ring_frames.specs.Fills.{OpensFill}
+use Rattle.ring_frames.specs.Phases.{told}
 use Rattle.ring_shared.specs.Value.{WriterValue}
 use Rattle.ring_shared.specs.Calls.{IsWriter, MakesSome}
 use Rattle.ring_shared.specs.contracts.writer.Writer.{the_view}
@@ -50,10 +49,10 @@ returns-clause-makes c =
     let v : WriterValue = the_view c.self.inside in
     let w : IsWriter v = writer_seen c.self.view_is c.requires.writer in
     let new : WriterValue = the_view record { seat = c.open-body.new.self; frames = c.open.new.self; pages = c.push_back_reserved.new.self } in
-    subst (λ (x : WriterValue). MakesSome x model.steps c.answer.result new) c.self.view_is
-    (opens_fill v new w (top_seen c.self.view_is c.requires.top) c.open-body.ensures.shape c.open-body.ensures.table _ c.args.noted c.args.page c.answer.result
+    subst (λ (x : WriterValue). MakesSome x model.steps (told c.open.result) new) c.self.view_is
+    (opens_fill v new w (top_seen c.self.view_is c.requires.top) c.open-body.ensures.shape c.open-body.ensures.table _ c.args.noted c.args.page (told c.open.result)
     (phase_seen c.self.view_is c.requires.phase) (c.if-noted-opened.false ∙ c.opened.ensures.begun ∙ opened_now v w)
-    (subst (λ (r : Answer). OpensFill v.frames r new.frames) (sym c.answer.ensures) c.open.ensures.opens) c.push_back_reserved.ensures.items c.open-body.ensures.step)
+    c.open.ensures.opens c.push_back_reserved.ensures.items c.open-body.ensures.step)
 
 pub returns-clause-nearer : goal.returns-clause-nearer
 returns-clause-nearer c =

@@ -1,8 +1,6 @@
-use Rattle.std.proofs.Common.{◌≡◌, ◌≢◌, ◌∷◌, length, refl, sym, subst, ◌∙◌}
+use Rattle.std.proofs.Common.{refl, sym, subst}
 use Rattle.ring_frames.specs.declared.answer.Answer.{Answer}
-use Rattle.ring_frames.specs.declared.answer.Answer.TheVariants.{Going}
 use Rattle.ring_steps.specs.declared.rule.Shape.{Shape}
-use Rattle.ring_steps.specs.Views.{Writing}
 use Rattle.ring_shared.specs.Value.{WriterValue}
 use Rattle.ring_shared.specs.Finishing.{Reserves}
 use Rattle.ring_shared.proofs.Depths.{reserving_top}
@@ -20,40 +18,40 @@ loop-last-init c =
       amid = λ other others is. reserving_first v.shape other others v.part is (reserving_top v.part.frames frame other below others top reserves is);
     }
 
-pub step-requires : goal.step-requires
-step-requires c = record { writer = c.loop-last.invariant.writer }
+pub step_amid-requires : goal.step_amid-requires
+step_amid-requires c = record { writer = c.loop-last.invariant.writer }
 
 pub returns-in-Some-clause-reserves : goal.returns-in-Some-clause-reserves
 returns-in-Some-clause-reserves c = λ frame below top.
     let h = c.loop-last.invariant in
-    let old : WriterValue = c.loop-last.self in let new : WriterValue = c.step.new.self in let shape : Shape = c.args.self.now.shape in
+    let old : WriterValue = c.loop-last.self in let new : WriterValue = c.step_amid.new.self in let shape : Shape = c.args.self.now.shape in
     let (same, other) = c.unless_going.ensures.other c.in-Some.last c.in-Some.is in
     subst (λ (x : Answer). Reserves shape frame.kind below c.args.self.now.part x new.part) (sym same)
-    (reserving_ends shape frame.kind below c.args.self.now.part old.part new.part c.step.result (h.amid frame below top)
-    (call_in shape old new c.step.result h.ring.0 c.step.ensures.makes) other)
+    (reserving_ends shape frame.kind below c.args.self.now.part old.part new.part c.step_amid.result (h.amid frame below top)
+    (call_in shape old new c.step_amid.result h.ring.0 c.step_amid.ensures.makes) other)
 
 pub returns-in-Some-clause-ring : goal.returns-in-Some-clause-ring
-returns-in-Some-clause-ring c = same_writer c.args.self.now c.loop-last.self c.step.new.self c.step.result c.loop-last.invariant.ring c.step.ensures.makes
+returns-in-Some-clause-ring c = same_writer c.args.self.now c.loop-last.self c.step_amid.new.self c.step_amid.result c.loop-last.invariant.ring c.step_amid.ensures.makes
 
 pub loop-last-smaller : goal.loop-last-smaller
 loop-last-smaller c =
     let h = c.loop-last.invariant in
-    let old : WriterValue = c.loop-last.self in let new : WriterValue = c.step.new.self in let shape : Shape = c.args.self.now.shape in
+    let old : WriterValue = c.loop-last.self in let new : WriterValue = c.step_amid.new.self in let shape : Shape = c.args.self.now.shape in
     let (frame, below, top) = h.some in
     let a : IsAmidReserving shape frame.kind below c.args.self.now.part old.part = h.amid frame below top in
-    c.step.ensures.nearer a.frame below a.top (reserving_unnumbered a.frame.kind a.frame.state a.reserves)
-    (reserving_stands shape frame.kind below c.args.self.now.part old.part new.part c.step.result a
-    (call_in shape old new c.step.result h.ring.0 c.step.ensures.makes) (c.unless_going.ensures.going c.in_default.is))
+    c.step_amid.ensures.nearer a.frame below a.top (reserving_unnumbered a.frame.kind a.frame.state a.reserves)
+    (reserving_stands shape frame.kind below c.args.self.now.part old.part new.part c.step_amid.result a
+    (call_in shape old new c.step_amid.result h.ring.0 c.step_amid.ensures.makes) (c.unless_going.ensures.going c.in_default.is))
 
 pub loop-last-preserved : goal.loop-last-preserved
 loop-last-preserved c =
     let h = c.loop-last.invariant in
-    let old : WriterValue = c.loop-last.self in let new : WriterValue = c.step.new.self in let shape : Shape = c.args.self.now.shape in
-    let makes = c.step.ensures.makes in
+    let old : WriterValue = c.loop-last.self in let new : WriterValue = c.step_amid.new.self in let shape : Shape = c.args.self.now.shape in
+    let makes = c.step_amid.ensures.makes in
     record {
       writer = makes.writer;
-      ring = same_writer c.args.self.now old new c.step.result h.ring makes;
+      ring = same_writer c.args.self.now old new c.step_amid.result h.ring makes;
       some = h.some;
-      amid = λ frame below top. reserving_on shape frame.kind below c.args.self.now.part old.part new.part c.step.result (h.amid frame below top)
-          (call_in shape old new c.step.result h.ring.0 makes) (c.unless_going.ensures.going c.in_default.is);
+      amid = λ frame below top. reserving_on shape frame.kind below c.args.self.now.part old.part new.part c.step_amid.result (h.amid frame below top)
+          (call_in shape old new c.step_amid.result h.ring.0 makes) (c.unless_going.ensures.going c.in_default.is);
     }

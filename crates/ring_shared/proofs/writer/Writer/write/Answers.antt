@@ -1,20 +1,18 @@
-use Rattle.std.proofs.Common.{◌≡◌, ◌≢◌, false, true, ℕ, List, length, refl, sym, ap, ◌∙◌, subst}
+use Rattle.std.proofs.Common.{◌≡◌, length, refl, sym, ap, ◌∙◌, subst}
 use Rattle.trace_model.specs.Steps as model
-use Rattle.trace_model.specs.Ring.{Core}
-use Rattle.ring_frames.specs.declared.answer.Answer.{Answer}
-use Rattle.ring_frames.specs.declared.answer.Answer.TheVariants.{Going}
+use Rattle.ring_frames.specs.declared.answer.Answer.TheVariants.{Going, Gone}
 use Rattle.ring_frames.specs.Value.{FramesValue}
-use Rattle.ring_frames.specs.AtOnce.{WritesAtOnce, IsWrittenAlone}
+use Rattle.ring_frames.specs.Phases.{told}
 use Rattle.ring_steps.specs.declared.rule.Shape.{Shape}
 use Rattle.ring_steps.specs.Views.{Writing}
 use Rattle.ring_shared.specs.Value.{WriterValue}
 use Rattle.ring_shared.specs.Calls.{IsWriter, MakesSome}
-use Rattle.ring_shared.specs.Finishing.{Finishes}
+use Rattle.ring_shared.specs.Finishing.{Leaves}
 use Rattle.ring_shared.specs.WholeWrites.{IsRefusedWrite, IsWritten}
 use Rattle.ring_shared.specs.contracts.writer.Writer.{the_view}
 use Rattle.ring_shared.proofs.Called.{writer_seen}
 use Rattle.ring_shared.proofs.PageMoves.{looks_for_wish}
-use Rattle.ring_shared.proofs.AtOnce.{mid, leads_write, writer_mid, frames_mid, wishes_next, some_mid, wishing_mid, written_at_once, written_behind}
+use Rattle.ring_shared.proofs.AtOnce.{mid, leads_write, writer_mid, frames_mid, some_mid, none_left, wishing_mid, written_at_once, stands_still, written_behind}
 use Rattle.ring_shared.proofs.writer.Writer.write.Goals as goal
 
 pub returns-in_default-clause-refused : goal.returns-in_default-clause-refused
@@ -30,74 +28,117 @@ load_wish-wish-requires-clause-phase c =
     let v : WriterValue = the_view c.self.inside in
     wishing_mid v (writer_seen c.self.view_is c.requires.writer) c.args.moment c.args.payload.now c.write.new.self (c.write.ensures.wrote c.in-Record.is) (c.write.ensures.alone c.in-Record.is)
 
-pub load_wish-requires-clause-frames : goal.load_wish-requires-clause-frames
-load_wish-requires-clause-frames c =
+pub stay-requires-clause-none : goal.stay-requires-clause-none
+stay-requires-clause-none c =
+    let v : WriterValue = the_view c.self.inside in
+    none_left v (writer_seen c.self.view_is c.requires.writer) c.args.moment c.args.payload.now c.write.new.self (c.write.ensures.wrote c.in-Record.is) (c.write.ensures.alone c.in-Record.is)
+
+pub stay-requires-clause-frames : goal.stay-requires-clause-frames
+stay-requires-clause-frames c =
     let v : WriterValue = the_view c.self.inside in
     frames_mid v (writer_seen c.self.view_is c.requires.writer) c.args.moment c.args.payload.now c.write.new.self (c.write.ensures.wrote c.in-Record.is) (c.write.ensures.alone c.in-Record.is)
 
-pub load_wish-requires-clause-phase : goal.load_wish-requires-clause-phase
-load_wish-requires-clause-phase c =
-    let v : WriterValue = the_view c.self.inside in
-    wishes_next v (writer_seen c.self.view_is c.requires.writer) c.args.moment c.args.payload.now c.write.new.self (c.write.ensures.wrote c.in-Record.is) (c.write.ensures.alone c.in-Record.is)
-
-pub load_wish-requires-clause-top : goal.load_wish-requires-clause-top
-load_wish-requires-clause-top c =
-    let v : WriterValue = the_view c.self.inside in
-    some_mid v (writer_seen c.self.view_is c.requires.writer) c.args.moment c.args.payload.now c.write.new.self (c.write.ensures.wrote c.in-Record.is) (c.write.ensures.alone c.in-Record.is)
-
-pub finish_top-requires : goal.finish_top-requires
-finish_top-requires c =
+pub returns-then-not-is_wished-clause-writer : goal.returns-then-not-is_wished-clause-writer
+returns-then-not-is_wished-clause-writer c =
     let v : WriterValue = the_view c.self.inside in
     let w : IsWriter v = writer_seen c.self.view_is c.requires.writer in
-    let frames : FramesValue = c.write.new.self in
+    let gone : FramesValue = c.write.new.self in
     let wrote = c.write.ensures.wrote c.in-Record.is in let alone = c.write.ensures.alone c.in-Record.is in
-    let new : WriterValue = the_view record { seat = c.load_wish-wish.new.self; frames = c.load_wish.new.self; pages = c.self.inside.pages } in
+    let new : WriterValue = the_view record { seat = c.load_wish-wish.new.self; frames = gone; pages = c.self.inside.pages } in
     let (answer, step) = c.load_wish-wish.ensures.step in
-    let makes = looks_for_wish (mid v w c.args.moment c.args.payload.now frames wrote alone) new (writer_mid v w c.args.moment c.args.payload.now frames wrote alone)
-    (some_mid v w c.args.moment c.args.payload.now frames wrote alone) c.load_wish-wish.ensures.shape c.load_wish-wish.ensures.table _ c.load_wish-wish.result c.load_wish.result answer
-    c.load_wish.ensures.looks refl step (λ is. is) in
-    record { writer = makes.writer }
-
-pub returns-else-goes_on-clause-writer : goal.returns-else-goes_on-clause-writer
-returns-else-goes_on-clause-writer c =
-    let v : WriterValue = the_view c.self.inside in
-    let w : IsWriter v = writer_seen c.self.view_is c.requires.writer in
-    let frames : FramesValue = c.write.new.self in
-    let wrote = c.write.ensures.wrote c.in-Record.is in let alone = c.write.ensures.alone c.in-Record.is in
-    let new : WriterValue = the_view record { seat = c.load_wish-wish.new.self; frames = c.load_wish.new.self; pages = c.self.inside.pages } in
-    let (answer, step) = c.load_wish-wish.ensures.step in
-    let makes = looks_for_wish (mid v w c.args.moment c.args.payload.now frames wrote alone) new (writer_mid v w c.args.moment c.args.payload.now frames wrote alone)
-    (some_mid v w c.args.moment c.args.payload.now frames wrote alone) c.load_wish-wish.ensures.shape c.load_wish-wish.ensures.table _ c.load_wish-wish.result c.load_wish.result answer
-    c.load_wish.ensures.looks refl step (λ is. is) in
+    let makes : MakesSome (mid v w c.args.moment c.args.payload.now gone wrote alone) model.steps Gone new =
+    looks_for_wish (mid v w c.args.moment c.args.payload.now gone wrote alone) new (writer_mid v w c.args.moment c.args.payload.now gone wrote alone)
+    (some_mid v w c.args.moment c.args.payload.now gone wrote alone) c.load_wish-wish.ensures.shape c.load_wish-wish.ensures.table _ c.load_wish-wish.result Gone answer
+    (c.is_wished.ensures.unasked c.if-not-is_wished.true c.args.moment (length c.args.payload.now) (none_left v w c.args.moment c.args.payload.now gone wrote alone) alone.below alone.closed) refl step (λ is. is) in
     makes.writer
 
-pub returns-else-goes_on-clause-written : goal.returns-else-goes_on-clause-written
-returns-else-goes_on-clause-written c = λ _.
+pub returns-then-not-is_wished-clause-written : goal.returns-then-not-is_wished-clause-written
+returns-then-not-is_wished-clause-written c = λ _.
     let v : WriterValue = the_view c.self.inside in
     let w : IsWriter v = writer_seen c.self.view_is c.requires.writer in
-    let frames : FramesValue = c.write.new.self in
+    let gone : FramesValue = c.write.new.self in
     let wrote = c.write.ensures.wrote c.in-Record.is in let alone = c.write.ensures.alone c.in-Record.is in
-    let new : WriterValue = the_view record { seat = c.load_wish-wish.new.self; frames = c.load_wish.new.self; pages = c.self.inside.pages } in
+    let new : WriterValue = the_view record { seat = c.load_wish-wish.new.self; frames = gone; pages = c.self.inside.pages } in
     let (answer, step) = c.load_wish-wish.ensures.step in
-    let makes = looks_for_wish (mid v w c.args.moment c.args.payload.now frames wrote alone) new (writer_mid v w c.args.moment c.args.payload.now frames wrote alone)
-    (some_mid v w c.args.moment c.args.payload.now frames wrote alone) c.load_wish-wish.ensures.shape c.load_wish-wish.ensures.table _ c.load_wish-wish.result c.load_wish.result answer
-    c.load_wish.ensures.looks refl step (λ is. is) in
+    let makes : MakesSome (mid v w c.args.moment c.args.payload.now gone wrote alone) model.steps Gone new =
+    looks_for_wish (mid v w c.args.moment c.args.payload.now gone wrote alone) new (writer_mid v w c.args.moment c.args.payload.now gone wrote alone)
+    (some_mid v w c.args.moment c.args.payload.now gone wrote alone) c.load_wish-wish.ensures.shape c.load_wish-wish.ensures.table _ c.load_wish-wish.result Gone answer
+    (c.is_wished.ensures.unasked c.if-not-is_wished.true c.args.moment (length c.args.payload.now) (none_left v w c.args.moment c.args.payload.now gone wrote alone) alone.below alone.closed) refl step (λ is. is) in
     subst (λ (x : WriterValue). IsWritten x.shape x.part c.args.moment c.args.payload.now new.part) c.self.view_is
-    (written_at_once v w c.args.moment c.args.payload.now frames wrote alone c.load_wish.result new.part makes.call
-    (λ e. let truth : false ≡ true = sym c.if-goes_on.false ∙ c.goes_on.ensures.1 e in cc))
+    (written_at_once v w c.args.moment c.args.payload.now gone wrote alone Gone new.part makes.call (λ e. cc))
 
-pub returns-then-goes_on-clause-written : goal.returns-then-goes_on-clause-written
-returns-then-goes_on-clause-written c = λ _.
+pub returns-in-Gone-clause-writer : goal.returns-in-Gone-clause-writer
+returns-in-Gone-clause-writer c =
     let v : WriterValue = the_view c.self.inside in
     let w : IsWriter v = writer_seen c.self.view_is c.requires.writer in
-    let frames : FramesValue = c.write.new.self in
+    let gone : FramesValue = c.write.new.self in
     let wrote = c.write.ensures.wrote c.in-Record.is in let alone = c.write.ensures.alone c.in-Record.is in
-    let new : WriterValue = the_view record { seat = c.load_wish-wish.new.self; frames = c.load_wish.new.self; pages = c.self.inside.pages } in
+    let new : WriterValue = the_view record { seat = c.load_wish-wish.new.self; frames = c.stay.new.self; pages = c.self.inside.pages } in
     let (answer, step) = c.load_wish-wish.ensures.step in
-    let makes = looks_for_wish (mid v w c.args.moment c.args.payload.now frames wrote alone) new (writer_mid v w c.args.moment c.args.payload.now frames wrote alone)
-    (some_mid v w c.args.moment c.args.payload.now frames wrote alone) c.load_wish-wish.ensures.shape c.load_wish-wish.ensures.table _ c.load_wish-wish.result c.load_wish.result answer
-    c.load_wish.ensures.looks refl step (λ is. is) in
-    let end : Writing = c.finish_top.new.self.part in
+    let makes : MakesSome (mid v w c.args.moment c.args.payload.now gone wrote alone) model.steps (told c.stay.result) new =
+    looks_for_wish (mid v w c.args.moment c.args.payload.now gone wrote alone) new (writer_mid v w c.args.moment c.args.payload.now gone wrote alone)
+    (some_mid v w c.args.moment c.args.payload.now gone wrote alone) c.load_wish-wish.ensures.shape c.load_wish-wish.ensures.table _ c.load_wish-wish.result (told c.stay.result) answer
+    c.stay.ensures.looks refl step (λ is. is) in
+    makes.writer
+
+pub returns-in-Gone-clause-written : goal.returns-in-Gone-clause-written
+returns-in-Gone-clause-written c = λ _.
+    let v : WriterValue = the_view c.self.inside in
+    let w : IsWriter v = writer_seen c.self.view_is c.requires.writer in
+    let gone : FramesValue = c.write.new.self in
+    let wrote = c.write.ensures.wrote c.in-Record.is in let alone = c.write.ensures.alone c.in-Record.is in
+    let new : WriterValue = the_view record { seat = c.load_wish-wish.new.self; frames = c.stay.new.self; pages = c.self.inside.pages } in
+    let (answer, step) = c.load_wish-wish.ensures.step in
+    let makes : MakesSome (mid v w c.args.moment c.args.payload.now gone wrote alone) model.steps (told c.stay.result) new =
+    looks_for_wish (mid v w c.args.moment c.args.payload.now gone wrote alone) new (writer_mid v w c.args.moment c.args.payload.now gone wrote alone)
+    (some_mid v w c.args.moment c.args.payload.now gone wrote alone) c.load_wish-wish.ensures.shape c.load_wish-wish.ensures.table _ c.load_wish-wish.result (told c.stay.result) answer
+    c.stay.ensures.looks refl step (λ is. is) in
+    subst (λ (x : WriterValue). IsWritten x.shape x.part c.args.moment c.args.payload.now new.part) c.self.view_is
+    (written_at_once v w c.args.moment c.args.payload.now gone wrote alone (told c.stay.result) new.part makes.call
+    (λ e. let both : Gone ≡ Going = sym (ap told c.in-Gone.is) ∙ e in cc))
+
+pub leave_on-refusal-requires-clause-writer : goal.leave_on-refusal-requires-clause-writer
+leave_on-refusal-requires-clause-writer c =
+    let v : WriterValue = the_view c.self.inside in
+    let w : IsWriter v = writer_seen c.self.view_is c.requires.writer in
+    let gone : FramesValue = c.write.new.self in
+    let wrote = c.write.ensures.wrote c.in-Record.is in let alone = c.write.ensures.alone c.in-Record.is in
+    let new : WriterValue = the_view record { seat = c.load_wish-wish.new.self; frames = c.stay.new.self; pages = c.self.inside.pages } in
+    let (answer, step) = c.load_wish-wish.ensures.step in
+    let makes : MakesSome (mid v w c.args.moment c.args.payload.now gone wrote alone) model.steps (told c.stay.result) new =
+    looks_for_wish (mid v w c.args.moment c.args.payload.now gone wrote alone) new (writer_mid v w c.args.moment c.args.payload.now gone wrote alone)
+    (some_mid v w c.args.moment c.args.payload.now gone wrote alone) c.load_wish-wish.ensures.shape c.load_wish-wish.ensures.table _ c.load_wish-wish.result (told c.stay.result) answer
+    c.stay.ensures.looks refl step (λ is. is) in
+    makes.writer
+
+pub leave_on-refusal-requires-clause-top : goal.leave_on-refusal-requires-clause-top
+leave_on-refusal-requires-clause-top c =
+    let v : WriterValue = the_view c.self.inside in
+    let w : IsWriter v = writer_seen c.self.view_is c.requires.writer in
+    let gone : FramesValue = c.write.new.self in
+    let wrote = c.write.ensures.wrote c.in-Record.is in let alone = c.write.ensures.alone c.in-Record.is in
+    let new : WriterValue = the_view record { seat = c.load_wish-wish.new.self; frames = c.stay.new.self; pages = c.self.inside.pages } in
+    let (answer, step) = c.load_wish-wish.ensures.step in
+    let makes : MakesSome (mid v w c.args.moment c.args.payload.now gone wrote alone) model.steps (told c.stay.result) new =
+    looks_for_wish (mid v w c.args.moment c.args.payload.now gone wrote alone) new (writer_mid v w c.args.moment c.args.payload.now gone wrote alone)
+    (some_mid v w c.args.moment c.args.payload.now gone wrote alone) c.load_wish-wish.ensures.shape c.load_wish-wish.ensures.table _ c.load_wish-wish.result (told c.stay.result) answer
+    c.stay.ensures.looks refl step (λ is. is) in
+    stands_still v w c.args.moment c.args.payload.now gone wrote alone (told c.stay.result) new.part makes.call (ap told c.in-Going.is)
+
+pub returns-in-Going-clause-written : goal.returns-in-Going-clause-written
+returns-in-Going-clause-written c = λ _.
+    let v : WriterValue = the_view c.self.inside in
+    let w : IsWriter v = writer_seen c.self.view_is c.requires.writer in
+    let gone : FramesValue = c.write.new.self in
+    let wrote = c.write.ensures.wrote c.in-Record.is in let alone = c.write.ensures.alone c.in-Record.is in
+    let new : WriterValue = the_view record { seat = c.load_wish-wish.new.self; frames = c.stay.new.self; pages = c.self.inside.pages } in
+    let (answer, step) = c.load_wish-wish.ensures.step in
+    let makes : MakesSome (mid v w c.args.moment c.args.payload.now gone wrote alone) model.steps (told c.stay.result) new =
+    looks_for_wish (mid v w c.args.moment c.args.payload.now gone wrote alone) new (writer_mid v w c.args.moment c.args.payload.now gone wrote alone)
+    (some_mid v w c.args.moment c.args.payload.now gone wrote alone) c.load_wish-wish.ensures.shape c.load_wish-wish.ensures.table _ c.load_wish-wish.result (told c.stay.result) answer
+    c.stay.ensures.looks refl step (λ is. is) in
+    let end : Writing = c.leave_on-refusal.new.self.part in
+    let (last, refusal, how, leaves) = c.leave_on-refusal.ensures.leaves in
     subst (λ (x : WriterValue). IsWritten x.shape x.part c.args.moment c.args.payload.now end) c.self.view_is
-    (written_behind v w c.args.moment c.args.payload.now frames wrote alone c.load_wish.result new.part makes.call c.finish_top.result end (c.goes_on.ensures.0 c.if-goes_on.true)
-    (subst (λ (s : Shape). Finishes s new.part c.finish_top.result end) c.load_wish-wish.ensures.shape c.finish_top.ensures.finished))
+    (written_behind v w c.args.moment c.args.payload.now gone wrote alone (told c.stay.result) new.part makes.call last end (ap told c.in-Going.is)
+    (λ frame below top. subst (λ (s : Shape). Leaves s below new.part last end) c.load_wish-wish.ensures.shape (leaves frame below top)))

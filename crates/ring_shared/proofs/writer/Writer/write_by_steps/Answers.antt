@@ -1,18 +1,12 @@
-use Rattle.std.specs.Prelude.{Result, Err, ◌≤◌, ◌-◌, ◌++◌, replicate}
-use Rattle.std.proofs.Common.{◌≡◌, ℕ, List, length, refl, sym, ap, ◌∙◌, subst, arith}
+use Rattle.std.specs.Prelude.{Result, Err, ◌-◌, ◌++◌, replicate}
+use Rattle.std.proofs.Common.{◌≡◌, ℕ, List, length, sym, ap, ◌∙◌, arith}
 use Rattle.trace_model.specs.Words.{slot_len, padded}
-use Rattle.trace_model.specs.Frames.{for_record}
-use Rattle.trace_model.specs.Steps as model
 use Rattle.trace_model.proofs.Lengths.{slot_len_ge, length-padded}
 use Rattle.std.proofs.lemmas.Result.{err_from_is_err_and}
 use Rattle.nested_writer.specs.declared.fault.WriteFault.{WriteFault}
 use Rattle.nested_writer.specs.declared.frame.Slot.{Slot}
-use Rattle.ring_steps.specs.declared.rule.Shape.{Shape}
-use Rattle.ring_steps.specs.Views.{Writing}
 use Rattle.ring_shared.specs.Value.{WriterValue}
-use Rattle.ring_shared.specs.Lending.{with_slot_payload, FitsFrame}
-use Rattle.ring_shared.specs.Calls.{IsCall}
-use Rattle.ring_shared.specs.WholeWrites.{IsReserved, EndsRecord, IsWritten}
+use Rattle.ring_shared.specs.Lending.{with_slot_payload}
 use Rattle.ring_shared.proofs.WholeWrites.{record_room, written_top, written_whole}
 use Rattle.ring_shared.proofs.writer.Writer.write_by_steps.Goals as goal
 

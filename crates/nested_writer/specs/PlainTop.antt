@@ -1,0 +1,26 @@
+-- A frame on top whose record is one as nearly all are.
+use Rattle.std.specs.Prelude.{◌≡◌, ℕ, ◌-◌, ◌<◌, ◌≤◌, false, List, ◌∷◌, None}
+use Rattle.record_words.specs.declared.format.TheConstants.{EXTEND_FROM, SHORT_LIMIT}
+use Rattle.page_image.specs.Contents.{is_blank}
+use Rattle.nested_writer.specs.declared.frame.Purpose.TheVariants.{Record}
+use Rattle.nested_writer.specs.declared.frame.Progress.TheVariants.{Waiting}
+use Rattle.nested_writer.specs.declared.frame.Frame.{Frame}
+use Rattle.nested_writer.specs.declared.frame.Pushed.{Pushed}
+use Rattle.nested_writer.specs.Stack.{Stack}
+use Rattle.nested_writer.specs.Calls.{HasRecordRoom}
+
+-- A record of this moment, for a payload of len bytes, comes in the short form behind another one, at no earlier
+-- moment, and has room in the tail.
+pub record FitsPlainly (s : Stack) (moment len : ℕ) : Type 0 where
+  pub some : 1 ≤ len
+  pub short : len ≤ SHORT_LIMIT
+  pub behind : is_blank s.tail.bytes ≡ false
+  pub in_order : s.last_moment ≤ moment
+  pub near : moment - s.last_moment < EXTEND_FROM
+  pub room : HasRecordRoom s moment len
+
+-- The frame on top is a record frame that tried nothing yet, and its record is such a one.
+pub record IsPlainTop (s : Stack) (pushed : Pushed) : Type 0 where
+  pub below : List Frame
+  pub on_top : s.frames ≡ record { purpose = Record pushed.moment pushed.len; progress = Waiting None } ∷ below
+  pub fits : FitsPlainly s pushed.moment pushed.len

@@ -1,0 +1,15 @@
+use Rattle.std.proofs.Common.{◌≡◌, ap, ◌∙◌, arith}
+use Rattle.std.proofs.lemmas.Bool.{eqb-false}
+use Rattle.ring_frames.specs.Value.{FramesValue}
+use Rattle.ring_frames.proofs.Staying.{gone_unasked}
+use Rattle.ring_frames.proofs.frames.Frames.is_wished.Goals as goal
+
+pub returns : goal.returns
+returns c = record {
+  unasked = λ is moment len none below closed.
+      let v : FramesValue = c.args.self.now in
+      let done : c.done.result ≡ v.stack.done = c.done.ensures ∙ ap (λ (x : FramesValue). x.stack.done) c.self.view_is in
+      let other = eqb-false _ c.done.result is in
+      let few = c.ranges.wish.fits in
+      gone_unasked v c.args.wish moment len none closed (λ next. other (omega (arith, next, done, few)));
+}

@@ -1,0 +1,22 @@
+-- How far the frame on top has come, as the fields tell it.
+use Rattle.std.specs.Prelude.{ℕ}
+use Rattle.ring_frames.specs.declared.phase.Role.{Role}
+use Rattle.ring_frames.specs.declared.phase.Phase.{Phase}
+use Rattle.ring_frames.specs.declared.phase.Phase.TheVariants.{Idle, Looking, Claiming, LookingNext, Marking, Clearing, Opening, Releasing, Wishing}
+use Rattle.ring_frames.specs.declared.stage.Tag.{Tag}
+use Rattle.ring_frames.specs.declared.stage.Tag.TheVariants as tag
+use Rattle.ring_frames.specs.declared.stage.Stage.TheInside.{Inside}
+
+abbrev pub phase_told : Tag → Role → (noted page next : ℕ) → Phase
+phase_told tag.Idle role noted page next = Idle
+phase_told tag.Looking role noted page next = Looking noted
+phase_told tag.Claiming role noted page next = Claiming noted page
+phase_told tag.LookingNext role noted page next = LookingNext role noted page
+phase_told tag.Marking role noted page next = Marking role noted page next
+phase_told tag.Clearing role noted page next = Clearing noted page
+phase_told tag.Opening role noted page next = Opening noted page
+phase_told tag.Releasing role noted page next = Releasing
+phase_told tag.Wishing role noted page next = Wishing
+
+abbrev pub phase_in : Inside → Phase
+phase_in s = phase_told s.tag s.role s.noted s.page s.next
