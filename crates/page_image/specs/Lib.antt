@@ -3,3 +3,4 @@ pub mod Lending
 pub mod Walk
 pub mod Counting
 pub mod Images
+pub mod Plain

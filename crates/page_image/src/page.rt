@@ -6,7 +6,7 @@ mod read;
 mod write;
 
 use crate::body::Body;
-use crate::put::{put_behind, put_payload_behind};
+use crate::put::{Records, put_behind_as, put_payload_behind};
 use record_words::{Place, size_of};
 use std::marker::Model;
 use trace_model::{FillNo, RecordNo};
@@ -44,7 +44,10 @@ impl Model for Page {
 }
 
 impl Page {
-    ghost use Rattle.std.specs.Prelude.{◌≡◌, ◌+◌, ◌-◌, ◌≤◌, ◌<◌, [], ◌∷◌, ◌++◌, length, replicate, if◌then◌else◌, IfSome, slice_range, ℕ, List};
+    ghost use Rattle.std.specs.Prelude.{◌≡◌, ◌+◌, ◌-◌, ◌≤◌, ◌<◌, false, [], ◌∷◌, ◌++◌, length, replicate, if◌then◌else◌, IfSome, slice_range, ℕ, List};
+    ghost use Rattle.record_words.specs.declared.format.TheConstants.{EXTEND_FROM, SHORT_LIMIT};
+    ghost use Rattle.page_image.specs.declared.put.Records.TheVariants.{Plain};
+    ghost use Rattle.page_image.specs.Plain.{IsPlainIn};
     ghost use Rattle.std.specs.Borrow.{sem};
     ghost use Rattle.page_image.specs.Lending.{LendsPayload, PayloadWritten};
     ghost use Rattle.trace_model.specs.Words.{encoded_len, encoding, padded, slot_len};
@@ -108,8 +111,99 @@ impl Page {
         ensures end { result.start + result.len ≡ length self.new.bytes }
         ensures len { result.len ≡ slot_len len }
     {
-        let is_first = self.end == 0;
-        let place = put_behind(&mut self.body, self.end, moment - prev, is_first, len);
+        self.put_as(Records::Any, prev, moment, len)
+    }
+
+    /// `put`, for a record as nearly all are: of 1 to `SHORT_LIMIT` bytes, less than `EXTEND_FROM` after the one before
+    /// it on the page, and so far from the page's end that the longest such record would have room.
+    #[inline(always)]
+    pub fn put_plain(&mut self, prev: u64, moment: u64, len: usize) -> Place
+        requires behind { is_blank self.old.bytes ≡ false }
+        requires some { 1 ≤ len }
+        requires short { len ≤ SHORT_LIMIT }
+        requires near { moment - prev < EXTEND_FROM }
+        requires far { length self.old.bytes + (4 + SHORT_LIMIT) ≤ self.old.size }
+        requires order { prev ≤ moment }
+        requires moment { moment < MOMENT_LIMIT }
+        requires last { IfSome (moment_of_last (records_of_page self.old)) (λ last. last ≡ prev) }
+        requires open { EndsInRecord self.old.bytes }
+        ensures page { IsPage self.old → IsPage self.new }
+        ensures records { IsPage self.old
+            → records_of_page self.new
+            ≡ records_of_page self.old ++ record { moment = moment; bytes = replicate (slot_len len) 0 } ∷ [] }
+        ensures bytes { self.new.bytes
+            ≡ self.old.bytes ++ encoding (moment - prev) (is_blank self.old.bytes) (replicate (slot_len len) 0) }
+        ensures time { self.new.time ≡ (if is_blank self.old.bytes then moment else self.old.time) }
+        ensures count { self.new.count ≡ self.old.count + 1 }
+        ensures first { self.new.first ≡ self.old.first }
+        ensures fill { self.new.fill ≡ self.old.fill }
+        ensures size { self.new.size ≡ self.old.size }
+        ensures open { EndsInRecord self.new.bytes }
+        ensures place { IsPlaceIn self.new.bytes result.start result.len }
+        ensures number { IsPage self.old
+            → IsPlaceOf self.new.bytes self.old.count result.start result.len }
+        ensures places_stay { (number start len : ℕ)
+            → IsPlaceOf self.old.bytes number start len
+            → IsPlaceOf self.new.bytes number start len }
+        ensures end { result.start + result.len ≡ length self.new.bytes }
+        ensures len { result.len ≡ slot_len len }
+    {
+        self.put_as(Records::Plain, prev, moment, len)
+    }
+
+    /// Whether no record stands in the page; none of these may be put there but behind another one.
+    #[inline(always)]
+    fn is_first(&self, records: Records) -> bool
+        requires behind { records ≡ Plain → is_blank self.now.bytes ≡ false }
+        ensures { result ≡ is_blank self.now.bytes }
+    {
+        match records {
+            Records::Any => self.end == 0,
+            Records::Plain => false,
+        }
+    }
+
+    /// `put`, for these records.
+    #[inline(always)]
+    fn put_as(&mut self, records: Records, prev: u64, moment: u64, len: usize) -> Place
+        requires plain { records ≡ Plain → IsPlainIn self.old.size (length self.old.bytes) (moment - prev)
+            (is_blank self.old.bytes) len }
+        requires room { length self.old.bytes + encoded_len len (moment - prev) (is_blank self.old.bytes)
+            ≤ self.old.size }
+        requires order { prev ≤ moment }
+        requires moment { moment < MOMENT_LIMIT }
+        requires last { IfSome (moment_of_last (records_of_page self.old)) (λ last. last ≡ prev) }
+        requires open { EndsInRecord self.old.bytes }
+        ensures page { IsPage self.old → IsPage self.new }
+        ensures records { IsPage self.old
+            → records_of_page self.new
+            ≡ records_of_page self.old ++ record { moment = moment; bytes = replicate (slot_len len) 0 } ∷ [] }
+        ensures bytes { self.new.bytes
+            ≡ self.old.bytes ++ encoding (moment - prev) (is_blank self.old.bytes) (replicate (slot_len len) 0) }
+        ensures time { self.new.time ≡ (if is_blank self.old.bytes then moment else self.old.time) }
+        ensures count { self.new.count ≡ self.old.count + 1 }
+        ensures first { self.new.first ≡ self.old.first }
+        ensures fill { self.new.fill ≡ self.old.fill }
+        ensures size { self.new.size ≡ self.old.size }
+        ensures open { EndsInRecord self.new.bytes }
+        ensures place { IsPlaceIn self.new.bytes result.start result.len }
+        ensures number { IsPage self.old
+            → IsPlaceOf self.new.bytes self.old.count result.start result.len }
+        ensures places_stay { (number start len : ℕ)
+            → IsPlaceOf self.old.bytes number start len
+            → IsPlaceOf self.new.bytes number start len }
+        ensures end { result.start + result.len ≡ length self.new.bytes }
+        ensures len { result.len ≡ slot_len len }
+    {
+        let is_first = self.is_first(records);
+        let place = put_behind_as(
+            records,
+            &mut self.body,
+            self.end,
+            moment - prev,
+            is_first,
+            len,
+        );
         self.time = if is_first { moment } else { self.time };
         self.end = place.start + place.len;
         self.count += 1;

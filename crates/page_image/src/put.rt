@@ -1,8 +1,10 @@
 //! A record written behind others.
-ghost use Rattle.std.specs.Prelude.{◌≡◌, ◌+◌, ◌≤◌, ◌<◌, ◌++◌, ◌⊎◌, true, length, take, replicate, if◌then◌else◌};
+ghost use Rattle.std.specs.Prelude.{◌≡◌, ◌+◌, ◌≤◌, ◌<◌, ◌++◌, ◌⊎◌, true, false, length, take, replicate, if◌then◌else◌};
 ghost use Rattle.trace_model.specs.Words.{encoded_len, encoding, padded, slot_len};
 ghost use Rattle.trace_model.specs.declared.limits.TheConstants.{MOMENT_LIMIT};
-ghost use Rattle.record_words.specs.declared.format.TheConstants.{MAX_PAYLOAD};
+ghost use Rattle.record_words.specs.declared.format.TheConstants.{EXTEND_FROM, MAX_PAYLOAD, SHORT_LIMIT};
+ghost use Rattle.page_image.specs.declared.put.Records.TheVariants.{Plain};
+ghost use Rattle.page_image.specs.Plain.{IsPlainIn};
 
 use record_words::{EXTEND_FROM, Place, SHORT_LIMIT, put_payload, put_record, put_short, slot_len};
 
@@ -54,6 +56,72 @@ pub(crate) fn put_behind(body: &mut [u8], end: usize, delta: u64, first: bool, l
         };
     }
     put_any(body, end, delta, first, len)
+}
+
+/// Which records a call is for.
+#[derive(Clone, Copy, PartialEq)]
+pub(crate) enum Records {
+    /// Any that have room.
+    Any,
+    /// Those that are as nearly all are: in the short form, behind another one, and far enough from the page's end for
+    /// any such record.
+    Plain,
+}
+
+/// How many bytes a payload of `len` bytes, at least one, takes in a page.
+#[inline(always)]
+fn plain_slot_len(len: usize) -> usize
+    requires some { 1 ≤ len }
+    requires limit { len ≤ SHORT_LIMIT }
+    ensures slot { result ≡ slot_len len }
+    ensures limit { result ≤ SHORT_LIMIT }
+{
+    len.next_multiple_of(4)
+}
+
+/// `put_behind`, for a plain record.
+#[inline(always)]
+fn put_plain_behind(body: &mut [u8], end: usize, delta: u64, len: usize) -> Place
+    requires some { 1 ≤ len }
+    requires short { len ≤ SHORT_LIMIT }
+    requires near { delta < EXTEND_FROM }
+    requires far { end + (4 + SHORT_LIMIT) ≤ length body.old }
+    ensures bytes { take (result.start + result.len) body.new
+        ≡ take end body.old ++ encoding delta false (replicate (slot_len len) 0) }
+    ensures end { result.start + result.len ≡ end + encoded_len len delta false }
+    ensures len { result.len ≡ slot_len len }
+{
+    let slot = plain_slot_len(len);
+    put_short(&mut body[end..], delta as u32, slot);
+    Place {
+        start: end + 4,
+        len: slot,
+    }
+}
+
+/// `put_behind`, for these records.
+#[inline(always)]
+pub(crate) fn put_behind_as(
+    records: Records,
+    body: &mut [u8],
+    end: usize,
+    delta: u64,
+    first: bool,
+    len: usize,
+) -> Place
+    requires plain { records ≡ Plain → IsPlainIn (length body.old) end delta first len }
+    requires length { len ≤ MAX_PAYLOAD }
+    requires time { (first ≡ true) ⊎ (delta < MOMENT_LIMIT) }
+    requires room { end + encoded_len len delta first ≤ length body.old }
+    ensures bytes { take (result.start + result.len) body.new
+        ≡ take end body.old ++ encoding delta first (replicate (slot_len len) 0) }
+    ensures end { result.start + result.len ≡ end + encoded_len len delta first }
+    ensures len { result.len ≡ slot_len len }
+{
+    match records {
+        Records::Any => put_behind(body, end, delta, first, len),
+        Records::Plain => put_plain_behind(body, end, delta, len),
+    }
 }
 
 /// Writes a record with this payload behind the first `end` bytes, and answers where the payload lies. The record
