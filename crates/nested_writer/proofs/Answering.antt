@@ -21,6 +21,7 @@ use Rattle.nested_writer.specs.Answered.{FitsTail, IsBegunSince, WantsFill, HasI
 use Rattle.nested_writer.specs.PlainTop.{IsPlainTop}
 use Rattle.nested_writer.specs.IsStack.{StandsAt, FramesStand, IsStack}
 use Rattle.nested_writer.proofs.Reserving.{number_is, end_is}
+use Rattle.nested_writer.proofs.Plain.{plain_room}
 use Rattle.nested_writer.proofs.Releasing.{tail_empty, tail_holds}
 
 module _ (start : ℕ) (h : List Action) (s : Stack) (k : IsStack start h s) where
@@ -92,4 +93,4 @@ module _ (start : ℕ) (h : List Action) (s : Stack) (k : IsStack start h s) whe
 
   -- a record as nearly all are
   pub plain_answer : (pushed : Pushed) (place : Place) → IsPlainTop s pushed → IsAnswered s h s.frames (Ok (Fits place))
-  plain_answer pushed place p = fits_answer record { purpose = Record pushed.moment pushed.len; progress = Waiting None } p.below p.on_top None place refl (λ wants. let room = p.fits.room in omega arith)
+  plain_answer pushed place p = fits_answer record { purpose = Record pushed.moment pushed.len; progress = Waiting None } p.below p.on_top None place refl (λ wants. let room = plain_room s pushed.moment pushed.len p.fits in omega arith)

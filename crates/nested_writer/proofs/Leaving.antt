@@ -1,5 +1,5 @@
 -- A frame that leaves, and one that goes on waiting.
-use Rattle.std.proofs.Common.{◌≡◌, ◌≢◌, ℕ, ◌<◌, ◌≤◌, Bool, true, List, [], ◌∷◌, ◌++◌, Option, Some, None, IfSome, refl, sym, ap, ◌∙◌, subst, arith}
+use Rattle.std.proofs.Common.{◌≡◌, ◌≢◌, ℕ, ◌<◌, ◌≤◌, Bool, true, List, [], ◌∷◌, ◌++◌, Some, None, IfSome, refl, sym, ap, ◌∙◌, subst, arith}
 use Rattle.std.proofs.lemmas.Option.{none-some}
 use Rattle.trace_model.specs.History.{Action, leave, wished, Reservation, PushedFrame, records_after_leave, writer_after, reserved_records, MayLeave, MayWish}
 use Rattle.trace_model.specs.Packing.{opens_of, is_wished}
@@ -11,7 +11,6 @@ use Rattle.trace_model.proofs.NextRecords.{records_snoc, records_left}
 use Rattle.trace_model.proofs.FillCuts.{opens_of-leave, opens_of-wished}
 use Rattle.trace_model.proofs.PackedHistories.{fit_more, is_wished-leave, is_wished-wished}
 use Rattle.page_image.specs.Contents.{Contents}
-use Rattle.nested_writer.specs.declared.frame.Purpose.{Purpose}
 use Rattle.nested_writer.specs.declared.frame.Purpose.TheVariants.{Record, Close}
 use Rattle.nested_writer.specs.declared.frame.Progress.{Progress}
 use Rattle.nested_writer.specs.declared.frame.Progress.TheVariants.{Waiting, Through, Reserved, Left}
@@ -104,13 +103,6 @@ is_progress start h s top below progress top_is waits goes st k = record {
   fit = k.fit;
   holds = of_progress start (opens_of h) (reserved_records h) (is_wished h) s top below progress top_is goes st k.holds;
 }
-
--- one that noted something forgets it
-pub forgotten : (start : ℕ) (h : List Action) (s : Stack) (top : Frame) (below : List Frame) (moment len : ℕ) (noted : Option ℕ) → s.frames ≡ top ∷ below → top.purpose ≡ Record moment len → top.progress ≡ Waiting noted
-    → IsStack start h s
-    → IsStack start h (record s { frames = record { purpose = Record moment len; progress = Waiting None } ∷ below })
-forgotten start h s top below moment len noted top_is purpose waits k = subst (λ (p : Purpose). IsStack start h (record s { frames = record { purpose = p; progress = Waiting None } ∷ below })) purpose
-    (is_progress start h s top below (Waiting None) top_is (ap state_of waits) refl (tt, λ e. absurd (none-some _ e)) k)
 
 -- what a frame needs that wants a page
 needs_record : (start : ℕ) (h : List Action) (s : Stack) (moment len : ℕ) → s.size < end_with s moment len → IsStack start h s → NeedsFill s.size (opens_of h) (reserved_records h) (is_wished h) (for_record moment len) waiting

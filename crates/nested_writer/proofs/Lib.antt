@@ -6,6 +6,7 @@ pub mod Leaving
 pub mod Releasing
 pub mod Tops
 pub mod Bounds
+pub mod Plain
 pub mod Opening
 pub mod Allotting
 pub mod Ending

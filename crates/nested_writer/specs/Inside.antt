@@ -1,7 +1,8 @@
 -- What holds of the fields of a writer's stack.
-use Rattle.std.specs.Prelude.{◌≡◌, ◌+◌, ◌≤◌, ◌<◌, List, [], ◌∷◌, length, Option, Some, None}
+use Rattle.std.specs.Prelude.{◌≡◌, ◌+◌, ◌-◌, ◌≤◌, ◌<◌, List, [], ◌∷◌, length, Option, Some, None}
 use Rattle.std.specs.VecDeque.{deque_capacity}
 use Rattle.trace_model.specs.declared.limits.TheConstants.{MIN_PAGES, MAX_PAGES, MIN_SIZE, MAX_SIZE, MAX_FRAMES, LINK_FILLS}
+use Rattle.record_words.specs.declared.format.TheConstants.{SHORT_LIMIT}
 use Rattle.nested_writer.specs.declared.frame.Frame.{Frame}
 use Rattle.nested_writer.specs.declared.stack.WriterStack.TheInside.{Inside}
 use Rattle.nested_writer.specs.Stack.{Stack}
@@ -22,8 +23,9 @@ shown w = record {
   last_moment = w.last_moment;
 }
 
--- There is room for all pages and frames; where no frame stands, all fills but the tail are released; and the next fill
--- has a number.
+-- There is room for all pages and frames; where no frame stands, all fills but the tail are released; the next fill
+-- has a number; a payload of the plain length has room on an empty page; and up to the plain end the tail has room for
+-- any record in the short form.
 pub record IsWriterStack (w : Inside) : Type 0 where
   pub some_pages : MIN_PAGES ≤ w.pages
   pub most_pages : w.pages ≤ MAX_PAGES
@@ -36,3 +38,6 @@ pub record IsWriterStack (w : Inside) : Type 0 where
   pub top_first : w.top ≡ None → w.below.items ≡ []
   pub at_rest : w.top ≡ None → w.older.items ≡ []
   pub fills : w.done + length w.older.items + 1 + w.pages ≤ LINK_FILLS
+  pub plain_short : w.plain_len ≤ SHORT_LIMIT
+  pub plain_room : w.plain_len + 12 ≤ w.size
+  pub plain_end_is : w.plain_end ≡ w.size - (4 + SHORT_LIMIT)

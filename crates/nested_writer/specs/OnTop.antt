@@ -1,29 +1,38 @@
 -- The frame on top, as the fields tell it.
-use Rattle.std.specs.Prelude.{◌≡◌, ◌≢◌, ℕ, Option, Some, None}
+use Rattle.std.specs.Prelude.{◌≡◌, ◌≢◌, ◌≤◌, ℕ, Option, Some, None}
+use Rattle.record_words.specs.declared.format.TheConstants.{SHORT_LIMIT}
 use Rattle.nested_writer.specs.declared.frame.Frame.{Frame}
 use Rattle.nested_writer.specs.declared.frame.Slot.{Slot}
-use Rattle.nested_writer.specs.declared.frame.Purpose.TheVariants.{Record}
+use Rattle.nested_writer.specs.declared.frame.Purpose.TheVariants.{Record, Close}
 use Rattle.nested_writer.specs.declared.frame.Progress.TheVariants.{Waiting, Reserved, Left}
 use Rattle.nested_writer.specs.declared.frame.Pushed.{Pushed}
 use Rattle.nested_writer.specs.declared.stack.top.Phase.{Phase}
-use Rattle.nested_writer.specs.declared.stack.top.Phase.TheVariants.{Idle, Waits, Holds, Gone, Other}
+use Rattle.nested_writer.specs.declared.stack.top.Phase.TheVariants.{Idle, Waits, Tries, Holds, HoldsClose, Gone, Other}
 use Rattle.nested_writer.specs.declared.stack.top.Top.TheInside.{Inside}
+use Rattle.nested_writer.specs.Calls.{HasNoSlot}
 
-abbrev pub frame_told : Phase → Pushed → Slot → Frame → Option Frame
-frame_told Idle pushed slot other = None
-frame_told Waits pushed slot other =
+abbrev pub frame_told : Phase → Pushed → Option ℕ → Slot → Frame → Option Frame
+frame_told Idle pushed noted slot other = None
+frame_told Waits pushed noted slot other =
     Some record { purpose = Record pushed.moment pushed.len; progress = Waiting None }
-frame_told Holds pushed slot other =
+frame_told Tries pushed noted slot other =
+    Some record { purpose = Record pushed.moment pushed.len; progress = Waiting noted }
+frame_told Holds pushed noted slot other =
     Some record { purpose = Record pushed.moment pushed.len; progress = Reserved slot }
-frame_told Gone pushed slot other =
+frame_told HoldsClose pushed noted slot other = Some record { purpose = Close; progress = Reserved slot }
+frame_told Gone pushed noted slot other =
     Some record { purpose = Record pushed.moment pushed.len; progress = Left None }
-frame_told Other pushed slot other = Some other
+frame_told Other pushed noted slot other = Some other
 
 abbrev pub frame_on_top : Inside → Option Frame
-frame_on_top t = frame_told t.phase t.pushed t.slot t.other
+frame_on_top t = frame_told t.phase t.pushed t.noted t.slot t.other
 
--- A record frame that tried nothing yet is told by what it was pushed with.
+-- A frame that waits has a payload of the short form; and one that is kept whole has no slot, and is no record frame
+-- that tried nothing yet.
 pub record IsTold (t : Inside) : Type 0 where
+  pub some : t.phase ≡ Waits → 1 ≤ t.pushed.len
+  pub short : t.phase ≡ Waits → t.pushed.len ≤ SHORT_LIMIT
   pub apart : t.phase ≡ Other
       → (moment len : ℕ)
       → t.other ≢ record { purpose = Record moment len; progress = Waiting None }
+  pub no_slot : t.phase ≡ Other → HasNoSlot t.other.progress

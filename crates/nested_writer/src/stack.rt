@@ -11,10 +11,14 @@ pub mod write;
 use crate::frame::Frame;
 use crate::stack::top::Top;
 use page_image::{Body, Page};
+use record_words::SHORT_LIMIT;
 use std::alloc::Global;
 use std::collections::VecDeque;
 use std::marker::Model;
 use trace_model::{FillNo, MAX_FRAMES, NoMemory, RecordNo, START_FILL};
+
+/// How many bytes a record may take beside its payload, without a time extend: two words, and zeros up to a whole word.
+const MOST_AROUND: usize = 12;
 
 /// The frames of one ring's writers, over the pages of the fills that are begun and not closed.
 #[derive(Drop)]
@@ -27,6 +31,11 @@ pub struct WriterStack {
     top: Top,
     below: VecDeque<Frame>,
     last_moment: u64,
+    /// The longest payload, of at most `SHORT_LIMIT` bytes, of which a record has room on an empty page, whatever its
+    /// length.
+    plain_len: usize,
+    /// How far the tail may be filled for any record in the short form to have room behind it; 0 where none has.
+    plain_end: usize,
 }
 
 impl Model for WriterStack {
@@ -77,6 +86,8 @@ impl WriterStack {
             top: Top::none(),
             below,
             last_moment: 0,
+            plain_len: SHORT_LIMIT.min(size - MOST_AROUND),
+            plain_end: size.saturating_sub(4 + SHORT_LIMIT),
         })
     }
 

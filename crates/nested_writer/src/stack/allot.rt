@@ -2,7 +2,7 @@
 use crate::fault::WriteFault;
 use crate::frame::{Frame, Progress, Purpose, Pushed, Slot};
 use crate::stack::WriterStack;
-use record_words::{EXTEND_FROM, Place, SHORT_LIMIT, size_of};
+use record_words::{EXTEND_FROM, Place, size_of};
 use trace_model::LINK_FILLS;
 
 /// What a frame gets.
@@ -21,7 +21,7 @@ impl WriterStack {
     ghost use Rattle.page_image.specs.Contents.{Contents};
     ghost use Rattle.nested_writer.specs.Stack.{opened, tail_fill, next_number};
     ghost use Rattle.nested_writer.specs.Calls.{with_progress, after_leave, IsTop, HasLeft, IsUnchanged, WantsPage, NeedsPage, IsCrowded, IsWorn, IsReserved, HasRecordRoom, HasTopLeft, IsTopSlot};
-    ghost use Rattle.nested_writer.specs.PlainTop.{FitsPlainly, IsPlainTop};
+    ghost use Rattle.nested_writer.specs.PlainTop.{IsPlainTop};
     ghost use Rattle.nested_writer.specs.IsStack.{IsStack, Stands};
     ghost use Rattle.nested_writer.specs.Allotted.{IsAllotted, HasActed};
     ghost use Rattle.nested_writer.specs.Answered.{IsAnswered};
@@ -88,7 +88,7 @@ impl WriterStack {
     }
 
     /// A page is needed for the frame on top: it notes that, or is refused and leaves.
-    #[inline(never)]
+    #[inline(always)]
     fn note_need(&mut self, top: Frame) -> Result<Allot, WriteFault>
         requires top { (below : List Frame) × IsTop self.old top below }
         requires wants { WantsPage self.old top.purpose top.progress }
@@ -109,7 +109,7 @@ impl WriterStack {
             self.leave();
             return Err(WriteFault::Worn);
         }
-        self.go_on(Progress::Waiting(Some(opened)));
+        self.top.note(opened);
         Ok(Allot::NeedsPage)
     }
 
@@ -153,24 +153,17 @@ impl WriterStack {
             → IsReserved self.old top below moment len result self.new }
         ensures stack { HasActed self.old (reserve ∷ []) self.new }
     {
-        self.top.wait(moment, len);
-        self.reserve(moment, raised, len).place
-    }
-
-    /// Whether a record of this moment, of a payload of `len` bytes, is one as nearly all are: in the short form,
-    /// behind another one, and far enough from the page's end for any such record.
-    #[inline(always)]
-    fn fits_plainly(&self, moment: u64, len: usize) -> bool
-        requires stack { Stands self.now }
-        ensures { IsTrue result → FitsPlainly self.now moment len }
-    {
-        let delta = moment.wrapping_sub(self.last_moment);
-        let end = self.tail.end();
-        1 <= len
-            && len <= SHORT_LIMIT
-            && end > 0
-            && delta < EXTEND_FROM
-            && end + (4 + SHORT_LIMIT) <= self.tail.size()
+        let number = self.tail.first().0 + self.tail.count();
+        let fill = self.tail.fill().0;
+        let place = self.tail.put(self.last_moment, raised, len);
+        self.last_moment = raised;
+        let slot = Slot {
+            number,
+            fill,
+            place,
+        };
+        self.top.hold_any(moment, len, slot);
+        place
     }
 
     /// What the frame on top was pushed with, where it is a record frame that tried nothing yet, and its record is one
@@ -182,7 +175,10 @@ impl WriterStack {
         ensures { IfSome result (λ pushed. IsPlainTop self.now pushed) }
     {
         let pushed = self.top.waiting()?;
-        if !self.fits_plainly(pushed.moment, pushed.len) {
+        if self.tail.end().wrapping_sub(1) >= self.plain_end {
+            return None;
+        }
+        if pushed.moment.wrapping_sub(self.last_moment) >= EXTEND_FROM {
             return None;
         }
         Some(pushed)
@@ -202,13 +198,55 @@ impl WriterStack {
             → IsStack start history self.old
             → (place : Place) × IsAnswered self.old history self.old.frames (Ok (Allot.Fits place)) }
     {
-        self.reserve(pushed.moment, pushed.moment, pushed.len)
-            .number
+        let number = self.tail.first().0 + self.tail.count();
+        let fill = self.tail.fill().0;
+        let place = self
+            .tail
+            .put_plain(self.last_moment, pushed.moment, pushed.len);
+        self.last_moment = pushed.moment;
+        self.top.hold(Slot {
+            number,
+            fill,
+            place,
+        });
+        number
     }
 
     /// `allot`, however far the frame on top has come.
     #[inline(never)]
     fn allot_any(&mut self) -> Result<Allot, WriteFault>
+        requires stack { Stands self.old }
+        ensures crowded { result ≡ Err WriteFault.Crowded ↔ (NeedsPage self.old self.old.frames × IsCrowded self.old) }
+        ensures worn { result ≡ Err WriteFault.Worn
+            ↔ (NeedsPage self.old self.old.frames × (IsCrowded self.old → ⊥) × IsWorn self.old) }
+        ensures no_frame { result ≡ Err WriteFault.NoFrame ↔ self.old.frames ≡ [] }
+        ensures not_reserved { result ≡ Err WriteFault.NotReserved ↔ HasTopLeft self.old.frames }
+        ensures needs_page { result ≡ Ok Allot.NeedsPage
+            ↔ (NeedsPage self.old self.old.frames × (IsCrowded self.old → ⊥) × (IsWorn self.old → ⊥)) }
+        ensures after { IsAllotted self.old self.old.frames result self.new }
+        ensures stays { Stands self.new }
+        ensures answered { (start : ℕ) (history : List Action)
+            → IsStack start history self.old
+            → IsAnswered self.old history self.old.frames result }
+    {
+        let Some((pushed, noted)) = self.top.trying() else {
+            return self.allot_again();
+        };
+        let Pushed { moment, len } = pushed;
+        let raised = moment.max(self.last_moment);
+        let end = self.tail.end();
+        if self.size < end + size_of(len, raised - self.last_moment, end == 0) {
+            return self.note_need(Frame {
+                purpose: Purpose::Record { moment, len },
+                progress: Progress::Waiting(noted),
+            });
+        }
+        Ok(Allot::Fits(self.reserve_any(moment, raised, len)))
+    }
+
+    /// `allot`, for any frame on top, or for none.
+    #[inline(never)]
+    fn allot_again(&mut self) -> Result<Allot, WriteFault>
         requires stack { Stands self.old }
         ensures crowded { result ≡ Err WriteFault.Crowded ↔ (NeedsPage self.old self.old.frames × IsCrowded self.old) }
         ensures worn { result ≡ Err WriteFault.Worn

@@ -3,7 +3,7 @@ use crate::frame::{Frame, Progress};
 use crate::stack::WriterStack;
 
 impl WriterStack {
-    ghost use Rattle.std.specs.Prelude.{◌≡◌, ◌+◌, ◌≤◌, ◌↔◌, length, IsTrue};
+    ghost use Rattle.std.specs.Prelude.{◌≡◌, ◌+◌, ◌≤◌, ◌↔◌, [], length, IsTrue};
     ghost use Rattle.trace_model.specs.declared.limits.TheConstants.{MIN_PAGES, MAX_PAGES, MIN_SIZE, MAX_SIZE, MAX_FRAMES, LINK_FILLS};
     ghost use Rattle.nested_writer.specs.Stack.{opened};
     ghost use Rattle.nested_writer.specs.Calls.{top_of, IsAtBottom, MayAddPage};
@@ -44,6 +44,14 @@ impl WriterStack {
         ensures numbered { result + self.now.pages ≤ LINK_FILLS }
     {
         self.done + self.older.len() as u64 + 1
+    }
+
+    /// Whether no frame stands.
+    #[inline(always)]
+    pub fn is_empty(&self) -> bool
+        ensures { IsTrue result ↔ self.now.frames ≡ [] }
+    {
+        self.top.is_none()
     }
 
     /// How many frames stand.

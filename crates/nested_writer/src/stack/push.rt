@@ -11,9 +11,6 @@ use record_words::size_of;
 use std::collections::VecDeque;
 use trace_model::{MAX_FRAMES, MOMENT_LIMIT};
 
-/// How many bytes a record may take beside its payload, without a time extend: two words, and zeros up to a whole word.
-const MOST_AROUND: usize = 12;
-
 /// Puts the frame on top, if one stands, in front of those below it.
 #[inline(never)]
 fn cover(top: &Top, below: &mut VecDeque<Frame>)
@@ -45,13 +42,10 @@ impl WriterStack {
         if !self.top.is_none() {
             cover(&self.top, &mut self.below);
         }
-        match purpose {
-            Purpose::Record { moment, len } => self.top.wait(moment, len),
-            Purpose::Close => self.top.put(Frame {
-                purpose,
-                progress: Progress::Waiting(None),
-            }),
-        }
+        self.top.put(Frame {
+            purpose,
+            progress: Progress::Waiting(None),
+        });
     }
 
     /// Whether a frame for a record of this moment and of a payload of `len` bytes may be pushed.
@@ -120,11 +114,18 @@ impl WriterStack {
             → IsStack start history self.old
             → IsStack start (history ++ push moment len ∷ []) self.new) }
     {
-        if self.top.is_none() && len <= self.size - MOST_AROUND && moment < MOMENT_LIMIT {
-            self.top.wait(moment, len);
-            return Ok(());
+        if !self.top.is_none() {
+            return self.begin_any(moment, len);
         }
-        self.begin_any(moment, len)
+        // Fewer than 1 byte, or more than `plain_len`.
+        if len.wrapping_sub(1) >= self.plain_len {
+            return self.begin_any(moment, len);
+        }
+        if moment >= MOMENT_LIMIT {
+            return self.begin_any(moment, len);
+        }
+        self.top.wait(moment, len);
+        Ok(())
     }
 
     /// Pushes a frame that leaves the tail page, where that holds a record.

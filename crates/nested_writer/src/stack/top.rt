@@ -1,5 +1,6 @@
 //! The frame on top, kept so that the calls of a record move few words and test one.
-ghost use Rattle.std.specs.Prelude.{◌≡◌, ℕ, Option, Some, None, IfSome, IsTrue, ◌↔◌, ◌⊎◌, option_to_list};
+ghost use Rattle.std.specs.Prelude.{◌≡◌, ◌≤◌, ℕ, Option, Some, None, IfSome, IsTrue, ◌↔◌, ◌⊎◌, option_to_list};
+ghost use Rattle.record_words.specs.declared.format.TheConstants.{SHORT_LIMIT};
 ghost use Rattle.nested_writer.specs.Calls.{IsTopSlot, LacksSlot};
 ghost use Rattle.nested_writer.specs.declared.frame.Frame.{Frame};
 ghost use Rattle.nested_writer.specs.declared.frame.Slot.{Slot};
@@ -7,7 +8,7 @@ ghost use Rattle.nested_writer.specs.declared.frame.Purpose.TheVariants.{Record}
 ghost use Rattle.nested_writer.specs.declared.frame.Progress.TheVariants.{Waiting, Reserved, Left};
 
 use crate::frame::{Frame, Progress, Purpose, Pushed, Slot};
-use record_words::Place;
+use record_words::{Place, SHORT_LIMIT};
 use std::marker::Model;
 
 /// Which fields tell the frame on top.
@@ -15,13 +16,17 @@ use std::marker::Model;
 enum Phase {
     /// No frame stands.
     Idle,
-    /// A record frame that noted nothing: what it was pushed with.
+    /// A record frame that noted nothing, for a payload of 1 to `SHORT_LIMIT` bytes: what it was pushed with.
     Waits,
+    /// Any other record frame whose record isn't reserved yet: what it was pushed with, and what it noted.
+    Tries,
     /// A record frame whose record is reserved: what it was pushed with, and the slot.
     Holds,
+    /// A close frame that has a slot, as no frame of a ring ever has: the slot.
+    HoldsClose,
     /// A record frame that left and noted nothing: what it was pushed with.
     Gone,
-    /// Any frame but a record frame that noted nothing: itself.
+    /// Any other frame, which has no slot: itself.
     Other,
 }
 
@@ -29,8 +34,13 @@ enum Phase {
 #[derive(Drop)]
 pub(crate) struct Top {
     phase: Phase,
+    /// What a record frame was pushed with, but one that `other` tells.
     pushed: Pushed,
+    /// The number of begun fills that a frame noted which tries.
+    noted: Option<u64>,
+    /// Where the record of a frame stands that holds one.
     slot: Slot,
+    /// The frame that no other field tells.
     other: Frame,
 }
 
@@ -54,6 +64,7 @@ impl Top {
         Top {
             phase: Phase::Idle,
             pushed: Pushed { moment: 0, len: 0 },
+            noted: None,
             slot: Slot {
                 number: 0,
                 fill: 0,
@@ -89,8 +100,16 @@ impl Top {
                 purpose,
                 progress: Progress::Waiting(None),
             }),
+            Phase::Tries => Some(Frame {
+                purpose,
+                progress: Progress::Waiting(self.noted),
+            }),
             Phase::Holds => Some(Frame {
                 purpose,
+                progress: Progress::Reserved(self.slot),
+            }),
+            Phase::HoldsClose => Some(Frame {
+                purpose: Purpose::Close,
                 progress: Progress::Reserved(self.slot),
             }),
             Phase::Gone => Some(Frame {
@@ -101,12 +120,14 @@ impl Top {
         }
     }
 
-    /// What the frame was pushed with, where it is a record frame that tried nothing yet; `None` may stand for such a
-    /// frame too.
+    /// What the frame was pushed with, where it is a record frame that tried nothing yet, for a payload of 1 to
+    /// `SHORT_LIMIT` bytes; `None` may stand for such a frame too.
     #[inline(always)]
     pub(crate) fn waiting(&self) -> Option<Pushed>
-        ensures { IfSome result (λ pushed. self.now
+        ensures frame { IfSome result (λ pushed. self.now
             ≡ Some (record { purpose = Record pushed.moment pushed.len; progress = Waiting None })) }
+        ensures some { IfSome result (λ pushed. 1 ≤ pushed.len) }
+        ensures short { IfSome result (λ pushed. pushed.len ≤ SHORT_LIMIT) }
     {
         if matches!(self.phase, Phase::Waits) {
             Some(self.pushed)
@@ -121,13 +142,10 @@ impl Top {
         ensures some { IfSome result (λ slot. IsTopSlot (option_to_list self.now) slot) }
         ensures none { result ≡ None ↔ (self.now ≡ None) ⊎ LacksSlot (option_to_list self.now) }
     {
-        if matches!(self.phase, Phase::Holds) {
+        if matches!(self.phase, Phase::Holds | Phase::HoldsClose) {
             return Some(self.slot);
         }
-        match (self.phase, self.other.progress) {
-            (Phase::Other, Progress::Reserved(slot)) => Some(slot),
-            _ => None,
-        }
+        None
     }
 
     /// Whether it is a record frame whose record is reserved; `false` may stand for such a frame too.
@@ -152,7 +170,20 @@ impl Top {
         ensures { self.new ≡ Some frame }
     {
         match (frame.purpose, frame.progress) {
-            (Purpose::Record { moment, len }, Progress::Waiting(None)) => self.wait(moment, len),
+            (Purpose::Record { moment, len }, Progress::Waiting(None))
+                if len.wrapping_sub(1) < SHORT_LIMIT => { self.wait(moment, len) }
+            (Purpose::Record { moment, len }, Progress::Waiting(noted)) => {
+                self.phase = Phase::Tries;
+                self.pushed = Pushed { moment, len };
+                self.noted = noted;
+            }
+            (Purpose::Record { moment, len }, Progress::Reserved(slot)) => self.hold_any(
+                moment, len, slot,
+            ),
+            (Purpose::Close, Progress::Reserved(slot)) => {
+                self.phase = Phase::HoldsClose;
+                self.slot = slot;
+            }
             _ => {
                 self.phase = Phase::Other;
                 self.other = frame;
@@ -160,9 +191,11 @@ impl Top {
         }
     }
 
-    /// It is a record frame that tried nothing yet.
+    /// It is a record frame that tried nothing yet, for a payload of 1 to `SHORT_LIMIT` bytes.
     #[inline(always)]
     pub(crate) fn wait(&mut self, moment: u64, len: usize)
+        requires some { 1 ≤ len }
+        requires short { len ≤ SHORT_LIMIT }
         ensures { self.new ≡ Some (record { purpose = Record moment len; progress = Waiting None }) }
     {
         self.phase = Phase::Waits;
@@ -178,6 +211,44 @@ impl Top {
             → self.new ≡ Some (record frame { progress = Reserved slot }) }
     {
         self.phase = Phase::Holds;
+        self.slot = slot;
+    }
+
+    /// What the frame was pushed with, and what it noted, where it is a record frame whose record isn't reserved yet;
+    /// `None` may stand for such a frame too.
+    #[inline(always)]
+    pub(crate) fn trying(&self) -> Option<(Pushed, Option<u64>)>
+        ensures { IfSome result (λ tries. self.now
+            ≡ Some (record { purpose = Record tries.0.moment tries.0.len; progress = Waiting tries.1 })) }
+    {
+        match self.phase {
+            Phase::Waits => Some((self.pushed, None)),
+            Phase::Tries => Some((self.pushed, self.noted)),
+            _ => None,
+        }
+    }
+
+    /// The frame noted that so many fills were begun.
+    #[inline(always)]
+    pub(crate) fn note(&mut self, opened: u64)
+        ensures { (frame : Frame) → self.old ≡ Some frame
+            → self.new ≡ Some (record frame { progress = Waiting (Some opened) }) }
+    {
+        if matches!(self.phase, Phase::Waits | Phase::Tries) {
+            self.phase = Phase::Tries;
+            self.noted = Some(opened);
+        } else {
+            self.go_on(Progress::Waiting(Some(opened)));
+        }
+    }
+
+    /// It is a record frame that has this slot.
+    #[inline(always)]
+    pub(crate) fn hold_any(&mut self, moment: u64, len: usize, slot: Slot)
+        ensures { self.new ≡ Some (record { purpose = Record moment len; progress = Reserved slot }) }
+    {
+        self.phase = Phase::Holds;
+        self.pushed = Pushed { moment, len };
         self.slot = slot;
     }
 

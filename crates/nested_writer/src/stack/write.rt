@@ -23,14 +23,6 @@ impl WriterStack {
     ghost use Rattle.nested_writer.specs.AtOnce.{MayStand, FitsAtOnce, with_written, with_left, with_record, IsPlain};
     ghost use Rattle.nested_writer.specs.IsStack.{Stands};
 
-    /// Whether no frame stands.
-    #[inline(always)]
-    fn is_empty(&self) -> bool
-        ensures { IsTrue result ↔ self.now.frames ≡ [] }
-    {
-        self.top.is_none()
-    }
-
     /// Writes a record whose moment is raised to `raised`.
     #[inline(always)]
     fn put_record(&mut self, moment: u64, raised: u64, payload: &[u8])

@@ -1,25 +1,69 @@
-use Rattle.std.proofs.Common.{◌≡◌, ◌∷◌, List, sym, ap, ◌∙◌, subst}
+use Rattle.std.proofs.Common.{◌≡◌, ℕ, ◌+◌, ◌-◌, ◌≤◌, max, Bool, [], ◌∷◌, ◌++◌, List, length, replicate, sym, ap, ◌∙◌, subst, arith, length-append}
+use Rattle.std.proofs.lemmas.List.{length-replicate}
+use Rattle.trace_model.specs.History.{reserve, reserved_records}
+use Rattle.trace_model.specs.Packing.{opens_of, is_wished}
+use Rattle.trace_model.specs.Words.{encoding, encoded_len, slot_len}
+use Rattle.trace_model.proofs.Lengths.{length-encoding}
+use Rattle.page_image.specs.Contents.{is_blank}
 use Rattle.nested_writer.specs.declared.frame.Frame.{Frame}
-use Rattle.nested_writer.specs.Stack.{Stack}
+use Rattle.nested_writer.specs.declared.frame.Slot.{Slot}
+use Rattle.nested_writer.specs.declared.frame.Purpose.{Purpose}
+use Rattle.nested_writer.specs.declared.frame.Progress.TheVariants.{Reserved}
+use Rattle.nested_writer.specs.Stack.{Stack, tail_fill}
 use Rattle.nested_writer.specs.Inside.{shown, frames_from}
+use Rattle.nested_writer.specs.Calls.{HasRecordRoom}
 use Rattle.nested_writer.specs.IsStack.{IsStack}
-use Rattle.nested_writer.proofs.Leaving.{forgotten}
 use Rattle.nested_writer.proofs.Tops.{top_is}
+use Rattle.nested_writer.proofs.Bounds.{tail_ends_at, number_fits}
+use Rattle.nested_writer.proofs.Reserving.{reserved_with}
 use Rattle.nested_writer.proofs.stack.WriterStack.reserve_any.Goals as goal
 
-pub reserve-requires-clause-stack : goal.reserve-requires-clause-stack
-reserve-requires-clause-stack c =
-    let s : Stack = shown c.self.inside in
+pub overflow_add-number : goal.overflow_add-number
+overflow_add-number c =
     let (start, history, k) = c.requires.stack in
-    let (top, below, noted, on_top, purpose, waits) = c.requires.top in
-    let on_top' : frames_from c.self.inside.top c.self.inside.below.items ≡ top ∷ below = ap (λ (x : Stack). x.frames) c.self.view_is ∙ on_top in
-    let found = top_is c.self.inside.top c.self.inside.below.items top below c.self.invariant.top_first on_top' in
-    rw c.wait.ensures (start, history, forgotten start history s top c.self.inside.below.items c.args.moment c.args.len noted (on_top' ∙ ap (λ (fs : List Frame). top ∷ fs) (sym found.1)) purpose waits (subst (IsStack start history) (sym c.self.view_is) k))
+    let s : Stack = shown c.self.inside in
+    let k' = (subst (IsStack start history) (sym c.self.view_is) k).holds in
+    let fills = c.self.invariant.fills in
+    let fits = number_fits start (opens_of history) (reserved_records history) (is_wished history) s k' (omega arith) in
+    omega (arith, c.first.ensures, c.count.ensures.count)
+
+pub put-place-requires-clause-last : goal.put-place-requires-clause-last
+put-place-requires-clause-last c =
+    let (start, history, k) = c.requires.stack in
+    tail_ends_at start (opens_of history) (reserved_records history) (is_wished history) (shown c.self.inside) (subst (IsStack start history) (sym c.self.view_is) k).holds
 
 pub returns-clause-stack : goal.returns-clause-stack
-returns-clause-stack c = λ start history k.
+returns-clause-stack c = λ start history old.
     let s : Stack = shown c.self.inside in
+    let k : IsStack start history s = subst (IsStack start history) (sym c.self.view_is) old in
     let (top, below, noted, on_top, purpose, waits) = c.requires.top in
-    let on_top' : frames_from c.self.inside.top c.self.inside.below.items ≡ top ∷ below = ap (λ (x : Stack). x.frames) c.self.view_is ∙ on_top in
-    let found = top_is c.self.inside.top c.self.inside.below.items top below c.self.invariant.top_first on_top' in
-    c.reserve.ensures.stack start history (rw c.wait.ensures (forgotten start history s top c.self.inside.below.items c.args.moment c.args.len noted (on_top' ∙ ap (λ (fs : List Frame). top ∷ fs) (sym found.1)) purpose waits (subst (IsStack start history) (sym c.self.view_is) k)))
+    let items : List Frame = c.self.inside.below.items in
+    let on_top' : frames_from c.self.inside.top items ≡ top ∷ below = ap (λ (x : Stack). x.frames) c.self.view_is ∙ on_top in
+    let found = top_is c.self.inside.top items top below c.self.invariant.top_first on_top' in
+    let put = c.put-place.ensures in
+    let fill_is : c.fill-fill.result.0 ≡ tail_fill s = c.fill-fill.ensures ∙ k.holds.tail_is.fill_is in
+    let delta : ℕ = c.args.raised - s.last_moment in
+    let blank : Bool = is_blank s.tail.bytes in
+    let zeros : List ℕ = replicate (slot_len c.args.len) 0 in
+    let long : length c.put-place.new.self.bytes ≡ length s.tail.bytes + encoded_len c.args.len delta blank =
+    ap length put.bytes ∙ length-append s.tail.bytes (encoding delta blank zeros) ∙ ap (λ (n : ℕ). length s.tail.bytes + n) (length-encoding c.args.len delta blank zeros (length-replicate (slot_len c.args.len) 0)) in
+    let raised : c.args.raised ≡ max c.args.moment s.last_moment = c.requires.raised ∙ ap (λ (x : Stack). max c.args.moment x.last_moment) (sym c.self.view_is) in
+    let room = subst (λ (x : Stack). HasRecordRoom x c.args.moment c.args.len) (sym c.self.view_is) c.requires.room in
+    let room' : length s.tail.bytes + encoded_len c.args.len delta blank ≤ s.size = subst (λ (m : ℕ). length s.tail.bytes + encoded_len c.args.len (m - s.last_moment) blank ≤ s.size) (sym raised) room in
+    let slot : Slot = record { number = c.first.result.0 + c.count.result; fill = c.fill-fill.result.0; place = c.put-place.result } in
+    rw c.hold_any.ensures (subst (λ (p : Purpose). IsStack start (history ++ reserve ∷ []) (record s { tail = c.put-place.new.self; last_moment = c.args.raised; frames = record { purpose = p; progress = Reserved slot } ∷ items })) purpose
+    (reserved_with start history s top items c.args.moment c.args.len noted c.put-place.new.self c.put-place.result c.args.raised (c.first.result.0 + c.count.result) c.fill-fill.result.0
+    raised (omega (arith, c.first.ensures, c.count.ensures.count)) fill_is (on_top' ∙ ap (λ (fs : List Frame). top ∷ fs) (sym found.1)) purpose waits (omega (arith, long, room')) record {
+      page = put.page;
+      records = put.records;
+      long = long;
+      time = put.time;
+      count = put.count;
+      first = put.first;
+      fill = put.fill;
+      size = put.size;
+      ends = put.open;
+      number = put.number;
+      places_stay = put.places_stay;
+      len_is = put.len;
+    } k))
