@@ -31,12 +31,8 @@ use Rattle.ring_frames.specs.Steps.{IsFrames}
 use Rattle.ring_frames.specs.AtOnce.{with_left_frame, IsWriteAtOnce, WritesAtOnce, IsWrittenAlone}
 use Rattle.ring_frames.proofs.Privately.{kept_of, top_is_private}
 use Rattle.ring_frames.proofs.Pushed.{new_frame, has_room}
-use Rattle.ring_frames.proofs.Left.{closing_is, left_notes}
+use Rattle.ring_frames.proofs.Left.{closing_is, left_notes, closing_value}
 use Rattle.ring_frames.proofs.Reshown.{reshown}
-
--- the value with this stack, whose bottom frame has just left
-abbrev pub closing_value : FramesValue → Stack → FramesValue
-closing_value v stack = record v { stack = stack; phase = closing_phase stack }
 
 module _ (n size start : ℕ) (v : FramesValue) (c : Core) (k : AreFrames n size start v c) (moment : ℕ) (payload : List ℕ) (fits : FitsAtOnce v.stack moment (length payload)) (stack : Stack) (is : stack ≡ with_record v.stack moment payload) where
   abbrev len : ℕ

@@ -1,5 +1,5 @@
 -- A frame that leaves the stack.
-use Rattle.std.proofs.Common.{◌≡◌, ℕ, ◌+◌, Bool, true, false, cond, eqb, List, [], ◌∷◌, ◌++◌, length, map, Option, Some, None, refl, sym, ap, ◌∙◌, subst, arith}
+use Rattle.std.proofs.Common.{◌≡◌, ◌≢◌, ℕ, ◌+◌, ◌<◌, ◌≤◌, Bool, true, false, cond, eqb, List, [], ◌∷◌, ◌++◌, length, map, Option, Some, None, refl, sym, ap, ◌∙◌, subst, arith}
 use Rattle.trace_model.specs.History.{leave}
 use Rattle.trace_model.specs.Frames.{left, releasing, wishing, noted_fill, Frame as ModelFrame}
 use Rattle.trace_model.specs.Ring.{Core}
@@ -114,3 +114,25 @@ pub left_without : (n size start : ℕ) (v : FramesValue) (c : Core) (top : Fram
 left_without n size start v c top frames frame below stack k stack_is model_is is kept =
     subst (λ (s : Stack). AreFrames n size start (left_value v s) (model.after_leave c frame below None)) (sym is)
     (left_shown n size start v c top frames frame below None k stack_is model_is (subst (IsStack start (c.history ++ leave None ∷ [])) is kept))
+
+-- ---- a frame that stands alone
+
+-- no phase is kept below that of a frame that stands alone
+pub none_below : (frames : List Frame) (below : List Phase) → AreBelow frames below → length frames ≤ 1 → below ≡ []
+none_below [] below same few = same
+none_below (top ∷ frames) [] same few = refl
+none_below (top ∷ frames) (p ∷ below) same few = absurd (omega (arith, same, few))
+
+pub some_below : (frames : List Frame) (below : List Phase) → AreBelow frames below → 1 < length frames → below ≢ []
+some_below [] below same many none = absurd (omega (arith, many))
+some_below (top ∷ frames) below same many none = let e = ap (length {A = Phase}) none in absurd (omega (arith, same, many, e))
+
+-- the value with this stack, whose bottom frame has just left
+abbrev pub closing_value : FramesValue → Stack → FramesValue
+closing_value v stack = record v { stack = stack; phase = closing_phase stack }
+
+-- a frame that stands alone stays
+pub left_alone : (v : FramesValue) (stack : Stack) → v.below ≡ [] → left_value v stack ≡ closing_value v stack
+left_alone v stack none =
+    ap (λ (below : List Phase). let x : FramesValue = record { stack = stack; phase = phase_after_leave stack below; below = below_after_leave below } in x) none
+    ∙ ap (λ (below : List Phase). let x : FramesValue = record { stack = stack; phase = closing_phase stack; below = below } in x) (sym none)

@@ -1,16 +1,14 @@
 -- A record frame on top that tried nothing yet, and whose record surely fits.
-use Rattle.std.proofs.Common.{◌≡◌, ℕ, List, [], ◌∷◌, Option, Some, None, refl, ap, subst}
+use Rattle.std.proofs.Common.{◌≡◌, ℕ, List, ◌∷◌, Option, Some, None, refl, ap, subst}
 use Rattle.trace_model.specs.Frames.{for_record, waiting, left, noted_fill}
 use Rattle.trace_model.specs.Ring.{Core}
 use Rattle.link_marks.specs.KeptStack.{FramesAgree}
 use Rattle.link_marks.proofs.FramePhases.{none_some}
 use Rattle.link_marks.proofs.StackSteps.{releasing_left, wishing_left}
 use Rattle.nested_writer.specs.declared.frame.Purpose.TheVariants.{Record}
-use Rattle.nested_writer.specs.declared.frame.Progress.TheVariants.{Waiting, Reserved}
-use Rattle.nested_writer.specs.declared.frame.Slot.{Slot}
+use Rattle.nested_writer.specs.declared.frame.Progress.TheVariants.{Waiting}
 use Rattle.nested_writer.specs.declared.frame.Pushed.{Pushed}
 use Rattle.nested_writer.specs.declared.frame.Frame.{Frame}
-use Rattle.nested_writer.specs.Calls.{top_of, IsTopSlot}
 use Rattle.nested_writer.specs.PlainTop.{IsPlainTop}
 use Rattle.ring_frames.specs.declared.phase.Phase.{Phase}
 use Rattle.ring_frames.specs.declared.phase.Phase.TheVariants.{Idle, Looking, Claiming, LookingNext, Marking, Clearing, Opening, Releasing, Wishing}
@@ -41,8 +39,3 @@ plain_rests n size start v c pushed core plain =
   where
     not_both : waiting ≡ left → ⊥
     not_both e = cc
-
--- the frame that has this slot is on top
-pub top_told : (frames : List Frame) (slot : Slot) → IsTopSlot frames slot → (told : Frame) × (Some told ≡ top_of frames) × (told.progress ≡ Reserved slot)
-top_told [] slot has = absurd has
-top_told (top ∷ below) slot has = (top, refl, has)

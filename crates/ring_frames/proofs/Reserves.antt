@@ -21,7 +21,7 @@ use Rattle.nested_writer.specs.declared.frame.Progress.{Progress}
 use Rattle.nested_writer.specs.declared.frame.Progress.TheVariants.{Waiting, Through, Reserved, Left}
 use Rattle.nested_writer.specs.declared.frame.Frame.{Frame}
 use Rattle.nested_writer.specs.Stack.{Stack, opened, next_number, kind_of, state_of}
-use Rattle.nested_writer.specs.Calls.{with_progress, after_leave, top_of, HasLeft, IsCrowded, IsReserved}
+use Rattle.nested_writer.specs.Calls.{with_progress, after_leave, HasLeft, IsCrowded, IsReserved, IsTopSlot}
 use Rattle.nested_writer.specs.Allotted.{HasActed, first_try, HasFit, IsAllotted}
 use Rattle.nested_writer.specs.Answered.{FitsTail, WantsFill, HasItsFill, IsAnswered}
 use Rattle.nested_writer.specs.Ends.{IsEnd}
@@ -186,22 +186,12 @@ module _ (n size start : ℕ) (v : FramesValue) (c : Core) (core : HasFrames n s
 
   -- ---- its record is reserved, or there is nothing to close
 
-  -- the top that the stack tells
-  abbrev pub IsTold : Stack → Frame → Type 0
-  IsTold stack told = Some told ≡ top_of stack.frames
-
-  told_is : (stack : Stack) (told : Frame) (t : Frame) (others : List Frame) → IsTold stack told → stack.frames ≡ t ∷ others → told ≡ t
-  told_is stack told t others is frames_is = same_frame told t (is ∙ ap top_of frames_is)
-    where
-      same_frame : (one other : Frame) → Some one ≡ Some other → one ≡ other
-      same_frame one other e = cc
-
   slot_is : (one other : Slot) → Reserved one ≡ Reserved other → one ≡ other
   slot_is one other e = cc
 
-  -- the slot of the top that is told is that of the frame
-  told_slot : (stack : Stack) (told : Frame) (t : Frame) (others : List Frame) (slot own : Slot) → IsTold stack told → told.progress ≡ Reserved slot → stack.frames ≡ t ∷ others → t.progress ≡ Reserved own → slot ≡ own
-  told_slot stack told t others slot own is has frames_is t_has = slot_is slot own (sym has ∙ ap (λ (f : Frame). f.progress) (told_is stack told t others is frames_is) ∙ t_has)
+  -- the slot on top is that of the frame there
+  same_slot : (stack : Stack) (t : Frame) (others : List Frame) (slot own : Slot) → IsTopSlot stack.frames slot → stack.frames ≡ t ∷ others → t.progress ≡ Reserved own → slot ≡ own
+  same_slot stack t others slot own has frames_is t_has = slot_is slot own (sym (subst (λ (fs : List Frame). IsTopSlot fs slot) frames_is has) ∙ t_has)
 
   reserved_alike : (purpose : Purpose) (slot : Slot) → NotedAlike purpose (Reserved slot) v.phase
   reserved_alike (Record moment len) slot = resting
@@ -235,31 +225,31 @@ module _ (n size start : ℕ) (v : FramesValue) (c : Core) (core : HasFrames n s
         noted = subst (λ (fs : List Frame). AreNotedAlike fs (v.phase ∷ v.below)) (sym frames_is) (reserved_alike top.purpose own, noted_below);
       })
 
-  kept_slot : (own : Slot) (stack : Stack) (told : Frame) (slot : Slot) → top.progress ≡ Reserved own → stack ≡ v.stack → IsTold stack told → told.progress ≡ Reserved slot → IsPrivateStep n size start c model.steps (ReservedAs record { 0 = slot.number }) (record v { stack = stack })
-  kept_slot own stack told slot progress_is stays is told_has =
-      let same = told_slot stack told top rest slot own is told_has (ap (λ (s : Stack). s.frames) stays ∙ stack_is) progress_is in
+  kept_slot : (own : Slot) (stack : Stack) (slot : Slot) → top.progress ≡ Reserved own → stack ≡ v.stack → IsTopSlot stack.frames slot → IsPrivateStep n size start c model.steps (ReservedAs record { 0 = slot.number }) (record v { stack = stack })
+  kept_slot own stack slot progress_is stays has =
+      let same = same_slot stack top rest slot own has (ap (λ (s : Stack). s.frames) stays ∙ stack_is) progress_is in
       subst (λ (s : Stack). IsPrivateStep n size start c model.steps (ReservedAs record { 0 = slot.number }) (record v { stack = s })) (sym stays)
       (subst (λ (s : Slot). IsPrivateStep n size start c model.steps (ReservedAs record { 0 = s.number }) v) (sym same) (keeps_record own progress_is))
 
-  kept_top : (own : Slot) (stack : Stack) (told : Frame) → top.progress ≡ Reserved own → stack ≡ v.stack → IsTold stack told → told.progress ≡ Reserved own
-  kept_top own stack told progress_is stays is = ap (λ (f : Frame). f.progress) (told_is stack told top rest is (ap (λ (s : Stack). s.frames) stays ∙ stack_is)) ∙ progress_is
+  kept_top : (own : Slot) (stack : Stack) → top.progress ≡ Reserved own → stack ≡ v.stack → IsTopSlot stack.frames own
+  kept_top own stack progress_is stays = subst (λ (fs : List Frame). IsTopSlot fs own) (sym (ap (λ (s : Stack). s.frames) stays ∙ stack_is)) progress_is
 
   -- a frame that fits and has a slot then
-  with_slot : (purpose : Purpose) (progress : Progress) (place : Place) (stack : Stack) (told : Frame) (slot : Slot) → top.purpose ≡ purpose → top.progress ≡ progress → NotedAlike purpose progress Idle → HasItsFill v.stack c.history purpose progress → HasFit v.stack top rest purpose progress place stack → IsTold stack told → told.progress ≡ Reserved slot → IsPrivateStep n size start c model.steps (ReservedAs record { 0 = slot.number }) (record v { stack = stack })
-  with_slot (Record moment len) (Waiting noted) place stack told slot purpose_is progress_is agree has fit is told_has =
-      record_reserved moment len place stack slot (ap kind_of purpose_is) (ap state_of progress_is) has.0 has.1 fit.0 fit.1
-      (ap (λ (s : Slot). s.number) (told_slot stack told _ rest slot _ is told_has (ap (λ (s : Stack). s.frames) fit.0.others) refl))
-  with_slot Close (Waiting noted) place stack told slot purpose_is progress_is agree has fit is told_has =
-      absurd (not_both (sym (ap (λ (f : Frame). f.progress) (told_is stack told _ rest is (ap (λ (s : Stack). s.frames) fit.1))) ∙ told_has))
+  with_slot : (purpose : Purpose) (progress : Progress) (place : Place) (stack : Stack) (slot : Slot) → top.purpose ≡ purpose → top.progress ≡ progress → NotedAlike purpose progress Idle → HasItsFill v.stack c.history purpose progress → HasFit v.stack top rest purpose progress place stack → IsTopSlot stack.frames slot → IsPrivateStep n size start c model.steps (ReservedAs record { 0 = slot.number }) (record v { stack = stack })
+  with_slot (Record moment len) (Waiting noted) place stack slot purpose_is progress_is agree fill fit has =
+      record_reserved moment len place stack slot (ap kind_of purpose_is) (ap state_of progress_is) fill.0 fill.1 fit.0 fit.1
+      (ap (λ (s : Slot). s.number) (same_slot stack _ rest slot _ has (ap (λ (s : Stack). s.frames) fit.0.others) refl))
+  with_slot Close (Waiting noted) place stack slot purpose_is progress_is agree fill fit has =
+      absurd (not_both (subst (λ (fs : List Frame). IsTopSlot fs slot) (ap (λ (s : Stack). s.frames) fit.1) has))
     where
       not_both : Through (first_try v.stack (Waiting noted)) ≡ Reserved slot → ⊥
       not_both e = cc
-  with_slot (Record moment len) (Through noted) place stack told slot purpose_is progress_is agree has fit is told_has = absurd fit
-  with_slot Close (Through noted) place stack told slot purpose_is progress_is agree has fit is told_has = absurd agree
-  with_slot (Record moment len) (Reserved own) place stack told slot purpose_is progress_is agree has fit is told_has = kept_slot own stack told slot progress_is fit.0 is told_has
-  with_slot Close (Reserved own) place stack told slot purpose_is progress_is agree has fit is told_has = kept_slot own stack told slot progress_is fit.0 is told_has
-  with_slot (Record moment len) (Left noted) place stack told slot purpose_is progress_is agree has fit is told_has = absurd fit
-  with_slot Close (Left noted) place stack told slot purpose_is progress_is agree has fit is told_has = absurd fit
+  with_slot (Record moment len) (Through noted) place stack slot purpose_is progress_is agree fill fit has = absurd fit
+  with_slot Close (Through noted) place stack slot purpose_is progress_is agree fill fit has = absurd agree
+  with_slot (Record moment len) (Reserved own) place stack slot purpose_is progress_is agree fill fit has = kept_slot own stack slot progress_is fit.0 has
+  with_slot Close (Reserved own) place stack slot purpose_is progress_is agree fill fit has = kept_slot own stack slot progress_is fit.0 has
+  with_slot (Record moment len) (Left noted) place stack slot purpose_is progress_is agree fill fit has = absurd fit
+  with_slot Close (Left noted) place stack slot purpose_is progress_is agree fill fit has = absurd fit
 
   -- ---- nothing is left to close
 
@@ -267,30 +257,31 @@ module _ (n size start : ℕ) (v : FramesValue) (c : Core) (core : HasFrames n s
   begun_not noted none (inl nothing) = nothing
   begun_not noted none (inr begun) = absurd (subst (Rattle.nested_writer.specs.Answered.IsBegunSince v.stack) none begun)
 
-  without_slot : (purpose : Purpose) (progress : Progress) (place : Place) (stack : Stack) (told : Frame) → top.purpose ≡ purpose → top.progress ≡ progress → NotedAlike purpose progress Idle → HasItsFill v.stack c.history purpose progress → HasFit v.stack top rest purpose progress place stack → IsTold stack told → ((slot : Slot) → told.progress ≡ Reserved slot → ⊥) → IsClosing v c top rest stack
-  without_slot (Record moment len) (Waiting noted) place stack told purpose_is progress_is agree has fit is none =
-      absurd (none _ (ap (λ (f : Frame). f.progress) (told_is stack told _ rest is (ap (λ (s : Stack). s.frames) fit.0.others))))
-  without_slot Close (Waiting noted) place stack told purpose_is progress_is agree has fit is none = record {
+  without_slot : (purpose : Purpose) (progress : Progress) (place : Place) (stack : Stack) → top.purpose ≡ purpose → top.progress ≡ progress → NotedAlike purpose progress Idle → HasItsFill v.stack c.history purpose progress → HasFit v.stack top rest purpose progress place stack → ((slot : Slot) → IsTopSlot stack.frames slot → ⊥) → IsClosing v c top rest stack
+  without_slot (Record moment len) (Waiting noted) place stack purpose_is progress_is agree fill fit none =
+      let own : Slot = record { number = next_number v.stack; fill = Rattle.nested_writer.specs.Stack.tail_fill v.stack; place = place } in
+      absurd (none own (subst (λ (fs : List Frame). IsTopSlot fs own) (sym (ap (λ (s : Stack). s.frames) fit.0.others)) refl))
+  without_slot Close (Waiting noted) place stack purpose_is progress_is agree fill fit none = record {
     noted = noted;
     waits = progress_is;
     close = purpose_is;
-    nothing = begun_not noted agree has;
+    nothing = begun_not noted agree fill;
     through = (fit.1, fit.2);
   }
-  without_slot (Record moment len) (Through noted) place stack told purpose_is progress_is agree has fit is none = absurd fit
-  without_slot Close (Through noted) place stack told purpose_is progress_is agree has fit is none = absurd agree
-  without_slot (Record moment len) (Reserved own) place stack told purpose_is progress_is agree has fit is none = absurd (none own (kept_top own stack told progress_is fit.0 is))
-  without_slot Close (Reserved own) place stack told purpose_is progress_is agree has fit is none = absurd (none own (kept_top own stack told progress_is fit.0 is))
-  without_slot (Record moment len) (Left noted) place stack told purpose_is progress_is agree has fit is none = absurd fit
-  without_slot Close (Left noted) place stack told purpose_is progress_is agree has fit is none = absurd fit
+  without_slot (Record moment len) (Through noted) place stack purpose_is progress_is agree fill fit none = absurd fit
+  without_slot Close (Through noted) place stack purpose_is progress_is agree fill fit none = absurd agree
+  without_slot (Record moment len) (Reserved own) place stack purpose_is progress_is agree fill fit none = absurd (none own (kept_top own stack progress_is fit.0))
+  without_slot Close (Reserved own) place stack purpose_is progress_is agree fill fit none = absurd (none own (kept_top own stack progress_is fit.0))
+  without_slot (Record moment len) (Left noted) place stack purpose_is progress_is agree fill fit none = absurd fit
+  without_slot Close (Left noted) place stack purpose_is progress_is agree fill fit none = absurd fit
 
-  pub fits_slot : (place other : Place) (stack : Stack) (told : Frame) (slot : Slot) → IsAnswered v.stack c.history v.stack.frames (Ok (Fits other)) → IsAllotted v.stack v.stack.frames (Ok (Fits place)) stack → IsTold stack told → told.progress ≡ Reserved slot → IsPrivateStep n size start c model.steps (ReservedAs record { 0 = slot.number }) (record v { stack = stack })
-  fits_slot place other stack told slot answered allotted is has =
-      with_slot top.purpose top.progress place stack told slot refl refl alike (subst (λ (fs : List Frame). IsAnswered v.stack c.history fs (Ok (Fits other))) stack_is answered) (subst (λ (fs : List Frame). IsAllotted v.stack fs (Ok (Fits place)) stack) stack_is allotted) is has
+  pub fits_slot : (place other : Place) (stack : Stack) (slot : Slot) → IsAnswered v.stack c.history v.stack.frames (Ok (Fits other)) → IsAllotted v.stack v.stack.frames (Ok (Fits place)) stack → IsTopSlot stack.frames slot → IsPrivateStep n size start c model.steps (ReservedAs record { 0 = slot.number }) (record v { stack = stack })
+  fits_slot place other stack slot answered allotted has =
+      with_slot top.purpose top.progress place stack slot refl refl alike (subst (λ (fs : List Frame). IsAnswered v.stack c.history fs (Ok (Fits other))) stack_is answered) (subst (λ (fs : List Frame). IsAllotted v.stack fs (Ok (Fits place)) stack) stack_is allotted) has
 
-  pub fits_close : (place : Place) (stack : Stack) (told : Frame) → IsAnswered v.stack c.history v.stack.frames (Ok (Fits place)) → IsAllotted v.stack v.stack.frames (Ok (Fits place)) stack → IsTold stack told → ((slot : Slot) → told.progress ≡ Reserved slot → ⊥) → IsClosing v c top rest stack
-  fits_close place stack told answered allotted is none =
-      without_slot top.purpose top.progress place stack told refl refl alike (subst (λ (fs : List Frame). IsAnswered v.stack c.history fs (Ok (Fits place))) stack_is answered) (subst (λ (fs : List Frame). IsAllotted v.stack fs (Ok (Fits place)) stack) stack_is allotted) is none
+  pub fits_close : (place : Place) (stack : Stack) → IsAnswered v.stack c.history v.stack.frames (Ok (Fits place)) → IsAllotted v.stack v.stack.frames (Ok (Fits place)) stack → ((slot : Slot) → IsTopSlot stack.frames slot → ⊥) → IsClosing v c top rest stack
+  fits_close place stack answered allotted none =
+      without_slot top.purpose top.progress place stack refl refl alike (subst (λ (fs : List Frame). IsAnswered v.stack c.history fs (Ok (Fits place))) stack_is answered) (subst (λ (fs : List Frame). IsAllotted v.stack fs (Ok (Fits place)) stack) stack_is allotted) none
 
   pub nothing_found : (between stack : Stack) → IsClosing v c top rest between → IsEnd between between.frames stack → IsPrivateStep n size start c model.steps (left_answer v.below) (left_value v stack)
   nothing_found between stack closing ended =

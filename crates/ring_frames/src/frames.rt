@@ -38,7 +38,7 @@ impl Model for Frames {
 }
 
 impl Frames {
-    ghost use Rattle.std.specs.Prelude.{◌≡◌, ◌≢◌, true, false, ◌+◌, ◌%◌, ◌≤◌, ◌<◌, length, IfOk};
+    ghost use Rattle.std.specs.Prelude.{◌≡◌, ◌≢◌, true, false, ◌+◌, ◌%◌, ◌≤◌, ◌<◌, ◌↔◌, [], length, IfOk, IsTrue};
     ghost use Rattle.trace_model.specs.declared.limits.TheConstants.{MIN_PAGES, MAX_PAGES, MIN_SIZE, MAX_SIZE, MAX_FRAMES, LINK_FILLS};
     ghost use Rattle.trace_model.specs.Steps.{GoesOn};
     ghost use Rattle.nested_writer.specs.Stack.{opened};
@@ -65,6 +65,14 @@ impl Frames {
             phase: Stage::idle(),
             below,
         })
+    }
+
+    /// Whether no frame stands.
+    #[inline(always)]
+    pub fn is_empty(&self) -> bool
+        ensures { IsTrue result ↔ self.now.stack.frames ≡ [] }
+    {
+        self.stack.is_empty()
     }
 
     /// How many frames stand.

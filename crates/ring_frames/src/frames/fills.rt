@@ -68,6 +68,24 @@ impl Frames {
         ensures looks { LooksForWish self.old wish (told result) self.new }
         ensures payloads { KeepsPayloads self.old.stack self.new.stack }
     {
+        if wish.wrapping_sub(1) != self.stack.done()
+            && self.stack.opened() == self.stack.done() + 1
+        {
+            self.stack.pop_bottom();
+            return Turned::Gone;
+        }
+        self.load_wish_any(wish)
+    }
+
+    /// `load_wish`, whatever the wish and the fills.
+    #[inline(never)]
+    fn load_wish_any(&mut self, wish: u64) -> Turned
+        requires frames { IsFrames self.old }
+        requires top { self.old.stack.frames ≢ [] }
+        requires phase { self.old.phase ≡ Wishing }
+        ensures looks { LooksForWish self.old wish (told result) self.new }
+        ensures payloads { KeepsPayloads self.old.stack self.new.stack }
+    {
         if self.grant_wish(wish) {
             return Turned::Going;
         }

@@ -2,6 +2,7 @@
 use crate::answer::Answer;
 use crate::frames::Frames;
 use crate::phase::Turned;
+use nested_writer::Ended;
 
 impl Frames {
     ghost use Rattle.std.specs.Prelude.{◌≡◌, ◌≢◌, []};
@@ -18,9 +19,13 @@ impl Frames {
         ensures payloads { KeepsPayloads self.old.stack self.new.stack }
     {
         match self.stack.end() {
-            Ok(ended) => {
-                self.pop_phase();
-                Answer::Ended(ended)
+            Ok(Ended::Full) => {
+                self.start_closing();
+                Answer::Ended(Ended::Full)
+            }
+            Ok(Ended::Pending) => {
+                self.uncover_phase();
+                Answer::Ended(Ended::Pending)
             }
             Err(fault) => Answer::Refused(fault),
         }

@@ -58,17 +58,10 @@ impl Frames {
         ensures zeros { ZerosSlot self.old.stack result self.new.stack }
     {
         match self.stack.allot() {
-            Ok(Allot::Fits(_)) => {
-                let Some(top) = self.stack.top() else {
-                    unreachable!()
-                };
-                match top.progress {
-                    Progress::Reserved(slot) => Answer::Reserved(RecordNo(slot.number)),
-                    Progress::Waiting(_) | Progress::Through(_) | Progress::Left(_) => {
-                        self.end_close().answer()
-                    }
-                }
-            }
+            Ok(Allot::Fits(_)) => match self.stack.top_slot() {
+                Ok(slot) => Answer::Reserved(RecordNo(slot.number)),
+                Err(_) => self.end_close().answer(),
+            },
             Ok(Allot::NeedsPage) => {
                 let noted = self.stack.opened();
                 self.phase.put(Phase::Looking { noted });

@@ -1,28 +1,44 @@
-use Rattle.std.proofs.Common.{◌≡◌, length, sym, subst, arith}
+use Rattle.std.proofs.Common.{◌≡◌, length, refl, sym, ap, ◌∙◌, subst, arith}
 use mathlib.Core.Logic.{dite}
 use native.Mathlib.Decide.{dec_le}
 use Rattle.std.specs.Prelude.{Result, Ok, Err}
 use Rattle.trace_model.specs.Steps.{ends}
 use Rattle.nested_writer.specs.declared.fault.WriteFault.{WriteFault}
 use Rattle.nested_writer.specs.declared.stack.leave.Ended.{Ended}
+use Rattle.nested_writer.specs.declared.stack.leave.Ended.TheVariants.{Pending, Full}
 use Rattle.ring_frames.specs.Value.{FramesValue}
 use Rattle.ring_frames.specs.Inside.{shown}
 use Rattle.ring_frames.specs.Answers.{top_bytes}
 use Rattle.ring_frames.specs.AreFrames.{AreFrames}
 use Rattle.ring_frames.specs.declared.answer.Answer.TheVariants.{Ended as HasEndedSo, Refused}
-use Rattle.ring_frames.specs.Steps.{IsPrivateStep}
+use Rattle.ring_frames.specs.Steps.{IsPrivateStep, IsShown}
 use Rattle.ring_frames.proofs.Ended.{frame_ended, end_refused}
+use Rattle.ring_frames.proofs.Left.{none_below, some_below, left_alone}
 use Rattle.ring_frames.proofs.frames.Frames.end.Goals as goal
 
-pub returns-in-Ok-clause-step : goal.returns-in-Ok-clause-step
-returns-in-Ok-clause-step c = λ n size start s reached now.
-    let are : AreFrames n size start (shown c.self.inside) s = subst (λ (x : FramesValue). AreFrames n size start x s) (sym c.self.view_is) now in
-    let made = frame_ended n size start (shown c.self.inside) s c.in-Ok.ended c.end.new.self are (λ may many. ok_is (c.in-Ok.ensures.pending.1 (may, many))) (λ may one. ok_is (c.in-Ok.ensures.full.1 (may, one))) c.in-Ok.ensures.ok in
-    subst (λ (x : FramesValue). IsPrivateStep n size start s (ends (top_bytes x.stack x.stack.frames)) (HasEndedSo c.in-Ok.ended) c.pop_phase.new.self) c.self.view_is
-    (subst (IsPrivateStep n size start s (ends (top_bytes c.self.inside.stack c.self.inside.stack.frames)) (HasEndedSo c.in-Ok.ended)) (sym c.pop_phase.ensures.phase) made)
-  where
-    ok_is : {a b : Ended} → ◌≡◌ {A = Result Ended WriteFault} (Ok a) (Ok b) → a ≡ b
-    ok_is e = cc
+pub returns-in-Ok-Full-clause-step : goal.returns-in-Ok-Full-clause-step
+returns-in-Ok-Full-clause-step c = λ n size start s reached now.
+    let v : FramesValue = shown c.self.inside in
+    let are : AreFrames n size start v s = subst (λ (x : FramesValue). AreFrames n size start x s) (sym c.self.view_is) now in
+    let one = (c.in-Ok-Full.ensures.full.0 (ap Ok c.in-Ok-Full.field-0-is)).1 in
+    let made = frame_ended n size start v s Full c.end.new.self are (λ may many. absurd (omega (arith, one, many))) (λ may few. refl) c.in-Ok-Full.ensures.ok in
+    subst (λ (x : FramesValue). IsPrivateStep n size start s (ends (top_bytes x.stack x.stack.frames)) (HasEndedSo Full) c.start_closing.new.self) c.self.view_is
+    (subst (IsPrivateStep n size start s (ends (top_bytes v.stack v.stack.frames)) (HasEndedSo Full)) (left_alone v c.end.new.self (none_below v.stack.frames v.below are.below_are one) ∙ sym c.start_closing.ensures) made)
+
+pub uncover_phase-requires : goal.uncover_phase-requires
+uncover_phase-requires c =
+    let v : FramesValue = shown c.self.inside in
+    let (n, size, start, s, are) = subst IsShown (sym c.self.view_is) c.requires.shown in
+    record { below = some_below v.stack.frames v.below are.below_are (c.in-Ok-Pending.ensures.pending.0 (ap Ok c.in-Ok-Pending.field-0-is)).1 }
+
+pub returns-in-Ok-Pending-clause-step : goal.returns-in-Ok-Pending-clause-step
+returns-in-Ok-Pending-clause-step c = λ n size start s reached now.
+    let v : FramesValue = shown c.self.inside in
+    let are : AreFrames n size start v s = subst (λ (x : FramesValue). AreFrames n size start x s) (sym c.self.view_is) now in
+    let more = (c.in-Ok-Pending.ensures.pending.0 (ap Ok c.in-Ok-Pending.field-0-is)).1 in
+    let made = frame_ended n size start v s Pending c.end.new.self are (λ may many. refl) (λ may few. absurd (omega (arith, more, few))) c.in-Ok-Pending.ensures.ok in
+    subst (λ (x : FramesValue). IsPrivateStep n size start s (ends (top_bytes x.stack x.stack.frames)) (HasEndedSo Pending) c.uncover_phase.new.self) c.self.view_is
+    (subst (IsPrivateStep n size start s (ends (top_bytes v.stack v.stack.frames)) (HasEndedSo Pending)) (sym c.uncover_phase.ensures.phase) made)
 
 pub returns-in-Err-clause-step : goal.returns-in-Err-clause-step
 returns-in-Err-clause-step c = λ n size start s reached now.

@@ -1,42 +1,27 @@
-use Rattle.std.proofs.Common.{◌≡◌, ◌≢◌, [], sym, ◌∙◌, subst, arith}
-use Rattle.ring_frames.specs.declared.phase.Phase.TheVariants.{Wishing}
+use Rattle.std.proofs.Common.{◌≢◌, [], sym, ap, ◌∙◌, subst, arith}
+use Rattle.trace_model.specs.Steps.{IsGranted}
 use Rattle.ring_frames.specs.Value.{FramesValue}
 use Rattle.ring_frames.specs.Inside.{shown}
-use Rattle.ring_frames.specs.AreFrames.{AreFrames}
+use Rattle.ring_frames.specs.AreFrames.{AreFrames, HasFrames}
 use Rattle.ring_frames.specs.Steps.{IsFrames}
-use Rattle.ring_frames.proofs.Wishing.{is_bottom, closes_more, goes_away}
-use Rattle.ring_frames.proofs.Payloads.{bottom_held}
+use Rattle.ring_frames.proofs.Wishing.{is_bottom, goes_away}
 use Rattle.ring_frames.proofs.frames.Frames.load_wish.Goals as goal
-
-pub returns-then-done-opened-clause-looks : goal.returns-then-done-opened-clause-looks
-returns-then-done-opened-clause-looks c = λ n size start m reached now asks.
-    let v : FramesValue = shown c.self.inside in
-    let (none, stays) = c.grant_wish.ensures.refused c.if-grant_wish.false in
-    let same : c.args.self.now ≡ v = sym (c.self.view_is ∙ stays) in
-    rw c.close.ensures
-    (closes_more n size start v m record { reached = reached; are = subst (λ (x : FramesValue). AreFrames n size start x m) same now } (subst (λ (x : FramesValue). x.stack.frames ≢ []) same c.requires.top)
-    (subst (λ (x : FramesValue). x.phase ≡ Wishing) same c.requires.phase) (none n size start m now asks)
-    (let begun = c.opened-opened.ensures.begun in let done = c.done.ensures in let more = c.if-done-opened.true in omega arith))
 
 pub pop_bottom-requires-clause-bottom : goal.pop_bottom-requires-clause-bottom
 pop_bottom-requires-clause-bottom c =
     let v : FramesValue = shown c.self.inside in
-    let (none, stays) = c.grant_wish.ensures.refused c.if-grant_wish.false in
-    let same : c.args.self.now ≡ v = sym (c.self.view_is ∙ stays) in
-    let (n, size, start, m, core) = subst IsFrames same c.requires.frames in
-    is_bottom n size start v m core (subst (λ (x : FramesValue). x.stack.frames ≢ []) same c.requires.top) (subst (λ (x : FramesValue). x.phase ≡ Wishing) same c.requires.phase)
+    let (n, size, start, m, core) = subst IsFrames (sym c.self.view_is) c.requires.frames in
+    is_bottom n size start v m core (subst (λ (x : FramesValue). x.stack.frames ≢ []) (sym c.self.view_is) c.requires.top) (ap (λ (x : FramesValue). x.phase) c.self.view_is ∙ c.requires.phase)
 
-pub returns-clause-looks : goal.returns-clause-looks
-returns-clause-looks c = λ n size start m reached now asks.
+pub returns-then-opened-done-clause-looks : goal.returns-then-opened-done-clause-looks
+returns-then-opened-done-clause-looks c = λ n size start m reached now asks.
     let v : FramesValue = shown c.self.inside in
-    let (none, stays) = c.grant_wish.ensures.refused c.if-grant_wish.false in
-    let same : c.args.self.now ≡ v = sym (c.self.view_is ∙ stays) in
-    goes_away n size start v m record { reached = reached; are = subst (λ (x : FramesValue). AreFrames n size start x m) same now } (subst (λ (x : FramesValue). x.stack.frames ≢ []) same c.requires.top)
-    (subst (λ (x : FramesValue). x.phase ≡ Wishing) same c.requires.phase) c.pop_bottom.new.self v.phase (none n size start m now asks)
-    (let begun = c.opened-opened.ensures.begun in let done = c.done.ensures in let last = c.if-done-opened.false in omega arith)
-    c.pop_bottom.ensures.popped c.pop_bottom.ensures.stack
-
-pub returns-then-grant_wish-clause-payloads : goal.returns-then-grant_wish-clause-payloads
-returns-then-grant_wish-clause-payloads c =
-    let (n, size, start, m, core) = c.requires.frames in
-    bottom_held c.args.self.now.stack c.grant_wish.new.self.stack (is_bottom n size start c.args.self.now m core c.requires.top c.requires.phase)
+    let core : HasFrames n size start v m = record { reached = reached; are = subst (λ (x : FramesValue). AreFrames n size start x m) (sym c.self.view_is) now } in
+    let begun = c.opened.ensures.begun in
+    let done = c.done.ensures in
+    let last = c.if-opened-done.true in
+    let few = c.ranges.wish.fits in
+    let other = c.if-wish-done.true in
+    let refuses : IsGranted n m → ⊥ = λ granted. (let next = sym asks ∙ granted.asks_tail ∙ core.are.opened_is in other (omega (arith, next, begun, done, last, few))) in
+    goes_away n size start v m core (subst (λ (x : FramesValue). x.stack.frames ≢ []) (sym c.self.view_is) c.requires.top)
+    (ap (λ (x : FramesValue). x.phase) c.self.view_is ∙ c.requires.phase) c.pop_bottom.new.self v.phase refuses (omega arith) c.pop_bottom.ensures.popped c.pop_bottom.ensures.stack

@@ -1,9 +1,8 @@
-use Rattle.std.proofs.Common.{◌≡◌, ◌≢◌, ◌⊎◌, ℕ, List, [], ◌∷◌, Option, refl, sym, ap, ◌∙◌, subst, inl, inr}
-use Rattle.std.specs.Prelude.{Ok}
+use Rattle.std.proofs.Common.{◌≡◌, ◌≢◌, List, [], ◌∷◌, refl, sym, ap, ◌∙◌, subst}
+use Rattle.std.specs.Prelude.{Result, Ok, Err}
+use Rattle.nested_writer.specs.declared.fault.WriteFault.{WriteFault}
 use Rattle.nested_writer.specs.declared.stack.allot.Allot.{Allot}
 use Rattle.nested_writer.specs.declared.frame.Slot.{Slot}
-use Rattle.nested_writer.specs.declared.frame.Progress.{Progress}
-use Rattle.nested_writer.specs.declared.frame.Progress.TheVariants.{Waiting, Through, Reserved, Left}
 use Rattle.nested_writer.specs.declared.frame.Frame.{Frame}
 use Rattle.nested_writer.specs.Calls.{LacksSlot}
 use Rattle.nested_writer.specs.Allotted.{IsAllotted}
@@ -24,58 +23,43 @@ some_top : (frames : List Frame) → frames ≢ [] → (top : Frame) × (rest : 
 some_top [] none = absurd (none refl)
 some_top (top ∷ rest) none = (top, rest, refl)
 
--- it has no record
-abbrev HasNone : Progress → Type 0
-HasNone progress = ((noted : Option ℕ) × (progress ≡ Waiting noted)) ⊎ (((noted : ℕ) × (progress ≡ Through noted)) ⊎ ((noted : Option ℕ) × (progress ≡ Left noted)))
+not_both : (fault : WriteFault) (slot : Slot) → ◌≡◌ {A = Result Slot WriteFault} (Err fault) (Ok slot) → ⊥
+not_both fault slot e = cc
 
-has_none : (progress : Progress) → HasNone progress → (slot : Slot) → progress ≡ Reserved slot → ⊥
-has_none progress (inl (noted, is)) slot has = not_both (sym is ∙ has)
-  where
-    not_both : Waiting noted ≡ Reserved slot → ⊥
-    not_both e = cc
-has_none progress (inr (inl (noted, is))) slot has = not_both (sym is ∙ has)
-  where
-    not_both : Through noted ≡ Reserved slot → ⊥
-    not_both e = cc
-has_none progress (inr (inr (noted, is))) slot has = not_both (sym is ∙ has)
-  where
-    not_both : Left noted ≡ Reserved slot → ⊥
-    not_both e = cc
-
-pub returns-in-Reserved-clause-step : goal.returns-in-Reserved-clause-step
-returns-in-Reserved-clause-step c = λ n size start s reached now.
+pub returns-in-Ok-clause-step : goal.returns-in-Ok-clause-step
+returns-in-Ok-clause-step c = λ n size start s reached now.
     let v : FramesValue = shown c.self.inside in
     let core : HasFrames n size start v s = record { reached = reached; are = subst (λ (x : FramesValue). AreFrames n size start x s) (sym c.self.view_is) now } in
     let (top, rest, is) = some_top v.stack.frames (λ none. c.requires.top (ap (λ (x : FramesValue). x.stack.frames) (sym c.self.view_is) ∙ none)) in
-    fits_slot n size start v s core (ap (λ (x : FramesValue). x.phase) c.self.view_is ∙ c.requires.phase) top rest is c.in-Ok-Fits.field-0-0 c.in-Ok-Fits.field-0-0 c.allot.new.self c.in-Some.top c.in-Reserved.slot
+    fits_slot n size start v s core (ap (λ (x : FramesValue). x.phase) c.self.view_is ∙ c.requires.phase) top rest is c.in-Ok-Fits.field-0-0 c.in-Ok-Fits.field-0-0 c.allot.new.self c.in-Ok.slot
     (subst (λ (a : Allot). IsAnswered v.stack s.history v.stack.frames (Ok a)) c.in-Ok-Fits.field-0-is (c.in-Ok-Fits.ensures.answered start s.history core.are.stack_is))
     (subst (λ (a : Allot). IsAllotted v.stack v.stack.frames (Ok a) c.allot.new.self) c.in-Ok-Fits.field-0-is c.in-Ok-Fits.ensures.after)
-    c.in-Some.ensures c.in-Reserved.is
+    c.in-Ok.ensures.slot
 
 pub end_close-requires : goal.end_close-requires
 end_close-requires c =
     let v : FramesValue = shown c.self.inside in
     let (n, size, start, s, core) = subst IsFrames (sym c.self.view_is) c.requires.frames in
     let (top, rest, is) = some_top v.stack.frames (λ none. c.requires.top (ap (λ (x : FramesValue). x.stack.frames) (sym c.self.view_is) ∙ none)) in
-    let closing = fits_close n size start v s core (ap (λ (x : FramesValue). x.phase) c.self.view_is ∙ c.requires.phase) top rest is c.in-Ok-Fits.field-0-0 c.allot.new.self c.in-Some.top
+    let closing = fits_close n size start v s core (ap (λ (x : FramesValue). x.phase) c.self.view_is ∙ c.requires.phase) top rest is c.in-Ok-Fits.field-0-0 c.allot.new.self
     (subst (λ (a : Allot). IsAnswered v.stack s.history v.stack.frames (Ok a)) c.in-Ok-Fits.field-0-is (c.in-Ok-Fits.ensures.answered start s.history core.are.stack_is))
     (subst (λ (a : Allot). IsAllotted v.stack v.stack.frames (Ok a) c.allot.new.self) c.in-Ok-Fits.field-0-is c.in-Ok-Fits.ensures.after)
-    c.in-Some.ensures (has_none c.in-Some.top.progress c.in-Waiting.is) in
+    (λ slot at. not_both c.in-Err-top_slot.field-0 slot (c.in-Err-top_slot.ensures.found slot at)) in
     record {
       stack = (start, s.history, acted_none start s.history v.stack c.allot.new.self closing.through.1 core.are.stack_is);
       through = through_may_end v.stack top rest _ c.allot.new.self closing.through.0;
     }
 
-pub returns-in-Waiting-clause-step : goal.returns-in-Waiting-clause-step
-returns-in-Waiting-clause-step c = λ n size start s reached now.
+pub returns-in-Err-top_slot-clause-step : goal.returns-in-Err-top_slot-clause-step
+returns-in-Err-top_slot-clause-step c = λ n size start s reached now.
     let v : FramesValue = shown c.self.inside in
     let core : HasFrames n size start v s = record { reached = reached; are = subst (λ (x : FramesValue). AreFrames n size start x s) (sym c.self.view_is) now } in
     let resting : v.phase ≡ Idle = ap (λ (x : FramesValue). x.phase) c.self.view_is ∙ c.requires.phase in
     let (top, rest, is) = some_top v.stack.frames (λ none. c.requires.top (ap (λ (x : FramesValue). x.stack.frames) (sym c.self.view_is) ∙ none)) in
-    let closing = fits_close n size start v s core resting top rest is c.in-Ok-Fits.field-0-0 c.allot.new.self c.in-Some.top
+    let closing = fits_close n size start v s core resting top rest is c.in-Ok-Fits.field-0-0 c.allot.new.self
     (subst (λ (a : Allot). IsAnswered v.stack s.history v.stack.frames (Ok a)) c.in-Ok-Fits.field-0-is (c.in-Ok-Fits.ensures.answered start s.history core.are.stack_is))
     (subst (λ (a : Allot). IsAllotted v.stack v.stack.frames (Ok a) c.allot.new.self) c.in-Ok-Fits.field-0-is c.in-Ok-Fits.ensures.after)
-    c.in-Some.ensures (has_none c.in-Some.top.progress c.in-Waiting.is) in
+    (λ slot at. not_both c.in-Err-top_slot.field-0 slot (c.in-Err-top_slot.ensures.found slot at)) in
     rw (c.answer.ensures, c.end_close.ensures.answer, c.end_close.ensures.phase)
     (nothing_found n size start v s core resting top rest is c.allot.new.self c.end_close.new.self.stack closing c.end_close.ensures.left)
 
@@ -100,23 +84,23 @@ returns-in-Err-clause-step c = λ n size start s reached now.
 
 -- ---- payloads
 
-pub returns-in-Reserved-clause-payloads : goal.returns-in-Reserved-clause-payloads
-returns-in-Reserved-clause-payloads c =
+pub returns-in-Ok-clause-payloads : goal.returns-in-Ok-clause-payloads
+returns-in-Ok-clause-payloads c =
     let v : FramesValue = shown c.self.inside in
     let (n, size, start, s, core) = subst IsFrames (sym c.self.view_is) c.requires.frames in
     subst (λ (x : FramesValue). KeepsPayloads x.stack c.allot.new.self) c.self.view_is
     (allotted_kept start s.history v.stack c.allot.new.self _ core.are.stack_is c.in-Ok-Fits.ensures.after)
 
-pub returns-in-Reserved-clause-zeros : goal.returns-in-Reserved-clause-zeros
-returns-in-Reserved-clause-zeros c = λ number slot is lacks on_top.
+pub returns-in-Ok-clause-zeros : goal.returns-in-Ok-clause-zeros
+returns-in-Ok-clause-zeros c = λ number slot is lacks on_top.
     let v : FramesValue = shown c.self.inside in
     let (n, size, start, s, core) = subst IsFrames (sym c.self.view_is) c.requires.frames in
     zeros_reserved start s.history v.stack c.allot.new.self c.in-Ok-Fits.field-0-0 core.are.stack_is
     (subst (λ (a : Allot). IsAllotted v.stack v.stack.frames (Ok a) c.allot.new.self) c.in-Ok-Fits.field-0-is c.in-Ok-Fits.ensures.after)
     (subst (λ (x : FramesValue). LacksSlot x.stack.frames) (sym c.self.view_is) lacks) slot on_top
 
-pub returns-in-Waiting-clause-payloads : goal.returns-in-Waiting-clause-payloads
-returns-in-Waiting-clause-payloads c =
+pub returns-in-Err-top_slot-clause-payloads : goal.returns-in-Err-top_slot-clause-payloads
+returns-in-Err-top_slot-clause-payloads c =
     let v : FramesValue = shown c.self.inside in
     let (n, size, start, s, core) = subst IsFrames (sym c.self.view_is) c.requires.frames in
     subst (λ (x : FramesValue). KeepsPayloads x.stack c.end_close.new.self.stack) c.self.view_is

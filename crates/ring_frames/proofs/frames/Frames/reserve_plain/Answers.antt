@@ -8,7 +8,7 @@ use Rattle.ring_frames.specs.Answers.{KeepsPayloads}
 use Rattle.ring_frames.specs.Steps.{IsFrames, IsPrivateStep}
 use Rattle.nested_writer.specs.PlainTop.{IsPlainTop}
 use Rattle.nested_writer.specs.Calls.{LacksSlot}
-use Rattle.ring_frames.proofs.Plain.{plain_rests, top_told}
+use Rattle.ring_frames.proofs.Plain.{plain_rests}
 use Rattle.ring_frames.proofs.Payloads.{allotted_kept, zeros_reserved}
 use Rattle.ring_frames.proofs.Reserves.{fits_slot}
 use Rattle.ring_frames.proofs.frames.Frames.reserve_plain.Goals as goal
@@ -19,11 +19,10 @@ returns-clause-step c = λ n size start s reached now.
     let core : HasFrames n size start v s = record { reached = reached; are = subst (λ (x : FramesValue). AreFrames n size start x s) (sym c.self.view_is) now } in
     let plain = subst (λ (x : FramesValue). IsPlainTop x.stack c.args.pushed) (sym c.self.view_is) c.requires.plain in
     let (slot, on_top, number) = c.reserve_plain.ensures.slot in
-    let (told, is, has) = top_told c.reserve_plain.new.self.frames slot on_top in
     let (place, allotted) = c.reserve_plain.ensures.after in
     let (other, answered) = c.reserve_plain.ensures.answered start s.history core.are.stack_is in
     subst (λ (m : ℕ). IsPrivateStep n size start s steps (Reserved record { 0 = m }) (record v { stack = c.reserve_plain.new.self })) number
-    (fits_slot n size start v s core (plain_rests n size start v s c.args.pushed core plain) _ plain.below plain.on_top place other c.reserve_plain.new.self told slot answered allotted is has)
+    (fits_slot n size start v s core (plain_rests n size start v s c.args.pushed core plain) _ plain.below plain.on_top place other c.reserve_plain.new.self slot answered allotted on_top)
 
 pub returns-clause-payloads : goal.returns-clause-payloads
 returns-clause-payloads c =
