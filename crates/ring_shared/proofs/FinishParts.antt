@@ -1,41 +1,33 @@
--- The frame on top, stepped as far as it comes: its first step, and what is made behind it.
-use Rattle.std.specs.Prelude.{None}
+-- The frame on top, stepped as far as it comes: what its answer tells, and what is made behind its first steps.
+use Rattle.std.specs.Prelude.{◌⊎◌, None}
 use Rattle.std.proofs.Common.{◌≡◌, ℕ, List, [], ◌∷◌, refl, sym, ap, ◌∙◌, subst, inl, inr}
 use Rattle.trace_model.specs.declared.numbers.RecordNo.{RecordNo}
 use Rattle.trace_model.specs.Frames.{Kind, FrameState, waiting, reserved, Frame}
 use Rattle.trace_model.specs.Steps as model
-use Rattle.link_marks.specs.FrameOutcomes.{IsReserving, IsLeaving}
+use Rattle.link_marks.specs.FrameOutcomes.{IsLeaving}
 use Rattle.nested_writer.specs.declared.frame.Slot.{Slot}
 use Rattle.nested_writer.specs.declared.frame.Frame as stack
 use Rattle.nested_writer.specs.Stack.{state_of}
 use Rattle.nested_writer.specs.Calls.{IsTopSlot}
 use Rattle.ring_frames.specs.declared.answer.Answer.{Answer}
-use Rattle.ring_frames.specs.declared.answer.Answer.TheVariants.{Going, Reserved, Gone}
+use Rattle.ring_frames.specs.declared.answer.Answer.TheVariants.{Going, Reserved, Gone, Refused}
 use Rattle.ring_frames.specs.declared.phase.Phase.{Phase}
+use Rattle.ring_frames.specs.declared.phase.Turned.{Turned}
+use Rattle.ring_frames.specs.declared.phase.Turned.TheVariants as turned
 use Rattle.ring_frames.specs.AreFrames.{ring_frames}
+use Rattle.ring_frames.specs.Phases.{told}
 use Rattle.ring_steps.specs.declared.rule.Shape.{Shape}
+use Rattle.ring_steps.specs.Views.{Writing}
+use Rattle.ring_shared.specs.declared.writer.finish.Finished.{Finished}
+use Rattle.ring_shared.specs.declared.writer.finish.Finished.TheVariants as finished
 use Rattle.ring_shared.specs.Value.{WriterValue}
-use Rattle.ring_shared.specs.Calls.{IsWriter, MakesSome}
-use Rattle.ring_shared.specs.Finishing.{IsReservedOr, is_reserved, stays_refused, is_refused, Reserves, Leaves, IsGoneOrRefused}
+use Rattle.ring_shared.specs.Calls.{IsWriter, IsCall}
+use Rattle.ring_shared.specs.Finishing.{GoesOn, at_once, one_more, IsReservedOr, is_reserved, stays_refused, is_refused, Leaves, Closes, Finishes, IsNumberOrRefused, IsBrief, IsFinished, IsGoneOrRefused}
 use Rattle.ring_shared.proofs.Aims.{frames_of}
-use Rattle.ring_shared.proofs.Finishes.{IsRefusal, IsAmidReserving, reserving_first, reserving_on, IsAmidLeaving, leaving_first, leaving_going, leaving_gone}
+use Rattle.ring_shared.proofs.Finishes.{IsRefusal, leaves_behind, IsAmidLeaving, leaving_first, leaving_going, leaving_gone}
 use Rattle.ring_shared.proofs.WholeWrites.{HasTopRecord, top_slot_of}
 
 -- ---- a record
-
-module _ (x one : WriterValue) (result : Answer) (makes : MakesSome x model.steps result one) (going : result ≡ Going) (frame : Frame) (below : List Frame) (top : x.part.frames ≡ frame ∷ below) (is : IsReserving frame.kind frame.state) where
-  amid : IsAmidReserving x.shape frame.kind below x.part one.part
-  amid = reserving_on x.shape frame.kind below x.part x.part one.part result (reserving_first x.shape frame below x.part top is) makes.call going
-
-  -- it is still to be reserved
-  pub reserves_still : (next : Frame) × (others : List Frame) × (one.part.frames ≡ next ∷ others) × IsReserving next.kind next.state
-  reserves_still = (amid.frame, below, amid.top, amid.reserves)
-
-  pub reserves_then : (two : WriterValue) (answer : Answer) → ((next : Frame) (others : List Frame) → one.part.frames ≡ next ∷ others → Reserves one.shape next.kind others one.part answer two.part) → Reserves x.shape frame.kind below x.part answer two.part
-  reserves_then two answer rest =
-      amid.ends answer two.part
-      (subst (λ (k : Kind). Reserves x.shape k below one.part answer two.part) amid.kind_is
-      (subst (λ (s : Shape). Reserves s amid.frame.kind below one.part answer two.part) makes.shape_is (rest amid.frame below amid.top)))
 
 -- an answer that refuses nothing tells the number of the record that the frame on top has
 pub record HasNumber (below : List Frame) (result : Answer) (frames : List Frame) : Type 0 where
@@ -45,10 +37,18 @@ pub record HasNumber (below : List Frame) (result : Answer) (frames : List Frame
   pub top : frames ≡ next ∷ below
   pub state_is : next.state ≡ reserved number.0
 
-pub number_in : (kind : Kind) (below : List Frame) (result : Answer) (after : List Frame) → IsReservedOr kind below result after → (IsRefusal result → ⊥) → HasNumber below result after
-number_in kind below _ after (is_reserved next number end top kind_is state_is) denied = record { next = next; number = number; told = refl; top = top; state_is = state_is }
-number_in kind below _ after (stays_refused fault next end top leaves) denied = absurd (denied (fault, refl))
-number_in kind below _ after (is_refused fault end top) denied = absurd (denied (fault, refl))
+-- an answer tells that number, or refuses
+abbrev pub TellsTop : Answer → List Frame → Type 0
+TellsTop result frames = ((below : List Frame) × HasNumber below result frames) ⊎ IsRefusal result
+
+pub reserving_tells : (kind : Kind) (below : List Frame) (result : Answer) (after : List Frame) → IsReservedOr kind below result after → TellsTop result after
+reserving_tells kind below _ after (is_reserved next number end top kind_is state_is) = inl (below, record { next = next; number = number; told = refl; top = top; state_is = state_is })
+reserving_tells kind below _ after (stays_refused fault next end top leaves) = inr (fault, refl)
+reserving_tells kind below _ after (is_refused fault end top) = inr (fault, refl)
+
+pub number_or_refused : (result : Answer) (frames : List Frame) → TellsTop result frames → IsNumberOrRefused result
+number_or_refused result frames (inl (below, h)) = inl (h.number, h.told)
+number_or_refused result frames (inr refusal) = inr refusal
 
 abbrev state_first : List Frame → FrameState
 state_first [] = waiting
@@ -72,23 +72,40 @@ slot_of_number v w below result h =
     let t : HasTopRecord h.next.kind below v.part.frames = record { next = h.next; number = h.number.0; top = h.top; kind_is = refl; state_is = h.state_is } in
     top_slot_of v w h.next.kind below t
 
+-- so what the brief answer tells
+pub finished_so : (old new : WriterValue) (w : IsWriter new) (answer : Answer) (to : Finished) → IsBrief answer to → TellsTop answer new.part.frames → Finishes old.shape old.part answer new.part → IsFinished old to new
+finished_so old new w answer finished.Reserved (number, is) (inl (below, h)) f =
+    let (slot, at) = slot_of_number new w below answer h in
+    (slot, at, subst (λ (x : Answer). Finishes old.shape old.part x new.part) (number_of_slot new w below answer h slot at) f)
+finished_so old new w answer finished.Reserved (number, is) (inr (fault, refuses)) f = absurd (let both : Reserved number ≡ Refused fault = sym is ∙ refuses in cc)
+finished_so old new w answer finished.Gone is tells f = subst (λ (x : Answer). Finishes old.shape old.part x new.part) is f
+finished_so old new w answer (finished.Refused fault) is tells f = subst (λ (x : Answer). Finishes old.shape old.part x new.part) is f
+
 -- ---- a frame that leaves
 
-module _ (x one : WriterValue) (result : Answer) (makes : MakesSome x model.steps result one) (frame : Frame) (below : List Frame) (top : x.part.frames ≡ frame ∷ below) (is : IsLeaving frame.kind frame.state) where
-  -- it is gone
-  pub leaves_gone : result ≡ Gone → Leaves x.shape below x.part result one.part
-  leaves_gone e = leaving_gone x.shape below x.part None x.part one.part result (leaving_first x.shape frame below x.part top is) makes.call e
+module _ (shape : Shape) (below : List Frame) (before : Writing) where
+  -- what is made behind steps that it made
+  pub leaves_then : (now : Writing) → GoesOn shape before now → (answer : Answer) (after : Writing) → Leaves shape below now answer after → Leaves shape below before answer after
+  leaves_then now at_once answer after l = l
+  leaves_then now (one_more between end goes call) answer after l = leaves_then between goes answer after (leaves_behind shape below between now after answer call l)
 
-  module _ (going : result ≡ Going) where
-    amid_end : IsAmidLeaving x.shape below x.part None one.part
-    amid_end = leaving_going x.shape below x.part None x.part one.part result (leaving_first x.shape frame below x.part top is) makes.call going
+  -- one step more
+  pub closes_then : (now next : Writing) (to : Turned) → Closes shape below before turned.Going now → IsCall shape now model.steps (told to) next → Closes shape below before to next
+  closes_then now next turned.Going (frame, top, is, goes) call =
+      let a : IsAmidLeaving shape below now None next = leaving_going shape below now None now next Going (leaving_first shape frame below now top is) call refl in
+      (a.frame, a.top, a.leaves, one_more now next goes call)
+  closes_then now next turned.Gone (frame, top, is, goes) call =
+      leaves_then now goes Gone next (leaving_gone shape below now None now next Gone (leaving_first shape frame below now top is) call refl)
 
-    pub leaves_still : (next : Frame) × (others : List Frame) × (one.part.frames ≡ next ∷ others) × IsLeaving next.kind next.state
-    leaves_still = (amid_end.frame, below, amid_end.top, amid_end.leaves)
+  -- where it still stands
+  pub closes_still : (now : Writing) (to : Turned) → Closes shape below before to now → to ≡ turned.Going → (next : Frame) × (others : List Frame) × (now.frames ≡ next ∷ others) × IsLeaving next.kind next.state
+  closes_still now to c e =
+      let (frame, top, is, goes) = subst (λ (t : Turned). Closes shape below before t now) e c in (frame, below, top, is)
 
-    pub leaves_then : (two : WriterValue) (answer : Answer) → ((next : Frame) (others : List Frame) → one.part.frames ≡ next ∷ others → Leaves one.shape others one.part answer two.part) → Leaves x.shape below x.part answer two.part
-    leaves_then two answer rest =
-        amid_end.ends answer two.part (subst (λ (s : Shape). Leaves s below one.part answer two.part) makes.shape_is (rest amid_end.frame below amid_end.top))
+  pub closes_rest : (now : WriterValue) (to : Turned) → Closes shape below before to now.part → to ≡ turned.Going → now.shape ≡ shape → (answer : Answer) (after : Writing) → ((next : Frame) (others : List Frame) → now.part.frames ≡ next ∷ others → Leaves now.shape others now.part answer after) → Leaves shape below before answer after
+  closes_rest now to c e same answer after rest =
+      let (frame, top, is, goes) = subst (λ (t : Turned). Closes shape below before t now.part) e c in
+      leaves_then now.part goes answer after (subst (λ (s : Shape). Leaves s below now.part answer after) same (rest frame below top))
 
 -- one that met no refusal is gone
 pub gone_unrefused : (answer : Answer) → IsGoneOrRefused answer → (IsRefusal answer → ⊥) → answer ≡ Gone

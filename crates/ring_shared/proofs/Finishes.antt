@@ -66,10 +66,10 @@ is_gone_told size (Taken page missed) told t e = absurd (let both : model.swappe
 is_gone_told size (Wished fill) told t e = absurd (let both : model.wished_for fill.0 ≡ model.gone = sym t ∙ e in cc)
 
 -- it tells the record's number
-abbrev TellsNumber : Answer → ℕ → Type 0
+abbrev pub TellsNumber : Answer → ℕ → Type 0
 TellsNumber result number = (told : Rattle.trace_model.specs.declared.numbers.RecordNo.RecordNo) × (result ≡ Reserved told) × (told.0 ≡ number)
 
-is_number : (size : ℕ) (result : Answer) (told : model.Answer) (number : ℕ) → Tells size result told → told ≡ model.reserved_as number → TellsNumber result number
+pub is_number : (size : ℕ) (result : Answer) (told : model.Answer) (number : ℕ) → Tells size result told → told ≡ model.reserved_as number → TellsNumber result number
 is_number size Pushed told n t e = absurd (let both : model.pushed ≡ model.reserved_as n = sym t ∙ e in cc)
 is_number size Going told n t e = absurd (let both : model.going ≡ model.reserved_as n = sym t ∙ e in cc)
 is_number size (Reserved number) told n t e = (number, refl, (let both : model.reserved_as number.0 ≡ model.reserved_as n = sym t ∙ e in cc))

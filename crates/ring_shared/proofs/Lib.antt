@@ -22,3 +22,5 @@ pub mod WholeWrites
 pub mod AtOnce
 pub mod CallsAppend
 pub mod FinishParts
+pub mod TopAnswers
+pub mod Turning

@@ -6,13 +6,20 @@ use Rattle.trace_model.specs.Steps as model
 use Rattle.link_marks.specs.FrameOutcomes.{IsReserving, IsLeaving}
 use Rattle.nested_writer.specs.declared.fault.WriteFault.{WriteFault}
 use Rattle.nested_writer.specs.declared.frame.Frame as stack
+use Rattle.nested_writer.specs.declared.frame.Slot.{Slot}
 use Rattle.nested_writer.specs.Stack.{kind_of, state_of}
+use Rattle.nested_writer.specs.Calls.{IsTopSlot}
 use Rattle.ring_frames.specs.declared.answer.Answer.{Answer}
 use Rattle.ring_frames.specs.declared.answer.Answer.TheVariants.{Pushed, Going, Reserved, Ended, Gone, Refused, Looking, Empty, Moving, Taken, Wished}
+use Rattle.ring_frames.specs.declared.phase.Turned.{Turned}
+use Rattle.ring_frames.specs.declared.phase.Turned.TheVariants as turned
 use Rattle.ring_steps.specs.declared.rule.Shape.{Shape}
 use Rattle.ring_steps.specs.Views.{Writing}
 use Rattle.ring_shared.specs.declared.writer.finish.Aim.{Aim}
 use Rattle.ring_shared.specs.declared.writer.finish.Aim.TheVariants as aim
+use Rattle.ring_shared.specs.declared.writer.finish.Finished.{Finished}
+use Rattle.ring_shared.specs.declared.writer.finish.Finished.TheVariants as finished
+use Rattle.ring_shared.specs.Value.{WriterValue}
 use Rattle.ring_shared.specs.Calls.{IsCall}
 
 -- ---- runs
@@ -63,6 +70,13 @@ pub data Leaves (shape : Shape) (below : List Frame) : Writing → Answer → Wr
       → Leaves shape below left answer after
       → Leaves shape below before (Refused fault) after
 
+-- It has made steps, each of which was answered `Going`, and it stands and leaves; or the last of them answered that it
+-- is gone.
+abbrev pub Closes : Shape → List Frame → Writing → Turned → Writing → Type 0
+Closes shape below before turned.Going after =
+    (frame : Frame) × (after.frames ≡ frame ∷ below) × IsLeaving frame.kind frame.state × GoesOn shape before after
+Closes shape below before turned.Gone after = Leaves shape below before Gone after
+
 -- ---- the frame on top
 
 -- A record frame is stepped until it has reserved or is refused; a close frame, or one that has left, until it is gone;
@@ -82,6 +96,28 @@ FinishesTop shape (frame ∷ below) before result after =
 -- the frame on top is stepped as far as it comes; with none, the one step is refused
 abbrev pub Finishes : Shape → Writing → Answer → Writing → Type 0
 Finishes shape before result after = FinishesTop shape before.frames before result after
+
+-- ---- what comes of it
+
+-- a record is reserved, or a frame is refused
+abbrev pub IsNumberOrRefused : Answer → Type 0
+IsNumberOrRefused answer =
+    ((number : RecordNo) × (answer ≡ Reserved number)) ⊎ ((fault : WriteFault) × (answer ≡ Refused fault))
+
+-- this tells the answer, but for the record's number
+abbrev pub IsBrief : Answer → Finished → Type 0
+IsBrief answer finished.Reserved = (number : RecordNo) × (answer ≡ Reserved number)
+IsBrief answer finished.Gone = answer ≡ Gone
+IsBrief answer (finished.Refused fault) = answer ≡ Refused fault
+
+-- the frame on top is stepped as far as it comes, and answers so; the number of its record stands in the slot on top
+abbrev pub IsFinished : WriterValue → Finished → WriterValue → Type 0
+IsFinished old finished.Reserved new =
+    (slot : Slot)
+    × IsTopSlot new.frames.stack.frames slot
+    × Finishes old.shape old.part (Reserved record { 0 = slot.number }) new.part
+IsFinished old finished.Gone new = Finishes old.shape old.part Gone new.part
+IsFinished old (finished.Refused fault) new = Finishes old.shape old.part (Refused fault) new.part
 
 -- ---- what it is stepped to
 

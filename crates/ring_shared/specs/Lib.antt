@@ -9,3 +9,4 @@ pub mod Nearer
 pub mod Finishing
 pub mod WholeWrites
 pub mod Laws
+pub mod Turning

@@ -6,6 +6,7 @@ mod new;
 mod pages;
 mod step;
 mod top;
+mod turning;
 mod write;
 
 use ring_frames::Frames;

@@ -5,6 +5,16 @@ use nested_writer::frame::{Frame, Progress, Purpose};
 use ring_frames::{Answer, Phase, Turned};
 use trace_model::RecordNo;
 
+/// What comes of the frame on top.
+enum Finished {
+    /// Its record is reserved.
+    Reserved,
+    /// It is gone.
+    Gone,
+    /// It was refused, or none stands.
+    Refused(WriteFault),
+}
+
 /// What the frame on top is stepped to.
 enum Aim {
     /// Its record is reserved, or it is refused.
@@ -21,7 +31,8 @@ impl Writer {
     ghost use Rattle.link_marks.specs.FrameOutcomes.{IsReserving, IsLeaving};
     ghost use Rattle.ring_shared.specs.Value.{SameWriter};
     ghost use Rattle.ring_shared.specs.Calls.{IsWriter};
-    ghost use Rattle.ring_shared.specs.Finishing.{Finishes, Reserves, Leaves, IsGoneOrRefused, met_behind};
+    ghost use Rattle.ring_frames.specs.declared.phase.Phase.TheVariants.{Wishing};
+    ghost use Rattle.ring_shared.specs.Finishing.{Finishes, IsFinished, Reserves, Leaves, Closes, IsGoneOrRefused, met_behind};
 
     /// Steps a close frame, or one that was ended or refused, until it is gone, and any other record frame until its
     /// record is reserved, or it is refused. It answers the refusal that it met, if any, else as its last step does.
@@ -33,43 +44,45 @@ impl Writer {
         ensures ring { SameWriter self.old self.new }
         ensures writer { IsWriter self.new }
     {
+        if matches!(self.frames.phase(), Phase::Wishing) && !self.frames.is_empty() {
+            return self.finish_wishing();
+        }
         if let Some(pushed) = self.frames.plain_top() {
             return Answer::Reserved(self.reserve_plain(pushed));
         }
-        match aim_of(self.frames.top()) {
-            Aim::Record => self.finish_record(),
-            Aim::End => self.finish_end(),
-            Aim::Step => self.step(),
-        }
-    }
-
-    /// The frame on top makes steps until its record is reserved, or it is refused: mostly one.
-    #[inline(always)]
-    fn finish_record(&mut self) -> Answer
-        requires writer { IsWriter self.old }
-        requires top { (frame : ModelFrame) × (below : List ModelFrame) × (self.old.part.frames ≡ frame ∷ below)
-            × IsReserving frame.kind frame.state }
-        ensures reserves { (frame : ModelFrame) (below : List ModelFrame) → self.old.part.frames ≡ frame ∷ below
-            → Reserves self.old.shape frame.kind below self.old.part result self.new.part }
-        ensures ring { SameWriter self.old self.new }
-        ensures writer { IsWriter self.new }
-    {
-        if let Some(last) = unless_going(self.step()) {
-            return last;
-        }
-        match self.reserve_on() {
-            Some(fault) => Answer::Refused(fault),
-            None => match self.top_slot() {
+        match self.finish_any() {
+            Finished::Refused(fault) => Answer::Refused(fault),
+            Finished::Gone => Answer::Gone,
+            Finished::Reserved => match self.top_slot() {
                 Ok(slot) => Answer::Reserved(RecordNo(slot.number)),
                 Err(_) => unreachable!(),
             },
         }
     }
 
-    /// The frame on top makes steps until it is gone: mostly one, which finds that the reader has no wish.
-    #[inline(always)]
-    fn finish_end(&mut self) -> Answer
+    /// `finish_top`, whatever the frame on top, if any: what comes of it.
+    #[inline(never)]
+    fn finish_any(&mut self) -> Finished
         requires writer { IsWriter self.old }
+        ensures finished { IsFinished self.old result self.new }
+        ensures ring { SameWriter self.old self.new }
+        ensures writer { IsWriter self.new }
+    {
+        match aim_of(self.frames.top()) {
+            Aim::Record => brief(self.reserve_top()),
+            Aim::End => match self.leave_on() {
+                Some(fault) => Finished::Refused(fault),
+                None => Finished::Gone,
+            },
+            Aim::Step => brief(self.step()),
+        }
+    }
+
+    /// The frame on top, which looks for the reader's wish, makes steps until it is gone: mostly one.
+    #[inline(always)]
+    fn finish_wishing(&mut self) -> Answer
+        requires writer { IsWriter self.old }
+        requires phase { self.old.frames.phase ≡ Wishing }
         requires top { (frame : ModelFrame) × (below : List ModelFrame) × (self.old.part.frames ≡ frame ∷ below)
             × IsLeaving frame.kind frame.state }
         ensures leaves { (frame : ModelFrame) (below : List ModelFrame) → self.old.part.frames ≡ frame ∷ below
@@ -77,12 +90,9 @@ impl Writer {
         ensures ring { SameWriter self.old self.new }
         ensures writer { IsWriter self.new }
     {
-        match self.frames.phase() {
-            Phase::Wishing => match self.load_wish() {
-                Turned::Going => self.finish_leaving(),
-                Turned::Gone => Answer::Gone,
-            },
-            _ => self.finish_leaving(),
+        match self.load_wish() {
+            Turned::Going => self.finish_leaving(),
+            Turned::Gone => Answer::Gone,
         }
     }
 
@@ -103,21 +113,6 @@ impl Writer {
         }
     }
 
-    /// The frame on top makes steps until its record is reserved, or it is refused: the refusal, if any.
-    #[inline(never)]
-    fn reserve_on(&mut self) -> Option<WriteFault>
-        requires writer { IsWriter self.old }
-        requires top { (frame : ModelFrame) × (below : List ModelFrame) × (self.old.part.frames ≡ frame ∷ below)
-            × IsReserving frame.kind frame.state }
-        ensures reserves { (answer : Answer) × (result ≡ met_behind None answer)
-            × ((frame : ModelFrame) (below : List ModelFrame) → self.old.part.frames ≡ frame ∷ below
-            → Reserves self.old.shape frame.kind below self.old.part answer self.new.part) }
-        ensures ring { SameWriter self.old self.new }
-        ensures writer { IsWriter self.new }
-    {
-        met_first(None, self.reserve_top())
-    }
-
     /// The frame on top makes steps until it is gone: the refusal that it met, if any.
     #[inline(never)]
     pub(crate) fn leave_on(&mut self) -> Option<WriteFault>
@@ -130,7 +125,32 @@ impl Writer {
         ensures ring { SameWriter self.old self.new }
         ensures writer { IsWriter self.new }
     {
+        if let Turned::Gone = self.close_fills() {
+            return None;
+        }
         met_first(None, self.leave_top())
+    }
+
+    /// The frame on top, which has left, closes fills, and looks for the reader's wish, as long as it is up to these.
+    #[inline(always)]
+    fn close_fills(&mut self) -> Turned
+        requires writer { IsWriter self.old }
+        requires top { (frame : ModelFrame) × (below : List ModelFrame) × (self.old.part.frames ≡ frame ∷ below)
+            × IsLeaving frame.kind frame.state }
+        ensures closes { (frame : ModelFrame) (below : List ModelFrame) → self.old.part.frames ≡ frame ∷ below
+            → Closes self.old.shape below self.old.part result self.new.part }
+        ensures ring { SameWriter self.old self.new }
+        ensures writer { IsWriter self.new }
+    {
+        loop {
+            match self.frames.phase() {
+                Phase::Releasing => {
+                    self.release();
+                }
+                Phase::Wishing => return self.load_wish(),
+                _ => return Turned::Going,
+            }
+        }
     }
 
     /// The frame on top makes steps until its record is reserved, or it is refused.
@@ -145,9 +165,10 @@ impl Writer {
         ensures writer { IsWriter self.new }
     {
         loop {
-            if let Some(last) = unless_going(self.step_amid()) {
+            if let Some(last) = unless_going(self.step()) {
                 return last;
             }
+            self.turn_over();
         }
     }
 
@@ -166,12 +187,23 @@ impl Writer {
         let depth = self.depth();
         let mut met = None;
         loop {
-            let answer = self.step_amid();
+            let answer = self.step();
             if self.depth() < depth {
                 return told(met, answer);
             }
             met = met_first(met, answer);
         }
+    }
+}
+
+/// The answer, as far as the frame on top doesn't tell it.
+fn brief(answer: Answer) -> Finished
+    requires { IsNumberOrRefused answer }
+    ensures { IsBrief answer result }
+{
+    match answer {
+        Answer::Refused(fault) => Finished::Refused(fault),
+        _ => Finished::Reserved,
     }
 }
 
@@ -225,4 +257,4 @@ fn aim_of(top: Option<Frame>) -> Aim
 
 ghost use Rattle.std.specs.Prelude.{◌≡◌, ◌≢◌};
 ghost use Rattle.ring_frames.specs.declared.answer.Answer.TheVariants.{Going};
-ghost use Rattle.ring_shared.specs.Finishing.{IsAim, met_behind, told_behind};
+ghost use Rattle.ring_shared.specs.Finishing.{IsNumberOrRefused, IsBrief, IsAim, met_behind, told_behind};

@@ -81,7 +81,7 @@ impl Writer {
     }
 
     /// A fill was begun since the frame on top noted what to open, so that it begins anew.
-    #[inline(always)]
+    #[inline(never)]
     pub(crate) fn begin_anew(&mut self) -> Turned
         requires writer { IsWriter self.old }
         requires top { self.old.frames.stack.frames ≢ [] }

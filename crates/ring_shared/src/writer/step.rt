@@ -23,48 +23,18 @@ impl Writer {
         ensures nearer { IsNearer self.old self.new }
         ensures payloads { KeepsPayloads self.old.frames.stack self.new.frames.stack }
     {
-        if self.frames.depth() == 0 {
+        if self.frames.is_empty() {
             return Answer::Refused(WriteFault::NoFrame);
         }
         match self.frames.phase() {
             Phase::Idle => self.reserve(),
             Phase::Wishing => self.load_wish().answer(),
-            _ => self.turn_once().answer(),
-        }
-    }
-
-    /// `step`, in a loop that makes many: what is rare there is inlined too.
-    #[inline(always)]
-    pub(crate) fn step_amid(&mut self) -> Answer
-        requires writer { IsWriter self.old }
-        ensures makes { MakesSome self.old model.steps result self.new }
-        ensures nearer { IsNearer self.old self.new }
-        ensures payloads { KeepsPayloads self.old.frames.stack self.new.frames.stack }
-    {
-        if self.frames.depth() == 0 {
-            return Answer::Refused(WriteFault::NoFrame);
-        }
-        match self.frames.phase() {
-            Phase::Idle => self.reserve(),
             _ => self.turn().answer(),
         }
     }
 
-    /// `turn`, called where it is rare.
+    /// One step of the frame on top, which has more to do at the words: it is called where that is rare.
     #[inline(never)]
-    fn turn_once(&mut self) -> Turned
-        requires writer { IsWriter self.old }
-        requires top { self.old.frames.stack.frames ≢ [] }
-        requires busy { self.old.frames.phase ≢ Idle }
-        ensures makes { MakesSome self.old model.steps (told result) self.new }
-        ensures nearer { IsNearer self.old self.new }
-        ensures payloads { KeepsPayloads self.old.frames.stack self.new.frames.stack }
-    {
-        self.turn()
-    }
-
-    /// One step of the frame on top, which has more to do at the words.
-    #[inline(always)]
     fn turn(&mut self) -> Turned
         requires writer { IsWriter self.old }
         requires top { self.old.frames.stack.frames ≢ [] }

@@ -1,55 +1,27 @@
-use Rattle.std.specs.Prelude.{Option, Some, IfSome, List}
-use Rattle.std.proofs.Common.{◌≡◌, sym, subst}
+use Rattle.std.specs.Prelude.{Option, Some, IfSome, List, []}
+use Rattle.std.proofs.Common.{◌≡◌, ◌≢◌, sym, ◌∙◌, subst}
+use Rattle.link_marks.specs.FrameOutcomes.{IsLeaving}
 use Rattle.nested_writer.specs.declared.frame.Frame as stack
 use Rattle.nested_writer.specs.Calls.{top_of}
 use Rattle.nested_writer.specs.declared.frame.Pushed.{Pushed}
 use Rattle.nested_writer.specs.PlainTop.{IsPlainTop}
 use Rattle.ring_frames.specs.declared.answer.Answer.TheVariants.{Reserved}
-use Rattle.ring_shared.specs.declared.writer.finish.Aim.{Aim}
+use Rattle.ring_frames.specs.declared.phase.Phase.TheVariants.{Wishing}
 use Rattle.ring_shared.specs.declared.writer.finish.Aim.TheVariants as aim
 use Rattle.ring_shared.specs.Value.{WriterValue}
+use Rattle.ring_shared.specs.Calls.{IsWriter}
 use Rattle.ring_shared.specs.Finishing.{IsAim}
-use Rattle.ring_shared.proofs.Aims.{reserving_on_top, leaving_on_top, finishes_reserving, finishes_leaving, finishes_step}
+use Rattle.ring_shared.specs.contracts.writer.Writer.{the_view}
+use Rattle.ring_shared.proofs.Aims.{IsOnTop, reserving_on_top, finishes_reserving, finishes_leaving}
 use Rattle.ring_shared.proofs.Depths.{reserving_top}
 use Rattle.ring_shared.proofs.Finishes.{reserving_first, reserving_ends}
+use Rattle.ring_shared.proofs.TopAnswers.{wishing_on_top}
 use Rattle.ring_shared.proofs.writer.Writer.finish_top.Goals as goal
-
--- the aim is that of the stack's top
-aims : (top : Option stack.Frame) (v now : WriterValue) (found to : Aim) → top ≡ top_of v.frames.stack.frames → v ≡ now → IsAim top found → found ≡ to → IsAim (top_of now.frames.stack.frames) to
-aims top v now found to at same is e =
-    subst (λ (x : WriterValue). IsAim (top_of x.frames.stack.frames) to) same (subst (λ (t : Option stack.Frame). IsAim t to) at (subst (IsAim top) e is))
+use Rattle.ring_shared.proofs.writer.Writer.finish_top.Goals.{in-Wishing, in_default}
 
 -- what holds of what is found
 some_in : (found : Option Pushed) (pushed : Pushed) (holds : Pushed → Type 0) → found ≡ Some pushed → IfSome found holds → holds pushed
 some_in found pushed holds is all = subst (λ (f : Option Pushed). IfSome f holds) is all
-
-pub finish_record-requires-clause-top : goal.finish_record-requires-clause-top
-finish_record-requires-clause-top c =
-    let t = reserving_on_top c.args.self.now c.requires.writer (aims c.top.result _ c.args.self.now c.aim_of.result _ c.top.ensures c.self.view_is c.aim_of.ensures c.in-Record.is) in
-    (t.frame, t.below, t.top, t.is)
-
-pub finish_end-requires-clause-top : goal.finish_end-requires-clause-top
-finish_end-requires-clause-top c =
-    let t = leaving_on_top c.args.self.now c.requires.writer (aims c.top.result _ c.args.self.now c.aim_of.result _ c.top.ensures c.self.view_is c.aim_of.ensures c.in-End.is) in
-    (t.frame, t.below, t.top, t.is)
-
-pub returns-in-Record-clause-finished : goal.returns-in-Record-clause-finished
-returns-in-Record-clause-finished c =
-    let v : WriterValue = c.args.self.now in
-    finishes_reserving v.shape v.part c.finish_record.result c.finish_record.new.self.part
-    (reserving_on_top v c.requires.writer (aims c.top.result _ v c.aim_of.result _ c.top.ensures c.self.view_is c.aim_of.ensures c.in-Record.is)) c.finish_record.ensures.reserves
-
-pub returns-in-End-clause-finished : goal.returns-in-End-clause-finished
-returns-in-End-clause-finished c =
-    let v : WriterValue = c.args.self.now in
-    finishes_leaving v.shape v.part c.finish_end.result c.finish_end.new.self.part
-    (leaving_on_top v c.requires.writer (aims c.top.result _ v c.aim_of.result _ c.top.ensures c.self.view_is c.aim_of.ensures c.in-End.is)) c.finish_end.ensures.leaves
-
-pub returns-in-Step-clause-finished : goal.returns-in-Step-clause-finished
-returns-in-Step-clause-finished c =
-    let v : WriterValue = c.args.self.now in
-    finishes_step v c.requires.writer c.step.result c.step.new.self.part
-    (aims c.top.result _ v c.aim_of.result _ c.top.ensures c.self.view_is c.aim_of.ensures c.in-Step.is) c.step.ensures.makes.call
 
 pub returns-in-Some-clause-finished : goal.returns-in-Some-clause-finished
 returns-in-Some-clause-finished c =
@@ -59,3 +31,24 @@ returns-in-Some-clause-finished c =
     finishes_reserving v.shape v.part (Reserved c.reserve_plain.result) new.part t
     (λ frame below top. reserving_ends v.shape frame.kind below v.part v.part new.part (Reserved c.reserve_plain.result)
     (reserving_first v.shape frame below v.part top (reserving_top v.part.frames t.frame frame t.below below t.top t.is top)) c.reserve_plain.ensures.makes.call (λ e. cc))
+
+-- the frame on top looks for the reader's wish, so that it has left
+wishing : (v now : WriterValue) → IsWriter now → v ≡ now → v.frames.stack.frames ≢ [] → v.frames.phase ≡ Wishing → IsOnTop now.part.frames IsLeaving
+wishing v now w same some at =
+    wishing_on_top now w (subst (λ (x : WriterValue). x.frames.stack.frames ≢ []) same some) (subst (λ (x : WriterValue). x.frames.phase ≡ Wishing) same at)
+
+pub finish_wishing-requires-clause-top : goal.finish_wishing-requires-clause-top
+finish_wishing-requires-clause-top c =
+    let t = wishing (the_view c.self.inside) c.args.self.now c.requires.writer c.self.view_is
+    (λ none. let yes = c.is_empty.ensures.1 none in let no = c.if-not-is_empty.true in cc)
+    (elim c.match-matches.branch [ in-Wishing w ↦ sym c.phase.ensures ∙ w.in-Wishing.is | in_default w ↦ absurd (let no = w.matches-is in let yes = c.if-matches.true in cc) ]) in
+    (t.frame, t.below, t.top, t.is)
+
+pub returns-then-not-is_empty-clause-finished : goal.returns-then-not-is_empty-clause-finished
+returns-then-not-is_empty-clause-finished c =
+    let v : WriterValue = c.args.self.now in
+    finishes_leaving v.shape v.part c.finish_wishing.result c.finish_wishing.new.self.part
+    (wishing (the_view c.self.inside) v c.requires.writer c.self.view_is
+    (λ none. let yes = c.is_empty.ensures.1 none in let no = c.if-not-is_empty.true in cc)
+    (elim c.match-matches.branch [ in-Wishing w ↦ sym c.phase.ensures ∙ w.in-Wishing.is | in_default w ↦ absurd (let no = w.matches-is in let yes = c.if-matches.true in cc) ]))
+    c.finish_wishing.ensures.leaves

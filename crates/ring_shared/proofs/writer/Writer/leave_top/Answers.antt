@@ -22,63 +22,63 @@ loop-answer-init c =
       amid = λ other others is. leaving_first v.shape other others v.part is (leaving_top v.part.frames frame other below others top leaves is);
     }
 
-pub step_amid-answer-requires : goal.step_amid-answer-requires
-step_amid-answer-requires c = record { writer = c.loop-answer.invariant.writer }
+pub step-answer-requires : goal.step-answer-requires
+step-answer-requires c = record { writer = c.loop-answer.invariant.writer }
 
 pub returns-then-depth-clause-leaves : goal.returns-then-depth-clause-leaves
 returns-then-depth-clause-leaves c = λ frame below top.
     let h = c.loop-answer.invariant in
-    let old : WriterValue = c.loop-answer.self in let new : WriterValue = c.step_amid-answer.new.self in let shape : Shape = c.args.self.now.shape in
-    let makes = c.step_amid-answer.ensures.makes in
+    let old : WriterValue = c.loop-answer.self in let new : WriterValue = c.step-answer.new.self in let shape : Shape = c.args.self.now.shape in
+    let makes = c.step-answer.ensures.makes in
     let less = c.if-depth.true in let now_deep = c.depth.ensures ∙ depth_is new makes.writer in let deep = h.depth in
     subst (λ (x : Answer). Leaves shape below c.args.self.now.part x new.part) (sym c.told.ensures)
-    (leaving_ends shape below c.args.self.now.part c.loop-answer.met old.part new.part c.step_amid-answer.result (h.amid frame below top)
-    (call_in shape old new c.step_amid-answer.result h.ring.0 makes) (omega arith))
+    (leaving_ends shape below c.args.self.now.part c.loop-answer.met old.part new.part c.step-answer.result (h.amid frame below top)
+    (call_in shape old new c.step-answer.result h.ring.0 makes) (omega arith))
 
 pub returns-then-depth-clause-ring : goal.returns-then-depth-clause-ring
 returns-then-depth-clause-ring c =
-    same_writer c.args.self.now c.loop-answer.self c.step_amid-answer.new.self c.step_amid-answer.result c.loop-answer.invariant.ring c.step_amid-answer.ensures.makes
+    same_writer c.args.self.now c.loop-answer.self c.step-answer.new.self c.step-answer.result c.loop-answer.invariant.ring c.step-answer.ensures.makes
 
 pub loop-answer-smaller : goal.loop-answer-smaller
 loop-answer-smaller c =
     let h = c.loop-answer.invariant in
-    let old : WriterValue = c.loop-answer.self in let new : WriterValue = c.step_amid-answer.new.self in let shape : Shape = c.args.self.now.shape in
-    let makes = c.step_amid-answer.ensures.makes in
+    let old : WriterValue = c.loop-answer.self in let new : WriterValue = c.step-answer.new.self in let shape : Shape = c.args.self.now.shape in
+    let makes = c.step-answer.ensures.makes in
     let (frame, below, top) = h.some in
     let a : IsAmidLeaving shape below c.args.self.now.part c.loop-answer.met old.part = h.amid frame below top in
     let more = c.if-depth.false in let now_deep = c.depth.ensures ∙ depth_is new makes.writer in let deep = h.depth in
-    c.step_amid-answer.ensures.nearer a.frame below a.top (leaving_unnumbered a.frame.kind a.frame.state a.leaves)
-    (leaving_stands shape below c.args.self.now.part c.loop-answer.met old.part new.part c.step_amid-answer.result a
-    (call_in shape old new c.step_amid-answer.result h.ring.0 makes) (λ less. omega arith))
+    c.step-answer.ensures.nearer a.frame below a.top (leaving_unnumbered a.frame.kind a.frame.state a.leaves)
+    (leaving_stands shape below c.args.self.now.part c.loop-answer.met old.part new.part c.step-answer.result a
+    (call_in shape old new c.step-answer.result h.ring.0 makes) (λ less. omega arith))
 
 pub loop-answer-preserved : goal.loop-answer-preserved
 loop-answer-preserved c =
     let h = c.loop-answer.invariant in
-    let old : WriterValue = c.loop-answer.self in let new : WriterValue = c.step_amid-answer.new.self in let shape : Shape = c.args.self.now.shape in
+    let old : WriterValue = c.loop-answer.self in let new : WriterValue = c.step-answer.new.self in let shape : Shape = c.args.self.now.shape in
     let first : Writing = c.args.self.now.part in
-    let makes = c.step_amid-answer.ensures.makes in
+    let makes = c.step-answer.ensures.makes in
     let more = c.if-depth.false in let now_deep = c.depth.ensures ∙ depth_is new makes.writer in let deep = h.depth in
-    let call = call_in shape old new c.step_amid-answer.result h.ring.0 makes in
+    let call = call_in shape old new c.step-answer.result h.ring.0 makes in
     let stands : length new.part.frames < length old.part.frames → ⊥ = λ less. omega arith in
     let (frame, below, top) = h.some in
-    let same : length new.part.frames ≡ length old.part.frames = leaving_stands shape below first c.loop-answer.met old.part new.part c.step_amid-answer.result (h.amid frame below top) call stands in
+    let same : length new.part.frames ≡ length old.part.frames = leaving_stands shape below first c.loop-answer.met old.part new.part c.step-answer.result (h.amid frame below top) call stands in
     record {
       writer = makes.writer;
-      ring = same_writer c.args.self.now old new c.step_amid-answer.result h.ring makes;
+      ring = same_writer c.args.self.now old new c.step-answer.result h.ring makes;
       depth = deep ∙ sym same;
       some = h.some;
       amid = λ other others is.
           subst (λ (m : Option WriteFault). IsAmidLeaving shape others first m new.part) (sym c.met_first-met.ensures)
-          (leaving_on shape others first c.loop-answer.met old.part new.part c.step_amid-answer.result (h.amid other others is) call stands);
+          (leaving_on shape others first c.loop-answer.met old.part new.part c.step-answer.result (h.amid other others is) call stands);
     }
 
 pub returns-then-depth-clause-gone : goal.returns-then-depth-clause-gone
 returns-then-depth-clause-gone c =
     let h = c.loop-answer.invariant in
-    let old : WriterValue = c.loop-answer.self in let new : WriterValue = c.step_amid-answer.new.self in let shape : Shape = c.args.self.now.shape in
-    let makes = c.step_amid-answer.ensures.makes in
+    let old : WriterValue = c.loop-answer.self in let new : WriterValue = c.step-answer.new.self in let shape : Shape = c.args.self.now.shape in
+    let makes = c.step-answer.ensures.makes in
     let less = c.if-depth.true in let now_deep = c.depth.ensures ∙ depth_is new makes.writer in let deep = h.depth in
     let (frame, below, top) = h.some in
     subst IsGoneOrRefused (sym c.told.ensures)
-    (leaving_told shape below c.args.self.now.part c.loop-answer.met old.part new.part c.step_amid-answer.result (h.amid frame below top)
-    (call_in shape old new c.step_amid-answer.result h.ring.0 makes) (omega arith))
+    (leaving_told shape below c.args.self.now.part c.loop-answer.met old.part new.part c.step-answer.result (h.amid frame below top)
+    (call_in shape old new c.step-answer.result h.ring.0 makes) (omega arith))

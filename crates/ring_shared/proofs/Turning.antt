@@ -1,0 +1,100 @@
+-- The frame on top, which has a record to reserve, makes some steps of a page turn: one after the other.
+use Rattle.std.proofs.Common.{◌≡◌, ◌<◌, List, refl, ◌∙◌, subst, arith}
+use Rattle.trace_model.specs.Frames.{Kind, Frame}
+use Rattle.trace_model.specs.Steps as model
+use Rattle.ring_frames.specs.declared.answer.Answer.{Answer}
+use Rattle.ring_frames.specs.declared.answer.Answer.TheVariants.{Going, Gone}
+use Rattle.ring_frames.specs.declared.phase.Turned.{Turned}
+use Rattle.ring_frames.specs.declared.phase.Turned.TheVariants as turned
+use Rattle.ring_frames.specs.Phases.{told}
+use Rattle.ring_steps.specs.declared.rule.Shape.{Shape}
+use Rattle.ring_steps.specs.Views.{Writing}
+use Rattle.ring_shared.specs.Value.{WriterValue, SameWriter}
+use Rattle.ring_shared.specs.Calls.{IsWriter, IsCall, MakesSome}
+use Rattle.ring_shared.specs.Nearer.{rank_of, IsNearer}
+use Rattle.ring_shared.specs.Finishing.{GoesOn, at_once, one_more, IsReservedOr, is_reserved, stays_refused, is_refused, Reserves}
+use Rattle.ring_shared.specs.Turning.{IsReservingTop, TurnsOn}
+use Rattle.ring_shared.proofs.Depths.{reserving_top}
+use Rattle.ring_shared.proofs.Finishes.{IsAmidReserving, reserving_first, reserving_on, reserving_stands, reserving_ends, reserving_unnumbered}
+
+-- ---- runs
+
+module _ (shape : Shape) where
+  pub goes_both : (before between after : Writing) → GoesOn shape before between → GoesOn shape between after → GoesOn shape before after
+  goes_both before between after goes at_once = goes
+  goes_both before between after goes (one_more last end more call) = one_more last after (goes_both before between last goes more) call
+
+  reserves_past : (kind : Kind) (below : List Frame) (before between after : Writing) (result : Answer) → GoesOn shape before between → Reserves shape kind below between result after → Reserves shape kind below before result after
+  reserves_past kind below before between after result goes r = record { between = r.between; goes = goes_both before between r.between goes r.goes; last = r.last; ends = r.ends }
+
+-- ---- none, or one
+
+pub turned_none : (v : WriterValue) → IsWriter v → IsReservingTop v.part.frames → TurnsOn v v
+turned_none v w (frame, below, top, is) = record {
+  ring = (refl, refl);
+  writer = w;
+  goes = at_once;
+  stands = λ other others at. (other, at, refl, reserving_top v.part.frames frame other below others top is at);
+  nearer = omega arith;
+}
+
+-- a frame that has a record to reserve isn't gone by a step
+never_gone : (kind : Kind) (below : List Frame) (result : Answer) (after : List Frame) → IsReservedOr kind below result after → result ≡ Gone → ⊥
+never_gone kind below _ after (is_reserved next number end top kind_is state_is) e = cc
+never_gone kind below _ after (stays_refused fault next end top leaves) e = cc
+never_gone kind below _ after (is_refused fault end top) e = cc
+
+module _ (old new : WriterValue) (top : IsReservingTop old.part.frames) where
+  goes_with : (result : Turned) → IsCall old.shape old.part model.steps (told result) new.part → told result ≡ Going
+  goes_with turned.Going call = refl
+  goes_with turned.Gone call =
+      let (frame, below, at, is) = top in
+      let first = reserving_first old.shape frame below old.part at is in
+      let r = reserving_ends old.shape frame.kind below old.part old.part new.part Gone first call (λ e. let both : Gone ≡ Going = e in cc) in
+      absurd (never_gone frame.kind below Gone new.part.frames r.ends refl)
+
+  pub turned_once : (result : Turned) → MakesSome old model.steps (told result) new → IsNearer old new → TurnsOn old new
+  turned_once result makes nearer =
+      let going = goes_with result makes.call in
+      let (frame, below, at, is) = top in
+      let first : IsAmidReserving old.shape frame.kind below old.part old.part = reserving_first old.shape frame below old.part at is in
+      let less : rank_of new < rank_of old = nearer frame below at (reserving_unnumbered frame.kind frame.state is) (reserving_stands old.shape frame.kind below old.part old.part new.part (told result) first makes.call going) in
+      record {
+        ring = (makes.shape_is, makes.table_is);
+        writer = makes.writer;
+        goes = one_more old.part new.part at_once (subst (λ (x : Answer). IsCall old.shape old.part model.steps x new.part) going makes.call);
+        stands = λ other others there.
+            let a : IsAmidReserving old.shape other.kind others old.part new.part =
+            reserving_on old.shape other.kind others old.part old.part new.part (told result)
+            (reserving_first old.shape other others old.part there (reserving_top old.part.frames frame other below others at is there)) makes.call going in
+            (a.frame, a.top, a.kind_is, a.reserves);
+        nearer = omega arith;
+      }
+
+-- ---- one after the other
+
+pub turned_on : (old mid new : WriterValue) → TurnsOn old mid → TurnsOn mid new → TurnsOn old new
+turned_on old mid new one two = record {
+  ring = (two.ring.0 ∙ one.ring.0, two.ring.1 ∙ one.ring.1);
+  writer = two.writer;
+  goes = goes_both old.shape old.part mid.part new.part one.goes (subst (λ (s : Shape). GoesOn s mid.part new.part) one.ring.0 two.goes);
+  stands = λ frame below top.
+      let (between, at, kind_is, is) = one.stands frame below top in
+      let (next, there, same, still) = two.stands between below at in (next, there, same ∙ kind_is, still);
+  nearer = let first = one.nearer in let second = two.nearer in omega arith;
+}
+
+pub same_turned : (first old new : WriterValue) → SameWriter first old → TurnsOn old new → SameWriter first new
+same_turned first old new same t = (t.ring.0 ∙ same.0, t.ring.1 ∙ same.1)
+
+-- amid steps to a record
+pub amid_turned : (shape : Shape) (kind : Kind) (below : List Frame) (before : Writing) (old new : WriterValue) → old.shape ≡ shape → IsAmidReserving shape kind below before old.part → TurnsOn old new → IsAmidReserving shape kind below before new.part
+amid_turned shape kind below before old new same a t =
+    let (next, at, kind_is, is) = t.stands a.frame below a.top in
+    record {
+      frame = next;
+      top = at;
+      kind_is = kind_is ∙ a.kind_is;
+      reserves = is;
+      ends = λ answer after r. a.ends answer after (reserves_past shape kind below old.part new.part after answer (subst (λ (s : Shape). GoesOn s old.part new.part) same t.goes) r);
+    }

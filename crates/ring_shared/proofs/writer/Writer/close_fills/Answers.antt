@@ -1,0 +1,72 @@
+use Rattle.std.proofs.Common.{length, refl, sym, ap, ◌∙◌, subst}
+use Rattle.trace_model.specs.Frames.{Frame}
+use Rattle.trace_model.specs.Steps as model
+use Rattle.ring_frames.specs.declared.answer.Answer.{Answer}
+use Rattle.ring_frames.specs.Value.{phase_of}
+use Rattle.ring_frames.specs.Phases.{told}
+use Rattle.ring_steps.specs.declared.rule.Shape.{Shape}
+use Rattle.ring_shared.specs.Value.{WriterValue}
+use Rattle.ring_shared.specs.Calls.{IsCall}
+use Rattle.ring_shared.specs.Finishing.{at_once}
+use Rattle.ring_shared.proofs.Depths.{leaving_top}
+use Rattle.ring_shared.proofs.Finishes.{leaving_unnumbered, call_in, same_writer}
+use Rattle.ring_shared.proofs.FinishParts.{closes_then}
+use Rattle.ring_shared.proofs.TopAnswers.{some_stand, release_goes}
+use Rattle.ring_shared.proofs.writer.Writer.close_fills.Goals as goal
+
+pub loop-self-init : goal.loop-self-init
+loop-self-init c =
+    let (frame, below, top, leaves) = c.requires.top in
+    record {
+      writer = c.requires.writer;
+      ring = (refl, refl);
+      some = (frame, below, top);
+      closes = λ other others is. (other, is, leaving_top c.args.self.now.part.frames frame other below others top leaves is, at_once);
+    }
+
+pub release-requires-clause-top : goal.release-requires-clause-top
+release-requires-clause-top c =
+    let h = c.loop-self.invariant in
+    let (frame, below, top) = h.some in
+    let (next, at, leaves, goes) = h.closes frame below top in
+    some_stand c.loop-self.self h.writer next below at
+
+pub load_wish-requires-clause-top : goal.load_wish-requires-clause-top
+load_wish-requires-clause-top c =
+    let h = c.loop-self.invariant in
+    let (frame, below, top) = h.some in
+    let (next, at, leaves, goes) = h.closes frame below top in
+    some_stand c.loop-self.self h.writer next below at
+
+pub loop-self-preserved : goal.loop-self-preserved
+loop-self-preserved c =
+    let h = c.loop-self.invariant in
+    let old : WriterValue = c.loop-self.self in let new : WriterValue = c.release.new.self in let shape : Shape = c.args.self.now.shape in
+    let makes = c.release.ensures.makes in
+    let (frame, below, top) = h.some in
+    let (next, at, leaves, goes) = h.closes frame below top in
+    let going = release_goes old h.writer (told c.release.result) new.part (some_stand old h.writer next below at) (ap phase_of (ap (λ (x : WriterValue). x.frames.phase) (sym c.self.view_is) ∙ (sym c.phase.ensures ∙ c.in-Releasing.is))) makes.call in
+    record {
+      writer = makes.writer;
+      ring = same_writer c.args.self.now old new (told c.release.result) h.ring makes;
+      some = h.some;
+      closes = λ other others is. closes_then shape others c.args.self.now.part old.part new.part Rattle.ring_frames.specs.declared.phase.Turned.TheVariants.Going (h.closes other others is)
+          (subst (λ (x : Answer). IsCall shape old.part model.steps x new.part) going (call_in shape old new (told c.release.result) h.ring.0 makes));
+    }
+
+pub loop-self-smaller : goal.loop-self-smaller
+loop-self-smaller c =
+    let h = c.loop-self.invariant in
+    let old : WriterValue = c.loop-self.self in let new : WriterValue = c.release.new.self in
+    let (frame, below, top) = h.some in
+    let (next, at, leaves, goes) = h.closes frame below top in
+    let (last, stands, still, more) = (loop-self-preserved c).closes frame below top in
+    c.release.ensures.nearer next below at (leaving_unnumbered next.kind next.state leaves)
+    (ap (length {A = Frame}) stands ∙ ap (length {A = Frame}) (sym at))
+
+pub returns-in-Wishing-clause-closes : goal.returns-in-Wishing-clause-closes
+returns-in-Wishing-clause-closes c = λ frame below top.
+    let h = c.loop-self.invariant in
+    let old : WriterValue = c.loop-self.self in let new : WriterValue = c.load_wish.new.self in let shape : Shape = c.args.self.now.shape in
+    closes_then shape below c.args.self.now.part old.part new.part c.load_wish.result (h.closes frame below top)
+    (call_in shape old new (told c.load_wish.result) h.ring.0 c.load_wish.ensures.makes)

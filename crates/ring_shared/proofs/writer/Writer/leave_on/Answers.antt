@@ -1,0 +1,29 @@
+use Rattle.std.proofs.Common.{refl, subst, inl}
+use Rattle.ring_frames.specs.declared.answer.Answer.TheVariants.{Gone}
+use Rattle.ring_frames.specs.declared.phase.Turned.{Turned}
+use Rattle.ring_shared.specs.Value.{WriterValue}
+use Rattle.ring_shared.specs.Finishing.{Closes}
+use Rattle.ring_shared.proofs.FinishParts.{closes_still, closes_rest}
+use Rattle.ring_shared.proofs.writer.Writer.leave_on.Goals as goal
+
+pub returns-in-Gone-clause-leaves : goal.returns-in-Gone-clause-leaves
+returns-in-Gone-clause-leaves c =
+    let v : WriterValue = c.args.self.now in let new : WriterValue = c.close_fills.new.self in
+    (Gone, refl, inl refl, λ frame below top. subst (λ (t : Turned). Closes v.shape below v.part t new.part) c.in-Gone.is (c.close_fills.ensures.closes frame below top))
+
+pub leave_top-requires-clause-top : goal.leave_top-requires-clause-top
+leave_top-requires-clause-top c =
+    let (frame, below, top, is) = c.requires.top in
+    let v : WriterValue = c.args.self.now in
+    closes_still v.shape below v.part c.close_fills.new.self.part c.close_fills.result (c.close_fills.ensures.closes frame below top) c.in_default.is
+
+pub returns-clause-leaves : goal.returns-clause-leaves
+returns-clause-leaves c =
+    let v : WriterValue = c.args.self.now in (
+      c.leave_top.result,
+      c.met_first.ensures,
+      c.leave_top.ensures.gone,
+      λ frame below top.
+          closes_rest v.shape below v.part c.close_fills.new.self c.close_fills.result (c.close_fills.ensures.closes frame below top) c.in_default.is
+          c.close_fills.ensures.ring.0 c.leave_top.result c.leave_top.new.self.part c.leave_top.ensures.leaves,
+    )

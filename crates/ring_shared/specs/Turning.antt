@@ -1,0 +1,27 @@
+-- What it means that the frame on top, which has a record to reserve, makes some steps of a page turn.
+use Rattle.std.specs.Prelude.{◌≡◌, ◌≤◌, List, ◌∷◌}
+use Rattle.trace_model.specs.Frames.{Frame}
+use Rattle.link_marks.specs.FrameOutcomes.{IsReserving}
+use Rattle.ring_shared.specs.Value.{WriterValue, SameWriter}
+use Rattle.ring_shared.specs.Calls.{IsWriter}
+use Rattle.ring_shared.specs.Nearer.{rank_of}
+use Rattle.ring_shared.specs.Finishing.{GoesOn}
+
+-- the frame on top has a record to reserve
+abbrev pub IsReservingTop : List Frame → Type 0
+IsReservingTop frames =
+    (frame : Frame) × (below : List Frame) × (frames ≡ frame ∷ below) × IsReserving frame.kind frame.state
+
+-- The frame on top makes steps, some or none, each of which is answered `Going`; it stands with the same record still to
+-- be reserved, and is no further from its end.
+pub record TurnsOn (old new : WriterValue) : Type 0 where
+  pub ring : SameWriter old new
+  pub writer : IsWriter new
+  pub goes : GoesOn old.shape old.part new.part
+  pub stands : (frame : Frame) (below : List Frame)
+      → old.part.frames ≡ frame ∷ below
+      → (next : Frame)
+      × (new.part.frames ≡ next ∷ below)
+      × (next.kind ≡ frame.kind)
+      × IsReserving next.kind next.state
+  pub nearer : rank_of new ≤ rank_of old
