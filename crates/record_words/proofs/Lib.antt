@@ -1,3 +1,4 @@
 mod Headers
 mod WordReads
 mod Padded
+mod Copies

@@ -4,6 +4,7 @@
 //! `docs/FORMATS.md`, "Record words".
 #![tactic(auto)]
 
+mod copy;
 mod format;
 mod next;
 mod put;

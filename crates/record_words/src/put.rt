@@ -4,6 +4,7 @@ ghost use Rattle.trace_model.specs.Words.{le32, first_word, slot_len, padded, en
 ghost use Rattle.trace_model.specs.declared.limits.TheConstants.{MOMENT_LIMIT};
 ghost use Rattle.record_words.specs.Puts.{Puts, data_header, header_len};
 
+use crate::copy::copy_to_front;
 use crate::format::{EXTEND_FROM, MAX_PAYLOAD, SHORT_LIMIT, TIME_EXTEND};
 use crate::size::slot_len;
 use byteorder::{ByteOrder, LittleEndian};
@@ -130,7 +131,7 @@ fn put_padded(out: &mut [u8], slot: usize, payload: &[u8])
     ensures { Puts out.old out.new (padded payload.now) }
 {
     put_number(&mut out[slot - 4..], 0);
-    out[..payload.len()].copy_from_slice(payload);
+    copy_to_front(out, payload);
 }
 
 /// Puts a data word with this payload at the front, and answers how many bytes that takes.
