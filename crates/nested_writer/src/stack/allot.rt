@@ -113,35 +113,7 @@ impl WriterStack {
         Ok(Allot::NeedsPage)
     }
 
-    /// Reserves the record of the frame on top, which tried nothing yet and fits in the tail, and whose moment is
-    /// raised to `raised`.
-    #[inline(always)]
-    fn reserve(&mut self, moment: u64, raised: u64, len: usize) -> Slot
-        requires stack { Stands self.old }
-        requires top { (below : List Frame)
-            × IsTop self.old (record { purpose = Record moment len; progress = Waiting None }) below }
-        requires raised { raised ≡ max moment self.old.last_moment }
-        requires room { HasRecordRoom self.old moment len }
-        ensures reserved { (top : Frame) (below : List Frame) → IsTop self.old top below
-            → IsReserved self.old top below moment len result.place self.new }
-        ensures stack { HasActed self.old (reserve ∷ []) self.new }
-        ensures number { result.number ≡ next_number self.old }
-        ensures slot { IsTopSlot self.new.frames result }
-    {
-        let number = self.tail.first().0 + self.tail.count();
-        let fill = self.tail.fill().0;
-        let place = self.tail.put(self.last_moment, raised, len);
-        self.last_moment = raised;
-        let slot = Slot {
-            number,
-            fill,
-            place,
-        };
-        self.top.hold(slot);
-        slot
-    }
-
-    /// `reserve`, where the frame on top may have noted that it needed a page.
+    /// Reserves the record of the frame on top, which fits in the tail, and whose moment is raised to `raised`.
     #[inline(always)]
     fn reserve_any(&mut self, moment: u64, raised: u64, len: usize) -> Place
         requires stack { Stands self.old }
@@ -184,6 +156,32 @@ impl WriterStack {
         Some(pushed)
     }
 
+    /// Reserves the record of the frame on top, which `plain_top` told.
+    #[inline(always)]
+    fn hold_plain(&mut self, pushed: Pushed) -> Slot
+        requires stack { Stands self.old }
+        requires plain { IsPlainTop self.old pushed }
+        ensures reserved { (top : Frame) (below : List Frame) → IsTop self.old top below
+            → IsReserved self.old top below pushed.moment pushed.len result.place self.new }
+        ensures stack { HasActed self.old (reserve ∷ []) self.new }
+        ensures number { result.number ≡ next_number self.old }
+        ensures slot { IsTopSlot self.new.frames result }
+    {
+        let number = self.tail.first().0 + self.tail.count();
+        let fill = self.tail.fill().0;
+        let place = self
+            .tail
+            .put_plain(self.last_moment, pushed.moment, pushed.len);
+        self.last_moment = pushed.moment;
+        let slot = Slot {
+            number,
+            fill,
+            place,
+        };
+        self.top.hold(slot);
+        slot
+    }
+
     /// Reserves the record of the frame on top, which `plain_top` told, and answers its number: what `allot` does with
     /// it.
     #[inline(always)]
@@ -198,18 +196,7 @@ impl WriterStack {
             → IsStack start history self.old
             → (place : Place) × IsAnswered self.old history self.old.frames (Ok (Allot.Fits place)) }
     {
-        let number = self.tail.first().0 + self.tail.count();
-        let fill = self.tail.fill().0;
-        let place = self
-            .tail
-            .put_plain(self.last_moment, pushed.moment, pushed.len);
-        self.last_moment = pushed.moment;
-        self.top.hold(Slot {
-            number,
-            fill,
-            place,
-        });
-        number
+        self.hold_plain(pushed).number
     }
 
     /// `allot`, however far the frame on top has come.
@@ -309,7 +296,7 @@ impl WriterStack {
         let Some(pushed) = self.plain_top() else {
             return self.allot_any();
         };
-        Ok(Allot::Fits(self.reserve(pushed.moment, pushed.moment, pushed.len).place))
+        Ok(Allot::Fits(self.hold_plain(pushed).place))
     }
 }
 
