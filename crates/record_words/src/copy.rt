@@ -6,7 +6,7 @@ ghost use Rattle.record_words.specs.Puts.{Puts};
 ghost use Rattle.record_words.specs.Copies.{HasFront};
 
 use crate::format::SHORT_LIMIT;
-use byteorder::{ByteOrder, LittleEndian};
+use std::simd::u8x16;
 
 /// How many bytes a chunk has.
 const CHUNK: usize = 16;
@@ -69,5 +69,5 @@ fn copy_chunk(out: &mut [u8], payload: &[u8], at: usize)
     ensures front { (n : ℕ) → at ≤ n → HasFront n payload.now out.old → HasFront (at + CHUNK) payload.now out.new }
     ensures behind { drop (length payload.now) out.new ≡ drop (length payload.now) out.old }
 {
-    LittleEndian::write_u128(&mut out[at..], LittleEndian::read_u128(&payload[at..]));
+    u8x16::from_slice(&payload[at..]).copy_to_slice(&mut out[at..]);
 }
