@@ -2,11 +2,12 @@
 use Rattle.std.specs.Prelude.{◌≡◌, ℕ, List}
 use Rattle.trace_model.specs.Steps as model
 use Rattle.page_image.specs.Contents.{IsPage}
+use Rattle.nested_writer.specs.Stack.{Stack}
 use Rattle.ring_core.specs.declared.event.Event.{Event}
 use Rattle.ring_core.specs.declared.event.Event.TheVariants.{Push, PushClose, Step, End, Read, Wish}
 use Rattle.ring_frames.specs.declared.answer.Answer.{Answer}
 use Rattle.ring_frames.specs.declared.answer.Answer.TheVariants.{Pushed, Going, Reserved, Ended, Gone, Refused, Looking, Empty, Moving, Taken as IsTaken, Wished}
-use Rattle.ring_frames.specs.Answers.{top_bytes}
+use Rattle.ring_frames.specs.Answers.{top_bytes, KeepsPayloads, EndsPayload}
 use Rattle.ring_core.specs.Value.{CoreValue}
 
 -- ---- events
@@ -19,6 +20,15 @@ event_of v Step = model.steps
 event_of v End = model.ends (top_bytes v.stack v.stack.frames)
 event_of v (Read body) = model.reads
 event_of v Wish = model.wishes
+
+-- Each slot that a frame has reserved stays so, with its payload; as the frame on top ends, those of the frames below do.
+abbrev pub StepsPayloads : Event → Stack → Stack → Type 0
+StepsPayloads (Push moment len) old new = KeepsPayloads old new
+StepsPayloads PushClose old new = KeepsPayloads old new
+StepsPayloads Step old new = KeepsPayloads old new
+StepsPayloads End old new = EndsPayload old new
+StepsPayloads (Read body) old new = KeepsPayloads old new
+StepsPayloads Wish old new = KeepsPayloads old new
 
 -- ---- answers
 

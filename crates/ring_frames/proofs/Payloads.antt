@@ -24,11 +24,12 @@ use Rattle.nested_writer.specs.declared.frame.Progress.{Progress}
 use Rattle.nested_writer.specs.declared.frame.Progress.TheVariants.{Waiting, Through, Reserved, Left}
 use Rattle.nested_writer.specs.declared.frame.Frame.{Frame}
 use Rattle.nested_writer.specs.Stack.{Stack, opened, tail_fill, next_number, blank_page, kind_of}
-use Rattle.nested_writer.specs.Calls.{with_tail, HasLeft, HasNoSlot, IsAtBottom, LacksSlot, IsTopSlot, IsReserved}
+use Rattle.nested_writer.specs.Calls.{with_frame, with_progress, with_tail, frames_after_leave, HasLeft, HasNoSlot, IsAtBottom, LacksSlot, IsTopSlot, IsReserved}
 use Rattle.nested_writer.specs.Allotted.{HasActed, HasFit, IsAllotted}
+use Rattle.nested_writer.specs.Answered.{WantsFill, IsAnswered}
 use Rattle.nested_writer.specs.Ends.{IsEnd}
 use Rattle.nested_writer.specs.IsStack.{IsOpenPage, is_tail, is_older, LiesOpen, StandsAt, FramesStand, IsStack}
-use Rattle.ring_frames.specs.Answers.{bytes_in, HoldSlot, KeepsPayloads}
+use Rattle.ring_frames.specs.Answers.{bytes_in, HoldSlot, KeepsPayloads, below_top, EndsPayload}
 use Rattle.ring_frames.proofs.Ended.{page_found}
 
 -- ---- the same pages
@@ -40,14 +41,48 @@ SameBytes old new = (slot : Slot) → bytes_in old slot ≡ bytes_in new slot
 pub other_frames : (old new : Stack) (frames : List Frame) → new ≡ record old { frames = frames } → SameBytes old new
 other_frames old new frames is slot = sym (ap (λ (s : Stack). bytes_in s slot) is)
 
+-- each slot that one of the old frames has reserved, one of the new ones has
+abbrev StayHeld : List Frame → List Frame → Type 0
+StayHeld old new = (slot : Slot) → HoldSlot old slot → HoldSlot new slot
+
 pub same_stack : (old new : Stack) → new ≡ old → KeepsPayloads old new
-same_stack old new is slot held = sym (ap (λ (s : Stack). bytes_in s slot) is)
+same_stack old new is slot held = (subst (λ (s : Stack). HoldSlot s.frames slot) (sym is) held, sym (ap (λ (s : Stack). bytes_in s slot) is))
 
-pub kept_same : (old new : Stack) → SameBytes old new → KeepsPayloads old new
-kept_same old new same slot held = same slot
+pub kept_same : (old new : Stack) → SameBytes old new → StayHeld old.frames new.frames → KeepsPayloads old new
+kept_same old new same stay slot held = (stay slot held, same slot)
 
-pub kept_then : (old mid new : Stack) → KeepsPayloads old mid → SameBytes mid new → KeepsPayloads old new
-kept_then old mid new kept same slot held = kept slot held ∙ same slot
+pub kept_then : (old mid new : Stack) → KeepsPayloads old mid → KeepsPayloads mid new → KeepsPayloads old new
+kept_then old mid new first then slot held =
+    let (there, same) = first slot held in
+    let (still, more) = then slot there in
+    (still, same ∙ more)
+
+pub pushed_kept : (old new : Stack) (f : Frame) → new ≡ with_frame old f → KeepsPayloads old new
+pushed_kept old new f is = kept_same old new (other_frames old new _ is) (λ slot held. subst (λ (s : Stack). HoldSlot s.frames slot) (sym is) (inr held))
+
+-- ---- frames that go on or leave
+
+no_slot : (progress : Progress) → HasNoSlot progress → (slot : Slot) → progress ≡ Reserved slot → ⊥
+no_slot (Waiting noted) none slot is = cc
+no_slot (Through noted) none slot is = cc
+no_slot (Reserved other) none slot is = none
+no_slot (Left noted) none slot is = cc
+
+-- what frames below a top that has reserved none have reserved
+went_on : (old : List Frame) (top : Frame) (below new : List Frame) → old ≡ top ∷ below → HasNoSlot top.progress → StayHeld below new → StayHeld old new
+went_on old top below new is none stay slot held = by_top (subst (λ (fs : List Frame). HoldSlot fs slot) is held)
+  where
+    by_top : HoldSlot (top ∷ below) slot → HoldSlot new slot
+    by_top (inl has) = absurd (no_slot top.progress none slot has)
+    by_top (inr there) = stay slot there
+
+left_held : (top : Frame) (below : List Frame) → StayHeld below (frames_after_leave top below)
+left_held top [] slot none = absurd none
+left_held top (next ∷ below) slot there = there
+
+pub below_held : (frames : List Frame) (slot : Slot) → HoldSlot (below_top frames) slot → HoldSlot frames slot
+below_held [] slot none = none
+below_held (top ∷ below) slot there = inr there
 
 pub ended_same : (old new : Stack) → IsEnd old old.frames new → SameBytes old new
 ended_same old new is = by_frames old.frames is
@@ -56,7 +91,38 @@ ended_same old new is = by_frames old.frames is
     by_frames [] end = absurd end
     by_frames (top ∷ below) end = other_frames old new _ end.0
 
+-- what the frames below have reserved stays reserved as the one on top leaves
+ended_below : (old new : Stack) (frames : List Frame) → IsEnd old frames new → StayHeld (below_top frames) new.frames
+ended_below old new [] end slot there = absurd end
+ended_below old new (top ∷ below) end slot there = subst (λ (s : Stack). HoldSlot s.frames slot) (sym end.0) (left_held top below slot there)
+
+pub ended_payload : (old new : Stack) → IsEnd old old.frames new → EndsPayload old new
+ended_payload old new is slot held = (ended_same old new is slot, ended_below old new old.frames is slot)
+
+pub same_payload : (old new : Stack) → new ≡ old → EndsPayload old new
+same_payload old new is slot held = (
+  sym (ap (λ (s : Stack). bytes_in s slot) is),
+  λ there. subst (λ (s : Stack). HoldSlot s.frames slot) (sym is) (below_held old.frames slot there),
+)
+
+-- one leaves that has reserved none
+pub ended_kept : (old new : Stack) → IsEnd old old.frames new → ((slot : Slot) → IsTopSlot old.frames slot → ⊥) → KeepsPayloads old new
+ended_kept old new is lacks slot held = (ended_below old new old.frames is slot (not_on_top old.frames held lacks), ended_same old new is slot)
+  where
+    not_on_top : (frames : List Frame) → HoldSlot frames slot → ((other : Slot) → IsTopSlot frames other → ⊥) → HoldSlot (below_top frames) slot
+    not_on_top [] none lacks = none
+    not_on_top (top ∷ below) (inl has) lacks = absurd (lacks slot has)
+    not_on_top (top ∷ below) (inr there) lacks = there
+
 -- ---- where nothing is reserved
+
+-- no frame stands
+pub none_held : (old new : Stack) → old.frames ≡ [] → KeepsPayloads old new
+none_held old new none slot held = absurd (subst (λ (fs : List Frame). HoldSlot fs slot) none held)
+
+-- the frame on top is a close frame that is through
+pub through_lacks : (s after : Stack) (top : Frame) (below : List Frame) (noted : ℕ) → after ≡ with_progress s top below (Through noted) → (slot : Slot) → IsTopSlot after.frames slot → ⊥
+through_lacks s after top below noted is slot at = no_slot (Through noted) tt slot (subst (λ (t : Stack). IsTopSlot t.frames slot) is at)
 
 -- the bottom frame has left
 pub bottom_held : (old new : Stack) → IsAtBottom old.frames → KeepsPayloads old new
@@ -107,8 +173,8 @@ appended : (a b : List ℕ) (start len : ℕ) → start + len ≤ length a → b
 appended a b start len low = same_lists _ _ (search (rules, places)) (λ k d h. grind (arith, places))
 
 -- the tail has more bytes behind its own
-pub grown : (start : ℕ) (h : List Action) (s after : Stack) (more : List ℕ) → IsStack start h s → after.done ≡ s.done → after.older ≡ s.older → after.tail.fill ≡ tail_fill after → after.tail.bytes ≡ s.tail.bytes ++ more → KeepsPayloads s after
-grown start h s after more k done older fill bytes slot held = kept lies.page lies.open_page lies.inside
+pub grown : (start : ℕ) (h : List Action) (s after : Stack) (more : List ℕ) → IsStack start h s → after.done ≡ s.done → after.older ≡ s.older → after.tail.fill ≡ tail_fill after → after.tail.bytes ≡ s.tail.bytes ++ more → StayHeld s.frames after.frames → KeepsPayloads s after
+grown start h s after more k done older fill bytes stay slot held = (stay slot held, kept lies.page lies.open_page lies.inside)
   where
     lies : LiesIn s slot
     lies = slot_lies start h s slot k held
@@ -123,41 +189,59 @@ grown start h s after more k done older fill bytes slot held = kept lies.page li
         by_page s slot page k.holds.tail_is.fill_is (is_older j at is)
         ∙ sym (by_page after slot page fill (is_older j (at ∙ ap (λ (d : ℕ). d + j) (sym done)) (ap (λ (ps : List Contents). slice_get ps j) older ∙ is)))
 
-record_kept : (start : ℕ) (h : List Action) (s after : Stack) (top : Frame) (below : List Frame) (moment len : ℕ) (place : Place) → IsStack start h s → IsReserved s top below moment len place after → HasActed s (reserve ∷ []) after → KeepsPayloads s after
-record_kept start h s after top below moment len place k is acted =
+record_kept : (start : ℕ) (h : List Action) (s after : Stack) (top : Frame) (below : List Frame) (moment len : ℕ) (place : Place) → IsStack start h s → s.frames ≡ top ∷ below → HasNoSlot top.progress → IsReserved s top below moment len place after → HasActed s (reserve ∷ []) after → KeepsPayloads s after
+record_kept start h s after top below moment len place k at none is acted =
     grown start h s after _ k (ap (λ (t : Stack). t.done) is.others) (ap (λ (t : Stack). t.older) is.others) (acted start h k).holds.tail_is.fill_is is.bytes
+    (went_on s.frames top below after.frames at none (λ slot there. subst (λ (t : Stack). HoldSlot t.frames slot) (sym is.others) (inr there)))
+
+wants_none : (s : Stack) (h : List Action) (purpose : Purpose) (progress : Progress) → WantsFill s h purpose progress → HasNoSlot progress
+wants_none s h purpose (Waiting noted) wants = tt
+wants_none s h purpose (Through noted) wants = tt
+wants_none s h (Record moment len) (Reserved slot) wants = wants
+wants_none s h Close (Reserved slot) wants = wants
+wants_none s h purpose (Left noted) wants = tt
+
+-- a place is answered for what fits, whichever it is
+pub fits_anywhere : (s : Stack) (h : List Action) (frames : List Frame) (one other : Place) → IsAnswered s h frames (Ok (Fits one)) → IsAnswered s h frames (Ok (Fits other))
+fits_anywhere s h [] one other none = absurd (not_both none)
+  where
+    not_both : ◌≡◌ {A = Result Allot WriteFault} (Ok (Fits one)) (Err NoFrame) → ⊥
+    not_both e = cc
+fits_anywhere s h (top ∷ below) one other fits = fits
 
 -- whatever is allotted
-pub allotted_kept : (start : ℕ) (h : List Action) (s after : Stack) (result : Result Allot WriteFault) → IsStack start h s → IsAllotted s s.frames result after → KeepsPayloads s after
-allotted_kept start h s after result k is = by_frames s.frames is
+pub allotted_kept : (start : ℕ) (h : List Action) (s after : Stack) (result : Result Allot WriteFault) → IsStack start h s → IsAnswered s h s.frames result → IsAllotted s s.frames result after → KeepsPayloads s after
+allotted_kept start h s after result k = by_frames s.frames refl
   where
-    framed : (frames : List Frame) → after ≡ record s { frames = frames } → KeepsPayloads s after
-    framed frames same = kept_same s after (other_frames s after frames same)
+    framed : (top : Frame) (below frames : List Frame) → s.frames ≡ top ∷ below → HasNoSlot top.progress → StayHeld below frames → after ≡ record s { frames = frames } → KeepsPayloads s after
+    framed top below frames at none stay same =
+        kept_same s after (other_frames s after frames same)
+        (went_on s.frames top below after.frames at none (λ slot there. subst (λ (t : Stack). HoldSlot t.frames slot) (sym same) (stay slot there)))
 
-    by_fit : (top : Frame) (below : List Frame) (place : Place) (purpose : Purpose) (progress : Progress) → HasFit s top below purpose progress place after → KeepsPayloads s after
-    by_fit top below place (Record moment len) (Waiting noted) fit = record_kept start h s after top below moment len place k fit.0 fit.1
-    by_fit top below place Close (Waiting noted) fit = framed _ fit.1
-    by_fit top below place (Record moment len) (Through noted) fit = absurd fit
-    by_fit top below place Close (Through noted) fit = framed _ fit.1
-    by_fit top below place (Record moment len) (Reserved slot) fit = same_stack s after fit.0
-    by_fit top below place Close (Reserved slot) fit = same_stack s after fit.0
-    by_fit top below place (Record moment len) (Left noted) fit = absurd fit
-    by_fit top below place Close (Left noted) fit = absurd fit
+    by_fit : (top : Frame) (below : List Frame) (place : Place) (purpose : Purpose) (progress : Progress) → s.frames ≡ top ∷ below → top.progress ≡ progress → HasFit s top below purpose progress place after → KeepsPayloads s after
+    by_fit top below place (Record moment len) (Waiting noted) at now fit = record_kept start h s after top below moment len place k at (subst HasNoSlot (sym now) tt) fit.0 fit.1
+    by_fit top below place Close (Waiting noted) at now fit = framed top below _ at (subst HasNoSlot (sym now) tt) (λ slot there. inr there) fit.1
+    by_fit top below place (Record moment len) (Through noted) at now fit = absurd fit
+    by_fit top below place Close (Through noted) at now fit = framed top below _ at (subst HasNoSlot (sym now) tt) (λ slot there. inr there) fit.1
+    by_fit top below place (Record moment len) (Reserved slot) at now fit = same_stack s after fit.0
+    by_fit top below place Close (Reserved slot) at now fit = same_stack s after fit.0
+    by_fit top below place (Record moment len) (Left noted) at now fit = absurd fit
+    by_fit top below place Close (Left noted) at now fit = absurd fit
 
-    by_result : (top : Frame) (below : List Frame) (result : Result Allot WriteFault) → IsAllotted s (top ∷ below) result after → KeepsPayloads s after
-    by_result top below (Ok (Fits place)) fit = by_fit top below place top.purpose top.progress fit
-    by_result top below (Ok NeedsPage) (same, acted) = framed _ same
-    by_result top below (Err Crowded) (same, acted) = framed _ same
-    by_result top below (Err Worn) (same, acted) = framed _ same
-    by_result top below (Err NotReserved) same = same_stack s after same
-    by_result top below (Err NoFrame) none = absurd none
-    by_result top below (Err TooDeep) none = absurd none
-    by_result top below (Err TooLong) none = absurd none
-    by_result top below (Err LateMoment) none = absurd none
+    by_result : (top : Frame) (below : List Frame) (result : Result Allot WriteFault) → s.frames ≡ top ∷ below → IsAnswered s h (top ∷ below) result → IsAllotted s (top ∷ below) result after → KeepsPayloads s after
+    by_result top below (Ok (Fits place)) at answered fit = by_fit top below place top.purpose top.progress at refl fit
+    by_result top below (Ok NeedsPage) at answered (same, acted) = framed top below _ at (wants_none s h top.purpose top.progress answered.0) (λ slot there. inr there) same
+    by_result top below (Err Crowded) at answered (same, acted) = framed top below _ at (wants_none s h top.purpose top.progress answered.0) (left_held top below) same
+    by_result top below (Err Worn) at answered (same, acted) = framed top below _ at (wants_none s h top.purpose top.progress answered.0) (left_held top below) same
+    by_result top below (Err NotReserved) at answered same = same_stack s after same
+    by_result top below (Err NoFrame) at answered none = absurd none
+    by_result top below (Err TooDeep) at answered none = absurd none
+    by_result top below (Err TooLong) at answered none = absurd none
+    by_result top below (Err LateMoment) at answered none = absurd none
 
-    by_frames : (frames : List Frame) → IsAllotted s frames result after → KeepsPayloads s after
-    by_frames [] (refused, same) = same_stack s after same
-    by_frames (top ∷ below) allotted = by_result top below result allotted
+    by_frames : (frames : List Frame) → s.frames ≡ frames → IsAnswered s h frames result → IsAllotted s frames result after → KeepsPayloads s after
+    by_frames [] at answered (refused, same) = same_stack s after same
+    by_frames (top ∷ below) at answered allotted = by_result top below result at answered allotted
 
 -- ---- a page more
 
@@ -175,15 +259,12 @@ module _ (start : ℕ) (h : List Action) (s : Stack) (k : IsStack start h s) whe
   still_open fill page (is_older j at there) = is_older j at (get_in_front s.older (s.tail ∷ []) j page there)
 
   pub added_kept : (after : Stack) → after ≡ added → KeepsPayloads s after
-  added_kept after is slot held =
-      let lies = slot_lies start h s slot k held in
-      by_page s slot lies.page k.holds.tail_is.fill_is lies.open_page
-      ∙ sym (by_page added slot lies.page added_fill (still_open slot.fill lies.page lies.open_page))
-      ∙ sym (ap (λ (t : Stack). bytes_in t slot) is)
-
-  -- and whatever the frame on top makes of the frames then
-  pub added_then : (after new : Stack) → after ≡ added → KeepsPayloads after new → KeepsPayloads s new
-  added_then after new is kept slot held = added_kept after is slot held ∙ kept slot (subst (λ (t : Stack). HoldSlot t.frames slot) (sym is) held)
+  added_kept after is = kept_then s added after stays (same_stack added after is)
+    where
+      stays : KeepsPayloads s added
+      stays slot held =
+          let lies = slot_lies start h s slot k held in
+          (held, by_page s slot lies.page k.holds.tail_is.fill_is lies.open_page ∙ sym (by_page added slot lies.page added_fill (still_open slot.fill lies.page lies.open_page)))
 
 -- ---- zeros
 

@@ -45,9 +45,22 @@ abbrev pub HoldSlot : List Frame → Slot → Type 0
 HoldSlot [] slot = ⊥
 HoldSlot (f ∷ frames) slot = (f.progress ≡ HasReserved slot) ⊎ HoldSlot frames slot
 
--- Each slot that a frame of the old stack has reserved holds the same bytes in the new one.
+-- Each slot that a frame of the old stack has reserved stays reserved in the new one, with the same bytes.
 abbrev pub KeepsPayloads : Stack → Stack → Type 0
-KeepsPayloads old new = (slot : Slot) → HoldSlot old.frames slot → bytes_in old slot ≡ bytes_in new slot
+KeepsPayloads old new = (slot : Slot)
+    → HoldSlot old.frames slot
+    → HoldSlot new.frames slot × (bytes_in old slot ≡ bytes_in new slot)
+
+-- the frames below the one on top
+abbrev pub below_top : List Frame → List Frame
+below_top [] = []
+below_top (top ∷ below) = below
+
+-- As the frame on top ends, each slot that was reserved keeps its bytes, and that of a frame below stays reserved.
+abbrev pub EndsPayload : Stack → Stack → Type 0
+EndsPayload old new = (slot : Slot)
+    → HoldSlot old.frames slot
+    → (bytes_in old slot ≡ bytes_in new slot) × (HoldSlot (below_top old.frames) slot → HoldSlot new.frames slot)
 
 -- ---- answers
 

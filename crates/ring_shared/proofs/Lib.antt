@@ -19,6 +19,7 @@ pub mod Finishes
 pub mod Nearing
 pub mod PushedEnded
 pub mod WholeWrites
+pub mod Covered
 pub mod AtOnce
 pub mod CallsAppend
 pub mod FinishParts

@@ -6,7 +6,9 @@ use Rattle.ring_frames.specs.declared.answer.Answer.{Answer}
 use Rattle.ring_frames.specs.declared.answer.Answer.TheVariants.{Going, Gone}
 use Rattle.ring_frames.specs.declared.phase.Turned.{Turned}
 use Rattle.ring_frames.specs.declared.phase.Turned.TheVariants as turned
+use Rattle.ring_frames.specs.Answers.{KeepsPayloads}
 use Rattle.ring_frames.specs.Phases.{told}
+use Rattle.ring_frames.proofs.Payloads.{same_stack, kept_then}
 use Rattle.ring_steps.specs.declared.rule.Shape.{Shape}
 use Rattle.ring_steps.specs.Views.{Writing}
 use Rattle.ring_shared.specs.Value.{WriterValue, SameWriter}
@@ -36,6 +38,7 @@ turned_none v w (frame, below, top, is) = record {
   goes = at_once;
   stands = λ other others at. (other, at, refl, reserving_top v.part.frames frame other below others top is at);
   nearer = omega arith;
+  payloads = same_stack v.frames.stack v.frames.stack refl;
 }
 
 -- a frame that has a record to reserve isn't gone by a step
@@ -53,8 +56,8 @@ module _ (old new : WriterValue) (top : IsReservingTop old.part.frames) where
       let r = reserving_ends old.shape frame.kind below old.part old.part new.part Gone first call (λ e. let both : Gone ≡ Going = e in cc) in
       absurd (never_gone frame.kind below Gone new.part.frames r.ends refl)
 
-  pub turned_once : (result : Turned) → MakesSome old model.steps (told result) new → IsNearer old new → TurnsOn old new
-  turned_once result makes nearer =
+  pub turned_once : (result : Turned) → MakesSome old model.steps (told result) new → IsNearer old new → KeepsPayloads old.frames.stack new.frames.stack → TurnsOn old new
+  turned_once result makes nearer kept =
       let going = goes_with result makes.call in
       let (frame, below, at, is) = top in
       let first : IsAmidReserving old.shape frame.kind below old.part old.part = reserving_first old.shape frame below old.part at is in
@@ -69,6 +72,7 @@ module _ (old new : WriterValue) (top : IsReservingTop old.part.frames) where
             (reserving_first old.shape other others old.part there (reserving_top old.part.frames frame other below others at is there)) makes.call going in
             (a.frame, a.top, a.kind_is, a.reserves);
         nearer = omega arith;
+        payloads = kept;
       }
 
 -- ---- one after the other
@@ -82,6 +86,7 @@ turned_on old mid new one two = record {
       let (between, at, kind_is, is) = one.stands frame below top in
       let (next, there, same, still) = two.stands between below at in (next, there, same ∙ kind_is, still);
   nearer = let first = one.nearer in let second = two.nearer in omega arith;
+  payloads = kept_then old.frames.stack mid.frames.stack new.frames.stack one.payloads two.payloads;
 }
 
 pub same_turned : (first old new : WriterValue) → SameWriter first old → TurnsOn old new → SameWriter first new

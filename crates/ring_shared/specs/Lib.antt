@@ -7,6 +7,7 @@ pub mod NewEnds
 pub mod Settling
 pub mod Nearer
 pub mod Finishing
+pub mod Covering
 pub mod WholeWrites
 pub mod Laws
 pub mod Turning

@@ -2,6 +2,7 @@
 use Rattle.std.specs.Prelude.{◌≡◌, ◌≤◌, List, ◌∷◌}
 use Rattle.trace_model.specs.Frames.{Frame}
 use Rattle.link_marks.specs.FrameOutcomes.{IsReserving}
+use Rattle.ring_frames.specs.Answers.{KeepsPayloads}
 use Rattle.ring_shared.specs.Value.{WriterValue, SameWriter}
 use Rattle.ring_shared.specs.Calls.{IsWriter}
 use Rattle.ring_shared.specs.Nearer.{rank_of}
@@ -13,7 +14,7 @@ IsReservingTop frames =
     (frame : Frame) × (below : List Frame) × (frames ≡ frame ∷ below) × IsReserving frame.kind frame.state
 
 -- The frame on top makes steps, some or none, each of which is answered `Going`; it stands with the same record still to
--- be reserved, and is no further from its end.
+-- be reserved, and is no further from its end; and all payloads stay.
 pub record TurnsOn (old new : WriterValue) : Type 0 where
   pub ring : SameWriter old new
   pub writer : IsWriter new
@@ -25,3 +26,4 @@ pub record TurnsOn (old new : WriterValue) : Type 0 where
       × (next.kind ≡ frame.kind)
       × IsReserving next.kind next.state
   pub nearer : rank_of new ≤ rank_of old
+  pub payloads : KeepsPayloads old.frames.stack new.frames.stack

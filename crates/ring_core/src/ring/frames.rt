@@ -9,7 +9,7 @@ impl Core {
     ghost use Rattle.trace_model.specs.Steps as model;
     ghost use Rattle.ring_frames.specs.declared.phase.Phase.TheVariants.{Idle};
     ghost use Rattle.ring_frames.specs.declared.phase.Turned.TheVariants.{Going};
-    ghost use Rattle.ring_frames.specs.Answers.{top_bytes};
+    ghost use Rattle.ring_frames.specs.Answers.{top_bytes, EndsPayload, KeepsPayloads};
     ghost use Rattle.ring_frames.specs.Phases.{told};
     ghost use Rattle.ring_core.specs.Steps.{Makes, IsRing, IsLate};
 
@@ -17,7 +17,8 @@ impl Core {
     #[inline(always)]
     pub(crate) fn push(&mut self, moment: u64, len: usize) -> Answer
         requires ring { IsRing self.old }
-        ensures { Makes self.old (model.pushes moment len) result self.new }
+        ensures makes { Makes self.old (model.pushes moment len) result self.new }
+        ensures payloads { KeepsPayloads self.old.stack self.new.stack }
     {
         self.frames.push(moment, len)
     }
@@ -25,7 +26,8 @@ impl Core {
     /// A frame is pushed that leaves the tail page.
     pub(crate) fn push_close(&mut self) -> Answer
         requires ring { IsRing self.old }
-        ensures { Makes self.old model.pushes_close result self.new }
+        ensures makes { Makes self.old model.pushes_close result self.new }
+        ensures payloads { KeepsPayloads self.old.stack self.new.stack }
     {
         self.frames.push_close()
     }
@@ -34,7 +36,8 @@ impl Core {
     #[inline(always)]
     pub(crate) fn end(&mut self) -> Answer
         requires ring { IsRing self.old }
-        ensures { Makes self.old (model.ends (top_bytes self.old.stack self.old.stack.frames)) result self.new }
+        ensures makes { Makes self.old (model.ends (top_bytes self.old.stack self.old.stack.frames)) result self.new }
+        ensures payloads { EndsPayload self.old.stack self.new.stack }
     {
         self.frames.end()
     }
@@ -46,7 +49,8 @@ impl Core {
         requires ring { IsRing self.old }
         requires top { self.old.stack.frames ≢ [] }
         requires phase { self.old.phase ≡ Idle }
-        ensures { Makes self.old model.steps result self.new }
+        ensures makes { Makes self.old model.steps result self.new }
+        ensures payloads { KeepsPayloads self.old.stack self.new.stack }
     {
         self.frames.reserve()
     }
@@ -57,7 +61,8 @@ impl Core {
         requires ring { IsRing self.old }
         requires top { self.old.stack.frames ≢ [] }
         requires late { IsLate self.old }
-        ensures { Makes self.old model.steps (told result) self.new }
+        ensures makes { Makes self.old model.steps (told result) self.new }
+        ensures payloads { KeepsPayloads self.old.stack self.new.stack }
     {
         self.frames.begin_anew()
     }

@@ -11,6 +11,7 @@ impl Core {
     ghost use Rattle.ring_frames.specs.declared.phase.Phase.TheVariants.{Looking, Claiming, LookingNext, Marking, Clearing};
     ghost use Rattle.ring_core.specs.Heads.{HasHeader, ClaimsHead};
     ghost use Rattle.ring_frames.specs.Phases.{told};
+    ghost use Rattle.ring_frames.specs.Answers.{KeepsPayloads};
     ghost use Rattle.ring_core.specs.Steps.{Makes, IsRing};
 
     /// A load of the link into the position of the fill to open: it is free, or its page is the head, or a frame below
@@ -20,7 +21,8 @@ impl Core {
         requires ring { IsRing self.old }
         requires top { self.old.stack.frames ≢ [] }
         requires phase { self.old.phase ≡ Looking noted }
-        ensures { Makes self.old model.steps (told result) self.new }
+        ensures makes { Makes self.old model.steps (told result) self.new }
+        ensures payloads { KeepsPayloads self.old.stack self.new.stack }
     {
         if noted != self.frames.opened() {
             return self.begin_anew();
@@ -45,7 +47,8 @@ impl Core {
         requires ring { IsRing self.old }
         requires top { self.old.stack.frames ≢ [] }
         requires phase { self.old.phase ≡ Claiming noted page }
-        ensures { Makes self.old model.steps (told result) self.new }
+        ensures makes { Makes self.old model.steps (told result) self.new }
+        ensures payloads { KeepsPayloads self.old.stack self.new.stack }
     {
         if noted != self.frames.opened() {
             return self.begin_anew();
@@ -80,7 +83,8 @@ impl Core {
         requires ring { IsRing self.old }
         requires top { self.old.stack.frames ≢ [] }
         requires phase { self.old.phase ≡ LookingNext role noted page }
-        ensures { Makes self.old model.steps (told result) self.new }
+        ensures makes { Makes self.old model.steps (told result) self.new }
+        ensures payloads { KeepsPayloads self.old.stack self.new.stack }
     {
         if self.frames.stops(role, noted) {
             return self.begin_anew();
@@ -105,7 +109,8 @@ impl Core {
         requires ring { IsRing self.old }
         requires top { self.old.stack.frames ≢ [] }
         requires phase { self.old.phase ≡ Marking role noted page next }
-        ensures { Makes self.old model.steps (told result) self.new }
+        ensures makes { Makes self.old model.steps (told result) self.new }
+        ensures payloads { KeepsPayloads self.old.stack self.new.stack }
     {
         if self.frames.stops(role, noted) {
             return self.begin_anew();
@@ -121,7 +126,8 @@ impl Core {
         requires ring { IsRing self.old }
         requires top { self.old.stack.frames ≢ [] }
         requires phase { self.old.phase ≡ Clearing noted page }
-        ensures { Makes self.old model.steps (told result) self.new }
+        ensures makes { Makes self.old model.steps (told result) self.new }
+        ensures payloads { KeepsPayloads self.old.stack self.new.stack }
     {
         self.set_link(noted, normal(page, noted));
         self.go_on(Phase::Opening { noted, page })

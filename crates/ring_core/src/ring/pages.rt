@@ -11,6 +11,7 @@ impl Core {
     ghost use Rattle.ring_frames.specs.declared.phase.Phase.TheVariants.{Opening, Releasing, Wishing};
     ghost use Rattle.ring_frames.specs.Phases.{told};
     ghost use Rattle.ring_frames.specs.declared.answer.Answer.TheVariants.{Going};
+    ghost use Rattle.ring_frames.specs.Answers.{KeepsPayloads};
     ghost use Rattle.ring_core.specs.Steps.{Makes, IsRing};
 
     /// The page to open is taken from its home and is the tail from now on, unless another frame has begun the fill.
@@ -19,7 +20,8 @@ impl Core {
         requires ring { IsRing self.old }
         requires top { self.old.stack.frames ≢ [] }
         requires phase { self.old.phase ≡ Opening noted page }
-        ensures { Makes self.old model.steps (told result) self.new }
+        ensures makes { Makes self.old model.steps (told result) self.new }
+        ensures payloads { KeepsPayloads self.old.stack self.new.stack }
     {
         if noted != self.frames.opened() {
             return self.begin_anew();
@@ -32,7 +34,8 @@ impl Core {
         requires ring { IsRing self.old }
         requires top { self.old.stack.frames ≢ [] }
         requires phase { self.old.phase ≡ Opening (opened self.old.stack) page }
-        ensures { Makes self.old model.steps (told result) self.new }
+        ensures makes { Makes self.old model.steps (told result) self.new }
+        ensures payloads { KeepsPayloads self.old.stack self.new.stack }
     {
         match self.homes[page as usize].take() {
             Some(blank) => self.frames.open(blank.into_body()),
@@ -46,7 +49,8 @@ impl Core {
         requires ring { IsRing self.old }
         requires top { self.old.stack.frames ≢ [] }
         requires phase { self.old.phase ≡ Releasing }
-        ensures { Makes self.old model.steps (told result) self.new }
+        ensures makes { Makes self.old model.steps (told result) self.new }
+        ensures payloads { KeepsPayloads self.old.stack self.new.stack }
     {
         let page = self.page_at(self.frames.done());
         self.homes[page as usize] = Some(self.frames.release());
@@ -60,7 +64,8 @@ impl Core {
         requires ring { IsRing self.old }
         requires top { self.old.stack.frames ≢ [] }
         requires phase { self.old.phase ≡ Wishing }
-        ensures { Makes self.old model.steps result self.new }
+        ensures makes { Makes self.old model.steps result self.new }
+        ensures payloads { KeepsPayloads self.old.stack self.new.stack }
     {
         self.frames.load_wish(self.wish).answer()
     }

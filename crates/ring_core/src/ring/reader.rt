@@ -23,6 +23,7 @@ impl Core {
         requires size { length body ≡ self.old.stack.size }
         ensures step { Makes self.old model.reads result self.new }
         ensures given_back { GivesBack body result }
+        ensures stack { self.new.stack ≡ self.old.stack }
     {
         match self.reader.phase {
             ReaderPhase::LoadingLink => self.load_link(body),
@@ -49,6 +50,7 @@ impl Core {
         requires phase { self.old.reader.phase ≡ LoadingLink }
         ensures step { Makes self.old model.reads result self.new }
         ensures given_back { GivesBack body result }
+        ensures stack { self.new.stack ≡ self.old.stack }
     {
         let hint = self.reader.hint;
         let link = self.link_into(hint);
@@ -78,6 +80,7 @@ impl Core {
         requires phase { self.old.reader.phase ≡ LoadingDone page fill }
         ensures step { Makes self.old model.reads result self.new }
         ensures given_back { GivesBack body result }
+        ensures stack { self.new.stack ≡ self.old.stack }
     {
         let done = self.frames.done();
         self.reader.seen = done;
@@ -95,6 +98,7 @@ impl Core {
         requires phase { self.old.reader.phase ≡ StoringLink page fill }
         ensures step { Makes self.old model.reads result self.new }
         ensures given_back { GivesBack body result }
+        ensures stack { self.new.stack ≡ self.old.stack }
     {
         self.spare_link = header(self.page_at(fill + 1), fill + 1);
         self.reader.phase = ReaderPhase::Swapping { page, fill };
@@ -108,6 +112,7 @@ impl Core {
         requires phase { self.old.reader.phase ≡ Swapping page fill }
         ensures step { Makes self.old model.reads result self.new }
         ensures given_back { GivesBack body result }
+        ensures stack { self.new.stack ≡ self.old.stack }
     {
         let behind = normal(self.spare, fill + self.positions());
         if !self.exchange(fill, header(page, fill), behind) {
@@ -162,6 +167,7 @@ impl Core {
     pub(crate) fn make_wish(&mut self) -> Answer
         requires ring { IsRing self.old }
         ensures step { Makes self.old model.wishes result self.new }
+        ensures stack { self.new.stack ≡ self.old.stack }
     {
         self.wish = self.reader.seen + 1;
         Answer::Wished(FillNo(self.reader.seen))

@@ -7,7 +7,8 @@ use nested_writer::WriteFault;
 impl Core {
     ghost use Rattle.trace_model.specs.Steps as model;
     ghost use Rattle.std.specs.Prelude.{◌≡◌};
-    ghost use Rattle.ring_core.specs.Answers.{event_of, IsWhole};
+    ghost use Rattle.ring_frames.specs.Answers.{KeepsPayloads};
+    ghost use Rattle.ring_core.specs.Answers.{event_of, IsWhole, StepsPayloads};
     ghost use Rattle.ring_core.specs.Steps.{Makes, IsRing, HasItsSize, GivesBodyBack};
 
     /// One event, which is one step of the ring's model: its answer tells the model's, and the ring is in the state
@@ -18,6 +19,7 @@ impl Core {
         requires size { HasItsSize self.old event }
         ensures step { Makes self.old (event_of self.old event) result self.new }
         ensures given_back { GivesBodyBack event result }
+        ensures payloads { StepsPayloads event self.old.stack self.new.stack }
         ensures ring { IsRing self.new }
         ensures size { self.new.stack.size ≡ self.old.stack.size }
         ensures page { IsWhole self.old.stack.size result }
@@ -32,6 +34,7 @@ impl Core {
         requires size { HasItsSize self.old event }
         ensures step { Makes self.old (event_of self.old event) result self.new }
         ensures given_back { GivesBodyBack event result }
+        ensures payloads { StepsPayloads event self.old.stack self.new.stack }
     {
         match event {
             Event::Push { moment, len } => self.push(moment, len),
@@ -47,7 +50,8 @@ impl Core {
     #[inline(always)]
     fn step_top(&mut self) -> Answer
         requires ring { IsRing self.old }
-        ensures { Makes self.old model.steps result self.new }
+        ensures makes { Makes self.old model.steps result self.new }
+        ensures payloads { KeepsPayloads self.old.stack self.new.stack }
     {
         if self.frames.top().is_none() {
             return Answer::Refused(WriteFault::NoFrame);

@@ -7,7 +7,7 @@ use nested_writer::Ended;
 impl Frames {
     ghost use Rattle.std.specs.Prelude.{◌≡◌, ◌≢◌, []};
     ghost use Rattle.trace_model.specs.Steps as model;
-    ghost use Rattle.ring_frames.specs.Answers.{top_bytes, KeepsPayloads};
+    ghost use Rattle.ring_frames.specs.Answers.{top_bytes, EndsPayload};
     ghost use Rattle.ring_frames.specs.Steps.{MakesPrivate, IsShown};
     ghost use Rattle.ring_frames.specs.Phases.{with_left_phase, left_answer, told, closing_phase};
 
@@ -16,7 +16,7 @@ impl Frames {
     pub fn end(&mut self) -> Answer
         requires shown { IsShown self.old }
         ensures step { MakesPrivate self.old (model.ends (top_bytes self.old.stack self.old.stack.frames)) result self.new }
-        ensures payloads { KeepsPayloads self.old.stack self.new.stack }
+        ensures payloads { EndsPayload self.old.stack self.new.stack }
     {
         match self.stack.end() {
             Ok(Ended::Full) => {

@@ -53,6 +53,7 @@ impl Frames {
         requires frames { IsFrames (with_left_frame self.old moment len) }
         requires closed { closing_phase self.old.stack ≡ Wishing }
         ensures looks { LooksForWish (with_left_frame self.old moment len) wish (told result) self.new }
+        ensures payloads { KeepsPayloads self.old.stack self.new.stack }
     {
         self.stack.stand_again(moment, len);
         self.phase.look_for_wish();

@@ -32,6 +32,7 @@ impl Writer {
     ghost use Rattle.ring_shared.specs.Value.{SameWriter};
     ghost use Rattle.ring_shared.specs.Calls.{IsWriter};
     ghost use Rattle.ring_frames.specs.declared.phase.Phase.TheVariants.{Wishing};
+    ghost use Rattle.ring_frames.specs.Answers.{KeepsPayloads};
     ghost use Rattle.ring_shared.specs.Finishing.{Finishes, IsFinished, Reserves, Leaves, Closes, IsGoneOrRefused, met_behind};
 
     /// Steps a close frame, or one that was ended or refused, until it is gone, and any other record frame until its
@@ -41,6 +42,7 @@ impl Writer {
     pub fn finish_top(&mut self) -> Answer
         requires writer { IsWriter self.old }
         ensures finished { Finishes self.old.shape self.old.part result self.new.part }
+        ensures payloads { KeepsPayloads self.old.frames.stack self.new.frames.stack }
         ensures ring { SameWriter self.old self.new }
         ensures writer { IsWriter self.new }
     {
@@ -65,6 +67,7 @@ impl Writer {
     fn finish_any(&mut self) -> Finished
         requires writer { IsWriter self.old }
         ensures finished { IsFinished self.old result self.new }
+        ensures payloads { KeepsPayloads self.old.frames.stack self.new.frames.stack }
         ensures ring { SameWriter self.old self.new }
         ensures writer { IsWriter self.new }
     {
@@ -87,6 +90,7 @@ impl Writer {
             × IsLeaving frame.kind frame.state }
         ensures leaves { (frame : ModelFrame) (below : List ModelFrame) → self.old.part.frames ≡ frame ∷ below
             → Leaves self.old.shape below self.old.part result self.new.part }
+        ensures payloads { KeepsPayloads self.old.frames.stack self.new.frames.stack }
         ensures ring { SameWriter self.old self.new }
         ensures writer { IsWriter self.new }
     {
@@ -104,6 +108,7 @@ impl Writer {
             × IsLeaving frame.kind frame.state }
         ensures leaves { (frame : ModelFrame) (below : List ModelFrame) → self.old.part.frames ≡ frame ∷ below
             → Leaves self.old.shape below self.old.part result self.new.part }
+        ensures payloads { KeepsPayloads self.old.frames.stack self.new.frames.stack }
         ensures ring { SameWriter self.old self.new }
         ensures writer { IsWriter self.new }
     {
@@ -122,6 +127,7 @@ impl Writer {
         ensures leaves { (answer : Answer) × (result ≡ met_behind None answer) × IsGoneOrRefused answer
             × ((frame : ModelFrame) (below : List ModelFrame) → self.old.part.frames ≡ frame ∷ below
             → Leaves self.old.shape below self.old.part answer self.new.part) }
+        ensures payloads { KeepsPayloads self.old.frames.stack self.new.frames.stack }
         ensures ring { SameWriter self.old self.new }
         ensures writer { IsWriter self.new }
     {
@@ -139,6 +145,7 @@ impl Writer {
             × IsLeaving frame.kind frame.state }
         ensures closes { (frame : ModelFrame) (below : List ModelFrame) → self.old.part.frames ≡ frame ∷ below
             → Closes self.old.shape below self.old.part result self.new.part }
+        ensures payloads { KeepsPayloads self.old.frames.stack self.new.frames.stack }
         ensures ring { SameWriter self.old self.new }
         ensures writer { IsWriter self.new }
     {
@@ -161,6 +168,7 @@ impl Writer {
             × IsReserving frame.kind frame.state }
         ensures reserves { (frame : ModelFrame) (below : List ModelFrame) → self.old.part.frames ≡ frame ∷ below
             → Reserves self.old.shape frame.kind below self.old.part result self.new.part }
+        ensures payloads { KeepsPayloads self.old.frames.stack self.new.frames.stack }
         ensures ring { SameWriter self.old self.new }
         ensures writer { IsWriter self.new }
     {
@@ -181,6 +189,7 @@ impl Writer {
         ensures leaves { (frame : ModelFrame) (below : List ModelFrame) → self.old.part.frames ≡ frame ∷ below
             → Leaves self.old.shape below self.old.part result self.new.part }
         ensures gone { IsGoneOrRefused result }
+        ensures payloads { KeepsPayloads self.old.frames.stack self.new.frames.stack }
         ensures ring { SameWriter self.old self.new }
         ensures writer { IsWriter self.new }
     {

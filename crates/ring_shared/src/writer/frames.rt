@@ -14,7 +14,7 @@ impl Writer {
     ghost use Rattle.nested_writer.specs.PlainTop.{IsPlainTop};
     ghost use Rattle.ring_frames.specs.declared.phase.Phase.TheVariants.{Idle};
     ghost use Rattle.ring_frames.specs.Value.{phase_of};
-    ghost use Rattle.ring_frames.specs.Answers.{top_bytes, KeepsPayloads};
+    ghost use Rattle.ring_frames.specs.Answers.{top_bytes, EndsPayload, KeepsPayloads};
     ghost use Rattle.ring_frames.specs.Phases.{told};
     ghost use Rattle.ring_shared.specs.Calls.{IsWriter, MakesSome};
     ghost use Rattle.ring_shared.specs.Nearer.{IsNearer};
@@ -49,7 +49,7 @@ impl Writer {
         requires writer { IsWriter self.old }
         ensures makes { MakesSome self.old (model.ends (top_bytes self.old.frames.stack self.old.frames.stack.frames)) result
             self.new }
-        ensures payloads { KeepsPayloads self.old.frames.stack self.new.frames.stack }
+        ensures payloads { EndsPayload self.old.frames.stack self.new.frames.stack }
     {
         self.seat.note::<Brand, _>(&self.frames);
         self.frames.end()
@@ -75,6 +75,7 @@ impl Writer {
         requires writer { IsWriter self.old }
         requires plain { IsPlainTop self.old.frames.stack pushed }
         ensures makes { MakesSome self.old model.steps (Answer.Reserved result) self.new }
+        ensures payloads { KeepsPayloads self.old.frames.stack self.new.frames.stack }
     {
         self.seat.note::<Brand, _>(&pushed);
         self.frames.reserve_plain(pushed)

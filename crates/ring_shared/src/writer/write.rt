@@ -11,6 +11,8 @@ impl Writer {
     ghost use Rattle.nested_writer.specs.Calls.{IsTopSlot};
     ghost use Rattle.ring_shared.specs.Value.{SameWriter};
     ghost use Rattle.ring_shared.specs.Calls.{IsWriter};
+    ghost use Rattle.ring_frames.specs.Answers.{KeepsPayloads};
+    ghost use Rattle.ring_shared.specs.Covering.{CoversPayloads, KeepsCovered};
     ghost use Rattle.ring_shared.specs.WholeWrites.{IsWritten, IsRefusedWrite, IsReserved, EndsRecord};
 
     /// Writes a record of this moment and payload in one call: what `begin`, `finish_top`, the payload's copy into what
@@ -22,6 +24,7 @@ impl Writer {
         ensures written { result ≡ Ok tt → IsWritten self.old.shape self.old.part moment payload.now self.new.part }
         ensures refused { (fault : WriteFault) → result ≡ Err fault
             → IsRefusedWrite self.old.shape self.old.part moment (length payload.now) fault self.new.part }
+        ensures payloads { KeepsPayloads self.old.frames.stack self.new.frames.stack }
         ensures ring { SameWriter self.old self.new }
         ensures writer { IsWriter self.new }
     {
@@ -48,6 +51,7 @@ impl Writer {
         ensures written { result ≡ Ok tt → IsWritten self.old.shape self.old.part moment payload.now self.new.part }
         ensures refused { (fault : WriteFault) → result ≡ Err fault
             → IsRefusedWrite self.old.shape self.old.part moment (length payload.now) fault self.new.part }
+        ensures payloads { KeepsPayloads self.old.frames.stack self.new.frames.stack }
         ensures ring { SameWriter self.old self.new }
         ensures writer { IsWriter self.new }
     {
@@ -63,8 +67,11 @@ impl Writer {
         ensures reserved { (slot : Slot) → result ≡ Ok slot
             → IsReserved self.old.shape self.old.part moment len self.new.part }
         ensures slot { (slot : Slot) → result ≡ Ok slot → IsTopSlot self.new.frames.stack.frames slot }
+        ensures covers { (slot : Slot) → result ≡ Ok slot
+            → CoversPayloads self.old.frames.stack self.new.frames.stack }
         ensures refused { (fault : WriteFault) → result ≡ Err fault
             → IsRefusedWrite self.old.shape self.old.part moment len fault self.new.part }
+        ensures payloads { KeepsPayloads self.old.frames.stack self.new.frames.stack }
         ensures ring { SameWriter self.old self.new }
         ensures writer { IsWriter self.new }
     {
@@ -90,6 +97,7 @@ impl Writer {
         requires writer { IsWriter self.old }
         requires slot { IsTopSlot self.old.frames.stack.frames slot }
         ensures ends { EndsRecord self.old self.new }
+        ensures covered { KeepsCovered self.old.frames.stack self.new.frames.stack }
         ensures ring { SameWriter self.old self.new }
         ensures writer { IsWriter self.new }
     {

@@ -17,8 +17,8 @@ begin_anew-requires-clause-passed c =
     let (noted, is, passed, own) = subst IsLate (sym c.self.view_is) c.requires.late in
     (noted, is, passed)
 
-pub returns : goal.returns
-returns c =
+pub returns-clause-makes : goal.returns-clause-makes
+returns-clause-makes c =
     let (noted, is, passed, own) = subst IsLate (sym c.self.view_is) c.requires.late in
     subst (λ (x : CoreValue). Makes x steps (told c.begin_anew.result) (shown record c.self.inside { frames = c.begin_anew.new.self })) c.self.view_is
     (made_privately (shown c.self.inside) steps (told c.begin_anew.result) c.begin_anew.new.self (c.begin_anew.ensures.late own))

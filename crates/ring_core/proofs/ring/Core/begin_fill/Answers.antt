@@ -40,8 +40,8 @@ open-requires-clause-size c =
     let same : c.in-Some.blank ≡ body = some_is c.in-Some.blank body (sym c.in-Some.is ∙ c.take.ensures.value ∙ out) in
     c.into_body.ensures ∙ ap (λ (p : Contents). p.size) same ∙ wide
 
-pub returns : goal.returns
-returns c = λ n size start m old.
+pub returns-clause-makes : goal.returns-clause-makes
+returns-clause-makes c = λ n size start m old.
     let v : CoreValue = shown c.self.inside in
     let core : IsCore n size start v m = subst (λ (x : CoreValue). IsCore n size start x m) (sym c.self.view_is) old in
     let some = subst (λ (x : CoreValue). x.stack.frames ≢ []) (sym c.self.view_is) c.requires.top in

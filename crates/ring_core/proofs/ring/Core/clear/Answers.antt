@@ -9,8 +9,8 @@ use Rattle.ring_core.specs.Steps.{IsStep}
 use Rattle.ring_core.proofs.HeadMoves.{gone_on, clears_update}
 use Rattle.ring_core.proofs.ring.Core.clear.Goals as goal
 
-pub returns : goal.returns
-returns c = λ n size start s old.
+pub returns-clause-makes : goal.returns-clause-makes
+returns-clause-makes c = λ n size start s old.
     let v = c.args.self.now in
     let with_link : Link → CoreValue = λ (l : Link). record v { links = links_with (length v.links) v.links c.args.noted l } in
     let is : c.set_link.new.self ≡ with_link (normal_link c.args.page c.args.noted) = c.set_link.ensures ∙ ap with_link c.normal.ensures in

@@ -10,6 +10,6 @@ use Rattle.ring_core.proofs.ring.Core.end.Goals as goal
 pub end-requires : goal.end-requires
 end-requires c = let (n, size, start, m, core) = subst IsRing (sym c.self.view_is) c.requires.ring in record { shown = (n, size, start, m, core.shows.frames) }
 
-pub returns : goal.returns
-returns c = subst (λ (x : CoreValue). Makes x (ends (top_bytes x.stack x.stack.frames)) c.end.result (shown record c.self.inside { frames = c.end.new.self })) c.self.view_is
+pub returns-clause-makes : goal.returns-clause-makes
+returns-clause-makes c = subst (λ (x : CoreValue). Makes x (ends (top_bytes x.stack x.stack.frames)) c.end.result (shown record c.self.inside { frames = c.end.new.self })) c.self.view_is
     (made_privately (shown c.self.inside) (ends (top_bytes c.self.inside.frames.stack c.self.inside.frames.stack.frames)) c.end.result c.end.new.self c.end.ensures.step)

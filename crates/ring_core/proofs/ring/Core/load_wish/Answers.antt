@@ -12,7 +12,7 @@ load_wish-requires-clause-frames c =
     let (n, size, start, m, core) = subst IsRing (sym c.self.view_is) c.requires.ring in
     (n, size, start, m, record { reached = core.reached; are = core.shows.frames })
 
-pub returns : goal.returns
-returns c = rw c.answer.ensures
+pub returns-clause-makes : goal.returns-clause-makes
+returns-clause-makes c = rw c.answer.ensures
     (subst (λ (x : CoreValue). Makes x steps (told c.load_wish.result) (shown record c.self.inside { frames = c.load_wish.new.self })) c.self.view_is
     (looked_for_wish (shown c.self.inside) (told c.load_wish.result) c.load_wish.new.self c.load_wish.ensures.looks))

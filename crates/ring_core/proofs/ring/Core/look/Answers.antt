@@ -18,8 +18,8 @@ pub begin_anew-requires-clause-late : goal.begin_anew-requires-clause-late
 begin_anew-requires-clause-late c = is_late c.args.self.now (Looking c.args.noted) c.args.noted c.requires.phase refl (λ own. own)
     (λ e. c.if-noted-opened.true (e ∙ sym (c.opened.ensures.begun ∙ ap (λ (x : CoreValue). opened x.stack) c.self.view_is)))
 
-pub returns : goal.returns
-returns c = λ n size start s old.
+pub returns-clause-makes : goal.returns-clause-makes
+returns-clause-makes c = λ n size start s old.
     let v : CoreValue = c.args.self.now in
     let now : c.args.noted ≡ opened v.stack = c.if-noted-opened.false ∙ c.opened.ensures.begun ∙ ap (λ (x : CoreValue). opened x.stack) c.self.view_is in
     let l = c.link_into-link.result in

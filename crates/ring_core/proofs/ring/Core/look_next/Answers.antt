@@ -30,8 +30,8 @@ overflow_sub-behind c =
     let round = round_next n size start c.args.self.now s core c.requires.top c.args.role c.args.noted c.args.page c.requires.phase in
     omega (arith, c.positions.ensures.positions)
 
-pub returns : goal.returns
-returns c = λ n size start s old.
+pub returns-clause-makes : goal.returns-clause-makes
+returns-clause-makes c = λ n size start s old.
     let v : CoreValue = c.args.self.now in
     let now : GoesOn (role_of c.args.role) c.args.noted (opened v.stack) = subst (GoesOn (role_of c.args.role) c.args.noted) (ap (λ (x : CoreValue). opened x.stack) c.self.view_is) (c.stops.ensures.goes_on c.if-stops.false) in
     let round = round_next n size start v s old c.requires.top c.args.role c.args.noted c.args.page c.requires.phase in

@@ -14,7 +14,5 @@ overflow_add-self c =
     let seen = links.seen_le in let seen_is = core.shows.seen_is in let behind = links.done_lt in let fits = links.fits in
     omega arith
 
-pub returns : goal.returns
-returns c = record {
-  step = λ n size start state old. wished n size start (shown c.self.inside) state (subst (λ (v : CoreValue). IsCore n size start v state) (sym c.self.view_is) old);
-}
+pub returns-clause-step : goal.returns-clause-step
+returns-clause-step c = λ n size start state old. wished n size start (shown c.self.inside) state (subst (λ (v : CoreValue). IsCore n size start v state) (sym c.self.view_is) old)

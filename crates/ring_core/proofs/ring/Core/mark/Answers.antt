@@ -23,8 +23,8 @@ overflow_sub-behind c =
     let round = round_mark n size start c.args.self.now s core c.requires.top c.args.role c.args.noted c.args.page c.args.next c.requires.phase in
     omega (arith, c.positions.ensures.positions)
 
-pub returns : goal.returns
-returns c = λ n size start s old.
+pub returns-clause-makes : goal.returns-clause-makes
+returns-clause-makes c = λ n size start s old.
     let v = c.args.self.now in
     let round = round_mark n size start v s old c.requires.top c.args.role c.args.noted c.args.page c.args.next c.requires.phase in
     let wide = c.positions.ensures.positions in

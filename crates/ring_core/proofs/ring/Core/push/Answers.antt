@@ -9,6 +9,6 @@ use Rattle.ring_core.proofs.ring.Core.push.Goals as goal
 pub push-requires : goal.push-requires
 push-requires c = let (n, size, start, m, core) = subst IsRing (sym c.self.view_is) c.requires.ring in record { shown = (n, size, start, m, core.shows.frames) }
 
-pub returns : goal.returns
-returns c = subst (λ (x : CoreValue). Makes x (pushes c.args.moment c.args.len) c.push.result (shown record c.self.inside { frames = c.push.new.self })) c.self.view_is
+pub returns-clause-makes : goal.returns-clause-makes
+returns-clause-makes c = subst (λ (x : CoreValue). Makes x (pushes c.args.moment c.args.len) c.push.result (shown record c.self.inside { frames = c.push.new.self })) c.self.view_is
     (made_privately (shown c.self.inside) (pushes c.args.moment c.args.len) c.push.result c.push.new.self c.push.ensures.step)

@@ -9,6 +9,6 @@ use Rattle.ring_core.proofs.ring.Core.push_close.Goals as goal
 pub push_close-requires : goal.push_close-requires
 push_close-requires c = let (n, size, start, m, core) = subst IsRing (sym c.self.view_is) c.requires.ring in record { shown = (n, size, start, m, core.shows.frames) }
 
-pub returns : goal.returns
-returns c = subst (λ (x : CoreValue). Makes x pushes_close c.push_close.result (shown record c.self.inside { frames = c.push_close.new.self })) c.self.view_is
+pub returns-clause-makes : goal.returns-clause-makes
+returns-clause-makes c = subst (λ (x : CoreValue). Makes x pushes_close c.push_close.result (shown record c.self.inside { frames = c.push_close.new.self })) c.self.view_is
     (made_privately (shown c.self.inside) pushes_close c.push_close.result c.push_close.new.self c.push_close.ensures.step)

@@ -21,8 +21,8 @@ index_mut-requires c =
     let low = page_has_home n size start v m c.page_at-page.result c.done.result core (homes_in c.self.inside c.self.invariant) at in
     omega (arith, low, c.self.inside.homes.ok.0)
 
-pub returns : goal.returns
-returns c = λ n size start m old.
+pub returns-clause-makes : goal.returns-clause-makes
+returns-clause-makes c = λ n size start m old.
     let v : CoreValue = shown c.self.inside in
     let core : IsCore n size start v m = subst (λ (x : CoreValue). IsCore n size start x m) (sym c.self.view_is) old in
     released n size start v m core c.release.new.self c.release.result c.page_at-page.result

@@ -11,6 +11,6 @@ reserve-requires-clause-frames c =
     let (n, size, start, m, core) = subst IsRing (sym c.self.view_is) c.requires.ring in
     (n, size, start, m, record { reached = core.reached; are = core.shows.frames })
 
-pub returns : goal.returns
-returns c = subst (λ (x : CoreValue). Makes x steps c.reserve.result (shown record c.self.inside { frames = c.reserve.new.self })) c.self.view_is
+pub returns-clause-makes : goal.returns-clause-makes
+returns-clause-makes c = subst (λ (x : CoreValue). Makes x steps c.reserve.result (shown record c.self.inside { frames = c.reserve.new.self })) c.self.view_is
     (made_privately (shown c.self.inside) steps c.reserve.result c.reserve.new.self c.reserve.ensures.step)

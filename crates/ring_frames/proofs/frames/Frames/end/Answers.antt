@@ -8,12 +8,13 @@ use Rattle.nested_writer.specs.declared.stack.leave.Ended.{Ended}
 use Rattle.nested_writer.specs.declared.stack.leave.Ended.TheVariants.{Pending, Full}
 use Rattle.ring_frames.specs.Value.{FramesValue}
 use Rattle.ring_frames.specs.Inside.{shown}
-use Rattle.ring_frames.specs.Answers.{top_bytes}
+use Rattle.ring_frames.specs.Answers.{top_bytes, EndsPayload}
 use Rattle.ring_frames.specs.AreFrames.{AreFrames}
 use Rattle.ring_frames.specs.declared.answer.Answer.TheVariants.{Ended as HasEndedSo, Refused}
 use Rattle.ring_frames.specs.Steps.{IsPrivateStep, IsShown}
 use Rattle.ring_frames.proofs.Ended.{frame_ended, end_refused}
 use Rattle.ring_frames.proofs.Left.{none_below, some_below, left_alone}
+use Rattle.ring_frames.proofs.Payloads.{ended_payload, same_payload}
 use Rattle.ring_frames.proofs.frames.Frames.end.Goals as goal
 
 pub returns-in-Ok-Full-clause-step : goal.returns-in-Ok-Full-clause-step
@@ -53,3 +54,22 @@ returns-in-Err-clause-step c = λ n size start s reached now.
 
     err_not_ok : {a : WriteFault} {b : Ended} → ◌≡◌ {A = Result Ended WriteFault} (Err a) (Ok b) → ⊥
     err_not_ok e = cc
+
+-- ---- payloads
+
+pub returns-in-Ok-Full-clause-payloads : goal.returns-in-Ok-Full-clause-payloads
+returns-in-Ok-Full-clause-payloads c =
+    let v : FramesValue = shown c.self.inside in
+    rw c.start_closing.ensures
+    (subst (λ (x : FramesValue). EndsPayload x.stack c.end.new.self) c.self.view_is (ended_payload v.stack c.end.new.self c.in-Ok-Full.ensures.ok))
+
+pub returns-in-Ok-Pending-clause-payloads : goal.returns-in-Ok-Pending-clause-payloads
+returns-in-Ok-Pending-clause-payloads c =
+    let v : FramesValue = shown c.self.inside in
+    rw c.uncover_phase.ensures.phase
+    (subst (λ (x : FramesValue). EndsPayload x.stack c.end.new.self) c.self.view_is (ended_payload v.stack c.end.new.self c.in-Ok-Pending.ensures.ok))
+
+pub returns-in-Err-clause-payloads : goal.returns-in-Err-clause-payloads
+returns-in-Err-clause-payloads c =
+    let v : FramesValue = shown c.self.inside in
+    subst (λ (x : FramesValue). EndsPayload x.stack c.end.new.self) c.self.view_is (same_payload v.stack c.end.new.self c.in-Err.ensures.err)

@@ -3,12 +3,16 @@ use Rattle.std.specs.Prelude.{Result, Ok, Err}
 use Rattle.nested_writer.specs.declared.fault.WriteFault.{WriteFault}
 use Rattle.nested_writer.specs.declared.stack.allot.Allot.{Allot}
 use Rattle.nested_writer.specs.declared.stack.allot.Allot.TheVariants.{Fits}
+use Rattle.nested_writer.specs.declared.frame.Purpose.TheVariants.{Close}
+use Rattle.nested_writer.specs.declared.frame.Progress.TheVariants.{Waiting}
 use Rattle.nested_writer.specs.Stack.{opened}
 use Rattle.ring_frames.specs.Value.{FramesValue}
 use Rattle.ring_frames.specs.Inside.{shown}
 use Rattle.ring_frames.specs.Steps.{IsShown, LeavesWithout, IsCloseTop}
 use Rattle.ring_frames.specs.Phases.{told}
 use Rattle.ring_frames.proofs.Closing.{top_fits, acted_none, closed_shown}
+use Rattle.ring_frames.specs.Answers.{KeepsPayloads}
+use Rattle.ring_frames.proofs.Payloads.{allotted_kept, ended_kept, kept_then, through_lacks}
 use Rattle.ring_frames.proofs.frames.Frames.leave_closed.Goals as goal
 
 -- a close frame is on top that noted other than so many begun fills
@@ -42,3 +46,14 @@ unreachable-requires c =
   where
     not_both : (fault : WriteFault) (a : Allot) → ◌≡◌ {A = Result Allot WriteFault} (Err fault) (Ok a) → ⊥
     not_both fault a e = cc
+
+pub returns-clause-payloads : goal.returns-clause-payloads
+returns-clause-payloads c =
+    let v : FramesValue = shown c.self.inside in
+    let (n, size, start, s, k) = subst IsShown (sym c.self.view_is) c.requires.shown in
+    let (noted, top, ne) = subst HasPassed (sym c.self.view_is) c.requires.close in
+    let (fits, through) = top_fits n size start v s noted _ c.allot.new.self k top ne c.in-Ok.ensures.answered c.in-Ok.ensures.after in
+    subst (λ (x : FramesValue). KeepsPayloads x.stack c.end_close.new.self.stack) c.self.view_is
+    (kept_then v.stack c.allot.new.self c.end_close.new.self.stack
+    (allotted_kept start s.history v.stack c.allot.new.self _ k.stack_is (c.in-Ok.ensures.answered start s.history k.stack_is) c.in-Ok.ensures.after)
+    (ended_kept c.allot.new.self c.end_close.new.self.stack c.end_close.ensures.left (through_lacks v.stack c.allot.new.self record { purpose = Close; progress = Waiting (Some noted) } top.0 noted through.0)))

@@ -40,3 +40,13 @@ pub returns-then-grant_wish-clause-payloads : goal.returns-then-grant_wish-claus
 returns-then-grant_wish-clause-payloads c =
     let (n, size, start, m, core) = c.requires.frames in
     bottom_held c.args.self.now.stack c.grant_wish.new.self.stack (is_bottom n size start c.args.self.now m core c.requires.top c.requires.phase)
+
+pub returns-then-done-opened-clause-payloads : goal.returns-then-done-opened-clause-payloads
+returns-then-done-opened-clause-payloads c =
+    let (n, size, start, m, core) = c.requires.frames in
+    bottom_held c.args.self.now.stack (shown c.self.inside).stack (is_bottom n size start c.args.self.now m core c.requires.top c.requires.phase)
+
+pub returns-clause-payloads : goal.returns-clause-payloads
+returns-clause-payloads c =
+    let (n, size, start, m, core) = c.requires.frames in
+    bottom_held c.args.self.now.stack c.pop_bottom.new.self (is_bottom n size start c.args.self.now m core c.requires.top c.requires.phase)

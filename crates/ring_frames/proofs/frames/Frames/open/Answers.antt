@@ -9,7 +9,7 @@ use Rattle.ring_frames.specs.Fills.{OpensFill}
 use Rattle.ring_frames.specs.Phases.{told}
 use Rattle.ring_frames.proofs.Beginning.{noted_in, room, fills, begun, one_more}
 use Rattle.ring_frames.specs.Answers.{KeepsPayloads}
-use Rattle.ring_frames.proofs.Payloads.{added_then}
+use Rattle.ring_frames.proofs.Payloads.{added_kept, kept_then}
 use Rattle.ring_frames.proofs.frames.Frames.open.Goals as goal
 
 -- the frame on top is about to begin the next fill
@@ -56,4 +56,4 @@ returns-clause-payloads c =
     let v : FramesValue = shown c.self.inside in
     let (n, size, start, m, core) = subst IsFrames (sym c.self.view_is) c.requires.frames in
     subst (λ (x : FramesValue). KeepsPayloads x.stack c.begin_anew.new.self.stack) c.self.view_is
-    (added_then start m.history v.stack core.are.stack_is c.add_page.new.self c.begin_anew.new.self.stack c.add_page.ensures.page c.begin_anew.ensures.payloads)
+    (kept_then v.stack c.add_page.new.self c.begin_anew.new.self.stack (added_kept start m.history v.stack core.are.stack_is c.add_page.new.self c.add_page.ensures.page) c.begin_anew.ensures.payloads)

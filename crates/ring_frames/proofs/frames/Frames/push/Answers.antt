@@ -5,6 +5,8 @@ use Rattle.ring_frames.specs.Value.{FramesValue}
 use Rattle.ring_frames.specs.Inside.{shown}
 use Rattle.ring_frames.specs.AreFrames.{AreFrames}
 use Rattle.ring_frames.proofs.Pushes.{record_pushed, record_refused}
+use Rattle.ring_frames.specs.Answers.{KeepsPayloads}
+use Rattle.ring_frames.proofs.Payloads.{same_stack, pushed_kept}
 use Rattle.ring_frames.proofs.frames.Frames.push.Goals as goal
 
 pub returns-in-Ok-clause-step : goal.returns-in-Ok-clause-step
@@ -29,3 +31,16 @@ returns-in-Err-clause-step c = λ n size start s reached now.
 
     not_ok : false ≡ true → ⊥
     not_ok e = cc
+
+-- ---- payloads
+
+pub returns-in-Ok-clause-payloads : goal.returns-in-Ok-clause-payloads
+returns-in-Ok-clause-payloads c =
+    let v : FramesValue = shown c.self.inside in
+    rw c.push_phase.ensures.phase
+    (subst (λ (x : FramesValue). KeepsPayloads x.stack c.begin.new.self) c.self.view_is (pushed_kept v.stack c.begin.new.self _ c.in-Ok.ensures.ok))
+
+pub returns-in-Err-clause-payloads : goal.returns-in-Err-clause-payloads
+returns-in-Err-clause-payloads c =
+    let v : FramesValue = shown c.self.inside in
+    subst (λ (x : FramesValue). KeepsPayloads x.stack c.begin.new.self) c.self.view_is (same_stack v.stack c.begin.new.self c.in-Err.ensures.err)

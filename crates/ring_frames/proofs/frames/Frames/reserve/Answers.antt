@@ -15,7 +15,7 @@ use Rattle.ring_frames.specs.Steps.{IsFrames}
 use Rattle.ring_frames.proofs.Closing.{through_may_end, acted_none}
 use Rattle.ring_frames.proofs.Reserves.{page_noted, refused, fits_slot, fits_close, nothing_found}
 use Rattle.ring_frames.specs.Answers.{KeepsPayloads}
-use Rattle.ring_frames.proofs.Payloads.{allotted_kept, ended_same, kept_then, zeros_reserved}
+use Rattle.ring_frames.proofs.Payloads.{allotted_kept, ended_kept, kept_then, zeros_reserved}
 use Rattle.ring_frames.proofs.frames.Frames.reserve.Goals as goal
 
 -- a frame stands, and this one is on top
@@ -89,7 +89,22 @@ returns-in-Ok-clause-payloads c =
     let v : FramesValue = shown c.self.inside in
     let (n, size, start, s, core) = subst IsFrames (sym c.self.view_is) c.requires.frames in
     subst (λ (x : FramesValue). KeepsPayloads x.stack c.allot.new.self) c.self.view_is
-    (allotted_kept start s.history v.stack c.allot.new.self _ core.are.stack_is c.in-Ok-Fits.ensures.after)
+    (allotted_kept start s.history v.stack c.allot.new.self _ core.are.stack_is (c.in-Ok-Fits.ensures.answered start s.history core.are.stack_is) c.in-Ok-Fits.ensures.after)
+
+pub returns-in-Ok-NeedsPage-clause-payloads : goal.returns-in-Ok-NeedsPage-clause-payloads
+returns-in-Ok-NeedsPage-clause-payloads c =
+    let v : FramesValue = shown c.self.inside in
+    let (n, size, start, s, core) = subst IsFrames (sym c.self.view_is) c.requires.frames in
+    subst (λ (x : FramesValue). KeepsPayloads x.stack c.allot.new.self) c.self.view_is
+    (allotted_kept start s.history v.stack c.allot.new.self _ core.are.stack_is (c.in-Ok-NeedsPage.ensures.answered start s.history core.are.stack_is) c.in-Ok-NeedsPage.ensures.after)
+
+pub returns-in-Err-clause-payloads : goal.returns-in-Err-clause-payloads
+returns-in-Err-clause-payloads c =
+    let v : FramesValue = shown c.self.inside in
+    let (n, size, start, s, core) = subst IsFrames (sym c.self.view_is) c.requires.frames in
+    rw c.pop_phase.ensures.phase
+    (subst (λ (x : FramesValue). KeepsPayloads x.stack c.allot.new.self) c.self.view_is
+    (allotted_kept start s.history v.stack c.allot.new.self _ core.are.stack_is (c.in-Err.ensures.answered start s.history core.are.stack_is) c.in-Err.ensures.after))
 
 pub returns-in-Ok-clause-zeros : goal.returns-in-Ok-clause-zeros
 returns-in-Ok-clause-zeros c = λ number slot is lacks on_top.
@@ -104,4 +119,6 @@ returns-in-Err-top_slot-clause-payloads c =
     let v : FramesValue = shown c.self.inside in
     let (n, size, start, s, core) = subst IsFrames (sym c.self.view_is) c.requires.frames in
     subst (λ (x : FramesValue). KeepsPayloads x.stack c.end_close.new.self.stack) c.self.view_is
-    (kept_then v.stack c.allot.new.self c.end_close.new.self.stack (allotted_kept start s.history v.stack c.allot.new.self _ core.are.stack_is c.in-Ok-Fits.ensures.after) (ended_same c.allot.new.self c.end_close.new.self.stack c.end_close.ensures.left))
+    (kept_then v.stack c.allot.new.self c.end_close.new.self.stack
+    (allotted_kept start s.history v.stack c.allot.new.self _ core.are.stack_is (c.in-Ok-Fits.ensures.answered start s.history core.are.stack_is) c.in-Ok-Fits.ensures.after)
+    (ended_kept c.allot.new.self c.end_close.new.self.stack c.end_close.ensures.left (λ slot at. not_both c.in-Err-top_slot.field-0 slot (c.in-Err-top_slot.ensures.found slot at))))

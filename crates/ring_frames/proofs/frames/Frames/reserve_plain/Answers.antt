@@ -1,5 +1,7 @@
 use Rattle.std.proofs.Common.{ℕ, sym, subst}
+use Rattle.std.specs.Prelude.{Ok}
 use Rattle.trace_model.specs.Steps.{steps}
+use Rattle.nested_writer.specs.declared.stack.allot.Allot.TheVariants.{Fits}
 use Rattle.ring_frames.specs.declared.answer.Answer.TheVariants.{Reserved}
 use Rattle.ring_frames.specs.Value.{FramesValue}
 use Rattle.ring_frames.specs.Inside.{shown}
@@ -9,7 +11,7 @@ use Rattle.ring_frames.specs.Steps.{IsFrames, IsPrivateStep}
 use Rattle.nested_writer.specs.PlainTop.{IsPlainTop}
 use Rattle.nested_writer.specs.Calls.{LacksSlot}
 use Rattle.ring_frames.proofs.Plain.{plain_rests}
-use Rattle.ring_frames.proofs.Payloads.{allotted_kept, zeros_reserved}
+use Rattle.ring_frames.proofs.Payloads.{fits_anywhere, allotted_kept, zeros_reserved}
 use Rattle.ring_frames.proofs.Reserves.{fits_slot}
 use Rattle.ring_frames.proofs.frames.Frames.reserve_plain.Goals as goal
 
@@ -28,8 +30,10 @@ pub returns-clause-payloads : goal.returns-clause-payloads
 returns-clause-payloads c =
     let v : FramesValue = shown c.self.inside in
     let (n, size, start, s, core) = subst IsFrames (sym c.self.view_is) c.requires.frames in
+    let (place, allotted) = c.reserve_plain.ensures.after in
+    let (other, answered) = c.reserve_plain.ensures.answered start s.history core.are.stack_is in
     subst (λ (x : FramesValue). KeepsPayloads x.stack c.reserve_plain.new.self) c.self.view_is
-    (allotted_kept start s.history v.stack c.reserve_plain.new.self _ core.are.stack_is c.reserve_plain.ensures.after.1)
+    (allotted_kept start s.history v.stack c.reserve_plain.new.self (Ok (Fits place)) core.are.stack_is (fits_anywhere v.stack s.history v.stack.frames other place answered) allotted)
 
 pub returns-clause-zeros : goal.returns-clause-zeros
 returns-clause-zeros c = λ number slot is lacks on_top.

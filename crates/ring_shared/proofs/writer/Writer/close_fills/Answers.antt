@@ -12,6 +12,7 @@ use Rattle.ring_shared.proofs.Depths.{leaving_top}
 use Rattle.ring_shared.proofs.Finishes.{leaving_unnumbered, call_in, same_writer}
 use Rattle.ring_shared.proofs.FinishParts.{closes_then}
 use Rattle.ring_shared.proofs.TopAnswers.{some_stand, release_goes}
+use Rattle.ring_frames.proofs.Payloads.{same_stack, kept_then}
 use Rattle.ring_shared.proofs.writer.Writer.close_fills.Goals as goal
 
 pub loop-self-init : goal.loop-self-init
@@ -22,6 +23,7 @@ loop-self-init c =
       ring = (refl, refl);
       some = (frame, below, top);
       closes = λ other others is. (other, is, leaving_top c.args.self.now.part.frames frame other below others top leaves is, at_once);
+      payloads = same_stack c.args.self.now.frames.stack c.args.self.now.frames.stack refl;
     }
 
 pub release-requires-clause-top : goal.release-requires-clause-top
@@ -52,6 +54,7 @@ loop-self-preserved c =
       some = h.some;
       closes = λ other others is. closes_then shape others c.args.self.now.part old.part new.part Rattle.ring_frames.specs.declared.phase.Turned.TheVariants.Going (h.closes other others is)
           (subst (λ (x : Answer). IsCall shape old.part model.steps x new.part) going (call_in shape old new (told c.release.result) h.ring.0 makes));
+      payloads = kept_then c.args.self.now.frames.stack old.frames.stack new.frames.stack h.payloads c.release.ensures.payloads;
     }
 
 pub loop-self-smaller : goal.loop-self-smaller
@@ -70,3 +73,7 @@ returns-in-Wishing-clause-closes c = λ frame below top.
     let old : WriterValue = c.loop-self.self in let new : WriterValue = c.load_wish.new.self in let shape : Shape = c.args.self.now.shape in
     closes_then shape below c.args.self.now.part old.part new.part c.load_wish.result (h.closes frame below top)
     (call_in shape old new (told c.load_wish.result) h.ring.0 c.load_wish.ensures.makes)
+
+pub returns-in-Wishing-clause-payloads : goal.returns-in-Wishing-clause-payloads
+returns-in-Wishing-clause-payloads c =
+    kept_then c.args.self.now.frames.stack c.loop-self.self.frames.stack c.load_wish.new.self.frames.stack c.loop-self.invariant.payloads c.load_wish.ensures.payloads

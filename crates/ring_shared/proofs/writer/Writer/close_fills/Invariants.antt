@@ -1,6 +1,7 @@
 use Rattle.std.specs.Prelude.{◌≡◌, List, ◌∷◌}
 use Rattle.trace_model.specs.Frames.{Frame}
 use Rattle.ring_frames.specs.declared.phase.Turned.TheVariants.{Going}
+use Rattle.ring_frames.specs.Answers.{KeepsPayloads}
 use Rattle.ring_shared.specs.Value.{SameWriter}
 use Rattle.ring_shared.specs.Calls.{IsWriter}
 use Rattle.ring_shared.specs.Nearer.{rank_of}
@@ -13,6 +14,7 @@ invariant-loop-self l = record {
   ring : SameWriter l.fn.self l.self;
   some : (frame : Frame) × (below : List Frame) × (l.fn.self.part.frames ≡ frame ∷ below);
   closes : (frame : Frame) (below : List Frame) → l.fn.self.part.frames ≡ frame ∷ below → Closes l.fn.self.shape below l.fn.self.part Going l.self.part;
+  payloads : KeepsPayloads l.fn.self.frames.stack l.self.frames.stack;
 }
 
 abbrev pub decreases-loop-self : goal.decreases-loop-self

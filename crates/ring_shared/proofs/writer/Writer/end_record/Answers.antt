@@ -4,6 +4,7 @@ use Rattle.ring_steps.specs.declared.rule.Shape.{Shape}
 use Rattle.ring_shared.specs.Value.{WriterValue}
 use Rattle.ring_shared.specs.Finishing.{Finishes}
 use Rattle.ring_shared.proofs.WholeWrites.{reserved_top, ends_above, ends_alone}
+use Rattle.ring_shared.proofs.Covered.{ends_covered, covered_then}
 use Rattle.ring_shared.proofs.writer.Writer.end_record.Goals as goal
 
 pub returns-then-stands_alone-clause-ends : goal.returns-then-stands_alone-clause-ends
@@ -22,3 +23,11 @@ returns-else-stands_alone-clause-ends c =
     let (how, end, goes) = ends_above x.shape x.part one.part payload c.end.result c.end.ensures.makes.call (reserved_top x c.requires.writer c.args.slot c.requires.slot)
     (λ e. let truth : false ≡ true = sym c.if-stands_alone.false ∙ c.stands_alone.ensures.1 e in cc) in
     record { ended = one.part; how = how; end = end; goes = goes }
+
+pub returns-then-stands_alone-clause-covered : goal.returns-then-stands_alone-clause-covered
+returns-then-stands_alone-clause-covered c =
+    let x : WriterValue = c.args.self.now in let one : WriterValue = c.end.new.self in let two : WriterValue = c.finish_top.new.self in
+    covered_then x.frames.stack one.frames.stack two.frames.stack (ends_covered x.frames.stack one.frames.stack c.end.ensures.payloads) c.finish_top.ensures.payloads
+
+pub returns-else-stands_alone-clause-covered : goal.returns-else-stands_alone-clause-covered
+returns-else-stands_alone-clause-covered c = ends_covered c.args.self.now.frames.stack c.end.new.self.frames.stack c.end.ensures.payloads

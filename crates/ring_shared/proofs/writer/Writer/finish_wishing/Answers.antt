@@ -5,6 +5,7 @@ use Rattle.ring_shared.specs.Finishing.{at_once, Closes}
 use Rattle.ring_shared.proofs.Depths.{leaving_top}
 use Rattle.ring_shared.proofs.FinishParts.{closes_then, closes_still, closes_rest}
 use Rattle.ring_shared.proofs.TopAnswers.{some_stand}
+use Rattle.ring_frames.proofs.Payloads.{kept_then}
 use Rattle.ring_shared.proofs.writer.Writer.finish_wishing.Goals as goal
 
 pub load_wish-requires-clause-top : goal.load_wish-requires-clause-top
@@ -31,3 +32,7 @@ returns-in-Gone-clause-leaves c = λ other others at.
     let v : WriterValue = c.args.self.now in let one : WriterValue = c.load_wish.new.self in
     subst (λ (t : Turned). Closes v.shape others v.part t one.part) c.in-Gone.is
     (closes_then v.shape others v.part v.part one.part c.load_wish.result (other, at, leaving_top v.part.frames frame other below others top is at, at_once) c.load_wish.ensures.makes.call)
+
+pub returns-in-Going-clause-payloads : goal.returns-in-Going-clause-payloads
+returns-in-Going-clause-payloads c =
+    kept_then c.args.self.now.frames.stack c.load_wish.new.self.frames.stack c.finish_leaving.new.self.frames.stack c.load_wish.ensures.payloads c.finish_leaving.ensures.payloads

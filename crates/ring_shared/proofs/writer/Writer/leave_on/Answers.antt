@@ -4,6 +4,7 @@ use Rattle.ring_frames.specs.declared.phase.Turned.{Turned}
 use Rattle.ring_shared.specs.Value.{WriterValue}
 use Rattle.ring_shared.specs.Finishing.{Closes}
 use Rattle.ring_shared.proofs.FinishParts.{closes_still, closes_rest}
+use Rattle.ring_frames.proofs.Payloads.{kept_then}
 use Rattle.ring_shared.proofs.writer.Writer.leave_on.Goals as goal
 
 pub returns-in-Gone-clause-leaves : goal.returns-in-Gone-clause-leaves
@@ -27,3 +28,7 @@ returns-clause-leaves c =
           closes_rest v.shape below v.part c.close_fills.new.self c.close_fills.result (c.close_fills.ensures.closes frame below top) c.in_default.is
           c.close_fills.ensures.ring.0 c.leave_top.result c.leave_top.new.self.part c.leave_top.ensures.leaves,
     )
+
+pub returns-clause-payloads : goal.returns-clause-payloads
+returns-clause-payloads c =
+    kept_then c.args.self.now.frames.stack c.close_fills.new.self.frames.stack c.leave_top.new.self.frames.stack c.close_fills.ensures.payloads c.leave_top.ensures.payloads

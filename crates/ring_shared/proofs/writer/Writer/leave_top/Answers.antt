@@ -8,6 +8,7 @@ use Rattle.ring_shared.specs.Value.{WriterValue}
 use Rattle.ring_shared.specs.Finishing.{Leaves, IsGoneOrRefused}
 use Rattle.ring_shared.proofs.Depths.{depth_is, leaving_top}
 use Rattle.ring_shared.proofs.Finishes.{IsAmidLeaving, leaving_unnumbered, leaving_first, leaving_on, leaving_stands, leaving_ends, leaving_told, call_in, same_writer}
+use Rattle.ring_frames.proofs.Payloads.{same_stack, kept_then}
 use Rattle.ring_shared.proofs.writer.Writer.leave_top.Goals as goal
 
 pub loop-answer-init : goal.loop-answer-init
@@ -20,6 +21,7 @@ loop-answer-init c =
       depth = c.depth-depth.ensures ∙ depth_is v c.requires.writer;
       some = (frame, below, top);
       amid = λ other others is. leaving_first v.shape other others v.part is (leaving_top v.part.frames frame other below others top leaves is);
+      payloads = same_stack v.frames.stack v.frames.stack refl;
     }
 
 pub step-answer-requires : goal.step-answer-requires
@@ -70,6 +72,7 @@ loop-answer-preserved c =
       amid = λ other others is.
           subst (λ (m : Option WriteFault). IsAmidLeaving shape others first m new.part) (sym c.met_first-met.ensures)
           (leaving_on shape others first c.loop-answer.met old.part new.part c.step-answer.result (h.amid other others is) call stands);
+      payloads = kept_then c.args.self.now.frames.stack old.frames.stack new.frames.stack h.payloads c.step-answer.ensures.payloads;
     }
 
 pub returns-then-depth-clause-gone : goal.returns-then-depth-clause-gone
@@ -82,3 +85,7 @@ returns-then-depth-clause-gone c =
     subst IsGoneOrRefused (sym c.told.ensures)
     (leaving_told shape below c.args.self.now.part c.loop-answer.met old.part new.part c.step-answer.result (h.amid frame below top)
     (call_in shape old new c.step-answer.result h.ring.0 makes) (omega arith))
+
+pub returns-then-depth-clause-payloads : goal.returns-then-depth-clause-payloads
+returns-then-depth-clause-payloads c =
+    kept_then c.args.self.now.frames.stack c.loop-answer.self.frames.stack c.step-answer.new.self.frames.stack c.loop-answer.invariant.payloads c.step-answer.ensures.payloads

@@ -1,5 +1,6 @@
 use Rattle.std.specs.Prelude.{◌≡◌, List, ◌∷◌, length}
 use Rattle.trace_model.specs.Frames.{Frame}
+use Rattle.ring_frames.specs.Answers.{KeepsPayloads}
 use Rattle.ring_shared.specs.Value.{SameWriter}
 use Rattle.ring_shared.specs.Calls.{IsWriter}
 use Rattle.ring_shared.specs.Nearer.{rank_of}
@@ -13,6 +14,7 @@ invariant-loop-answer l = record {
   depth : l.depth ≡ length l.self.part.frames;
   some : (frame : Frame) × (below : List Frame) × (l.fn.self.part.frames ≡ frame ∷ below);
   amid : (frame : Frame) (below : List Frame) → l.fn.self.part.frames ≡ frame ∷ below → IsAmidLeaving l.fn.self.shape below l.fn.self.part l.met l.self.part;
+  payloads : KeepsPayloads l.fn.self.frames.stack l.self.frames.stack;
 }
 
 abbrev pub decreases-loop-answer : goal.decreases-loop-answer

@@ -22,7 +22,6 @@ note-requires c =
     let idle = plain_rests v.shape.pages v.shape.size v.shape.start v.frames w.core c.args.pushed record { reached = w.reached; are = w.frames_are } plain in
     record { due = step_leads v w (subst (λ (p : Phase). PhaseIsPrivate (phase_of p) (opened v.frames.stack)) (sym idle) tt) }
 
-pub returns : goal.returns
-returns c = record {
-  makes = seen_call _ _ (λ _. steps) (Reserved c.reserve_plain.result) _ c.self.view_is c.requires.writer c.note.ensures.shape c.note.ensures.table c.note.ensures.noted refl c.reserve_plain.ensures.step;
-}
+pub returns-clause-makes : goal.returns-clause-makes
+returns-clause-makes c =
+    seen_call _ _ (λ _. steps) (Reserved c.reserve_plain.result) _ c.self.view_is c.requires.writer c.note.ensures.shape c.note.ensures.table c.note.ensures.noted refl c.reserve_plain.ensures.step

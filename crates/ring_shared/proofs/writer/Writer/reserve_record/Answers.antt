@@ -9,6 +9,8 @@ use Rattle.ring_shared.specs.Finishing.{Finishes}
 use Rattle.ring_shared.specs.WholeWrites.{IsRefusedWrite}
 use Rattle.ring_shared.proofs.Depths.{depth_is}
 use Rattle.ring_shared.proofs.WholeWrites.{met_refusal, not_refused, has_record, is_reserved_by, refused_gone, refused_left, top_slot_of}
+use Rattle.ring_frames.proofs.Payloads.{kept_then}
+use Rattle.ring_shared.proofs.Covered.{reserved_covers}
 use Rattle.ring_shared.proofs.writer.Writer.reserve_record.Goals as goal
 
 -- what is finished is so in the ring that it was
@@ -60,3 +62,23 @@ returns-else-depth-clause-refused c = λ fault e.
     (not_refused c.begin.result (λ f is. c.in_default.not-Some f (c.met_first.ensures ∙ is)))
     (finished_in x.shape one two c.finish_top.result c.begin.ensures.makes.shape_is c.finish_top.ensures.finished)
     why (met_refusal c.finish_top.result why (sym c.met_first-2.ensures ∙ c.in-Some-met_first.is)))
+
+-- ---- payloads
+
+pub returns-then-depth-clause-payloads : goal.returns-then-depth-clause-payloads
+returns-then-depth-clause-payloads c =
+    let x : WriterValue = c.args.self.now in let one : WriterValue = c.begin.new.self in let two : WriterValue = c.finish_top.new.self in let three : WriterValue = c.finish_top-then-depth.new.self in
+    kept_then x.frames.stack two.frames.stack three.frames.stack (kept_then x.frames.stack one.frames.stack two.frames.stack c.begin.ensures.payloads c.finish_top.ensures.payloads) c.finish_top-then-depth.ensures.payloads
+
+pub returns-else-depth-clause-payloads : goal.returns-else-depth-clause-payloads
+returns-else-depth-clause-payloads c =
+    kept_then c.args.self.now.frames.stack c.begin.new.self.frames.stack c.finish_top.new.self.frames.stack c.begin.ensures.payloads c.finish_top.ensures.payloads
+
+pub returns-clause-payloads : goal.returns-clause-payloads
+returns-clause-payloads c =
+    kept_then c.args.self.now.frames.stack c.begin.new.self.frames.stack c.finish_top.new.self.frames.stack c.begin.ensures.payloads c.finish_top.ensures.payloads
+
+pub returns-clause-covers : goal.returns-clause-covers
+returns-clause-covers c = λ slot e.
+    let x : WriterValue = c.args.self.now in let two : WriterValue = c.finish_top.new.self in
+    reserved_covers x.shape x two c.args.moment c.args.len c.requires.writer c.finish_top.ensures.writer (returns-clause-reserved c slot e) (returns-clause-payloads c)

@@ -7,6 +7,7 @@ use Rattle.ring_shared.specs.Finishing.{Reserves}
 use Rattle.ring_shared.proofs.Depths.{reserving_top}
 use Rattle.ring_shared.proofs.Finishes.{IsAmidReserving, reserving_unnumbered, reserving_first, reserving_on, reserving_stands, reserving_ends, call_in, same_writer}
 use Rattle.ring_shared.proofs.Turning.{amid_turned, same_turned}
+use Rattle.ring_frames.proofs.Payloads.{same_stack, kept_then}
 use Rattle.ring_shared.proofs.writer.Writer.reserve_top.Goals as goal
 
 pub loop-last-init : goal.loop-last-init
@@ -18,6 +19,7 @@ loop-last-init c =
       ring = (refl, refl);
       some = (frame, below, top);
       amid = λ other others is. reserving_first v.shape other others v.part is (reserving_top v.part.frames frame other below others top reserves is);
+      payloads = same_stack v.frames.stack v.frames.stack refl;
     }
 
 pub step-requires : goal.step-requires
@@ -70,4 +72,9 @@ loop-last-preserved c =
           amid_turned shape frame.kind below c.args.self.now.part one new ring.0
           (reserving_on shape frame.kind below c.args.self.now.part old.part one.part c.step.result (h.amid frame below top)
           (call_in shape old one c.step.result h.ring.0 makes) (c.unless_going.ensures.going c.in_default.is)) turns;
+      payloads = kept_then c.args.self.now.frames.stack one.frames.stack new.frames.stack (kept_then c.args.self.now.frames.stack old.frames.stack one.frames.stack h.payloads c.step.ensures.payloads) turns.payloads;
     }
+
+pub returns-in-Some-clause-payloads : goal.returns-in-Some-clause-payloads
+returns-in-Some-clause-payloads c =
+    kept_then c.args.self.now.frames.stack c.loop-last.self.frames.stack c.step.new.self.frames.stack c.loop-last.invariant.payloads c.step.ensures.payloads

@@ -1,5 +1,6 @@
 use Rattle.std.specs.Prelude.{◌≡◌, List, ◌∷◌}
 use Rattle.trace_model.specs.Frames.{Frame}
+use Rattle.ring_frames.specs.Answers.{KeepsPayloads}
 use Rattle.ring_shared.specs.Value.{SameWriter}
 use Rattle.ring_shared.specs.Calls.{IsWriter}
 use Rattle.ring_shared.specs.Nearer.{rank_of}
@@ -12,6 +13,7 @@ invariant-loop-last l = record {
   ring : SameWriter l.fn.self l.self;
   some : (frame : Frame) × (below : List Frame) × (l.fn.self.part.frames ≡ frame ∷ below);
   amid : (frame : Frame) (below : List Frame) → l.fn.self.part.frames ≡ frame ∷ below → IsAmidReserving l.fn.self.shape frame.kind below l.fn.self.part l.self.part;
+  payloads : KeepsPayloads l.fn.self.frames.stack l.self.frames.stack;
 }
 
 abbrev pub decreases-loop-last : goal.decreases-loop-last

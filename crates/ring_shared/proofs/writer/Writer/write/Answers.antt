@@ -13,6 +13,8 @@ use Rattle.ring_shared.specs.contracts.writer.Writer.{the_view}
 use Rattle.ring_shared.proofs.Called.{writer_seen}
 use Rattle.ring_shared.proofs.PageMoves.{looks_for_wish}
 use Rattle.ring_shared.proofs.AtOnce.{mid, leads_write, writer_mid, frames_mid, some_mid, none_left, wishing_mid, written_at_once, stands_still, written_behind}
+use Rattle.ring_frames.specs.Answers.{KeepsPayloads}
+use Rattle.ring_frames.proofs.Payloads.{kept_then}
 use Rattle.ring_shared.proofs.writer.Writer.write.Goals as goal
 
 pub returns-in_default-clause-refused : goal.returns-in_default-clause-refused
@@ -142,3 +144,27 @@ returns-in-Going-clause-written c = λ _.
     subst (λ (x : WriterValue). IsWritten x.shape x.part c.args.moment c.args.payload.now end) c.self.view_is
     (written_behind v w c.args.moment c.args.payload.now gone wrote alone (told c.stay.result) new.part makes.call last end (ap told c.in-Going.is)
     (λ frame below top. subst (λ (s : Shape). Leaves s below new.part last end) c.load_wish-wish.ensures.shape (leaves frame below top)))
+
+-- ---- payloads
+
+pub returns-in_default-clause-payloads : goal.returns-in_default-clause-payloads
+returns-in_default-clause-payloads c =
+    let v : WriterValue = the_view c.self.inside in
+    subst (λ (x : WriterValue). KeepsPayloads x.frames.stack c.write_by_steps.new.self.frames.stack) c.self.view_is
+    (kept_then v.frames.stack c.write.new.self.stack c.write_by_steps.new.self.frames.stack c.write.ensures.payloads c.write_by_steps.ensures.payloads)
+
+pub returns-then-not-is_wished-clause-payloads : goal.returns-then-not-is_wished-clause-payloads
+returns-then-not-is_wished-clause-payloads c = subst (λ (x : WriterValue). KeepsPayloads x.frames.stack c.write.new.self.stack) c.self.view_is c.write.ensures.payloads
+
+pub returns-in-Gone-clause-payloads : goal.returns-in-Gone-clause-payloads
+returns-in-Gone-clause-payloads c =
+    let v : WriterValue = the_view c.self.inside in
+    subst (λ (x : WriterValue). KeepsPayloads x.frames.stack c.stay.new.self.stack) c.self.view_is
+    (kept_then v.frames.stack c.write.new.self.stack c.stay.new.self.stack c.write.ensures.payloads c.stay.ensures.payloads)
+
+pub returns-in-Going-clause-payloads : goal.returns-in-Going-clause-payloads
+returns-in-Going-clause-payloads c =
+    let v : WriterValue = the_view c.self.inside in
+    let end : WriterValue = c.leave_on-refusal.new.self in
+    subst (λ (x : WriterValue). KeepsPayloads x.frames.stack end.frames.stack) c.self.view_is
+    (kept_then v.frames.stack c.stay.new.self.stack end.frames.stack (kept_then v.frames.stack c.write.new.self.stack c.stay.new.self.stack c.write.ensures.payloads c.stay.ensures.payloads) c.leave_on-refusal.ensures.payloads)

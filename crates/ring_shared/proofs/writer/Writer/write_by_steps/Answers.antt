@@ -8,6 +8,7 @@ use Rattle.nested_writer.specs.declared.frame.Slot.{Slot}
 use Rattle.ring_shared.specs.Value.{WriterValue}
 use Rattle.ring_shared.specs.Lending.{with_slot_payload}
 use Rattle.ring_shared.proofs.WholeWrites.{record_room, written_top, written_whole}
+use Rattle.ring_shared.proofs.Covered.{kept_under}
 use Rattle.ring_shared.proofs.writer.Writer.write_by_steps.Goals as goal
 
 one_fault : (a b : WriteFault) → ◌≡◌ {A = Result (Unit {0}) WriteFault} (Err a) (Err b) → a ≡ b
@@ -40,3 +41,9 @@ returns-clause-written c = λ _.
     let long : length part ≡ slot.place.len = ap (length {A = ℕ}) same ∙ length-padded payload ∙ sym room in
     written_whole x.shape x.part c.args.moment payload (with_slot_payload two slot part) c.end_record.new.self r c.reserve_record.ensures.ring.0
     (written_top two slot part (c.payload_mut.ensures.written part long) ∙ same) c.end_record.ensures.ends
+
+pub returns-clause-payloads : goal.returns-clause-payloads
+returns-clause-payloads c =
+    let x : WriterValue = c.args.self.now in let two : WriterValue = c.reserve_record.new.self in
+    kept_under x.frames.stack two.frames.stack c.end_record.new.self.frames.stack c.in_ok-slot.slot c.put_padded.new.slot
+    (c.reserve_record.ensures.covers c.in_ok-slot.slot c.in_ok-slot.was) c.payload_mut.ensures.others c.end_record.ensures.covered
