@@ -28,18 +28,18 @@ use Rattle.ring_frames.proofs.Ended.{stands, bytes_are}
 
 -- ---- a stack of which pages alone have changed
 
-record Keeps (s t : Stack) : Type 0 where
+pub record Keeps (s t : Stack) : Type 0 where
   pages_is : t.pages ≡ s.pages
   size_is : t.size ≡ s.size
   done_is : t.done ≡ s.done
   opened_is : opened t ≡ opened s
-  frames_is : t.frames ≡ s.frames
+  pub frames_is : t.frames ≡ s.frames
 
 keeps_by : (b : Bool) (s t u : Stack) → Keeps s t → Keeps s u → Keeps s (cond b t u)
 keeps_by true s t u one other = one
 keeps_by false s t u one other = other
 
-slot_keeps : (s : Stack) (slot : Slot) (part : List ℕ) → Keeps s (with_slot s slot part)
+pub slot_keeps : (s : Stack) (slot : Slot) (part : List ℕ) → Keeps s (with_slot s slot part)
 slot_keeps s slot part =
     let page : Contents = with_payload (slice_index_or s.older (slot.fill - s.done) s.tail) slot.place.start part in
     keeps_by (eqb slot.fill s.tail.fill) s (record s { tail = with_payload s.tail slot.place.start part }) (record s { older = slice_set s.older (slot.fill - s.done) page })

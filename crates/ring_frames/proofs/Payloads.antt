@@ -307,9 +307,6 @@ zeros_reserved start h s after place k is lacks slot top_slot = by_frames s.fram
     slot_is : (one other : Slot) → Reserved one ≡ Reserved other → one ≡ other
     slot_is one other e = cc
 
-    through_not : (noted : ℕ) → Through noted ≡ Reserved slot → ⊥
-    through_not noted e = cc
-
     top_of_these : (frames : List Frame) → after.frames ≡ frames → IsTopSlot frames slot
     top_of_these frames same = subst (λ (fs : List Frame). IsTopSlot fs slot) same top_slot
 
@@ -318,9 +315,9 @@ zeros_reserved start h s after place k is lacks slot top_slot = by_frames s.fram
         let own : Slot = record { number = next_number s; fill = tail_fill s; place = place } in
         let same = slot_is own slot (top_of_these _ (ap (λ (t : Stack). t.frames) fit.0.others)) in
         subst (λ (z : Slot). bytes_in after z ≡ replicate z.place.len 0) same (zeros_put start h s after top below moment len place (next_number s) k fit.0 fit.1)
-    by_fit top below Close (Waiting noted) fit none = absurd (through_not _ (top_of_these _ (ap (λ (t : Stack). t.frames) fit.1)))
+    by_fit top below Close (Waiting noted) fit none = absurd (no_slot (Through _) tt slot (top_of_these _ (ap (λ (t : Stack). t.frames) fit.1)))
     by_fit top below (Record moment len) (Through noted) fit none = absurd fit
-    by_fit top below Close (Through noted) fit none = absurd (through_not _ (top_of_these _ (ap (λ (t : Stack). t.frames) fit.1)))
+    by_fit top below Close (Through noted) fit none = absurd (no_slot (Through _) tt slot (top_of_these _ (ap (λ (t : Stack). t.frames) fit.1)))
     by_fit top below (Record moment len) (Reserved own) fit none = absurd none
     by_fit top below Close (Reserved own) fit none = absurd none
     by_fit top below (Record moment len) (Left noted) fit none = absurd fit

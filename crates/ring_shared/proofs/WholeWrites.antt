@@ -1,6 +1,5 @@
 -- A record that is written whole: its parts, one behind the other.
-use Rattle.std.specs.Prelude.{Some, None, ◌⊎◌, ◌<◌, ◌-◌, ◌==◌, slice_set, slice_index_or}
-use Rattle.std.proofs.lemmas.Bool.{cond_both}
+use Rattle.std.specs.Prelude.{Some, None, ◌⊎◌, ◌<◌}
 use Rattle.std.proofs.Common.{◌≡◌, ◌≢◌, ℕ, List, [], ◌∷◌, length, refl, sym, ap, ◌∙◌, subst, inl, inr, arith}
 use Rattle.trace_model.specs.Words.{slot_len, padded}
 use Rattle.trace_model.specs.Frames.{Kind, for_record, for_close, FrameState, waiting, reserved, left, Refusal, Frame}
@@ -12,15 +11,15 @@ use Rattle.nested_writer.specs.declared.frame.Progress.{Progress}
 use Rattle.nested_writer.specs.declared.frame.Progress.TheVariants.{Waiting, Through, Reserved as HasReserved, Left}
 use Rattle.nested_writer.specs.declared.frame.Frame as stack
 use Rattle.nested_writer.specs.declared.stack.leave.Ended.TheVariants.{Pending, Full}
-use Rattle.page_image.specs.Lending.{with_payload}
 use Rattle.nested_writer.specs.Lending.{with_slot}
-use Rattle.nested_writer.specs.Stack.{Stack, state_of}
+use Rattle.nested_writer.specs.Stack.{state_of}
 use Rattle.nested_writer.specs.Calls.{IsTopSlot}
 use Rattle.ring_frames.specs.declared.answer.Answer.{Answer}
 use Rattle.ring_frames.specs.declared.answer.Answer.TheVariants.{Pushed, Going, Reserved, Ended, Gone, Refused, Looking, Empty, Moving, Taken, Wished}
 use Rattle.ring_frames.specs.declared.phase.Phase.{Phase}
 use Rattle.ring_frames.specs.Answers.{top_bytes, refusal_of, Tells}
 use Rattle.ring_frames.specs.AreFrames.{ring_frames}
+use Rattle.ring_frames.proofs.Lent.{slot_keeps}
 use Rattle.ring_steps.specs.declared.rule.Shape.{Shape}
 use Rattle.ring_steps.specs.Views.{Writing}
 use Rattle.ring_shared.specs.Value.{WriterValue}
@@ -284,7 +283,7 @@ module _ (shape : Shape) (before after : Writing) (payload : List ℕ) (result :
 -- ---- all of it
 
 -- the kind of a frame that has reserved
-top_kind : (kind : Kind) (below : List Frame) (number : Rattle.trace_model.specs.declared.numbers.RecordNo.RecordNo) (after : List Frame) → IsReservedOr kind below (Reserved number) after → HasTopRecord kind below after
+pub top_kind : (kind : Kind) (below : List Frame) (number : Rattle.trace_model.specs.declared.numbers.RecordNo.RecordNo) (after : List Frame) → IsReservedOr kind below (Reserved number) after → HasTopRecord kind below after
 top_kind kind below number after is = (reserved_so kind below (Reserved number) after is (λ (fault, e). cc)).0
 
 -- the slot has just the room of the record
@@ -293,15 +292,9 @@ record_room shape before moment len v slot r fits =
     let t = top_kind (for_record moment len) before.frames r.number v.part.frames r.reserve.ends in
     fits t.next before.frames moment len t.top t.kind_is
 
--- what is written into a slot leaves the frames as they are
-frames_stay : (s : Stack) (slot : Slot) (part : List ℕ) → (with_slot s slot part).frames ≡ s.frames
-frames_stay s slot part = cond_both (slot.fill == s.tail.fill) (record s { tail = with_payload s.tail slot.place.start part })
-    (record s { older = slice_set s.older (slot.fill - s.done) (with_payload (slice_index_or s.older (slot.fill - s.done) s.tail) slot.place.start part) })
-    (λ (x : Stack). x.frames ≡ s.frames) (λ _. refl) (λ _. refl)
-
 pub written_top : (v : WriterValue) (slot : Slot) (part : List ℕ) → top_bytes (with_slot v.frames.stack slot part) v.frames.stack.frames ≡ part
     → top_bytes (with_slot_payload v slot part).frames.stack (with_slot_payload v slot part).frames.stack.frames ≡ part
-written_top v slot part is = ap (top_bytes (with_slot v.frames.stack slot part)) (frames_stay v.frames.stack slot part) ∙ is
+written_top v slot part is = ap (top_bytes (with_slot v.frames.stack slot part)) (slot_keeps v.frames.stack slot part).frames_is ∙ is
 
 -- a record that was reserved, and ends with this payload, is written
 pub written_whole : (shape : Shape) (before : Writing) (moment : ℕ) (payload : List ℕ) (v new : WriterValue) → IsReserved shape before moment (length payload) v.part → v.shape ≡ shape → top_bytes v.frames.stack v.frames.stack.frames ≡ padded payload → EndsRecord v new → IsWritten shape before moment payload new.part

@@ -1,5 +1,5 @@
 -- What the frame on top is asked for: a step, or the end of its record with the payload that was put into its slot.
-use Rattle.std.proofs.Common.{◌≡◌, ℕ, ◌+◌, ◌-◌, ◌≤◌, Bool, true, false, cond, List, [], ◌∷◌, ◌++◌, length, replicate, get_or, map, reverse, refl, sym, ap, ◌∙◌, subst, arith}
+use Rattle.std.proofs.Common.{◌≡◌, ℕ, ◌+◌, ◌-◌, ◌≤◌, List, [], ◌∷◌, ◌++◌, length, replicate, get_or, map, reverse, refl, sym, ap, ◌∙◌, subst, arith}
 use Rattle.std.proofs.lemmas.List.{length-map, length-reverse, get_or-map, get_or-reverse}
 use Rattle.trace_model.specs.Words.{slot_len, padded}
 use Rattle.trace_model.specs.Frames.{Kind, for_record, for_close, FrameState, reserved, Frame}
@@ -21,6 +21,7 @@ use Rattle.ring_frames.specs.declared.phase.Phase.{Phase}
 use Rattle.ring_frames.specs.declared.answer.Answer.{Answer}
 use Rattle.ring_core.specs.Value.{CoreValue}
 use Rattle.ring_frames.specs.AreFrames.{ring_frames}
+use Rattle.ring_frames.proofs.Lent.{slot_keeps}
 use Rattle.ring_core.specs.IsCore.{Shows, IsCore}
 use Rattle.ring_frames.specs.Answers.{top_bytes}
 use Rattle.ring_core.specs.Steps.{IsStep, Makes}
@@ -125,16 +126,6 @@ top_is_slot : (s : Stack) (frames : List stack.Frame) (slot : Slot) (part : List
 top_is_slot s [] slot part top = absurd top
 top_is_slot s (f ∷ frames) slot part top = ap (λ (p : Progress). with_reserved s p part) top
 
-either : (b : Bool) (x y : Stack) (frames : List stack.Frame)
-    → x.frames ≡ frames
-    → y.frames ≡ frames
-    → (cond b x y).frames ≡ frames
-either true x y frames ex ey = ex
-either false x y frames ex ey = ey
-
-frames_stay : (s : Stack) (slot : Slot) (part : List ℕ) → (with_slot s slot part).frames ≡ s.frames
-frames_stay s slot part = either _ _ _ s.frames refl refl
-
 -- this payload is the first one, where there is one
 abbrev pub IsFirst : List ℕ → List (List ℕ) → Type 0
 IsFirst payload payloads = (first : List ℕ) (rest : List (List ℕ)) → payloads ≡ first ∷ rest → payload ≡ first
@@ -186,7 +177,7 @@ asked_end old slot payload part answer new top fits stays long written front par
     (top_is_slot old.core.stack old.core.stack.frames slot part top)
     (stays n size start lane.core part is.is_core (fills ∙ sym long)) in
     let bytes : top_bytes (with_slot old.core.stack slot part) (with_slot old.core.stack slot part).frames
-    ≡ padded h.payload = ap (top_bytes (with_slot old.core.stack slot part)) (frames_stay old.core.stack slot part)
+    ≡ padded h.payload = ap (top_bytes (with_slot old.core.stack slot part)) (slot_keeps old.core.stack slot part).frames_is
     ∙ written part fills ∙ whole ∙ ap padded (sym same) in
     subst (λ (e : model.Event). IsStep n size start lane.core e answer new) (ap ends bytes ∙ sym h.event_is)
     (makes n size start lane.core core)

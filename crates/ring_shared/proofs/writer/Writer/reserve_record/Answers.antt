@@ -81,4 +81,5 @@ returns-clause-payloads c =
 pub returns-clause-covers : goal.returns-clause-covers
 returns-clause-covers c = λ slot e.
     let x : WriterValue = c.args.self.now in let two : WriterValue = c.finish_top.new.self in
-    reserved_covers x.shape x two c.args.moment c.args.len c.requires.writer c.finish_top.ensures.writer (returns-clause-reserved c slot e) (returns-clause-payloads c)
+    reserved_covers x.shape x two c.args.moment c.args.len c.requires.writer c.finish_top.ensures.writer
+    (c.finish_top.ensures.ring.0 ∙ c.begin.ensures.makes.shape_is) (returns-clause-reserved c slot e) (returns-clause-payloads c)
