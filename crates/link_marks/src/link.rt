@@ -111,8 +111,8 @@ pub fn update(page: u16, fill: u64) -> Link
     }
 }
 
-/// The link into a position of a new ring of so many, whose first fill has the number `start`: each leads to the page of
-/// its number, and the first fill is the head.
+/// The link into a position of a new ring of so many, whose first fill has the number `start`: each leads to the page
+/// of its number, and the first fill is the head.
 pub fn first_link(position: u16, positions: u64, start: u64) -> Link
     requires position { position < positions }
     requires most { positions ≤ MAX_PAGES }

@@ -21,7 +21,8 @@ event_of v End = model.ends (top_bytes v.stack v.stack.frames)
 event_of v (Read body) = model.reads
 event_of v Wish = model.wishes
 
--- Each slot that a frame has reserved stays so, with its payload; as the frame on top ends, those of the frames below do.
+-- Each slot that a frame has reserved stays so, with its payload; as the frame on top ends, those of the frames below
+-- do.
 abbrev pub StepsPayloads : Event → Stack → Stack → Type 0
 StepsPayloads (Push moment len) old new = KeepsPayloads old new
 StepsPayloads PushClose old new = KeepsPayloads old new

@@ -18,8 +18,8 @@ pub record ReaderValue : Type 0 where
   pub at : Reader
   pub empty_at : Option ℕ
 
--- The writer's end: the ring's shape and its table; the writer's part of the ring, and a fill below which it knows all to
--- be passed; and its fields: its frames, and the pages of the fills that are begun and not closed, the oldest first.
+-- The writer's end: the ring's shape and its table; the writer's part of the ring, and a fill below which it knows all
+-- to be passed; and its fields: its frames, and the pages of the fills that are begun and not closed, the oldest first.
 pub record WriterValue : Type 0 where
   pub shape : Shape
   pub table : TableId

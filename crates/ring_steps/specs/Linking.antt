@@ -43,7 +43,8 @@ noted_on_top (frame ∷ below) = number_or_zero (noted_fill frame.phase)
 abbrev pub behind_in : ℕ → Writing → ℕ
 behind_in n w = noted_on_top w.frames + 1 - n
 
--- what was found in the word of the link into the position of a fill is the link's, and what was known of the head holds
+-- what was found in the word of the link into the position of a fill is the link's, and what was known of the head
+-- holds
 abbrev pub SeesLink : Shape → (known fill found : ℕ) → Core → Type 0
 SeesLink shape known fill found core =
     (known ≤ core.head) × (word_of (link_into shape.pages core.links fill) ≡ found)

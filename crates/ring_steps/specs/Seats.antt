@@ -99,8 +99,8 @@ pub record IsWriterStep (shape : Shape) (before : Writing) (sees : Core → Type
   pub step : Step shape.pages shape.size core steps answer next
   pub after_is : writing_of next ≡ after
 
--- What each step of the writer tells of its seat; by now its part is this, and below the known number it knows all fills
--- to be passed, as it does behind the step.
+-- What each step of the writer tells of its seat; by now its part is this, and below the known number it knows all
+-- fills to be passed, as it does behind the step.
 pub record WriterTold (shape : Shape) (now : Writing) (known : ℕ) (sees : Core → Type 0) (answer : Answer) (after : Sat)
     : Type 0 where
   pub seat : IsWriting after

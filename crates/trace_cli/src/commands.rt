@@ -30,8 +30,8 @@ fn replayed(alloc: Global, script: &Script) -> Result<World, NoMemory>
     }
 }
 
-/// The printing of a world: the log, if it is asked for, and the collectors. The log is given back before the collectors
-/// are printed.
+/// The printing of a world: the log, if it is asked for, and the collectors. The log is given back before the
+/// collectors are printed.
 fn print_world(alloc: Global, world: World, log: bool) -> Result<Vec<u8>, NoMemory>
     ensures { IfOk result (λ text. (shown : List Shown) × AllZip Tells world.collectors.items shown
         × (text.items ≡ printed_world log (shown_log world.log.items) shown)) }

@@ -3,7 +3,8 @@ ghost use Rattle.link_marks.specs.FrameOutcomes.{FramesLeave, FramesReserve};
 ghost use Rattle.link_marks.specs.Ranks.{EndsComeToAnEnd, FramesAreNearTheirEnd, StepsComeToAnEnd, TakesAreNearTheirAnswer, TakesComeToAnAnswer};
 ghost use Rattle.link_marks.specs.WriterRanks.{WriterStepsComeToAnEnd, WritersAreNearTheirEnd};
 
-/// Where nothing comes between, each step of a frame that stands behind it lowers a number that is small from the start.
+/// Where nothing comes between, each step of a frame that stands behind it lowers a number that is small from the
+/// start.
 pub fn frames_come_to_an_end()
     ensures steps { StepsComeToAnEnd }
     ensures ends { EndsComeToAnEnd }
@@ -23,8 +24,8 @@ pub fn frames_reserve_or_leave()
     ensures leave { FramesLeave }
 {}
 
-/// Where the reader steps in between, each step of a frame that hasn't reserved and stands behind it lowers a number that
-/// is small from the start, by what the writer knows of the fills that are passed.
+/// Where the reader steps in between, each step of a frame that hasn't reserved and stands behind it lowers a number
+/// that is small from the start, by what the writer knows of the fills that are passed.
 pub fn writers_come_to_an_end()
     ensures steps { WriterStepsComeToAnEnd }
     ensures near { WritersAreNearTheirEnd }

@@ -23,9 +23,9 @@ impl Frames {
     ghost use Rattle.ring_frames.specs.Phases.{with_left_phase, left_answer, told};
     ghost use Rattle.ring_frames.specs.Steps.{MakesPrivate, IsFrames, IsShown, GoesOnIn, IsNotedIn, BeginsAnew, LeavesWithout, IsCloseTop};
 
-    /// What the frame on top was pushed with, where it is a record frame that tried nothing yet, and its record is one as
-    /// nearly all are: in the short form, behind another one, and far enough from the page's end for any such record.
-    /// `None` may stand for one that is near the end too.
+    /// What the frame on top was pushed with, where it is a record frame that tried nothing yet, and its record is one
+    /// as nearly all are: in the short form, behind another one, and far enough from the page's end for any such
+    /// record. `None` may stand for one that is near the end too.
     #[inline(always)]
     pub fn plain_top(&self) -> Option<Pushed>
         requires shown { IsShown self.now }
