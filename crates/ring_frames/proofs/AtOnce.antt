@@ -10,7 +10,6 @@ use Rattle.trace_model.specs.Ring.{Core}
 use Rattle.trace_model.specs.Steps as model
 use Rattle.trace_model.proofs.Lengths.{length-padded, slot_len-slot_len}
 use Rattle.trace_model.proofs.NextAction.{reserved_stack}
-use Rattle.link_marks.proofs.RingsKept.{reached_further}
 use Rattle.nested_writer.specs.declared.frame.Purpose.TheVariants.{Record}
 use Rattle.nested_writer.specs.declared.frame.Progress.TheVariants.{Left}
 use Rattle.nested_writer.specs.declared.frame.Frame.{Frame}
@@ -171,12 +170,3 @@ written_alone v stack moment payload (n, size, start, c, core) fits is = record 
   below = subst (λ (fs : List Frame). AreBelow fs v.below) fits.0 core.are.below_are;
   closed = ap closing_phase is ∙ closed_at_rest v (n, size, start, c, core) fits.0;
 }
-
--- behind it the frames are those of a state that steps reach
-pub frames_behind_write : (old : FramesValue) (moment : ℕ) (payload : List ℕ) (new : FramesValue) → IsFrames old → WritesAtOnce old moment payload new → IsFrames new
-frames_behind_write old moment payload new (n, size, start, c, core) writes =
-    let w = writes n size start c core.reached core.are in
-    let one = reached_further n size start c (model.pushes moment (length payload)) model.pushed w.pushed core.reached w.push in
-    let two = reached_further n size start w.pushed model.steps (model.reserved_as (next_number old.stack)) w.reserved one w.reserve in
-    let three = reached_further n size start w.reserved (model.ends (padded payload)) model.full w.after two w.end in
-    (n, size, start, w.after, record { reached = three; are = w.are })

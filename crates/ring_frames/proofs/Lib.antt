@@ -24,4 +24,3 @@ pub mod AtOnce
 pub mod Staying
 pub mod Lent
 pub mod Others
-pub mod FirstStates

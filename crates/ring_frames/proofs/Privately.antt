@@ -5,12 +5,12 @@ use Rattle.trace_model.specs.Ring.{Core}
 use Rattle.trace_model.specs.Steps as model
 use Rattle.link_marks.specs.RingKept.{IsRingKept}
 use Rattle.link_marks.specs.Seats.{PhaseIsPrivate, TopIsPrivate, IsPrivate}
-use Rattle.link_marks.proofs.RingsKept.{reached_kept, reached_further}
+use Rattle.link_marks.proofs.RingsKept.{reached_kept}
 use Rattle.ring_frames.specs.declared.answer.Answer.{Answer}
 use Rattle.ring_frames.specs.Value.{FramesValue}
 use Rattle.ring_frames.specs.AreFrames.{AreFrames, HasFrames}
 use Rattle.ring_frames.specs.Answers.{Tells}
-use Rattle.ring_frames.specs.Steps.{IsFrames, IsPrivateStep, MakesPrivate}
+use Rattle.ring_frames.specs.Steps.{IsPrivateStep}
 
 -- what every step keeps holds of the state
 pub kept_of : (n size start : ℕ) (v : FramesValue) (c : Core) → HasFrames n size start v c → IsRingKept n size start c
@@ -29,9 +29,3 @@ privately n size start new c event result answer after step own tells are = reco
 -- a step of the frame on top is private where its phase is
 pub top_is_private : (c : Core) (frame : Frame) (below : List Frame) → c.frames ≡ frame ∷ below → PhaseIsPrivate frame.phase c.opened → IsPrivate c model.steps
 top_is_private c frame below top own = subst (λ (fs : List Frame). TopIsPrivate fs c.opened) (sym top) own
-
--- behind a private step the frames are those of a state that steps reach
-pub frames_behind : (old : FramesValue) (event : model.Event) (result : Answer) (new : FramesValue) → IsFrames old → MakesPrivate old event result new → IsFrames new
-frames_behind old event result new (n, size, start, c, core) makes =
-    let p : IsPrivateStep n size start c event result new = makes n size start c core.reached core.are in
-    (n, size, start, p.after, record { reached = reached_further n size start c event p.answer p.after core.reached p.step; are = p.are })

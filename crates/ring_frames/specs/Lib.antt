@@ -4,6 +4,7 @@ pub mod Inside
 pub mod AreFrames
 pub mod Answers
 pub mod Phases
+pub mod ReaderPhases
 pub mod Steps
 pub mod AtOnce
 pub mod Fills

@@ -2,17 +2,17 @@
 //!
 //! What a frame does in private, as to be pushed, to reserve, to end, or to begin anew once another one has begun a
 //! fill, touches no word of the ring. So it is the same over a ring as a value and over words that threads share.
+//! The types that say how far the reader has come are here for the same reason.
 #![tactic(auto)]
 
 pub mod answer;
 pub mod frames;
 pub mod laws;
 pub mod phase;
+pub mod reader;
 mod stage;
 
 pub use answer::Answer;
 pub use frames::Frames;
 pub use phase::{Phase, Role, Turned};
-
-#[cfg(test)]
-mod tests;
+pub use reader::{Reader, ReaderPhase};

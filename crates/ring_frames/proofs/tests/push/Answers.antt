@@ -1,5 +1,0 @@
-use Rattle.ring_frames.proofs.Privately.{frames_behind}
-use Rattle.ring_frames.proofs.tests.push.Goals as goal
-
-pub returns : goal.returns
-returns c = frames_behind _ _ _ _ c.requires c.push.ensures.step
