@@ -127,6 +127,3 @@ pub fn first_link(position: u16, positions: u64, start: u64) -> Link
         normal(position, fill)
     }
 }
-
-#[cfg(test)]
-mod tests;

@@ -1,212 +1,71 @@
-//! Lists of calls on a stack, with what each answers.
-mod refusals;
-mod runs;
-
-ghost use Rattle.std.specs.Prelude.{◌≡◌, IfOk};
-ghost use Rattle.nested_writer.specs.IsStack.{Stands};
-
+//! What a stack does by itself, which no exchange with a ring can tell: the rows of a ring are in the text that
+//! `ring_rows` reads.
+use crate::Wrote::{Nothing, Record};
 use crate::{Allot, Ended, WriteFault, WriterStack};
-use page_image::{Body, Page};
-use std::alloc::Global;
-use std::process::Abort;
-use trace_model::{
-    FillNo, LINK_FILLS, MAX_PAGES, MAX_SIZE, MIN_PAGES, MIN_SIZE, NoMemory, RecordNo, START_FILL,
-};
+use page_image::Body;
+use std::test::Fail;
+use trace_model::LINK_FILLS;
 
-/// A page that is handed out: its fill, its first record's number, its time and its data.
-#[derive(Clone, Copy, Debug)]
-struct Held {
-    fill: u64,
-    first: u64,
-    time: u64,
-    data: &'static [u8],
-}
-
-/// A call, with what it is given or hands out.
-#[derive(Clone, Copy, Debug)]
-enum Call {
-    /// With a moment and a payload's length in bytes.
-    Begin(u64, usize),
-    BeginClose,
-    Allot,
-    /// Of these bytes into the payload of the frame on top.
-    Write(&'static [u8]),
-    End,
-    AddPage,
-    AskClose,
-    DropFront(Held),
-    PopBottom,
-    /// Whether a page may be added.
-    Await,
-    /// How many frames stand, and how many fills are closed and begun.
-    Count,
-}
-
-/// What a call answers.
-#[derive(Clone, Copy, Debug, PartialEq, Eq)]
-enum Answer {
-    Done,
-    /// Where the payload starts, and its length in bytes.
-    Fits(usize, usize),
-    NeedsPage,
-    Ends(Ended),
-    /// Whether the tail holds a record.
-    Holds(bool),
-    Awaits(bool),
-    Counts(usize, u64, u64),
-    Refused(WriteFault),
-}
-
-/// A ring's pages, their data size and its first fill, the calls with their answers, and the tail behind them.
-#[derive(Clone, Copy, Debug)]
-struct Run<'a> {
-    pages: usize,
-    size: usize,
-    start: u64,
-    calls: &'a [(Call, Answer)],
-    tail: Held,
-}
-
-/// The answer of a call that pushes a frame.
-fn answer_of(pushed: Result<(), WriteFault>) -> Answer {
-    match pushed {
-        Ok(()) => Answer::Done,
-        Err(fault) => Answer::Refused(fault),
-    }
-}
-
-/// Allots, and answers what comes.
-fn allot(stack: &mut WriterStack) -> Answer
-    requires { Stands stack.old }
-    ensures { Stands stack.new }
-{
-    match stack.allot() {
-        Ok(Allot::Fits(place)) => Answer::Fits(place.start, place.len),
-        Ok(Allot::NeedsPage) => Answer::NeedsPage,
-        Err(fault) => Answer::Refused(fault),
-    }
-}
-
-/// Writes the payload of the frame on top.
-fn write(rt: &impl Abort, stack: &mut WriterStack, payload: &[u8]) -> Answer
-    requires { Stands stack.old }
-    ensures { Stands stack.new }
-{
-    let slot = match stack.top_slot() {
-        Ok(slot) => slot,
-        Err(fault) => return Answer::Refused(fault),
-    };
-    assert_eq!(rt; payload.len(), slot.place.len);
-    stack.payload_mut(slot).copy_from_slice(payload);
-    Answer::Done
-}
-
-/// Ends the frame on top.
-fn end(stack: &mut WriterStack) -> Answer
-    requires { Stands stack.old }
-    ensures { Stands stack.new }
-{
-    match stack.end() {
-        Ok(ended) => Answer::Ends(ended),
-        Err(fault) => Answer::Refused(fault),
-    }
-}
-
-/// Begins the next fill in a body of its own.
-fn add_page(rt: &impl Abort, alloc: Global, stack: &mut WriterStack) -> Result<Answer, NoMemory>
-    requires { Stands stack.old }
-    ensures { Stands stack.new }
-{
-    assert!(rt; stack.awaits_page());
-    assert!(rt; stack.opened() - stack.done() < stack.pages() as u64);
-    assert!(rt; stack.opened() + (stack.pages() as u64) < LINK_FILLS);
-    assert!(rt; stack.size() % 4 == 0);
-    stack.add_page(Body::new(alloc, stack.size())?);
-    Ok(Answer::Done)
-}
-
-/// Compares a page that is handed out.
-fn compare(rt: &impl Abort, page: &Page, expected: Held) {
-    assert_eq!(rt; page.fill(), FillNo(expected.fill));
-    assert_eq!(rt; page.first(), RecordNo(expected.first));
-    assert_eq!(rt; page.time(), expected.time);
-    assert_eq!(rt; page.data(), expected.data);
-}
-
-/// Makes the call.
-fn make(
-    rt: &impl Abort,
-    alloc: Global,
-    stack: &mut WriterStack,
-    call: Call,
-) -> Result<Answer, NoMemory>
-    requires { Stands stack.old }
-    ensures { Stands stack.new }
-{
-    let answer = match call {
-        Call::Begin(moment, len) => answer_of(stack.begin(moment, len)),
-        Call::BeginClose => answer_of(stack.begin_close()),
-        Call::Allot => allot(stack),
-        Call::Write(payload) => write(rt, stack, payload),
-        Call::End => end(stack),
-        Call::AddPage => add_page(rt, alloc, stack)?,
-        Call::AskClose => {
-            assert!(rt; stack.is_at_bottom());
-            Answer::Holds(stack.ask_close())
-        }
-        Call::DropFront(held) => {
-            assert!(rt; stack.is_at_bottom());
-            assert!(rt; stack.opened() - stack.done() > 1);
-            compare(rt, &stack.drop_front(), held);
-            Answer::Done
-        }
-        Call::PopBottom => {
-            assert!(rt; stack.is_at_bottom());
-            assert!(rt; stack.opened() - stack.done() == 1);
-            stack.pop_bottom();
-            Answer::Done
-        }
-        Call::Await => Answer::Awaits(stack.awaits_page()),
-        Call::Count => Answer::Counts(stack.depth(), stack.done(), stack.opened()),
-    };
-    Ok(answer)
-}
-
-/// The stack that a run begins with.
-fn stack_of(rt: &impl Abort, alloc: Global, run: &Run<'_>) -> Result<WriterStack, NoMemory>
-    ensures { IfOk result (λ stack. Stands stack) }
-{
-    assert!(rt; MIN_PAGES <= run.pages);
-    assert!(rt; run.pages <= MAX_PAGES);
-    assert!(rt; MIN_SIZE <= run.size);
-    assert!(rt; run.size <= MAX_SIZE);
-    assert!(rt; run.size % 4 == 0);
-    if run.start == START_FILL {
-        return WriterStack::new(alloc, run.pages, run.size);
-    }
-    assert!(rt; run.start < LINK_FILLS);
-    assert!(rt; run.start + (run.pages as u64) < LINK_FILLS);
-    WriterStack::new_at(alloc, run.pages, run.size, run.start)
-}
-
-/// Makes the calls of a run, one by one, and compares the answers, and the tail where no frame is left.
-fn follow(rt: &impl Abort, alloc: Global, run: &Run<'_>) -> Result<(), NoMemory> {
-    let mut stack = stack_of(rt, alloc, run)?;
-    assert_eq!(rt; stack.pages(), run.pages);
-    assert_eq!(rt; stack.size(), run.size);
-    for (call, answer) in run.calls {
-        let given = make(rt, alloc, &mut stack, *call)?;
-        assert_eq!(rt; given, *answer, "{call:?}");
-    }
-    assert!(rt; stack.depth() == 0);
-    compare(rt, &stack.into_tail(), run.tail);
+/// Nothing is written at once above a frame, nor once one was ended and stays; and that one reserves nothing more.
+#[test]
+fn nothing_is_written_under_a_frame(rt: HostRuntime) -> Result<(), Fail> {
+    let mut stack = WriterStack::new(rt.alloc(), 2, 64)?;
+    assert_eq!(rt; stack.begin(9, 4), Ok(()));
+    assert_eq!(rt; stack.write(9, b"abcd"), Nothing);
+    assert!(rt; stack.plain_top().is_none());
+    assert!(rt; matches!(stack.allot(), Ok(Allot::Fits(_))));
+    assert_eq!(rt; stack.write(9, b"abcd"), Nothing);
+    assert_eq!(rt; stack.end(), Ok(Ended::Full));
+    assert_eq!(rt; stack.write(9, b"abcd"), Nothing);
+    assert!(rt; matches!(stack.allot(), Err(WriteFault::NotReserved)));
+    assert_eq!(rt; stack.depth(), 1);
     Ok(())
 }
 
-/// Follows each run, one by one.
-fn follow_all(rt: &impl Abort, alloc: Global, runs: &[Run<'_>]) -> Result<(), NoMemory> {
-    for run in runs {
-        follow(rt, alloc, run)?;
-    }
+/// A record that is written alone leaves no frame, so that the next one is written too; a frame can stand again then.
+#[test]
+fn a_record_written_alone_leaves_no_frame(rt: HostRuntime) -> Result<(), Fail> {
+    let mut stack = WriterStack::new(rt.alloc(), 2, 32)?;
+    assert_eq!(rt; stack.write_alone(9, b""), Record);
+    assert_eq!(rt; stack.write_alone(9, b"abcd"), Record);
+    assert_eq!(rt; stack.write_alone(9, b"123456789abcdefg"), Nothing);
+    assert_eq!(rt; stack.depth(), 0);
+    assert_eq!(rt; stack.write_alone(10, b"xy"), Record);
+    stack.stand_again(10, 2);
+    assert!(rt; stack.is_at_bottom());
+    assert_eq!(rt; stack.write_alone(11, b"z"), Nothing);
+    stack.pop_bottom();
+    let tail = stack.into_tail();
+    assert_eq!(rt; tail.count(), 3);
+    assert_eq!(rt;
+        tail.data(),
+        b"\x01\0\0\0\0\0\0\0\x01\0\0\0abcd\x21\0\0\0xy\0\0".as_slice()
+    );
+    Ok(())
+}
+
+/// A close frame that needed no page needs one once a record came, which a frame of a ring gives no time for.
+#[test]
+fn a_close_frame_needs_a_page_once_a_record_came(rt: HostRuntime) -> Result<(), Fail> {
+    let mut stack = WriterStack::new(rt.alloc(), 4, 32)?;
+    assert_eq!(rt; stack.begin_close(), Ok(()));
+    assert!(rt; matches!(stack.allot(), Ok(Allot::Fits(_))));
+    assert_eq!(rt; stack.begin(1, 4), Ok(()));
+    assert!(rt; matches!(stack.allot(), Ok(Allot::Fits(_))));
+    assert_eq!(rt; stack.end(), Ok(Ended::Pending));
+    assert!(rt; matches!(stack.allot(), Ok(Allot::NeedsPage)));
+    assert_eq!(rt; stack.end(), Err(WriteFault::NotReserved));
+    assert!(rt; stack.awaits_page());
+    assert_eq!(rt; stack.size(), 32);
+    assert!(rt; stack.opened() - stack.done() < stack.pages() as u64);
+    assert!(rt; stack.opened() + (stack.pages() as u64) < LINK_FILLS);
+    stack.add_page(Body::new(rt.alloc(), 32)?);
+    assert!(rt; matches!(stack.allot(), Ok(Allot::Fits(_))));
+    assert_eq!(rt; stack.end(), Ok(Ended::Full));
+    assert!(rt; stack.is_at_bottom());
+    assert!(rt; stack.opened() - stack.done() > 1);
+    let page = stack.drop_front();
+    assert_eq!(rt; (page.fill().0, page.first().0, page.time()), (0, 0, 1));
+    assert_eq!(rt; page.data(), b"\x01\0\0\0\0\0\0\0".as_slice());
     Ok(())
 }

@@ -24,6 +24,3 @@ pub use rule::Shape;
 pub use settling::settle;
 pub use views::View;
 pub use writer::Present;
-
-#[cfg(test)]
-mod tests;

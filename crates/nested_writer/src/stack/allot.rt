@@ -299,6 +299,3 @@ impl WriterStack {
         Ok(Allot::Fits(self.hold_plain(pushed).place))
     }
 }
-
-#[cfg(test)]
-mod tests;

@@ -180,6 +180,3 @@ impl WriterStack {
         }
     }
 }
-
-#[cfg(test)]
-mod tests;
