@@ -29,8 +29,8 @@ pub returns-clause-last : goal.returns-clause-last
 returns-clause-last g c =
     let put = c.put-place.ensures in
     let long = length-written c.write.new.slot c.payload_mut.result.now c.put-place.new.self.bytes c.put-place.result.start c.put-place.result.len c.write.auto.slot c.payload_mut.ensures.payload put.end in
-    let zeros : Record = record { moment = c.args.given.moment; bytes = replicate (slot_len (length c.args.given.payload.now)) 0 } in
+    let zeros : Record = record { moment = c.args.given.0; bytes = replicate (slot_len (length c.args.given.1.now)) 0 } in
     let end = put.end in
     let last = (c.payload_mut.ensures.written c.write.new.slot long).last_record (put.page c.requires.page) (omega arith) (records_of_page c.args.page.now) zeros (put.records c.requires.page) in
     let moment = ap moment_of_last last ∙ moment_of_last-push (records_of_page c.args.page.now) _ in
-    subst (λ (o : Option ℕ). IfSome o (λ last. last ≡ c.args.given.moment)) (sym moment) refl
+    subst (λ (o : Option ℕ). IfSome o (λ last. last ≡ c.args.given.0)) (sym moment) refl
