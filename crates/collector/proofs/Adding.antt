@@ -13,7 +13,9 @@ use Rattle.collector.specs.Index.{IsIn}
 use Rattle.collector.specs.Shown.{IsUnknown}
 use Rattle.collector.specs.Entries.{record_of}
 use Rattle.collector.specs.Adding.{FitsAt, IsThere, IsLookedAt}
-use Rattle.collector.specs.Faults.{IsClashAt, IsTakenAndMissingAt, IsInFront, AgreeInFront}
+use Rattle.collector.specs.Faults.{IsClashAt, IsTakenAndMissingAt, IsInFront, AgreeInFront, IsAddFault}
+use Rattle.collector.specs.declared.fault.AddFault.{AddFault}
+use Rattle.collector.specs.declared.fault.AddFault.TheVariants.{Clash, TakenAndMissing, NoMemory}
 use Rattle.collector.proofs.Places.{get_pushed}
 use Rattle.collector.proofs.Indexing.{same_record, record_at}
 
@@ -303,6 +305,17 @@ grows_second ps p false false e seen recorded = below_there ps p seen.there reco
 -- a parcel that is there already adds nothing
 pub known_same : (ps : List Parcel) (p : Parcel) → IsBelow (p ∷ []) ps → IsSame ps (ps ++ p ∷ [])
 known_same ps p below = record { below = joined_left ps (p ∷ []); above = joined_below ps (p ∷ []) ps (below_itself ps) below }
+
+-- one that is at odds with those that are there isn't
+pub odds_not_below : (ps : List Parcel) (p : Parcel) (fault : AddFault) → Agree ps → IsAddFault (ps ++ p ∷ []) fault
+    → fault ≢ NoMemory → IsBelow (p ∷ []) ps → ⊥
+odds_not_below ps p (Clash cpu number) agree is odds below = let there = (known_same ps p below).above in
+    is.0.differ (agree.one_record cpu.0 number.0 is.0.one is.0.other (there.has cpu.0 number.0 is.0.one is.0.has)
+    (there.has cpu.0 number.0 is.0.other is.0.has_other))
+odds_not_below ps p (TakenAndMissing cpu number) agree is odds below = let there = (known_same ps p below).above in
+    agree.not_missing cpu.0 number.0 is.0.one (there.has cpu.0 number.0 is.0.one is.0.has)
+    (there.misses cpu.0 number.0 is.0.misses)
+odds_not_below ps p NoMemory agree is odds below = odds refl
 
 pub not_grown : (b : Bool) (X Y : Type 0) → b ≡ false → MatchBool b X Y → Y
 not_grown true X Y e h = cc

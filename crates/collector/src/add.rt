@@ -8,11 +8,12 @@ use page_numbers::Parcel;
 use trace_model::RecordNo;
 
 impl Collector {
-    ghost use Rattle.std.specs.Prelude.{◌≡◌, ℕ, ◌+◌, ◌-◌, ◌<◌, ◌≤◌, ◌↔◌, [], ◌∷◌, ◌++◌, length, MatchBool, Ok, IfOk, IfErr, OnOk, OnErr};
+    ghost use Rattle.std.specs.Prelude.{◌≡◌, ◌≢◌, ℕ, ◌+◌, ◌-◌, ◌<◌, ◌≤◌, ◌↔◌, [], ◌∷◌, ◌++◌, length, IsTrue, MatchBool, Ok, IfOk, IfErr, OnOk, OnErr};
     ghost use Rattle.trace_model.specs.Collection.{Agree, IsBelow, IsSame};
     ghost use Rattle.collector.specs.Adding.{FitsAt, IsLookedAt};
     ghost use Rattle.collector.specs.Faults.{IsAddFault};
     ghost use Rattle.collector.specs.declared.added.Added.TheVariants.{New, Known};
+    ghost use Rattle.collector.specs.declared.fault.AddFault.TheVariants.{NoMemory};
 
     /// Adds a parcel: the collector then has and misses what it and the parcel did. It keeps the parcel, unless all
     /// that the parcel has and misses is there already. What is at odds with the kept parcels is refused under its
@@ -33,12 +34,25 @@ impl Collector {
         Ok(Added::New)
     }
 
+    /// Whether all that a parcel has and misses is here already: whether adding it would change nothing. What is at odds
+    /// with the kept parcels isn't here. No memory is asked for.
+    pub fn holds(&self, parcel: &Parcel) -> bool
+        ensures { IsTrue result ↔ IsBelow (parcel.now ∷ []) self.now }
+    {
+        let _kept = self.parcels();
+        match self.would_grow(parcel) {
+            Ok(grows) => !grows,
+            Err(_) => false,
+        }
+    }
+
     /// Whether a parcel that agrees with the kept ones adds something to them.
     fn would_grow(&self, parcel: &Parcel) -> Result<bool, AddFault>
         ensures grows { IfOk result (λ grows. MatchBool grows (IsBelow (parcel.now ∷ []) self.now → ⊥)
             (IsBelow (parcel.now ∷ []) self.now)) }
         ensures agree { OnOk result (Agree (self.now ++ parcel.now ∷ [])) }
         ensures fault { IfErr result (λ fault. IsAddFault (self.now ++ parcel.now ∷ []) fault) }
+        ensures at_odds { IfErr result (λ fault. fault ≢ NoMemory) }
     {
         let missing_grow = self.look_at_missing(parcel)?;
         let records_grow = self.look_at_records(parcel)?;
@@ -50,6 +64,7 @@ impl Collector {
         ensures seen { IfOk result (λ grows. IsLookedAt self.now parcel.now
             (parcel.now.first - parcel.now.missed) parcel.now.first grows) }
         ensures fault { IfErr result (λ fault. IsAddFault (self.now ++ parcel.now ∷ []) fault) }
+        ensures at_odds { IfErr result (λ fault. fault ≢ NoMemory) }
     {
         let cpu = parcel.cpu();
         let first = parcel.first().0;
@@ -78,6 +93,7 @@ impl Collector {
             parcel.now.first (parcel.now.first + length parcel.now.records) grows) }
         ensures agree { Agree self.now }
         ensures fault { IfErr result (λ fault. IsAddFault (self.now ++ parcel.now ∷ []) fault) }
+        ensures at_odds { IfErr result (λ fault. fault ≢ NoMemory) }
     {
         let kept = self.parcels();
         let cpu = parcel.cpu();

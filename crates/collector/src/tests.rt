@@ -1,7 +1,5 @@
 //! Parcels in a row, what each is answered, and what the collector has then. Their bytes are written out: the numbers
 //! on two lines, the image's header on the next, and the data behind it.
-mod plain;
-mod random;
 
 use crate::{AddFault, Added, Collector};
 use page_borrow::Entry;
@@ -28,12 +26,6 @@ const TWOS: &[u8] = b"\0\0\0\0\0\0\0\0\0\0\0\0\0\0\0\0\
     \x02\0\0\0\0\0\0\0\x08\0\0\0\0\0\0\0\
     \x01\0\0\0\x22\x22\x22\x22";
 
-/// Number 0: `01020304` at 100.
-const HELD: &[u8] = b"\0\0\0\0\0\0\0\0\0\0\0\0\0\0\0\0\
-    \0\0\0\0\0\0\0\0\0\0\0\0\0\0\0\0\
-    \x64\0\0\0\0\0\0\0\x08\0\0\0\0\0\0\0\
-    \x01\0\0\0\x01\x02\x03\x04";
-
 /// Number 0: `01020305` at 100.
 const OTHER: &[u8] = b"\0\0\0\0\0\0\0\0\0\0\0\0\0\0\0\0\
     \0\0\0\0\0\0\0\0\0\0\0\0\0\0\0\0\
@@ -52,234 +44,119 @@ const BEHIND_ALL: &[u8] = b"\0\0\0\0\0\0\0\0\0\0\0\0\0\0\0\0\
     \x07\0\0\0\0\0\0\0\x08\0\0\x80\0\0\0\0\
     \x01\0\0\0\x0a\x0a\x0a\x0a";
 
-/// A parcel, and what adding it is answered.
-#[derive(Clone, Copy)]
-struct Delivery {
-    parcel: &'static [u8],
-    answer: Result<Added, AddFault>,
+/// Parcels that are added one after the other, with what each is answered, and what CPU 0 has and misses then: the
+/// number, the moment and each byte of a record, and the first and the last number of a run.
+struct Row {
+    deliveries: &'static [(&'static [u8], Result<Added, AddFault>)],
+    kept: usize,
+    records: &'static [(u64, u64, u8)],
+    missing: &'static [(u64, u64)],
 }
 
-/// Deliveries in a row, and what CPU 0 has and misses then.
-#[derive(Clone, Copy)]
-struct Row {
-    deliveries: &'static [Delivery],
-    kept: usize,
-    records: &'static [Entry<'static>],
-    missing: &'static [(RecordNo, RecordNo)],
-}
+/// What is there already isn't kept, what is at odds is refused under its least number, and a run of missing numbers is
+/// one however long.
+const ROWS: &[Row] = &[
+    Row {
+        deliveries: &[
+            (ONES_TWOS, Ok(Added::New)),
+            (TWOS_THREES, Ok(Added::New)),
+            (ONES_TWOS, Ok(Added::Known)),
+            (TWOS, Ok(Added::Known)),
+        ],
+        kept: 2,
+        records: &[(0, 1, 0x11), (1, 2, 0x22), (2, 3, 0x33)],
+        missing: &[],
+    },
+    Row {
+        deliveries: &[
+            (ONES_TWOS, Ok(Added::New)),
+            (OTHER, Err(AddFault::Clash(CpuId(0), RecordNo(0)))),
+            (
+                BEHIND_ONE,
+                Err(AddFault::TakenAndMissing(CpuId(0), RecordNo(0))),
+            ),
+            (
+                BEHIND_ALL,
+                Err(AddFault::TakenAndMissing(CpuId(0), RecordNo(0))),
+            ),
+        ],
+        kept: 1,
+        records: &[(0, 1, 0x11), (1, 2, 0x22)],
+        missing: &[],
+    },
+    Row {
+        deliveries: &[
+            (BEHIND_ONE, Ok(Added::New)),
+            (BEHIND_ONE, Ok(Added::Known)),
+            (
+                ONES_TWOS,
+                Err(AddFault::TakenAndMissing(CpuId(0), RecordNo(0))),
+            ),
+            (
+                BEHIND_ALL,
+                Err(AddFault::TakenAndMissing(CpuId(0), RecordNo(1))),
+            ),
+            (TWOS_THREES, Err(AddFault::Clash(CpuId(0), RecordNo(1)))),
+        ],
+        kept: 1,
+        records: &[(1, 7, 0x0a)],
+        missing: &[(0, 0)],
+    },
+    Row {
+        deliveries: &[(BEHIND_ALL, Ok(Added::New)), (BEHIND_ALL, Ok(Added::Known))],
+        kept: 1,
+        records: &[(0xffff_ffff_ffff_fffe, 7, 0x0a)],
+        missing: &[(0, 0xffff_ffff_ffff_fffd)],
+    },
+];
 
 /// Compares what a collector has and misses with this row.
-fn compare(rt: &impl Abort, collector: &Collector, row: Row) {
-    let mut seen = 0;
-    for entry in collector.records(CpuId(0)) {
-        assert!(rt; seen < row.records.len(), "{seen} records, and one more");
-        assert_eq!(rt; entry, row.records[seen]);
+fn compare(rt: &impl Abort, collector: &Collector, row: &Row) {
+    let mut records = collector.records(CpuId(0));
+    for (number, moment, byte) in row.records {
+        let entry = Entry {
+            number: RecordNo(*number),
+            moment: Moment(*moment),
+            bytes: &[*byte; 4],
+        };
+        assert_eq!(rt; records.next(), Some(entry));
         assert_eq!(rt; collector.get(CpuId(0), entry.number), Some(entry));
         assert!(rt; !collector.is_missing(CpuId(0), entry.number));
-        seen += 1;
     }
-    assert_eq!(rt; seen, row.records.len());
-    let mut runs = 0;
-    for (first, last) in collector.missing(CpuId(0)) {
-        assert!(rt; runs < row.missing.len(), "{runs} runs, and one more");
-        assert_eq!(rt; (first, last), row.missing[runs]);
-        assert!(rt; collector.is_missing(CpuId(0), first) && collector.is_missing(CpuId(0), last));
-        assert_eq!(rt; collector.get(CpuId(0), first), None);
-        runs += 1;
+    assert_eq!(rt; records.next(), None);
+    let mut missing = collector.missing(CpuId(0));
+    for (first, last) in row.missing {
+        assert_eq!(rt; missing.next(), Some((RecordNo(*first), RecordNo(*last))));
+        assert!(rt; collector.is_missing(CpuId(0), RecordNo(*last)));
+        assert_eq!(rt; collector.get(CpuId(0), RecordNo(*first)), None);
     }
-    assert_eq!(rt; runs, row.missing.len());
+    assert_eq!(rt; missing.next(), None);
     assert_eq!(rt; collector.parcels().len(), row.kept);
-    assert_eq!(rt; collector.get(CpuId(1), RecordNo(0)), None);
-    assert!(rt; !collector.is_missing(CpuId(0), RecordNo(u64::MAX)));
 }
 
-/// Adds the parcels in their order, compares, and merges with an empty collector both ways.
-fn deliver(rt: &(impl Abort + AllocGlobal), row: Row) -> Result<(), Fail> {
-    let empty = Collector::new(rt.alloc());
+/// Adds the parcels of a row in their order, compares, and merges what they make with an empty collector both ways.
+fn deliver(rt: &(impl Abort + AllocGlobal), row: &Row) -> Result<(), Fail> {
     let mut collector = Collector::new(rt.alloc());
-    for delivery in row.deliveries {
-        let parcel = Parcel::from_bytes(rt.alloc(), delivery.parcel)?;
-        assert_eq!(rt; collector.add(parcel), delivery.answer);
+    for (bytes, answer) in row.deliveries {
+        let parcel = Parcel::from_bytes(rt.alloc(), bytes)?;
+        assert_eq!(rt; collector.holds(&parcel), *answer == Ok(Added::Known));
+        assert_eq!(rt; collector.add(parcel), *answer);
     }
     compare(rt, &collector, row);
-    assert!(rt; collector.same(&collector) && !collector.same(&empty) && !empty.same(&collector));
-
-    let mut merged = Collector::new(rt.alloc());
+    let empty = Collector::new(rt.alloc());
+    assert!(rt; collector.same(&collector) && !collector.same(&empty));
+    assert_eq!(rt; collector.merge(&empty), Ok(()));
+    let mut merged = empty;
     assert_eq!(rt; merged.merge(&collector), Ok(()));
     assert!(rt; merged.same(&collector));
     compare(rt, &merged, row);
-    assert_eq!(rt; merged.merge(&empty), Ok(()));
-    assert_eq!(rt; merged.merge(&collector), Ok(()));
-    compare(rt, &merged, row);
-    Ok(())
-}
-
-/// Parcels that share records are kept where they add one.
-const SHARED: &[Row] = &[
-    Row {
-        deliveries: &[
-            Delivery {
-                parcel: ONES_TWOS,
-                answer: Ok(Added::New),
-            },
-            Delivery {
-                parcel: TWOS_THREES,
-                answer: Ok(Added::New),
-            },
-            Delivery {
-                parcel: ONES_TWOS,
-                answer: Ok(Added::Known),
-            },
-            Delivery {
-                parcel: TWOS,
-                answer: Ok(Added::Known),
-            },
-        ],
-        kept: 2,
-        records: &[
-            Entry {
-                number: RecordNo(0),
-                moment: Moment(1),
-                bytes: b"\x11\x11\x11\x11",
-            },
-            Entry {
-                number: RecordNo(1),
-                moment: Moment(2),
-                bytes: b"\x22\x22\x22\x22",
-            },
-            Entry {
-                number: RecordNo(2),
-                moment: Moment(3),
-                bytes: b"\x33\x33\x33\x33",
-            },
-        ],
-        missing: &[],
-    },
-    Row {
-        deliveries: &[
-            Delivery {
-                parcel: TWOS,
-                answer: Ok(Added::New),
-            },
-            Delivery {
-                parcel: ONES_TWOS,
-                answer: Ok(Added::New),
-            },
-        ],
-        kept: 2,
-        records: &[
-            Entry {
-                number: RecordNo(0),
-                moment: Moment(1),
-                bytes: b"\x11\x11\x11\x11",
-            },
-            Entry {
-                number: RecordNo(1),
-                moment: Moment(2),
-                bytes: b"\x22\x22\x22\x22",
-            },
-        ],
-        missing: &[],
-    },
-];
-
-/// What is at odds is refused under its least number, and a run of missing numbers is one however long.
-const CLASHES: &[Row] = &[
-    Row {
-        deliveries: &[
-            Delivery {
-                parcel: HELD,
-                answer: Ok(Added::New),
-            },
-            Delivery {
-                parcel: OTHER,
-                answer: Err(AddFault::Clash(CpuId(0), RecordNo(0))),
-            },
-            Delivery {
-                parcel: BEHIND_ONE,
-                answer: Err(AddFault::TakenAndMissing(CpuId(0), RecordNo(0))),
-            },
-            Delivery {
-                parcel: BEHIND_ALL,
-                answer: Err(AddFault::TakenAndMissing(CpuId(0), RecordNo(0))),
-            },
-            Delivery {
-                parcel: HELD,
-                answer: Ok(Added::Known),
-            },
-        ],
-        kept: 1,
-        records: &[Entry {
-            number: RecordNo(0),
-            moment: Moment(100),
-            bytes: b"\x01\x02\x03\x04",
-        }],
-        missing: &[],
-    },
-    Row {
-        deliveries: &[
-            Delivery {
-                parcel: BEHIND_ONE,
-                answer: Ok(Added::New),
-            },
-            Delivery {
-                parcel: BEHIND_ONE,
-                answer: Ok(Added::Known),
-            },
-            Delivery {
-                parcel: HELD,
-                answer: Err(AddFault::TakenAndMissing(CpuId(0), RecordNo(0))),
-            },
-            Delivery {
-                parcel: BEHIND_ALL,
-                answer: Err(AddFault::TakenAndMissing(CpuId(0), RecordNo(1))),
-            },
-            Delivery {
-                parcel: TWOS_THREES,
-                answer: Err(AddFault::Clash(CpuId(0), RecordNo(1))),
-            },
-        ],
-        kept: 1,
-        records: &[Entry {
-            number: RecordNo(1),
-            moment: Moment(7),
-            bytes: b"\x0a\x0a\x0a\x0a",
-        }],
-        missing: &[(RecordNo(0), RecordNo(0))],
-    },
-    Row {
-        deliveries: &[
-            Delivery {
-                parcel: BEHIND_ALL,
-                answer: Ok(Added::New),
-            },
-            Delivery {
-                parcel: BEHIND_ALL,
-                answer: Ok(Added::Known),
-            },
-        ],
-        kept: 1,
-        records: &[Entry {
-            number: RecordNo(0xffff_ffff_ffff_fffe),
-            moment: Moment(7),
-            bytes: b"\x0a\x0a\x0a\x0a",
-        }],
-        missing: &[(RecordNo(0), RecordNo(0xffff_ffff_ffff_fffd))],
-    },
-];
-
-#[test]
-fn shared_pages(rt: HostRuntime) -> Result<(), Fail> {
-    for row in SHARED {
-        deliver(&rt, *row)?;
-    }
     Ok(())
 }
 
 #[test]
-fn deliveries_and_clashes(rt: HostRuntime) -> Result<(), Fail> {
-    for row in CLASHES {
-        deliver(&rt, *row)?;
+fn what_adds_something_is_kept_unless_it_is_at_odds(rt: HostRuntime) -> Result<(), Fail> {
+    for row in ROWS {
+        deliver(&rt, row)?;
     }
     Ok(())
 }
