@@ -10,10 +10,11 @@ use Rattle.link_marks.specs.declared.link.Link as code
 use Rattle.link_marks.specs.declared.link.Mark.TheVariants.{Normal}
 use Rattle.link_marks.specs.ModelLinks.{link_of}
 use Rattle.link_marks.proofs.Positions.{apart}
-use Rattle.ring_core.specs.declared.phase.Reader.{Reader}
-use Rattle.ring_core.specs.declared.phase.ReaderPhase.TheVariants.{LoadingLink}
+use Rattle.ring_frames.specs.declared.reader.Reader.{Reader}
+use Rattle.ring_frames.specs.declared.reader.ReaderPhase.TheVariants.{LoadingLink}
 use Rattle.ring_frames.specs.Steps.{AreNew}
-use Rattle.ring_core.specs.Value.{CoreValue, frames_of, reader_phase_of}
+use Rattle.ring_frames.specs.ReaderPhases.{reader_phase_of}
+use Rattle.ring_core.specs.Value.{CoreValue, frames_of}
 use Rattle.ring_core.specs.IsCore.{HasBody, Shows}
 use Rattle.ring_core.specs.Steps.{IsNewRing}
 use Rattle.link_marks.specs.FirstLinks.{IsFirstLink}

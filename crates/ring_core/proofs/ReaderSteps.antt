@@ -9,10 +9,11 @@ use Rattle.link_marks.proofs.LinkFills.{fill_at, normal_tells}
 use Rattle.link_marks.proofs.Positions.{at_position}
 use Rattle.ring_frames.specs.declared.answer.Answer.{Answer}
 use Rattle.ring_frames.specs.declared.answer.Answer.TheVariants.{Looking, Empty, Moving, Wished}
-use Rattle.ring_core.specs.declared.phase.Reader.{Reader}
-use Rattle.ring_core.specs.declared.phase.ReaderPhase.TheVariants.{LoadingLink, LoadingDone, StoringLink, Swapping}
+use Rattle.ring_frames.specs.declared.reader.Reader.{Reader}
+use Rattle.ring_frames.specs.declared.reader.ReaderPhase.TheVariants.{LoadingLink, LoadingDone, StoringLink, Swapping}
 use Rattle.ring_frames.proofs.Same.{same_frames}
-use Rattle.ring_core.specs.Value.{CoreValue, frames_of, reader_phase_of}
+use Rattle.ring_frames.specs.ReaderPhases.{reader_phase_of}
+use Rattle.ring_core.specs.Value.{CoreValue, frames_of}
 use Rattle.ring_core.specs.IsCore.{Shows, IsCore}
 use Rattle.ring_frames.specs.Answers.{Tells}
 use Rattle.ring_core.specs.Steps.{IsStep, IsRing}

@@ -22,9 +22,10 @@ use Rattle.page_image.specs.Contents.{Contents}
 use Rattle.nested_writer.specs.Stack.{blank_page}
 use Rattle.nested_writer.specs.Released.{IsWrittenPage}
 use Rattle.ring_frames.specs.declared.answer.Answer.TheVariants.{Looking, Taken as IsTaken}
-use Rattle.ring_core.specs.declared.phase.ReaderPhase.TheVariants.{LoadingLink, Swapping}
+use Rattle.ring_frames.specs.declared.reader.ReaderPhase.TheVariants.{LoadingLink, Swapping}
 use Rattle.ring_frames.proofs.Same.{same_frames}
-use Rattle.ring_core.specs.Value.{CoreValue, frames_of, reader_phase_of}
+use Rattle.ring_frames.specs.ReaderPhases.{reader_phase_of}
+use Rattle.ring_core.specs.Value.{CoreValue, frames_of}
 use Rattle.ring_core.specs.IsCore.{IsHome, HasBody, Shows, IsCore}
 use Rattle.ring_core.specs.Steps.{IsStep}
 use Rattle.ring_core.specs.Taking.{with_spare_home, with_head_taken}

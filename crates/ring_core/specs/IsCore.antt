@@ -7,7 +7,8 @@ use Rattle.link_marks.specs.Reached.{IsReached}
 use Rattle.page_image.specs.Contents.{Contents}
 use Rattle.nested_writer.specs.Released.{IsWrittenPage}
 use Rattle.ring_frames.specs.AreFrames.{AreFrames}
-use Rattle.ring_core.specs.Value.{CoreValue, frames_of, reader_phase_of}
+use Rattle.ring_frames.specs.ReaderPhases.{reader_phase_of}
+use Rattle.ring_core.specs.Value.{CoreValue, frames_of}
 
 -- ---- pages at home
 

@@ -3,7 +3,7 @@ use Rattle.std.specs.Prelude.{ℕ, ◌+◌, ◌%◌, List, length, Option, Some,
 use Rattle.trace_model.specs.Ring.{link_into, links_with}
 use Rattle.page_image.specs.Contents.{Contents}
 use Rattle.nested_writer.specs.Stack.{blank_page}
-use Rattle.ring_core.specs.declared.phase.ReaderPhase.TheVariants.{LoadingLink}
+use Rattle.ring_frames.specs.declared.reader.ReaderPhase.TheVariants.{LoadingLink}
 use Rattle.ring_core.specs.Value.{CoreValue}
 
 -- the pages at home, the reader's among them, empty, in a body of this size

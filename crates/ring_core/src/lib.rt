@@ -7,11 +7,7 @@
 
 pub mod event;
 pub mod laws;
-pub mod phase;
 pub mod ring;
 
 pub use event::{Answer, Event};
 pub use ring::Core;
-
-#[cfg(test)]
-mod tests;

@@ -8,10 +8,9 @@ mod reader;
 mod step;
 mod top;
 
-use crate::phase::Reader;
 use link_marks::Link;
 use page_image::Page;
-use ring_frames::Frames;
+use ring_frames::{Frames, Reader};
 use std::marker::Model;
 
 /// A ring of N pages and a spare, the writer's frames and the reader. The page of a fill that is begun and not closed

@@ -1,8 +1,7 @@
 //! Frames that come and go, and the steps that they make in private.
 use crate::event::Answer;
-use crate::phase::Phase;
 use crate::ring::Core;
-use ring_frames::Turned;
+use ring_frames::{Phase, Turned};
 
 impl Core {
     ghost use Rattle.std.specs.Prelude.{◌≡◌, ◌≢◌, []};

@@ -1,9 +1,8 @@
 //! The steps of a frame that needs a page, up to the fill's beginning: it looks for a free position, and where there
 //! is none moves the head.
-use crate::phase::{Phase, Role};
 use crate::ring::Core;
 use link_marks::{Mark, header, normal, update};
-use ring_frames::Turned;
+use ring_frames::{Phase, Role, Turned};
 
 impl Core {
     ghost use Rattle.std.specs.Prelude.{◌≡◌, ◌≢◌, ℕ, true, false, []};

@@ -1,9 +1,8 @@
 //! A new ring.
-use crate::phase::{Reader, ReaderPhase};
 use crate::ring::Core;
 use link_marks::{Link, first_link, normal};
 use page_image::{Body, Page};
-use ring_frames::Frames;
+use ring_frames::{Frames, Reader, ReaderPhase};
 use std::alloc::Global;
 use trace_model::{FillNo, NoMemory, RecordNo, START_FILL};
 

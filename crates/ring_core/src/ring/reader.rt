@@ -1,16 +1,16 @@
 //! The steps of the reader.
 use crate::event::Answer;
-use crate::phase::{Reader, ReaderPhase};
 use crate::ring::Core;
 use link_marks::{Mark, header, normal};
 use page_image::{Body, Page};
+use ring_frames::{Reader, ReaderPhase};
 use trace_model::{FillNo, RecordNo};
 
 impl Core {
     ghost use Rattle.std.specs.Prelude.{◌≡◌, ℕ, ◌+◌, ◌-◌, ◌^◌, ◌<◌, ◌≤◌, length, Some, None, slice_get, slice_set};
     ghost use Rattle.trace_model.specs.declared.limits.TheConstants.{LINK_FILLS};
     ghost use Rattle.trace_model.specs.Steps as model;
-    ghost use Rattle.ring_core.specs.declared.phase.ReaderPhase.TheVariants.{LoadingLink, LoadingDone, StoringLink, Swapping};
+    ghost use Rattle.ring_frames.specs.declared.reader.ReaderPhase.TheVariants.{LoadingLink, LoadingDone, StoringLink, Swapping};
     ghost use Rattle.ring_frames.specs.declared.answer.Answer.TheVariants.{Taken};
     ghost use Rattle.ring_core.specs.Answers.{GivesBack};
     ghost use Rattle.ring_core.specs.Steps.{Makes, IsRing};

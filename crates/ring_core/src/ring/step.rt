@@ -1,8 +1,8 @@
 //! One event of a ring.
 use crate::event::{Answer, Event};
-use crate::phase::Phase;
 use crate::ring::Core;
 use nested_writer::WriteFault;
+use ring_frames::Phase;
 
 impl Core {
     ghost use Rattle.trace_model.specs.Steps as model;
