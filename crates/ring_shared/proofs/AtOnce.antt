@@ -34,7 +34,7 @@ use Rattle.ring_shared.proofs.Privately.{behind_is}
 use Rattle.ring_shared.proofs.Standing.{frames_in}
 use Rattle.ring_shared.proofs.Aims.{frames_of}
 use Rattle.ring_shared.proofs.Finishes.{reserving_first, reserving_ends, leaves_behind}
-use Rattle.ring_shared.proofs.WholeWrites.{HasBegun, has_begun}
+use Rattle.ring_shared.proofs.WholeWrites.{HasBegun, has_begun, leaves_below}
 
 -- ---- the look for the reader's wish
 
@@ -183,6 +183,9 @@ module _ (v : WriterValue) (w : IsWriter v) (moment : ℕ) (payload : List ℕ) 
       (reserving_ends v.shape begun.frame.kind v.part.frames pushed_as pushed_as (writing_of first.reserved) (Reserved number)
       (reserving_first v.shape begun.frame v.part.frames pushed_as begun.top begun.reserves) reserve_call (λ e. cc))
 
+  none_stood : v.part.frames ≡ []
+  none_stood = frames_of v w ∙ ap (λ (fs : List stack.Frame). ring_frames fs (v.frames.phase ∷ v.frames.below)) alone.none
+
   written_then : (last : Answer) (after : Writing) → Leaves v.shape [] now last after → IsWritten v.shape v.part moment payload after
   written_then last after leaves = record {
     pushed = pushed_as;
@@ -194,6 +197,7 @@ module _ (v : WriterValue) (w : IsWriter v) (moment : ℕ) (payload : List ℕ) 
     reserve = reserves_it;
     end = end_call;
     goes = (last, leaves);
+    frames = leaves_below v.shape [] now last after leaves ∙ sym none_stood;
   }
 
   module _ (result : Answer) (after : Writing) (call : IsCall v.shape now model.steps result after) where

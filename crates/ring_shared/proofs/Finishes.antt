@@ -107,7 +107,7 @@ module _ (shape : Shape) where
 
   pub leaves_behind : (below : List Frame) (before between after : Writing) (answer : Answer) → IsCall shape before model.steps Going between → Leaves shape below between answer after → Leaves shape below before answer after
   leaves_behind below before between after answer call (is_gone from mid end last goes more at) = is_gone before mid after answer (first_goes before between mid call goes) more at
-  leaves_behind below before between after answer call (was_refused from mid left end fault last goes more rest) = was_refused before mid left after fault last (first_goes before between mid call goes) more rest
+  leaves_behind below before between after answer call (was_refused from mid next end frame fault last goes more top leaves rest) = was_refused before mid next after frame fault last (first_goes before between mid call goes) more top leaves rest
 
   -- ---- one step
 
@@ -115,15 +115,15 @@ module _ (shape : Shape) where
     frames_before : (frames : List Frame) → before.frames ≡ frames → call.core.frames ≡ frames
     frames_before frames is = ap (λ (w : Writing). w.frames) call.before_is ∙ is
 
-    frames_after : (frames : List Frame) → call.next.frames ≡ frames → after.frames ≡ frames
+    pub frames_after : (frames : List Frame) → call.next.frames ≡ frames → after.frames ≡ frames
     frames_after frames is = ap (λ (w : Writing). w.frames) (sym call.after_is) ∙ is
 
-    reserving_step : (frame : Frame) (below : List Frame) → before.frames ≡ frame ∷ below → IsReserving frame.kind frame.state → Reserving frame below call.answer call.next.frames
+    pub reserving_step : (frame : Frame) (below : List Frame) → before.frames ≡ frame ∷ below → IsReserving frame.kind frame.state → Reserving frame below call.answer call.next.frames
     reserving_step frame below top is =
         frames_reserve shape.pages shape.size shape.start call.core frame below call.answer call.next
         (reached_kept shape.pages shape.size shape.start call.core call.reached) (frames_before (frame ∷ below) top) is call.step
 
-    leaving_step : (frame : Frame) (below : List Frame) → before.frames ≡ frame ∷ below → IsLeaving frame.kind frame.state → Leaving below call.answer call.next.frames
+    pub leaving_step : (frame : Frame) (below : List Frame) → before.frames ≡ frame ∷ below → IsLeaving frame.kind frame.state → Leaving below call.answer call.next.frames
     leaving_step frame below top is =
         frames_leave shape.pages shape.size shape.start call.core frame below call.answer call.next
         (reached_kept shape.pages shape.size shape.start call.core call.reached) (frames_before (frame ∷ below) top) is call.step
@@ -219,7 +219,7 @@ module _ (shape : Shape) (below : List Frame) (before : Writing) (met : Option W
     leaves = leaves;
     ends = λ answer after l.
         subst (λ (x : Answer). Leaves shape below before x after) (told_refused met fault answer ∙ ap (λ (x : Answer). told_behind (met_behind met x) answer) (sym e))
-        (a.ends (Refused fault) after (was_refused now now next after fault answer at_once (subst (λ (x : Answer). IsCall shape now model.steps x next) e call) l));
+        (a.ends (Refused fault) after (was_refused now now next after frame fault answer at_once (subst (λ (x : Answer). IsCall shape now model.steps x next) e call) top leaves l));
   }
 
   answered : (call.answer ≡ model.going) ⊎ ((why : Refusal) × (call.answer ≡ model.refused why)) → (result ≡ Going) ⊎ IsRefusal result

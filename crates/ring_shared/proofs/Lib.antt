@@ -25,3 +25,5 @@ pub mod CallsAppend
 pub mod FinishParts
 pub mod TopAnswers
 pub mod Turning
+pub mod StepActions
+pub mod WholeAppends

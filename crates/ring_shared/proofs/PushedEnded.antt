@@ -23,10 +23,10 @@ pub record IsPushed (moment len : ℕ) (answer : Answer) (before after : List Fr
   pub state_is : frame.state ≡ waiting
   pub answer_is : answer ≡ pushed
 
-pub push_answers : (n size : ℕ) (c : Core) (moment len : ℕ) (answer : Answer) (after : Core) → Step n size c (pushes moment len) answer after → IsPushed moment len answer c.frames after.frames ⊎ ((why : Refusal) × (answer ≡ refused why))
+pub push_answers : (n size : ℕ) (c : Core) (moment len : ℕ) (answer : Answer) (after : Core) → Step n size c (pushes moment len) answer after → IsPushed moment len answer c.frames after.frames ⊎ ((why : Refusal) × (answer ≡ refused why) × (after ≡ c))
 push_answers n size c moment len answer after (push_step m l e few short early a is) =
     inl record { frame = _; top = ap (λ (d : Core). d.frames) is; kind_is = (let same : for_record m l ≡ for_record moment len = (let events : pushes moment len ≡ pushes m l = e in cc) in same); state_is = refl; answer_is = a }
-push_answers n size c moment len answer after (push_refused m l why e why_not a is) = inr (why, a)
+push_answers n size c moment len answer after (push_refused m l why e why_not a is) = inr (why, a, is)
 push_answers n size c moment len answer after (close_step e few a is) = absurd (subst IsPush e tt)
 push_answers n size c moment len answer after (close_refused e many a is) = absurd (subst IsPush e tt)
 push_answers n size c moment len answer after (frame_step frame below e top step) = absurd (subst IsPush e tt)

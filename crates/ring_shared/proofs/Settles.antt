@@ -5,7 +5,7 @@ use Rattle.trace_model.specs.Record.{Record}
 use Rattle.trace_model.specs.History.{Action, as_record, committed_records}
 use Rattle.trace_model.specs.Packing.{tail_of, fills_of}
 use Rattle.trace_model.specs.Partition.{Piece, IsPartition}
-use Rattle.trace_model.specs.Ring.{Reader, IsTaken, fill_of}
+use Rattle.trace_model.specs.Ring.{Reader, IsTaken, fill_of, AreFillsOf}
 use Rattle.link_marks.specs.KeptPartition.{pieces_of}
 use Rattle.link_marks.specs.RingKept.{IsRingKept}
 use Rattle.link_marks.proofs.RingsKept.{reached_kept, reached_ring}
@@ -91,17 +91,24 @@ module _ (shape : Shape) (writing : Writing) (part : Reading) (settled : Settled
       (λ (lost : f + shape.pages < p.core.opened). inr (omega arith))
       (ring.lost_at_rest f low (omega arith) none_stand)
 
+  fills : AreFillsOf shape.start writing.history part.reader.taken
+  fills =
+      subst (λ (h : List Action). AreFillsOf shape.start h part.reader.taken) history_is
+      (subst (λ (r : Reader). AreFillsOf shape.start p.core.history r.taken) (sym p.reading_is.reader_is) kept.partition.fills)
+
   pub settles : IsSettled shape writing part settled
   settles = record {
     partition = with_unread (committed_records writing.history) (pieces_of part.reader.taken) settled left tail.page_reads.counted;
     tail = tail;
     passed = passed;
+    fills = fills;
+    parts = p;
   }
 
 -- ---- by the fields of both ends
 
 -- the writer's part and its frames know alike how many fills are closed
-done_there : (w : WriterValue) → IsWriter w → w.part.done ≡ w.frames.stack.done
+pub done_there : (w : WriterValue) → IsWriter w → w.part.done ≡ w.frames.stack.done
 done_there w writer = sym (ap (λ (p : Writing). p.done) writer.part_is) ∙ writer.frames_are.done_is
 
 module _ (w : WriterValue) (r : ReaderValue) (tail : Contents) (writer : IsWriter w) (reader : IsReader r) (at_rest : w.part.frames ≡ []) (found : r.empty_at ≡ Some w.part.done) where

@@ -1,5 +1,5 @@
 -- A record that is written whole: its parts, one behind the other.
-use Rattle.std.specs.Prelude.{Some, None, ◌⊎◌, ◌<◌}
+use Rattle.std.specs.Prelude.{Some, None, ◌⊎◌, ◌<◌, ◌≤◌}
 use Rattle.std.proofs.Common.{◌≡◌, ◌≢◌, ℕ, List, [], ◌∷◌, length, refl, sym, ap, ◌∙◌, subst, inl, inr, arith}
 use Rattle.trace_model.specs.Words.{slot_len, padded}
 use Rattle.trace_model.specs.Frames.{Kind, for_record, for_close, FrameState, waiting, reserved, left, Refusal, Frame}
@@ -25,7 +25,7 @@ use Rattle.ring_steps.specs.Views.{Writing}
 use Rattle.ring_shared.specs.Value.{WriterValue}
 use Rattle.ring_shared.specs.Lending.{with_slot_payload, FitsFrame}
 use Rattle.ring_shared.specs.Calls.{IsWriter, IsCall}
-use Rattle.ring_shared.specs.Finishing.{IsReservedOr, is_reserved, stays_refused, is_refused, Reserves, Leaves, FinishesFrame, FinishesTop, Finishes, met_behind}
+use Rattle.ring_shared.specs.Finishing.{IsReservedOr, is_reserved, stays_refused, is_refused, Reserves, Leaves, is_gone, was_refused, FinishesFrame, FinishesTop, Finishes, met_behind}
 use Rattle.ring_shared.specs.WholeWrites.{GoesAway, IsReserved, EndsRecord, IsRefusedWrite, IsWritten}
 use Rattle.ring_shared.proofs.Aims.{frames_of}
 use Rattle.ring_shared.proofs.Finishes.{IsRefusal, is_refusal}
@@ -78,6 +78,20 @@ is_pending size (Moving fill body) told t e = absurd (let both : model.moving fi
 is_pending size (Taken page missed) told t e = absurd (let both : model.swapped t.0 ≡ model.pending = sym t.1 ∙ e in cc)
 is_pending size (Wished fill) told t e = absurd (let both : model.wished_for fill.0 ≡ model.pending = sym t ∙ e in cc)
 
+is_full : (size : ℕ) (result : Answer) (told : model.Answer) → Tells size result told → told ≡ model.full → result ≡ Ended Full
+is_full size Pushed told t e = absurd (let both : model.pushed ≡ model.full = sym t ∙ e in cc)
+is_full size Going told t e = absurd (let both : model.going ≡ model.full = sym t ∙ e in cc)
+is_full size (Reserved number) told t e = absurd (let both : model.reserved_as number.0 ≡ model.full = sym t ∙ e in cc)
+is_full size (Ended Pending) told t e = absurd (let both : model.pending ≡ model.full = sym t ∙ e in cc)
+is_full size (Ended Full) told t e = refl
+is_full size Gone told t e = absurd (let both : model.gone ≡ model.full = sym t ∙ e in cc)
+is_full size (Refused fault) told t e = absurd (let both : model.refused (refusal_of fault) ≡ model.full = sym t ∙ e in cc)
+is_full size (Looking body) told t e = absurd (let both : model.reading ≡ model.full = sym t ∙ e in cc)
+is_full size (Empty done body) told t e = absurd (let both : model.empty done ≡ model.full = sym t ∙ e in cc)
+is_full size (Moving fill body) told t e = absurd (let both : model.moving fill.0 ≡ model.full = sym t ∙ e in cc)
+is_full size (Taken page missed) told t e = absurd (let both : model.swapped t.0 ≡ model.full = sym t.1 ∙ e in cc)
+is_full size (Wished fill) told t e = absurd (let both : model.wished_for fill.0 ≡ model.full = sym t ∙ e in cc)
+
 -- ---- finished frames
 
 module _ (shape : Shape) (before : Writing) (result : Answer) (after : Writing) (frame : Frame) (below : List Frame) (top : before.frames ≡ frame ∷ below) (f : Finishes shape before result after) where
@@ -106,6 +120,11 @@ module _ (shape : Shape) (before : Writing) (result : Answer) (after : Writing) 
   pub finished_leaving : IsLeaving frame.kind frame.state → Leaves shape below before result after
   finished_leaving is = leaves_so frame.kind frame.state is finishes_top
 
+-- a frame that makes steps until it is gone leaves those below it
+pub leaves_below : (shape : Shape) (below : List Frame) (before : Writing) (answer : Answer) (after : Writing) → Leaves shape below before answer after → after.frames ≡ below
+leaves_below shape below before answer after (is_gone from mid end last goes more at) = at
+leaves_below shape below before answer after (was_refused from mid next end frame fault last goes more top leaves rest) = leaves_below shape below next last after rest
+
 -- ---- the push
 
 -- a record frame is pushed above those that stand, and is to be reserved
@@ -119,7 +138,7 @@ record_waits : (kind : Kind) (state : FrameState) (moment len : ℕ) → kind �
 record_waits kind state moment len k s = subst (λ (x : FrameState). IsReserving kind x) (sym s) (subst (λ (x : Kind). IsReserving x waiting) (sym k) tt)
 
 module _ (shape : Shape) (before after : Writing) (moment len : ℕ) (result : Answer) (call : IsCall shape before (model.pushes moment len) result after) (not_no : IsRefusal result → ⊥) where
-  push_so : IsPushed moment len call.answer call.core.frames call.next.frames ⊎ ((why : Refusal) × (call.answer ≡ model.refused why)) → HasBegun moment len before after × (result ≡ Pushed)
+  push_so : IsPushed moment len call.answer call.core.frames call.next.frames ⊎ ((why : Refusal) × (call.answer ≡ model.refused why) × (call.next ≡ call.core)) → HasBegun moment len before after × (result ≡ Pushed)
   push_so (inl p) = (
     record {
       frame = p.frame;
@@ -129,7 +148,7 @@ module _ (shape : Shape) (before after : Writing) (moment len : ℕ) (result : A
     },
     is_pushed shape.size result call.answer call.tells p.answer_is,
   )
-  push_so (inr (why, denied)) = absurd (not_no (is_refusal shape.size result call.answer why call.tells denied))
+  push_so (inr (why, denied, same)) = absurd (not_no (is_refusal shape.size result call.answer why call.tells denied))
 
   pub has_begun : HasBegun moment len before after × (result ≡ Pushed)
   has_begun = push_so (push_answers shape.pages shape.size call.core moment len call.answer call.next call.step)
@@ -145,7 +164,7 @@ pub record HasTopRecord (kind : Kind) (below frames : List Frame) : Type 0 where
   pub state_is : next.state ≡ reserved number
 
 -- an answer that refuses nothing tells a record's number
-reserved_so : (kind : Kind) (below : List Frame) (result : Answer) (after : List Frame) → IsReservedOr kind below result after → (IsRefusal result → ⊥) → HasTopRecord kind below after × ((number : Rattle.trace_model.specs.declared.numbers.RecordNo.RecordNo) × (result ≡ Reserved number))
+pub reserved_so : (kind : Kind) (below : List Frame) (result : Answer) (after : List Frame) → IsReservedOr kind below result after → (IsRefusal result → ⊥) → HasTopRecord kind below after × ((number : Rattle.trace_model.specs.declared.numbers.RecordNo.RecordNo) × (result ≡ Reserved number))
 reserved_so kind below _ after (is_reserved next number end top kind_is state_is) denied = (record { next = next; number = number.0; top = top; kind_is = kind_is; state_is = state_is }, (number, refl))
 reserved_so kind below _ after (stays_refused fault next end top leaves) denied = absurd (denied (fault, refl))
 reserved_so kind below _ after (is_refused fault end top) denied = absurd (denied (fault, refl))
@@ -182,8 +201,20 @@ module _ (shape : Shape) (before pushed after : Writing) (moment len : ℕ) (beg
   refused_with fault e = subst (λ (x : Answer). Reserves shape (for_record moment len) before.frames pushed x after) e reserving
 
   -- the frame is gone, as its depth tells
-  pub refused_gone : (fault : WriteFault) → result ≡ Refused fault → IsRefusedWrite shape before moment len fault after
-  refused_gone fault e = inr record { pushed = pushed; refused = after; push = push_told; reserve = refused_with fault e; goes = inl refl }
+  pub refused_gone : (fault : WriteFault) → result ≡ Refused fault → length after.frames ≤ length before.frames → IsRefusedWrite shape before moment len fault after
+  refused_gone fault e low =
+      inr record {
+        pushed = pushed;
+        refused = after;
+        push = push_told;
+        reserve = refused_with fault e;
+        goes = inl refl;
+        frames = gone_so (refused_so (for_record moment len) before.frames result fault after.frames reserving.ends e);
+      }
+    where
+      gone_so : ((next : Frame) × (after.frames ≡ next ∷ before.frames) × IsLeaving next.kind next.state) ⊎ (after.frames ≡ before.frames) → after.frames ≡ before.frames
+      gone_so (inl (next, top, leaves)) = let wide = ap (length {A = Frame}) top in absurd (omega arith)
+      gone_so (inr same) = same
 
   stands_on : ((next : Frame) × (after.frames ≡ next ∷ before.frames) × IsLeaving next.kind next.state) ⊎ (after.frames ≡ before.frames) → length before.frames < length after.frames → (next : Frame) × (after.frames ≡ next ∷ before.frames) × IsLeaving next.kind next.state
   stands_on (inl s) deep = s
@@ -193,7 +224,15 @@ module _ (shape : Shape) (before pushed after : Writing) (moment len : ℕ) (beg
   pub refused_left : (fault : WriteFault) (last : Answer) (end : Writing) → result ≡ Refused fault → length before.frames < length after.frames → Finishes shape after last end → IsRefusedWrite shape before moment len fault end
   refused_left fault last end e deep f =
       let (next, top, leaves) = stands_on (refused_so (for_record moment len) before.frames result fault after.frames reserving.ends e) deep in
-      inr record { pushed = pushed; refused = after; push = push_told; reserve = refused_with fault e; goes = inr (last, finished_leaving shape after last end next before.frames top f leaves) }
+      let all : Leaves shape before.frames after last end = finished_leaving shape after last end next before.frames top f leaves in
+      inr record {
+        pushed = pushed;
+        refused = after;
+        push = push_told;
+        reserve = refused_with fault e;
+        goes = inr (next, last, top, leaves, all);
+        frames = leaves_below shape before.frames after last end all;
+      }
 
 -- ---- the slot of the frame on top
 
@@ -243,20 +282,6 @@ module _ (shape : Shape) (before after : Writing) (payload : List ℕ) (result :
 
   pending_so : (below : List Frame) → t.below ≡ below → result ≢ Ended Full → result ≡ Ended Pending
   pending_so [] e ne = absurd (ne (is_full shape.size result call.answer call.tells (ended.answer_is ∙ ap model.end_answer e)))
-    where
-      is_full : (size : ℕ) (result : Answer) (told : model.Answer) → Tells size result told → told ≡ model.full → result ≡ Ended Full
-      is_full size Pushed told t e = absurd (let both : model.pushed ≡ model.full = sym t ∙ e in cc)
-      is_full size Going told t e = absurd (let both : model.going ≡ model.full = sym t ∙ e in cc)
-      is_full size (Reserved number) told t e = absurd (let both : model.reserved_as number.0 ≡ model.full = sym t ∙ e in cc)
-      is_full size (Ended Pending) told t e = absurd (let both : model.pending ≡ model.full = sym t ∙ e in cc)
-      is_full size (Ended Full) told t e = refl
-      is_full size Gone told t e = absurd (let both : model.gone ≡ model.full = sym t ∙ e in cc)
-      is_full size (Refused fault) told t e = absurd (let both : model.refused (refusal_of fault) ≡ model.full = sym t ∙ e in cc)
-      is_full size (Looking body) told t e = absurd (let both : model.reading ≡ model.full = sym t ∙ e in cc)
-      is_full size (Empty done body) told t e = absurd (let both : model.empty done ≡ model.full = sym t ∙ e in cc)
-      is_full size (Moving fill body) told t e = absurd (let both : model.moving fill.0 ≡ model.full = sym t ∙ e in cc)
-      is_full size (Taken page missed) told t e = absurd (let both : model.swapped t.0 ≡ model.full = sym t.1 ∙ e in cc)
-      is_full size (Wished fill) told t e = absurd (let both : model.wished_for fill.0 ≡ model.full = sym t ∙ e in cc)
   pending_so (next ∷ others) e ne = is_pending shape.size result call.answer call.tells (ended.answer_is ∙ ap model.end_answer e)
 
   -- the frame below is on top
@@ -266,6 +291,23 @@ module _ (shape : Shape) (before after : Writing) (payload : List ℕ) (result :
   left_alone : (below : List Frame) → t.below ≡ below → result ≡ Ended Full → (frame : Frame) × (after.frames ≡ frame ∷ []) × (frame.state ≡ left)
   left_alone [] e full = (_, frames_then ∙ ap (model.frames_after_leave call.core t.frame) e, refl)
   left_alone (next ∷ others) e full = absurd (let both : Ended Full ≡ Ended Pending = sym full ∙ is_pending shape.size result call.answer call.tells (ended.answer_is ∙ ap model.end_answer e) in cc)
+
+  others_are : (end : Writing) → end.frames ≡ t.below → (frame : Frame) (below : List Frame) → before.frames ≡ frame ∷ below → end.frames ≡ below
+  others_are end at frame below top = at ∙ (let both : t.frame ∷ t.below ≡ frame ∷ below = sym t.top ∙ top in let same : t.below ≡ below = cc in same)
+
+  below_left : (below : List Frame) → t.below ≡ below → result ≢ Ended Full → after.frames ≡ t.below
+  below_left [] e ne = absurd (ne (is_full shape.size result call.answer call.tells (ended.answer_is ∙ ap model.end_answer e)))
+  below_left (next ∷ others) e ne = frames_then ∙ ap (model.frames_after_leave call.core t.frame) e ∙ sym e
+
+  pub left_above : result ≢ Ended Full → (frame : Frame) (below : List Frame) → before.frames ≡ frame ∷ below → after.frames ≡ below
+  left_above ne = others_are after (below_left t.below refl ne)
+
+  none_below : (below : List Frame) → t.below ≡ below → result ≡ Ended Full → below ≡ []
+  none_below [] e full = refl
+  none_below (next ∷ others) e full = absurd (let both : Ended Full ≡ Ended Pending = sym full ∙ is_pending shape.size result call.answer call.tells (ended.answer_is ∙ ap model.end_answer e) in cc)
+
+  pub left_full : result ≡ Ended Full → (frame : Frame) × (after.frames ≡ frame ∷ []) × (frame.state ≡ left)
+  left_full full = left_alone t.below refl full
 
   has_left : (kind : Kind) (state : FrameState) → state ≡ left → IsLeaving kind state
   has_left kind state e = subst (IsLeaving kind) (sym e) (any kind)
@@ -279,6 +321,11 @@ module _ (shape : Shape) (before after : Writing) (payload : List ℕ) (result :
   ends_alone last end full f =
       let (frame, top, gone) = left_alone t.below refl full in
       (Full, subst (λ (x : Answer). IsCall shape before (model.ends payload) x after) full call, (last, finished_leaving shape after last end frame [] top f (has_left frame.kind frame.state gone)))
+
+  pub alone_left : (last : Answer) (end : Writing) → result ≡ Ended Full → Finishes shape after last end → (frame : Frame) (below : List Frame) → before.frames ≡ frame ∷ below → end.frames ≡ below
+  alone_left last end full f =
+      let (next, top, gone) = left_alone t.below refl full in
+      others_are end (leaves_below shape [] after last end (finished_leaving shape after last end next [] top f (has_left next.kind next.state gone)) ∙ sym (none_below t.below refl full))
 
 -- ---- all of it
 
@@ -308,4 +355,5 @@ written_whole shape before moment payload v new r same bytes e = record {
   reserve = r.reserve;
   end = subst (λ (s : Shape). IsCall s v.part (model.ends (padded payload)) (Ended e.how) e.ended) same (subst (λ (l : List ℕ). IsCall v.shape v.part (model.ends l) (Ended e.how) e.ended) bytes e.end);
   goes = subst (λ (s : Shape). GoesAway s e.ended e.how new.part) same e.goes;
+  frames = (let top = top_kind (for_record moment (length payload)) before.frames r.number v.part.frames r.reserve.ends in e.others top.next before.frames top.top);
 }

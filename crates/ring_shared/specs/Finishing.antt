@@ -64,10 +64,12 @@ pub data Leaves (shape : Shape) (below : List Frame) : Writing → Answer → Wr
       → IsCall shape between model.steps answer after
       → after.frames ≡ below
       → Leaves shape below before answer after
-  was_refused : (before between left after : Writing) (fault : WriteFault) (answer : Answer)
+  was_refused : (before between next after : Writing) (frame : Frame) (fault : WriteFault) (answer : Answer)
       → GoesOn shape before between
-      → IsCall shape between model.steps (Refused fault) left
-      → Leaves shape below left answer after
+      → IsCall shape between model.steps (Refused fault) next
+      → next.frames ≡ frame ∷ below
+      → IsLeaving frame.kind frame.state
+      → Leaves shape below next answer after
       → Leaves shape below before (Refused fault) after
 
 -- It has made steps, each of which was answered `Going`, and it stands and leaves; or the last of them answered that it

@@ -11,3 +11,4 @@ pub mod Covering
 pub mod WholeWrites
 pub mod Laws
 pub mod Turning
+pub mod WholeLaws

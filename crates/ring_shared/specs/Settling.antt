@@ -3,12 +3,13 @@ use Rattle.std.specs.Prelude.{◌≡◌, ℕ, ◌+◌, ◌<◌, ◌≤◌, ◌�
 use Rattle.std.specs.List.{slice_get}
 use Rattle.trace_model.specs.History.{committed_records}
 use Rattle.trace_model.specs.Partition.{Piece, IsPartition}
-use Rattle.trace_model.specs.Ring.{Taken, fill_of}
+use Rattle.trace_model.specs.Ring.{Taken, fill_of, AreFillsOf}
 use Rattle.link_marks.specs.KeptPartition.{pieces_of}
 use Rattle.page_image.specs.Contents.{Contents, records_of_page}
 use Rattle.nested_writer.specs.Released.{IsWrittenPage}
 use Rattle.ring_steps.specs.declared.rule.Shape.{Shape}
 use Rattle.ring_steps.specs.Views.{Writing, Reading}
+use Rattle.ring_steps.specs.Seats.{AreParts}
 use Rattle.ring_shared.specs.declared.settling.Settled.{Settled}
 
 -- the page that no take has answered: the tail, if it holds a record
@@ -26,7 +27,8 @@ WasTaken reading f = (k : ℕ) × (t : Taken) × (slice_get reading.reader.taken
 
 -- The committed records are what the reader took, with what it tells as missed, and then the unread page's, and nothing
 -- else. That page is the tail. Each closed fill was taken, or is lost: the fill a whole turn of the ring's pages behind
--- it, which took its place, is begun.
+-- it, which took its place, is begun. Each page that was taken is a whole fill of this writer's history, under that
+-- fill's number. The two ends are the parts of one ring that steps reach.
 pub record IsSettled (shape : Shape) (writing : Writing) (reading : Reading) (settled : Settled) : Type 0 where
   pub partition : IsPartition (committed_records writing.history)
       (pieces_of reading.reader.taken ++ piece_unread (unread_page settled)) []
@@ -35,3 +37,5 @@ pub record IsSettled (shape : Shape) (writing : Writing) (reading : Reading) (se
       → shape.start ≤ f
       → f < writing.done
       → WasTaken reading f ⊎ (f + shape.pages < writing.opened)
+  pub fills : AreFillsOf shape.start writing.history reading.reader.taken
+  pub parts : AreParts shape writing reading

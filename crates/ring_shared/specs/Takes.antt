@@ -9,9 +9,9 @@ use Rattle.link_marks.specs.AnswerLaws.{ArePassed}
 use Rattle.link_marks.specs.KeptPartition.{pieces_of}
 use Rattle.page_image.specs.Contents.{Contents, records_of_page}
 use Rattle.ring_frames.specs.Answers.{IsTakenPage}
-use Rattle.ring_core.specs.Value.{reader_phase_of}
-use Rattle.ring_core.specs.declared.phase.ReaderPhase.{ReaderPhase}
-use Rattle.ring_core.specs.declared.phase.ReaderPhase.TheVariants.{LoadingLink, LoadingDone, StoringLink, Swapping}
+use Rattle.ring_frames.specs.ReaderPhases.{reader_phase_of}
+use Rattle.ring_frames.specs.declared.reader.ReaderPhase.{ReaderPhase}
+use Rattle.ring_frames.specs.declared.reader.ReaderPhase.TheVariants.{LoadingLink, LoadingDone, StoringLink, Swapping}
 use Rattle.ring_steps.specs.declared.rule.Shape.{Shape}
 use Rattle.ring_steps.specs.Views.{Reading}
 use Rattle.ring_steps.specs.Shown.{IsReading}

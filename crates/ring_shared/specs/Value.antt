@@ -1,7 +1,7 @@
 -- What contracts see of the two ends of a running ring.
 use Rattle.std.specs.Prelude.{◌≡◌, ℕ, List, Option}
 use Rattle.atomic_table.specs.Seated.{TableId}
-use Rattle.ring_core.specs.declared.phase.Reader.{Reader}
+use Rattle.ring_frames.specs.declared.reader.Reader.{Reader}
 use Rattle.ring_steps.specs.declared.rule.Shape.{Shape}
 use Rattle.ring_frames.specs.Value.{FramesValue}
 use Rattle.ring_steps.specs.Views.{Writing, Reading}

@@ -1,9 +1,10 @@
 -- What it means that a record is written whole, in one call.
-use Rattle.std.specs.Prelude.{◌≡◌, ℕ, ◌⊎◌, List, [], length}
+use Rattle.std.specs.Prelude.{◌≡◌, ℕ, ◌⊎◌, List, [], ◌∷◌, length}
 use Rattle.trace_model.specs.declared.numbers.RecordNo.{RecordNo}
 use Rattle.trace_model.specs.Words.{padded}
-use Rattle.trace_model.specs.Frames.{for_record}
+use Rattle.trace_model.specs.Frames.{for_record, Frame}
 use Rattle.trace_model.specs.Steps as model
+use Rattle.link_marks.specs.FrameOutcomes.{IsLeaving}
 use Rattle.nested_writer.specs.declared.fault.WriteFault.{WriteFault}
 use Rattle.nested_writer.specs.declared.stack.leave.Ended.{Ended as How}
 use Rattle.nested_writer.specs.declared.stack.leave.Ended.TheVariants.{Pending, Full}
@@ -26,7 +27,7 @@ GoesAway shape ended Pending after = after ≡ ended
 GoesAway shape ended Full after = (answer : Answer) × Leaves shape [] ended answer after
 
 -- The frame is pushed, above those that stand, and makes steps until its record is reserved; it ends with this payload,
--- and the zeros up to the end of its slot; and goes away.
+-- and the zeros up to the end of its slot; and goes away, so the same frames as before are left.
 pub record IsWritten (shape : Shape) (before : Writing) (moment : ℕ) (payload : List ℕ) (after : Writing) : Type 0 where
   pub pushed : Writing
   pub reserved : Writing
@@ -37,6 +38,7 @@ pub record IsWritten (shape : Shape) (before : Writing) (moment : ℕ) (payload 
   pub reserve : Reserves shape (for_record moment (length payload)) before.frames pushed (Reserved number) reserved
   pub end : IsCall shape reserved (model.ends (padded payload)) (Ended how) ended
   pub goes : GoesAway shape ended how after
+  pub frames : after.frames ≡ before.frames
 
 -- The frame is pushed, and makes steps until its record is reserved.
 pub record IsReserved (shape : Shape) (before : Writing) (moment len : ℕ) (after : Writing) : Type 0 where
@@ -45,21 +47,29 @@ pub record IsReserved (shape : Shape) (before : Writing) (moment len : ℕ) (aft
   pub push : Pushes shape before moment len Pushed pushed
   pub reserve : Reserves shape (for_record moment len) before.frames pushed (Reserved number) after
 
--- The frame on top ends with the bytes in its slot, and goes away.
+-- The frame on top ends with the bytes in its slot, and goes away, so those below it are left.
 pub record EndsRecord (old new : WriterValue) : Type 0 where
   pub ended : Writing
   pub how : How
   pub end : IsCall old.shape old.part (model.ends (top_bytes old.frames.stack old.frames.stack.frames)) (Ended how) ended
   pub goes : GoesAway old.shape ended how new.part
+  pub others : (frame : Frame) (below : List Frame) → old.part.frames ≡ frame ∷ below → new.part.frames ≡ below
 
--- The frame is pushed, and makes steps until it is refused; where it stands on, it makes steps until it is gone.
+-- The frame is pushed, and makes steps until it is refused; if it is not gone then, it makes steps until it is. So the
+-- same frames as before are left.
 pub record IsRefusedAmid (shape : Shape) (before : Writing) (moment len : ℕ) (fault : WriteFault) (after : Writing)
     : Type 0 where
   pub pushed : Writing
   pub refused : Writing
   pub push : Pushes shape before moment len Pushed pushed
   pub reserve : Reserves shape (for_record moment len) before.frames pushed (Refused fault) refused
-  pub goes : (after ≡ refused) ⊎ ((answer : Answer) × Leaves shape before.frames refused answer after)
+  pub goes : (after ≡ refused)
+      ⊎ ((frame : Frame)
+      × (answer : Answer)
+      × (refused.frames ≡ frame ∷ before.frames)
+      × IsLeaving frame.kind frame.state
+      × Leaves shape before.frames refused answer after)
+  pub frames : after.frames ≡ before.frames
 
 -- The frame is refused as it is pushed, or behind that.
 abbrev pub IsRefusedWrite : Shape → Writing → (moment len : ℕ) → WriteFault → Writing → Type 0

@@ -18,6 +18,3 @@ pub use ring_frames::Answer;
 pub use settling::{SettleFault, Settled, settle};
 pub use take::Take;
 pub use writer::Writer;
-
-#[cfg(test)]
-mod tests;

@@ -3,7 +3,7 @@ mod new;
 mod steps;
 mod taking;
 
-use ring_core::phase::Reader as Progress;
+use ring_frames::Reader as Progress;
 use ring_steps::ReaderSeat;
 use std::marker::Model;
 

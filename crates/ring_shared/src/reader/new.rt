@@ -1,6 +1,6 @@
 //! A new reader's end.
 use crate::reader::Reader;
-use ring_core::phase::{Reader as Progress, ReaderPhase};
+use ring_frames::{Reader as Progress, ReaderPhase};
 use ring_steps::ReaderSeat;
 use std::alloc::Global;
 use trace_model::NoMemory;

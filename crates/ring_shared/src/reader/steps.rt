@@ -3,13 +3,13 @@ use crate::reader::Reader;
 use crate::take::{Take, Turn};
 use link_marks::{Link, Mark, header};
 use page_image::{Body, Page};
-use ring_core::phase::ReaderPhase;
+use ring_frames::ReaderPhase;
 use trace_model::{FillNo, RecordNo};
 
 impl Reader {
     ghost use Rattle.std.specs.Prelude.{◌≡◌, ℕ, length, None};
     ghost use Rattle.trace_model.specs.Ring.{page_at};
-    ghost use Rattle.ring_core.specs.declared.phase.ReaderPhase.TheVariants.{LoadingLink, LoadingDone, StoringLink, Swapping};
+    ghost use Rattle.ring_frames.specs.declared.reader.ReaderPhase.TheVariants.{LoadingLink, LoadingDone, StoringLink, Swapping};
     ghost use Rattle.ring_shared.specs.Takes.{IsReader, IsTurn, EmptyAfter, SameRing};
 
     /// One step of a take.

@@ -1,7 +1,7 @@
 use Rattle.std.proofs.Common.{◌≡◌, refl, ap, ◌∙◌, subst, arith}
 use Rattle.trace_model.specs.Ring as ring
-use Rattle.ring_core.specs.Value.{reader_phase_of}
-use Rattle.ring_core.specs.declared.phase.ReaderPhase.{ReaderPhase}
+use Rattle.ring_frames.specs.ReaderPhases.{reader_phase_of}
+use Rattle.ring_frames.specs.declared.reader.ReaderPhase.{ReaderPhase}
 use Rattle.ring_steps.specs.Views.{Reading}
 use Rattle.ring_steps.specs.Ends.{reading_in, reader_table}
 use Rattle.ring_steps.specs.Taking.{IsRead}

@@ -1,9 +1,9 @@
 use Rattle.std.proofs.Common.{◌≡◌, ℕ, ◌+◌, ◌-◌, ◌≤◌, length, refl, sym, ap, ◌∙◌, subst, arith}
 use Rattle.trace_model.specs.Ring as ring
 use Rattle.link_marks.specs.declared.link.Link.{Link}
-use Rattle.ring_core.specs.Value.{reader_phase_of}
-use Rattle.ring_core.specs.declared.phase.ReaderPhase.{ReaderPhase}
-use Rattle.ring_core.specs.declared.phase.ReaderPhase.TheVariants.{LoadingLink}
+use Rattle.ring_frames.specs.ReaderPhases.{reader_phase_of}
+use Rattle.ring_frames.specs.declared.reader.ReaderPhase.{ReaderPhase}
+use Rattle.ring_frames.specs.declared.reader.ReaderPhase.TheVariants.{LoadingLink}
 use Rattle.ring_steps.specs.Views.{Reading}
 use Rattle.ring_steps.specs.Ends.{reading_in, reader_table}
 use Rattle.ring_steps.specs.Taking.{IsRead}

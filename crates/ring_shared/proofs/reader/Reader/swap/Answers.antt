@@ -1,7 +1,7 @@
 use Rattle.std.proofs.Common.{◌≡◌, ℕ, ◌+◌, ◌-◌, ◌%◌, length, slice_set, None, refl, sym, ap, ◌∙◌, subst, arith, rules}
 use Rattle.trace_model.specs.Ring as ring
 use Rattle.page_image.specs.Contents.{Contents}
-use Rattle.ring_core.specs.Value.{reader_phase_of}
+use Rattle.ring_frames.specs.ReaderPhases.{reader_phase_of}
 use Rattle.ring_steps.specs.declared.rule.Shape.{Shape}
 use Rattle.ring_steps.specs.Views.{Reading}
 use Rattle.ring_steps.specs.Ends.{reading_in, reader_table}

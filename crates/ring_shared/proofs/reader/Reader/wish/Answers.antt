@@ -2,7 +2,7 @@ use Rattle.std.specs.Prelude.{⊤}
 use Rattle.std.proofs.Common.{sym, ap, ◌∙◌, subst}
 use Rattle.trace_model.specs.Ring as ring
 use Rattle.trace_model.specs.Steps.{wishes, wished_for}
-use Rattle.ring_core.specs.declared.phase.ReaderPhase.{ReaderPhase}
+use Rattle.ring_frames.specs.declared.reader.ReaderPhase.{ReaderPhase}
 use Rattle.ring_steps.specs.Views.{Reading}
 use Rattle.ring_steps.specs.Ends.{reading_in, reader_table}
 use Rattle.ring_steps.specs.Seats.{IsReaderStep}

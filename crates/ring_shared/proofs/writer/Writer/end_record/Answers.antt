@@ -3,7 +3,7 @@ use Rattle.ring_frames.specs.Answers.{top_bytes}
 use Rattle.ring_steps.specs.declared.rule.Shape.{Shape}
 use Rattle.ring_shared.specs.Value.{WriterValue}
 use Rattle.ring_shared.specs.Finishing.{Finishes}
-use Rattle.ring_shared.proofs.WholeWrites.{reserved_top, ends_above, ends_alone}
+use Rattle.ring_shared.proofs.WholeWrites.{reserved_top, ends_above, ends_alone, left_above, alone_left}
 use Rattle.ring_shared.proofs.Covered.{ends_covered, covered_then}
 use Rattle.ring_shared.proofs.writer.Writer.end_record.Goals as goal
 
@@ -14,7 +14,10 @@ returns-then-stands_alone-clause-ends c =
     let (how, end, goes) = ends_alone x.shape x.part one.part payload c.end.result c.end.ensures.makes.call (reserved_top x c.requires.writer c.args.slot c.requires.slot)
     c.finish_top.result two.part (c.stands_alone.ensures.0 c.if-stands_alone.true)
     (subst (λ (s : Shape). Finishes s one.part c.finish_top.result two.part) c.end.ensures.makes.shape_is c.finish_top.ensures.finished) in
-    record { ended = one.part; how = how; end = end; goes = goes }
+    let others = alone_left x.shape x.part one.part payload c.end.result c.end.ensures.makes.call (reserved_top x c.requires.writer c.args.slot c.requires.slot)
+    c.finish_top.result two.part (c.stands_alone.ensures.0 c.if-stands_alone.true)
+    (subst (λ (s : Shape). Finishes s one.part c.finish_top.result two.part) c.end.ensures.makes.shape_is c.finish_top.ensures.finished) in
+    record { ended = one.part; how = how; end = end; goes = goes; others = others }
 
 pub returns-else-stands_alone-clause-ends : goal.returns-else-stands_alone-clause-ends
 returns-else-stands_alone-clause-ends c =
@@ -22,7 +25,9 @@ returns-else-stands_alone-clause-ends c =
     let payload : List ℕ = top_bytes x.frames.stack x.frames.stack.frames in
     let (how, end, goes) = ends_above x.shape x.part one.part payload c.end.result c.end.ensures.makes.call (reserved_top x c.requires.writer c.args.slot c.requires.slot)
     (λ e. let truth : false ≡ true = sym c.if-stands_alone.false ∙ c.stands_alone.ensures.1 e in cc) in
-    record { ended = one.part; how = how; end = end; goes = goes }
+    let others = left_above x.shape x.part one.part payload c.end.result c.end.ensures.makes.call (reserved_top x c.requires.writer c.args.slot c.requires.slot)
+    (λ e. let truth : false ≡ true = sym c.if-stands_alone.false ∙ c.stands_alone.ensures.1 e in cc) in
+    record { ended = one.part; how = how; end = end; goes = goes; others = others }
 
 pub returns-then-stands_alone-clause-covered : goal.returns-then-stands_alone-clause-covered
 returns-then-stands_alone-clause-covered c =

@@ -1,4 +1,4 @@
-use Rattle.std.specs.Prelude.{◌<◌}
+use Rattle.std.specs.Prelude.{◌<◌, ◌≤◌}
 use Rattle.std.proofs.Common.{◌≡◌, length, sym, ◌∙◌, subst, arith}
 use Rattle.trace_model.specs.Frames.{for_record}
 use Rattle.nested_writer.specs.declared.fault.WriteFault.{WriteFault}
@@ -57,11 +57,15 @@ returns-else-depth-clause-refused c = λ fault e.
     let x : WriterValue = c.args.self.now in let one : WriterValue = c.begin.new.self in let two : WriterValue = c.finish_top.new.self in
     let why : WriteFault = c.in-Some-met_first.fault in
     let same : why ≡ fault = cc in
+    let before_deep = c.depth-depth.ensures ∙ depth_is x c.requires.writer in
+    let now_deep = c.depth.ensures ∙ depth_is two c.finish_top.ensures.writer in
+    let flat = c.if-depth.false in
+    let low : length two.part.frames ≤ length x.part.frames = omega arith in
     subst (λ (f : WriteFault). IsRefusedWrite x.shape x.part c.args.moment c.args.len f two.part) same
     (refused_gone x.shape x.part one.part two.part c.args.moment c.args.len c.begin.result c.finish_top.result c.begin.ensures.makes.call
     (not_refused c.begin.result (λ f is. c.in_default.not-Some f (c.met_first.ensures ∙ is)))
     (finished_in x.shape one two c.finish_top.result c.begin.ensures.makes.shape_is c.finish_top.ensures.finished)
-    why (met_refusal c.finish_top.result why (sym c.met_first-2.ensures ∙ c.in-Some-met_first.is)))
+    why (met_refusal c.finish_top.result why (sym c.met_first-2.ensures ∙ c.in-Some-met_first.is)) low)
 
 -- ---- payloads
 
