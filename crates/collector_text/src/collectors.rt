@@ -8,9 +8,9 @@ ghost use Rattle.collector_text.specs.Tells.{Tells, StandsBetween, text_below};
 
 use crate::lines::put_lines;
 use crate::runs::put_runs;
-use crate::values::put_number;
 use collector::Collector;
 use std::alloc::Global;
+use text_values::put_number;
 use trace_model::NoMemory;
 
 /// How many bytes of a text are copied at once.

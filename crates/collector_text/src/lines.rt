@@ -6,10 +6,10 @@ ghost use Rattle.trace_model.specs.Listing.{Line as LineTold, IsListing};
 ghost use Rattle.time_merge.specs.Lines.{line_told};
 ghost use Rattle.world_model.specs.Printing.{printed_line};
 
-use crate::values::put_payload;
 use collector::Collector;
 use itoa::write_digits;
 use std::alloc::Global;
+use text_values::put_payload;
 use time_merge::{Line, listing};
 use trace_model::NoMemory;
 

@@ -4,8 +4,8 @@ ghost use Rattle.collector.specs.Runs.{AreMissingRuns};
 ghost use Rattle.world_model.specs.Printing.{printed_missing, printed_runs};
 ghost use Rattle.collector_text.specs.Tells.{runs_of};
 
-use crate::values::put_number;
 use collector::Collector;
+use text_values::put_number;
 use trace_model::{CpuId, MAX_CPUS, NoMemory, RecordNo};
 
 /// A run's line: its CPU, its first and its last number.

@@ -1,12 +1,9 @@
 //! The texts of collectors of parcels that are read from bytes: the four numbers of a parcel on two lines, the image's
 //! header on the next, and the data behind it.
 use crate::put_collectors;
-use collector::{AddFault, Collector};
-use page_numbers::{Parcel, ParcelFault};
-use std::alloc::Global;
-use std::process::Abort;
+use collector::Collector;
+use page_numbers::Parcel;
 use std::test::Fail;
-use trace_model::NoMemory;
 
 /// CPU 0, nothing missing: record 0 at moment 10, record 1 at moment 30.
 const OF_CPU_0: &[u8] = b"\0\0\0\0\0\0\0\0\0\0\0\0\0\0\0\0\
@@ -43,111 +40,54 @@ const LATER_OF_CPU_255: &[u8] = b"\xff\0\0\0\0\0\0\0\x07\0\0\0\0\0\0\0\
     \x15\0\0\0\0\0\0\0\x08\0\0\x80\0\0\0\0\
     \x01\0\0\0\x00\x00\x00\x00";
 
-/// The parcels of each collector, in the order in which they are added, and the text of the collectors.
-#[derive(Clone, Copy)]
-struct Row {
-    collectors: &'static [&'static [&'static [u8]]],
-    text: &'static [u8],
-}
+/// The parcels of each collector, in the order in which they are added.
+const COLLECTORS: &[&[&[u8]]] = &[
+    &[],
+    &[
+        LATER_OF_CPU_255,
+        OF_CPU_255,
+        LATER_OF_CPU_0,
+        OF_CPU_1,
+        OF_CPU_0,
+    ],
+    &[LATER_OF_CPU_0, GAP_OF_CPU_0],
+    &[GAP_OF_CPU_0, LATER_OF_CPU_0],
+];
 
-/// A collector of these parcels.
-fn collected(rt: &impl Abort, alloc: Global, parcels: &[&'static [u8]]) -> Result<Collector, Fail> {
-    let mut collector = Collector::new(alloc);
-    for bytes in parcels {
-        match Parcel::from_bytes(alloc, bytes) {
-            Ok(parcel) => match collector.add(parcel) {
-                Ok(_) => {}
-                Err(AddFault::NoMemory) => return Err(NoMemory)?,
-                Err(fault) => assert!(rt; false, "{fault:?}"),
-            },
-            Err(ParcelFault::NoMemory) => return Err(NoMemory)?,
-            Err(fault) => assert!(rt; false, "{fault:?}"),
+/// Their text, after a line that is there already.
+const TEXT: &[u8] = b"7 c0 empty\n\
+    collector 0\n\
+    collector 1\n\
+    0 0 10 0abcdef0\n\
+    1 0 20 0b0b0b0b\n\
+    255 1 20 000990ff\n\
+    255 12 21 00000000\n\
+    0 1 30 0c0d0e0f\n\
+    0 6 40 -\n\
+    missing 0 4-5\n\
+    missing 255 0-0\n\
+    missing 255 10-11\n\
+    collector 2\n\
+    0 6 40 -\n\
+    missing 0 2-5\n\
+    collector 3\n\
+    0 6 40 -\n\
+    missing 0 2-5\n";
+
+#[test]
+fn each_collector_is_its_records_by_time_and_its_missing_runs_by_cpu(
+    rt: HostRuntime,
+) -> Result<(), Fail> {
+    let mut collectors = Vec::new(rt.alloc());
+    for parcels in COLLECTORS {
+        let mut collector = Collector::new(rt.alloc());
+        for bytes in *parcels {
+            let _added = collector.add(Parcel::from_bytes(rt.alloc(), bytes)?)?;
         }
+        collectors.push(collector)?;
     }
-    Ok(collector)
-}
-
-/// Compares the text of a row's collectors, behind a line that is there already, with its own.
-fn compare(rt: &impl Abort, alloc: Global, row: Row) -> Result<(), Fail> {
-    let mut collectors = Vec::new(alloc);
-    for parcels in row.collectors {
-        collectors.push(collected(rt, alloc, parcels)?)?;
-    }
-    let mut wanted = Vec::from_slice(alloc, b"7 c0 empty\n")?;
-    wanted.extend_from_slice(row.text)?;
-    let mut out = Vec::from_slice(alloc, b"7 c0 empty\n")?;
-    put_collectors(alloc, &mut out, &collectors)?;
-    assert_eq!(rt; out.as_slice(), wanted.as_slice());
-    Ok(())
-}
-
-/// Records of two CPUs stand by their moments.
-#[test]
-fn records_by_time(rt: HostRuntime) -> Result<(), Fail> {
-    let row = Row {
-        collectors: &[&[OF_CPU_0, OF_CPU_1]],
-        text: b"collector 0\n\
-            0 0 10 0abcdef0\n\
-            1 0 20 0b0b0b0b\n\
-            0 1 30 0c0d0e0f\n",
-    };
-    compare(&rt, rt.alloc(), row)
-}
-
-/// Missing numbers of several CPUs stand behind the records, by CPU, and those that touch are one run.
-#[test]
-fn missing_runs_by_cpu(rt: HostRuntime) -> Result<(), Fail> {
-    let table = [
-        Row {
-            collectors: &[&[
-                LATER_OF_CPU_255,
-                OF_CPU_255,
-                LATER_OF_CPU_0,
-                OF_CPU_1,
-                OF_CPU_0,
-            ]],
-            text: b"collector 0\n\
-                0 0 10 0abcdef0\n\
-                1 0 20 0b0b0b0b\n\
-                255 1 20 000990ff\n\
-                255 12 21 00000000\n\
-                0 1 30 0c0d0e0f\n\
-                0 6 40 -\n\
-                missing 0 4-5\n\
-                missing 255 0-0\n\
-                missing 255 10-11\n",
-        },
-        Row {
-            collectors: &[&[LATER_OF_CPU_0, GAP_OF_CPU_0]],
-            text: b"collector 0\n0 6 40 -\nmissing 0 2-5\n",
-        },
-    ];
-    for row in table {
-        compare(&rt, rt.alloc(), row)?;
-    }
-    Ok(())
-}
-
-/// Collectors are numbered from 0, and one that has nothing is its head line alone.
-#[test]
-fn collectors_by_number(rt: HostRuntime) -> Result<(), Fail> {
-    let table = [
-        Row {
-            collectors: &[],
-            text: b"",
-        },
-        Row {
-            collectors: &[&[], &[OF_CPU_1], &[], &[OF_CPU_1, OF_CPU_1]],
-            text: b"collector 0\n\
-                collector 1\n\
-                1 0 20 0b0b0b0b\n\
-                collector 2\n\
-                collector 3\n\
-                1 0 20 0b0b0b0b\n",
-        },
-    ];
-    for row in table {
-        compare(&rt, rt.alloc(), row)?;
-    }
+    let mut out = Vec::from_slice(rt.alloc(), b"7 c0 empty\n")?;
+    put_collectors(rt.alloc(), &mut out, &collectors)?;
+    assert_eq!(rt; out.as_slice(), TEXT);
     Ok(())
 }

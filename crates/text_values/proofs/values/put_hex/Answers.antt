@@ -1,7 +1,7 @@
 use Rattle.std.proofs.Common.{◌++◌, ◌-◌, [], ◌∷◌, length, get_or, take, drop, ◌∙◌, List, ℕ, ap}
-use Rattle.collector_text.specs.Digits.{pairs_of}
-use Rattle.collector_text.proofs.Hexadecimal.{eight_and_rest, part_more}
-use Rattle.collector_text.proofs.values.put_hex.Goals as goal
+use Rattle.text_values.specs.Digits.{pairs_of}
+use Rattle.text_values.proofs.Hexadecimal.{eight_and_rest, part_more}
+use Rattle.text_values.proofs.values.put_hex.Goals as goal
 
 pub loop-left-preserved : goal.loop-left-preserved
 loop-left-preserved c =

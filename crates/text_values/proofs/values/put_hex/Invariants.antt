@@ -1,6 +1,6 @@
 use Rattle.std.proofs.Common.{◌≡◌, ◌++◌, length}
-use Rattle.collector_text.specs.Digits.{pairs_of}
-use Rattle.collector_text.proofs.values.put_hex.Given as goal
+use Rattle.text_values.specs.Digits.{pairs_of}
+use Rattle.text_values.proofs.values.put_hex.Given as goal
 
 abbrev pub invariant-loop-left : goal.invariant-loop-left
 invariant-loop-left l = l.out.items ++ pairs_of l.left ≡ l.initial.out.items ++ pairs_of l.bytes

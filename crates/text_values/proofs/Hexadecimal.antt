@@ -6,8 +6,8 @@ use Rattle.std.proofs.lemmas.Bool.{and_parts}
 use Rattle.std.proofs.lemmas.List.{take_rest}
 use Rattle.std.proofs.lemmas.Slice.Eq.{bytes_eq-Decides}
 use Rattle.text_model.specs.Text.{hex_text}
-use Rattle.collector_text.specs.Digits.{pair_of, pairs_of}
-use Rattle.collector_text.specs.declared.values.TheConstants.{PAIRS}
+use Rattle.text_values.specs.Digits.{pair_of, pairs_of}
+use Rattle.text_values.specs.declared.values.TheConstants.{PAIRS}
 
 -- ---- the table
 row_in_table : (rows : List (List ℕ)) (none : List ℕ) (n i : ℕ) → list_all (λ (entry : ℕ × List ℕ). bytes_eq entry.1 (pair_of entry.0)) (enumerate_from n rows) ≡ true → i < length rows → get_or rows i none ≡ pair_of (n + i)

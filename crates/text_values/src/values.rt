@@ -2,7 +2,7 @@
 ghost use Rattle.std.specs.Prelude.{◌≡◌, ◌++◌, OnOk};
 ghost use Rattle.std.specs.Fmt.{decimal};
 ghost use Rattle.text_model.specs.Text.{hex_text};
-ghost use Rattle.collector_text.specs.Digits.{pair_of, pairs_of};
+ghost use Rattle.text_values.specs.Digits.{pair_of, pairs_of};
 
 use itoa::Buffer;
 use trace_model::NoMemory;

@@ -1,6 +1,6 @@
 use Rattle.std.proofs.Common.{◌≡◌, ◌++◌, OnOk, List, ℕ, subst}
-use Rattle.collector_text.proofs.Hexadecimal.{payload_digits}
-use Rattle.collector_text.proofs.values.put_payload.Goals as goal
+use Rattle.text_values.proofs.Hexadecimal.{payload_digits}
+use Rattle.text_values.proofs.values.put_payload.Goals as goal
 
 pub returns : goal.returns
 returns c =

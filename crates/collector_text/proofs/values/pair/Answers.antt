@@ -1,6 +1,0 @@
-use Rattle.std.proofs.Common.{arith}
-use Rattle.collector_text.proofs.Hexadecimal.{pair_in_table}
-use Rattle.collector_text.proofs.values.pair.Goals as goal
-
-pub returns : goal.returns
-returns c = pair_in_table c.args.byte _ (omega arith)

@@ -1,0 +1,6 @@
+//! Numbers and payloads as text: what every printed line is made of.
+#![tactic(auto)]
+
+mod values;
+
+pub use values::{put_number, put_payload};
