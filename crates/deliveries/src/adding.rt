@@ -1,0 +1,30 @@
+//! A parcel is added to a collector.
+ghost use Rattle.std.specs.Prelude.{◌≡◌, ◌++◌, [], ◌∷◌, IfOk};
+ghost use Rattle.trace_model.specs.Collection.{Agree};
+ghost use Rattle.deliveries.specs.Deliveries.{Adds};
+
+use collector::{AddFault, Added, Collector};
+use page_numbers::Parcel;
+use trace_model::NoMemory;
+
+/// The fault of parcels that aren't at odds.
+fn refused(fault: AddFault) -> NoMemory
+    requires { fault ≡ AddFault.NoMemory }
+{
+    match fault {
+        AddFault::NoMemory => NoMemory,
+        AddFault::Clash(_, _) => unreachable!(),
+        AddFault::TakenAndMissing(_, _) => unreachable!(),
+    }
+}
+
+/// Adds a parcel that is at odds with none.
+pub fn collect(collector: &mut Collector, parcel: &Parcel) -> Result<Added, NoMemory>
+    requires { Agree (collector.old ++ parcel.now ∷ []) }
+    ensures { IfOk result (λ added. Adds added collector.old parcel.now collector.new) }
+{
+    match collector.add(parcel.share()?) {
+        Ok(added) => Ok(added),
+        Err(fault) => Err(refused(fault)),
+    }
+}
