@@ -1,0 +1,8 @@
+//! The command `dump`: a page image in, its printing out.
+#![tactic(auto)]
+
+mod dump;
+pub mod laws;
+mod printer;
+
+pub use dump::dump_to;
