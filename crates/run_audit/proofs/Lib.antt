@@ -1,0 +1,5 @@
+mod LeastFaults
+mod Flat
+mod EqualRecords
+mod Sums
+mod Answered

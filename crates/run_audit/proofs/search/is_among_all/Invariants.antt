@@ -1,0 +1,7 @@
+use Rattle.std.proofs.Common.{take}
+use Rattle.std.specs.Prelude.{Contains}
+use Rattle.run_audit.specs.Audit.{taken_in}
+use Rattle.run_audit.proofs.search.is_among_all.Given as goal
+
+abbrev pub invariant-loop-ledger : goal.invariant-loop-ledger
+invariant-loop-ledger l = Contains (taken_in (take l.ledger-index l.ledgers)) l.parcel → ⊥

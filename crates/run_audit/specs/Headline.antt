@@ -1,0 +1,55 @@
+-- What an audit without a fault says of a collector, if the ledgers are those of rings.
+use Rattle.std.specs.Prelude.{◌≡◌, ℕ, ◌≤◌, ◌↔◌, List, length, map, Contains, Some}
+use Rattle.std.specs.List.{slice_get}
+use Rattle.trace_model.specs.Record.{Record}
+use Rattle.trace_model.specs.History.{Action, committed_records}
+use Rattle.trace_model.specs.Parcel.{Parcel}
+use Rattle.trace_model.specs.Collection.{Has, Misses}
+use Rattle.trace_model.specs.Ring.{Core}
+use Rattle.trace_model.specs.Window.{Deed}
+use Rattle.link_marks.specs.Reached.{IsReached}
+use Rattle.world_model.specs.World.{parcel_of}
+use Rattle.world_model.specs.Headline.{StandsIn, IsOverwrittenBefore, IsCut}
+use Rattle.run_audit.specs.declared.ledger.Ledger.{Ledger}
+
+-- Each ledger is that of a ring of n pages: steps led from a new ring to a state in which its reader had taken these
+-- parcels, in this order.
+abbrev pub AreOfRings : (n size start : ℕ) → (ℕ → Core) → List Ledger → Type 0
+AreOfRings n size start cores ledgers = (cpu : ℕ) (ledger : Ledger)
+    → slice_get ledgers cpu ≡ Some ledger
+    → IsReached n size start (cores cpu)
+    × (ledger.taken.items ≡ map (parcel_of cpu) (cores cpu).reader.taken)
+
+-- What is kept has the committed records of a CPU that are in a fill that was taken, under their own numbers, and no
+-- others; and it misses the numbers that were overwritten unread before such a fill, and no others.
+pub record KeepsExactly (history : List Action) (start : ℕ) (deeds : List Deed) (cpu : ℕ) (kept taken : List Parcel)
+    : Type 0 where
+  pub has : (number : ℕ) (r : Record)
+      → Has kept cpu number r
+      ↔ ((slice_get (committed_records history) number ≡ Some r)
+      × (parcel : Parcel)
+      × Contains taken parcel
+      × StandsIn history start parcel.fill number)
+  pub misses : (number : ℕ)
+      → Misses kept cpu number
+      ↔ ((parcel : Parcel)
+      × Contains taken parcel
+      × IsOverwrittenBefore history start deeds parcel.fill number)
+
+-- The history of a CPU's ring is cut into the parcels that were taken from it, and of that CPU exactly this is kept.
+pub record IsKept (n size start cpu : ℕ) (history : List Action) (kept taken : List Parcel) : Type 0 where
+  pub cut : IsCut n size start history taken
+  pub exact : KeepsExactly history start cut.deeds cpu kept taken
+
+-- nothing of this CPU is kept
+pub record IsUnknown (cpu : ℕ) (kept : List Parcel) : Type 0 where
+  pub no_record : (number : ℕ) (r : Record) → Has kept cpu number r → ⊥
+  pub not_missing : (number : ℕ) → Misses kept cpu number → ⊥
+
+-- The headline, of a collector that was audited: of each CPU with a ledger it keeps exactly what was taken from that
+-- CPU's ring, and nothing of any other CPU.
+pub record IsHeadline (n size start : ℕ) (cores : ℕ → Core) (kept : List Parcel) (ledgers : List Ledger) : Type 0 where
+  pub each : (cpu : ℕ) (ledger : Ledger)
+      → slice_get ledgers cpu ≡ Some ledger
+      → IsKept n size start cpu (cores cpu).history kept ledger.taken.items
+  pub no_others : (cpu : ℕ) → length ledgers ≤ cpu → IsUnknown cpu kept

@@ -1,0 +1,4 @@
+pub mod Audit
+pub mod Order
+pub mod Least
+pub mod Headline
