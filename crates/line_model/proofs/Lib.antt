@@ -1,0 +1,26 @@
+-- lines make runs of the window
+pub mod LineWindows
+-- what one call makes
+pub mod StepsMake
+pub mod EventsMade
+pub mod CallEventsMade
+-- the calls of a line are its part
+pub mod CallParts
+pub mod PushParts
+pub mod CloseParts
+pub mod PartsJoined
+pub mod LineCallsMade
+-- which records whole lines commit
+pub mod FewFills
+pub mod WrittenSteps
+pub mod WrittenLines
+-- what writers commit
+pub mod WriterHistories
+-- a frame that is alone
+pub mod NeedsDue
+pub mod SingleFrames
+-- examples
+pub mod ExamplesMade
+-- what a replay makes
+pub mod RunCalls
+pub mod ReplayedLines

@@ -1,0 +1,198 @@
+-- A push, and a whole `w` line, as parts of the lines' events.
+use Rattle.std.proofs.Common.{◌≡◌, ℕ, ◌≤◌, ◌<◌, ◌⊎◌, false, List, [], ◌∷◌, ◌++◌, length, refl, sym, ap, ◌∙◌, subst, inl, inr, arith}
+use Rattle.trace_model.specs.declared.limits.TheConstants.{MAX_FRAMES, MOMENT_LIMIT}
+use Rattle.trace_model.specs.History.{Action, push}
+use Rattle.trace_model.specs.Window.{Deed, acts}
+use Rattle.trace_model.specs.Frames.{for_record, waiting, idle, Refusal}
+use Rattle.trace_model.specs.Ring.{Core}
+use Rattle.trace_model.specs.Steps.{Event, pushes, pushes_close, steps, ends, reads, wishes, Answer, pushed, refused, IsTooLong, PushRefused, all_stand, has_no_room, comes_late, Step, push_step, push_refused, close_step, close_refused, frame_step, frame_lacks, end_step, end_lacks, end_early, read_step, wish_step}
+use Rattle.script_model.specs.Script.{begin_frame, write}
+use Rattle.line_model.specs.Lines.{LineState, frame_count, IsRefusedPush, IsQuiet, IsPush, begins, begins_none, writes, writes_none, LinePart}
+use Rattle.line_model.specs.WriterCalls.{Writer, writer_of, IsWriterCall}
+use Rattle.line_model.specs.CallEvents.{Agrees}
+use Rattle.line_model.specs.LineParts.{PushesMake, WritesMake}
+use Rattle.line_model.proofs.EventsMade.{count_frames}
+use Rattle.line_model.proofs.CallParts.{calls_finish}
+
+abbrev IsPushes : Event → Type 0
+IsPushes (pushes moment len) = Unit {0}
+IsPushes pushes_close = ⊥
+IsPushes steps = ⊥
+IsPushes (ends payload) = ⊥
+IsPushes reads = ⊥
+IsPushes wishes = ⊥
+
+abbrev moment_of : Event → ℕ
+moment_of (pushes moment len) = moment
+moment_of pushes_close = 0
+moment_of steps = 0
+moment_of (ends payload) = 0
+moment_of reads = 0
+moment_of wishes = 0
+
+abbrev len_of : Event → ℕ
+len_of (pushes moment len) = len
+len_of pushes_close = 0
+len_of steps = 0
+len_of (ends payload) = 0
+len_of reads = 0
+len_of wishes = 0
+
+-- the writer after the push
+abbrev pub writer_with : Writer → ℕ → ℕ → Writer
+writer_with s moment len =
+    record s {
+      frames = record { kind = for_record moment len; state = waiting; phase = idle } ∷ s.frames;
+      history = s.history ++ push moment len ∷ [];
+    }
+
+-- why a push is refused, by the writer
+abbrev pub Refuses : ℕ → Writer → ℕ → ℕ → Type 0
+Refuses size s moment len = (MAX_FRAMES ≤ length s.frames) ⊎ (IsTooLong size len ⊎ (MOMENT_LIMIT ≤ moment))
+
+abbrev pub Pushing : ℕ → Writer → ℕ → ℕ → Answer → Writer → Type 0
+Pushing size s moment len answer t =
+    ((answer ≡ pushed) × (Refuses size s moment len → ⊥) × (t ≡ writer_with s moment len))
+    ⊎ ((why : Refusal) × (answer ≡ refused why) × Refuses size s moment len × (t ≡ s))
+
+module _ (n size : ℕ) (c : Core) (moment len : ℕ) (answer : Answer) (after : Core) where
+  refuses_in : (m l : ℕ) (why : Refusal)
+      → m ≡ moment
+      → l ≡ len
+      → PushRefused size c m l why
+      → Refuses size (writer_of c) moment len
+  refuses_in m l why em el (all_stand many) = inl many
+  refuses_in m l why em el (has_no_room few long) = inr (inl (subst (IsTooLong size) el long))
+  refuses_in m l why em el (comes_late few short tardy) = inr (inr (omega arith))
+
+  none_refuse : (m l : ℕ)
+      → m ≡ moment
+      → l ≡ len
+      → length c.frames < MAX_FRAMES
+      → (IsTooLong size l → ⊥)
+      → m < MOMENT_LIMIT
+      → Refuses size (writer_of c) moment len
+      → ⊥
+  none_refuse m l em el few short early (inl many) = omega arith
+  none_refuse m l em el few short early (inr (inl long)) = short (subst (IsTooLong size) (sym el) long)
+  none_refuse m l em el few short early (inr (inr tardy)) = omega arith
+
+  pushing : Step n size c (pushes moment len) answer after
+      → Pushing size (writer_of c) moment len answer (writer_of after)
+  pushing (push_step m l e few short early a is) =
+      let em : m ≡ moment = sym (ap moment_of e) in let el : l ≡ len = sym (ap len_of e) in
+      inl (a, none_refuse m l em el few short early, ap writer_of is ∙ (λ i. writer_with (writer_of c) (em i) (el i)))
+  pushing (push_refused m l why e denied a is) =
+      inr (why, a, refuses_in m l why (sym (ap moment_of e)) (sym (ap len_of e)) denied, ap writer_of is)
+  pushing (close_step e few a is) = absurd (subst IsPushes e tt)
+  pushing (close_refused e many a is) = absurd (subst IsPushes e tt)
+  pushing (frame_step frame below e top made) = absurd (subst IsPushes e tt)
+  pushing (frame_lacks e none a is) = absurd (subst IsPushes e tt)
+  pushing (end_step paid frame below num m l e top state k slot a is) = absurd (subst IsPushes e tt)
+  pushing (end_lacks paid e none a is) = absurd (subst IsPushes e tt)
+  pushing (end_early paid frame below e top early a is) = absurd (subst IsPushes e tt)
+  pushing (read_step e made) = absurd (subst IsPushes e tt)
+  pushing (wish_step e a is) = absurd (subst IsPushes e tt)
+
+pub pushing_of : (n size start moment len : ℕ) (answer : Answer) (s u : Writer)
+    → IsWriterCall n size start s record { event = pushes moment len; answer = answer } u
+    → Pushing size s moment len answer u
+pushing_of n size start moment len answer s u call =
+    subst (λ (v : Writer). Pushing size s moment len answer v) call.after_is
+    (subst (λ (v : Writer). Pushing size v moment len answer (writer_of call.next)) call.before_is
+    (pushing n size call.core moment len answer call.next call.step))
+
+module _ (n size : ℕ) (payloads : List (List ℕ)) (s : Writer) (p : LineState) (agrees : Agrees n p payloads s)
+    (moment : ℕ) (payload : List ℕ) where
+  many : frame_count p ≡ length s.frames
+  many = count_frames s.frames payloads p.frames p.finishing agrees.frames
+
+  to_state : Refuses size s moment (length payload) → IsRefusedPush size p moment (length payload)
+  to_state (inl stand) = let e = many in inl (omega arith)
+  to_state (inr other) = inr other
+
+  to_part : IsRefusedPush size p moment (length payload) → Refuses size s moment (length payload)
+  to_part (inl stand) = let e = many in inl (omega arith)
+  to_part (inr other) = inr other
+
+  abbrev pushed_state : LineState
+  pushed_state =
+      record {
+        history = p.history ++ push moment (length payload) ∷ [];
+        window = p.window;
+        frames = record { payload = payload; stepped = false } ∷ p.frames;
+        finishing = p.finishing;
+      }
+
+  is_push : IsPush n (push moment (length payload)) payload p (acts (push moment (length payload)) ∷ []) pushed_state
+  is_push = record { acts_one = refl; window = (tt, refl); after_is = refl }
+
+  pushed_agrees : Agrees n pushed_state (payload ∷ payloads) (writer_with s moment (length payload))
+  pushed_agrees = record {
+    history = ap (λ (h : List Action). h ++ push moment (length payload) ∷ []) agrees.history;
+    done = agrees.done;
+    opened = agrees.opened;
+    window = agrees.window;
+    frames = inr (
+      record { payload = payload; stepped = false },
+      p.frames,
+      payloads,
+      record { not_left = λ e. cc; open_is = refl; payloads_are = refl; fresh = λ e. (refl, refl) },
+      agrees.frames,
+    );
+  }
+
+  quiet : IsQuiet n p [] p
+  quiet = record { acts_none = refl; window = refl; after_is = refl }
+
+pub pushes_make : PushesMake
+pushes_make n size start cpu moment payload answer s u payloads p agrees call =
+    by_push (pushing_of n size start moment (length payload) answer s u call)
+  where
+    by_push : Pushing size s moment (length payload) answer u
+        → ((answer ≡ pushed) × (behind : LineState)
+        × LinePart n size (begin_frame cpu moment payload) p (acts (push moment (length payload)) ∷ []) behind
+        × Agrees n behind (payload ∷ payloads) u)
+        ⊎ ((why : Refusal) × (answer ≡ refused why) × LinePart n size (begin_frame cpu moment payload) p [] p
+        × LinePart n size (write cpu moment payload) p [] p × Agrees n p payloads u)
+    by_push (inl (a, none, is)) = inl (
+      a,
+      pushed_state n size payloads s p agrees moment payload,
+      begins (λ no_room. none (to_part n size payloads s p agrees moment payload no_room))
+          (is_push n size payloads s p agrees moment payload),
+      subst (Agrees n (pushed_state n size payloads s p agrees moment payload) (payload ∷ payloads)) (sym is)
+          (pushed_agrees n size payloads s p agrees moment payload),
+    )
+    by_push (inr (why, a, because, is)) = inr (
+      why,
+      a,
+      begins_none (to_state n size payloads s p agrees moment payload because)
+          (quiet n size payloads s p agrees moment payload),
+      writes_none (to_state n size payloads s p agrees moment payload because)
+          (quiet n size payloads s p agrees moment payload),
+      subst (Agrees n p payloads) (sym is) agrees,
+    )
+
+pub writes_make : WritesMake
+writes_make n size start cpu moment payload s u payloads calls t lefts p agrees call called low =
+    by_push (pushing_of n size start moment (length payload) pushed s u call)
+  where
+    by_push : Pushing size s moment (length payload) pushed u
+        → (events : List Deed) × (behind : LineState) × LinePart n size (write cpu moment payload) p events behind
+        × Agrees n behind lefts t
+    by_push (inl (a, none, is)) =
+        let q : LineState = pushed_state n size payloads s p agrees moment payload in
+        let here : Agrees n q (payload ∷ payloads) u =
+        subst (Agrees n q (payload ∷ payloads)) (sym is)
+        (pushed_agrees n size payloads s p agrees moment payload) in
+        let (events, behind, part, after) =
+        calls_finish n size start (length s.frames) u (payload ∷ payloads) calls t lefts q here
+        (ap (λ (v : Writer). length v.frames) is) called (omega arith) in (
+          acts (push moment (length payload)) ∷ events,
+          behind,
+          writes (acts (push moment (length payload)) ∷ []) events q
+              (λ no_room. none (to_part n size payloads s p agrees moment payload no_room)) refl
+              (is_push n size payloads s p agrees moment payload) part,
+          after,
+        )
+    by_push (inr (why, a, because, is)) = absurd (let both : pushed ≡ refused why = a in cc)

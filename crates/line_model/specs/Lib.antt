@@ -1,0 +1,9 @@
+pub mod Lines
+pub mod WriterCalls
+pub mod CallEvents
+pub mod LineParts
+pub mod SingleFrames
+pub mod WrittenRecords
+pub mod WriterHistories
+pub mod LineExamples
+pub mod ReplayedLines

@@ -1,0 +1,149 @@
+-- The laws of lines, as statements: the calls of a writer for a line make the line's part of the history.
+use Rattle.std.specs.Prelude.{◌≡◌, ℕ, suc, ◌<◌, ◌≤◌, ◌⊎◌, ⊤, List, [], ◌∷◌, ◌++◌, length}
+use Rattle.trace_model.specs.History.{push}
+use Rattle.trace_model.specs.Frames.{for_record, Frame, Refusal}
+use Rattle.trace_model.specs.Window.{Deed, acts}
+use Rattle.trace_model.specs.Steps.{Answer, pushes, pushes_close, pushed, refused, Exchange}
+use Rattle.script_model.specs.Script.{Command, begin_frame, write, close}
+use Rattle.world_model.specs.Lanes.{event_on_top, payloads_left}
+use Rattle.line_model.specs.Lines.{LineState, first_state, FinishPart, LinePart, LineParts, FinishParts, IsMadeByLines}
+use Rattle.line_model.specs.WriterCalls.{Writer, first_writer, IsWriterCall, TopCalls, FinishCalls, LineCalls, LinesCalls, RestCalls}
+use Rattle.line_model.specs.CallEvents.{Agrees}
+
+-- ---- single calls
+
+-- Calls for the top frame until it is popped are a part as of `f`.
+abbrev pub CallsFinish : Type 0
+CallsFinish = (n size start depth : ℕ) (s : Writer) (payloads : List (List ℕ)) (calls : List Exchange) (t : Writer)
+    (lefts : List (List ℕ)) (p : LineState)
+    → Agrees n p payloads s
+    → length s.frames ≡ suc depth
+    → TopCalls n size start depth s payloads calls t lefts
+    → length t.frames < suc depth
+    → (events : List Deed) × (behind : LineState) × FinishPart n size p events behind × Agrees n behind lefts t
+
+-- A push is the part of a `b` line. If it is refused, there is no event, which is the part of a `b` and of a `w` line.
+abbrev pub PushesMake : Type 0
+PushesMake = (n size start cpu moment : ℕ) (payload : List ℕ) (answer : Answer) (s u : Writer)
+    (payloads : List (List ℕ)) (p : LineState)
+    → Agrees n p payloads s
+    → IsWriterCall n size start s record { event = pushes moment (length payload); answer = answer } u
+    → ((answer ≡ pushed)
+    × (behind : LineState)
+    × LinePart n size (begin_frame cpu moment payload) p (acts (push moment (length payload)) ∷ []) behind
+    × Agrees n behind (payload ∷ payloads) u)
+    ⊎ ((why : Refusal)
+    × (answer ≡ refused why)
+    × LinePart n size (begin_frame cpu moment payload) p [] p
+    × LinePart n size (write cpu moment payload) p [] p
+    × Agrees n p payloads u)
+
+-- A push, and calls until its frame is popped, are the part of a `w` line.
+abbrev pub WritesMake : Type 0
+WritesMake = (n size start cpu moment : ℕ) (payload : List ℕ) (s u : Writer) (payloads : List (List ℕ))
+    (calls : List Exchange) (t : Writer) (lefts : List (List ℕ)) (p : LineState)
+    → Agrees n p payloads s
+    → IsWriterCall n size start s record { event = pushes moment (length payload); answer = pushed } u
+    → TopCalls n size start (length s.frames) u (payload ∷ payloads) calls t lefts
+    → length t.frames ≤ length s.frames
+    → (events : List Deed) × (behind : LineState)
+    × LinePart n size (write cpu moment payload) p events behind
+    × Agrees n behind lefts t
+
+-- A close frame's push, and calls until it is popped, are the part of a `c` line; if it is refused, there is no event.
+abbrev pub ClosesMake : Type 0
+ClosesMake = (n size start cpu : ℕ) (answer : Answer) (s u : Writer) (payloads : List (List ℕ))
+    (calls : List Exchange) (t : Writer) (lefts : List (List ℕ)) (p : LineState)
+    → Agrees n p payloads s
+    → IsWriterCall n size start s record { event = pushes_close; answer = answer } u
+    → (answer ≡ pushed
+    → TopCalls n size start (length s.frames) u ([] ∷ payloads) calls t lefts
+    → length t.frames ≤ length s.frames
+    → (events : List Deed) × (behind : LineState)
+    × LinePart n size (close cpu) p events behind
+    × Agrees n behind lefts t)
+    × ((why : Refusal) → answer ≡ refused why → LinePart n size (close cpu) p [] p × Agrees n p payloads u)
+
+-- ---- lines
+
+-- all frames are record frames
+abbrev pub AreForRecords : List Frame → Type 0
+AreForRecords [] = ⊤
+AreForRecords (frame ∷ below) = ((moment : ℕ) × (len : ℕ) × (frame.kind ≡ for_record moment len)) × AreForRecords below
+
+-- Between two lines the state is that of the writer, and no close frame is on the stack: `c` finishes its frame.
+pub record IsBetweenLines (n : ℕ) (p : LineState) (payloads : List (List ℕ)) (s : Writer) : Type 0 where
+  pub agrees : Agrees n p payloads s
+  pub for_records : AreForRecords s.frames
+
+-- The first state is that of a new ring.
+abbrev pub StartIsBetweenLines : Type 0
+StartIsBetweenLines = (n start : ℕ)
+    → 1 ≤ n
+    → IsBetweenLines n (first_state start) [] (first_writer start)
+
+-- The calls of a line make its part.
+abbrev pub LineCallsMake : Type 0
+LineCallsMake = (n size start : ℕ) (line : Command) (s : Writer) (payloads : List (List ℕ)) (t : Writer)
+    (lefts : List (List ℕ)) (p : LineState)
+    → IsBetweenLines n p payloads s
+    → LineCalls n size start line s payloads t lefts
+    → (events : List Deed) × (q : LineState) × LinePart n size line p events q × IsBetweenLines n q lefts t
+
+-- The calls of lines make their parts.
+abbrev pub LinesCallsMake : Type 0
+LinesCallsMake = (n size start : ℕ) (lines : List Command) (s : Writer) (payloads : List (List ℕ)) (t : Writer)
+    (lefts : List (List ℕ)) (p : LineState)
+    → IsBetweenLines n p payloads s
+    → LinesCalls n size start lines s payloads t lefts
+    → (events : List Deed) × (q : LineState) × LineParts n size lines p events q × IsBetweenLines n q lefts t
+
+-- The frames that are left at the end are finished by parts as of `f`.
+abbrev pub RestCallsMake : Type 0
+RestCallsMake = (n size start count : ℕ) (s : Writer) (payloads : List (List ℕ)) (t : Writer)
+    (lefts : List (List ℕ)) (p : LineState)
+    → IsBetweenLines n p payloads s
+    → RestCalls n size start count s payloads t lefts
+    → (events : List Deed) × (q : LineState) × FinishParts n size count p events q × IsBetweenLines n q lefts t
+
+-- One more line after others.
+abbrev pub PartsGoOn : Type 0
+PartsGoOn = (n size : ℕ) (lines : List Command) (line : Command) (p q t : LineState) (events more : List Deed)
+    → LineParts n size lines p events q
+    → LinePart n size line q more t
+    → LineParts n size (lines ++ line ∷ []) p (events ++ more) t
+
+-- One more call for the top frame after others; one more line's calls; and one more frame that is finished at the end.
+abbrev pub TopCallsGoOn : Type 0
+TopCallsGoOn = (n size start depth : ℕ) (s : Writer) (payloads : List (List ℕ)) (calls : List Exchange) (t : Writer)
+    (lefts : List (List ℕ)) (x : Exchange) (u : Writer)
+    → TopCalls n size start depth s payloads calls t lefts
+    → length t.frames ≡ suc depth
+    → x.event ≡ event_on_top t.frames lefts
+    → IsWriterCall n size start t x u
+    → TopCalls n size start depth s payloads (calls ++ x ∷ []) u (payloads_left u.frames lefts)
+
+abbrev pub LinesCallsGoOn : Type 0
+LinesCallsGoOn = (n size start : ℕ) (lines : List Command) (line : Command) (s : Writer) (payloads : List (List ℕ))
+    (t : Writer) (lefts : List (List ℕ)) (u : Writer) (others : List (List ℕ))
+    → LinesCalls n size start lines s payloads t lefts
+    → LineCalls n size start line t lefts u others
+    → LinesCalls n size start (lines ++ line ∷ []) s payloads u others
+
+abbrev pub RestCallsGoOn : Type 0
+RestCallsGoOn = (n size start count : ℕ) (s : Writer) (payloads : List (List ℕ)) (t : Writer)
+    (lefts : List (List ℕ)) (u : Writer) (others : List (List ℕ))
+    → RestCalls n size start count s payloads t lefts
+    → FinishCalls n size start t lefts u others
+    → RestCalls n size start (suc count) s payloads u others
+
+-- From a new ring, the calls of lines, and then calls that finish the frames which are left until the stack is empty,
+-- make the history of these lines.
+abbrev pub WriterMakesLines : Type 0
+WriterMakesLines = (n size start count : ℕ) (lines : List Command) (s : Writer) (payloads : List (List ℕ))
+    (t : Writer) (lefts : List (List ℕ))
+    → 1 ≤ n
+    → LinesCalls n size start lines (first_writer start) [] s payloads
+    → RestCalls n size start count s payloads t lefts
+    → t.frames ≡ []
+    → IsMadeByLines n size start lines t.history

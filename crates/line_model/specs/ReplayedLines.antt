@@ -1,0 +1,65 @@
+-- What a replay makes of a CPU's writer lines is a history of these lines, as statements.
+use Rattle.std.specs.Prelude.{◌≡◌, ℕ, ◌+◌, ◌≤◌, List, [], length, map, All, Some}
+use Rattle.std.specs.List.{slice_get}
+use Rattle.trace_model.specs.declared.limits.TheConstants.{LINK_FILLS}
+use Rattle.trace_model.specs.History.{committed_records}
+use Rattle.trace_model.specs.Steps.{Exchange}
+use Rattle.script_model.specs.Script.{Command, Script}
+use Rattle.script_model.specs.ScriptLimits.{IsCommandWithin, IsWithinLimits}
+use Rattle.link_marks.specs.Reached.{IsReached}
+use Rattle.world_model.specs.Lanes.{Lane, HasPayloads, LineRun}
+use Rattle.world_model.specs.World.{World, WorldBehind, WorldOf}
+use Rattle.line_model.specs.Lines.{writer_lines, IsBegunByLines, IsMadeByLines}
+use Rattle.line_model.specs.WriterCalls.{writer_of, LineCalls}
+use Rattle.line_model.specs.WrittenRecords.{AreWhole, records_of_lines}
+
+-- What a replay's line has with its ring are, for the ring's writer, the calls of that line.
+abbrev pub LineRunsAreCalls : Type 0
+LineRunsAreCalls = (n size start cpus collectors : ℕ) (line : Command) (before after : Lane)
+    (exchanges : List Exchange)
+    → IsReached n size start before.core
+    → HasPayloads before
+    → IsCommandWithin cpus collectors line
+    → LineRun n size line before exchanges after
+    → LineCalls n size start line (writer_of before.core) before.payloads (writer_of after.core) after.payloads
+
+-- the commands of lines
+abbrev pub commands_of : List (ℕ × Command) → List Command
+commands_of lines = map (λ line. line.1) lines
+
+-- After any lines of a script, the history of a CPU's ring is begun by the lines of its writer; and if no frame is on
+-- the stack, it is made by them.
+abbrev pub ReplayMakesLines : Type 0
+ReplayMakesLines = (script : Script) (lines : List (ℕ × Command)) (w : World) (cpu : ℕ) (lane : Lane)
+    → IsWithinLimits script
+    → All (λ line. IsCommandWithin script.cpus script.collectors line.1) lines
+    → WorldBehind script lines w
+    → slice_get w.lanes cpu ≡ Some lane
+    → IsBegunByLines script.pages script.size script.start (writer_lines cpu (commands_of lines)) lane.core.history
+    × (lane.core.frames ≡ []
+    → IsMadeByLines script.pages script.size script.start (writer_lines cpu (commands_of lines)) lane.core.history)
+
+-- For a CPU with `w` and `c` lines alone, at most as many as there are numbers left for fills, the committed records
+-- are exactly those of its `w` lines that are neither too long nor too late, in order, moments raised.
+abbrev pub ReplayCommitsWholeLines : Type 0
+ReplayCommitsWholeLines = (script : Script) (lines : List (ℕ × Command)) (w : World) (cpu : ℕ) (lane : Lane)
+    → IsWithinLimits script
+    → All (λ line. IsCommandWithin script.cpus script.collectors line.1) lines
+    → WorldBehind script lines w
+    → slice_get w.lanes cpu ≡ Some lane
+    → AreWhole (writer_lines cpu (commands_of lines))
+    → script.start + length (writer_lines cpu (commands_of lines)) + script.pages ≤ LINK_FILLS
+    → committed_records lane.core.history
+    ≡ records_of_lines script.size 0 (writer_lines cpu (commands_of lines))
+
+-- After all lines of a script its CPUs' histories are begun, or made, by the lines of their writers.
+abbrev pub WorldsMakeLines : Type 0
+WorldsMakeLines = (script : Script) (w : World) (cpu : ℕ) (lane : Lane)
+    → IsWithinLimits script
+    → WorldOf script w
+    → slice_get w.lanes cpu ≡ Some lane
+    → IsBegunByLines script.pages script.size script.start (writer_lines cpu (commands_of script.commands))
+    lane.core.history
+    × (lane.core.frames ≡ []
+    → IsMadeByLines script.pages script.size script.start (writer_lines cpu (commands_of script.commands))
+    lane.core.history)

@@ -1,0 +1,139 @@
+-- The calls of a writer for its lines, whatever the reader does between them.
+-- docs/FORMATS.md, "Writer frames".
+use Rattle.std.specs.Prelude.{◌≡◌, ℕ, zero, suc, ◌+◌, ◌≤◌, List, [], ◌∷◌, length}
+use Rattle.trace_model.specs.History.{Action}
+use Rattle.trace_model.specs.Frames.{Frame, Refusal}
+use Rattle.trace_model.specs.Ring.{Core}
+use Rattle.trace_model.specs.Steps.{Event, pushes, pushes_close, pushed, refused, Step, Exchange}
+use Rattle.script_model.specs.Script.{Command, begin_frame, step_frame, finish_frame, write, close, step_reader, take_page, wish, deliver}
+use Rattle.link_marks.specs.Reached.{IsReached}
+use Rattle.world_model.specs.Lanes.{event_on_top, payloads_left}
+
+-- The part of a ring that its writer alone changes, as far as lines are concerned: its frames, its history, and the
+-- counts of closed and begun fills.
+pub record Writer : Type 0 where
+  pub frames : List Frame
+  pub history : List Action
+  pub done : ℕ
+  pub opened : ℕ
+
+abbrev pub writer_of : Core → Writer
+writer_of c = record { frames = c.frames; history = c.history; done = c.done; opened = c.opened }
+
+-- the writer of a new ring
+abbrev pub first_writer : ℕ → Writer
+first_writer start = record { frames = []; history = []; done = start; opened = start + 1 }
+
+-- One call: a step of some ring that steps reach. The ring has the one writer before it and the other after it.
+pub record IsWriterCall (n size start : ℕ) (before : Writer) (x : Exchange) (after : Writer) : Type 0 where
+  pub core : Core
+  pub next : Core
+  pub reached : IsReached n size start core
+  pub before_is : writer_of core ≡ before
+  pub step : Step n size core x.event x.answer next
+  pub after_is : writer_of next ≡ after
+
+-- Calls for the frame that has depth frames below it, while it is on the stack: its steps, and the end with its
+-- payload. The frames on the stack have these payloads before the calls, the top one's first, and lefts after them.
+abbrev pub TopCalls : (n size start depth : ℕ) → Writer → (payloads : List (List ℕ)) → List Exchange → Writer
+    → (lefts : List (List ℕ)) → Type 0
+TopCalls n size start depth before payloads [] after lefts = (before ≡ after) × (payloads ≡ lefts)
+TopCalls n size start depth before payloads (x ∷ calls) after lefts =
+    (length before.frames ≡ suc depth)
+    × (x.event ≡ event_on_top before.frames payloads)
+    × (between : Writer)
+    × IsWriterCall n size start before x between
+    × TopCalls n size start depth between (payloads_left between.frames payloads) calls after lefts
+
+-- ---- the calls of a line
+
+-- `s K`: at most K calls for the top frame; none if there is no frame
+pub data StepsCalls (n size start count : ℕ) (before : Writer) (payloads : List (List ℕ)) (after : Writer)
+    (lefts : List (List ℕ))
+    : Type 0 where
+  none_to_step : before.frames ≡ []
+      → after ≡ before
+      → lefts ≡ payloads
+      → StepsCalls n size start count before payloads after lefts
+  steps_top : (depth : ℕ) (x : Exchange) (calls : List Exchange)
+      → length before.frames ≡ suc depth
+      → TopCalls n size start depth before payloads (x ∷ calls) after lefts
+      → suc (length calls) ≤ count
+      → StepsCalls n size start count before payloads after lefts
+
+-- `f`: calls for the top frame until it is popped; none if there is no frame
+pub data FinishCalls (n size start : ℕ) (before : Writer) (payloads : List (List ℕ)) (after : Writer)
+    (lefts : List (List ℕ))
+    : Type 0 where
+  none_to_finish : before.frames ≡ []
+      → after ≡ before
+      → lefts ≡ payloads
+      → FinishCalls n size start before payloads after lefts
+  finishes_top : (depth : ℕ) (calls : List Exchange)
+      → length before.frames ≡ suc depth
+      → TopCalls n size start depth before payloads calls after lefts
+      → length after.frames ≤ depth
+      → FinishCalls n size start before payloads after lefts
+
+-- `b`: the push of a frame with this payload; or its refusal
+pub data BeginCalls (n size start : ℕ) (event : Event) (payload : List ℕ) (before : Writer) (payloads : List (List ℕ))
+    (after : Writer) (lefts : List (List ℕ))
+    : Type 0 where
+  begins_frame :
+      IsWriterCall n size start before record { event = event; answer = pushed } after
+      → lefts ≡ payload ∷ payloads
+      → BeginCalls n size start event payload before payloads after lefts
+  begins_none : (why : Refusal)
+      → IsWriterCall n size start before record { event = event; answer = refused why } after
+      → lefts ≡ payloads
+      → BeginCalls n size start event payload before payloads after lefts
+
+-- `w` and `c`: the push and then as `f`; or its refusal
+pub data WholeCalls (n size start : ℕ) (event : Event) (payload : List ℕ) (before : Writer) (payloads : List (List ℕ))
+    (after : Writer) (lefts : List (List ℕ))
+    : Type 0 where
+  writes_frame : (between : Writer)
+      → IsWriterCall n size start before record { event = event; answer = pushed } between
+      → FinishCalls n size start between (payload ∷ payloads) after lefts
+      → WholeCalls n size start event payload before payloads after lefts
+  writes_none : (why : Refusal)
+      → IsWriterCall n size start before record { event = event; answer = refused why } after
+      → lefts ≡ payloads
+      → WholeCalls n size start event payload before payloads after lefts
+
+-- nothing is called
+abbrev pub NoCalls : Writer → List (List ℕ) → Writer → List (List ℕ) → Type 0
+NoCalls before payloads after lefts = (after ≡ before) × (lefts ≡ payloads)
+
+-- the calls of one line; for a line of the reader or of a collector there are none
+abbrev pub LineCalls : (n size start : ℕ) → Command → Writer → List (List ℕ) → Writer → List (List ℕ) → Type 0
+LineCalls n size start (begin_frame cpu moment payload) before payloads after lefts =
+    BeginCalls n size start (pushes moment (length payload)) payload before payloads after lefts
+LineCalls n size start (step_frame cpu count) before payloads after lefts =
+    StepsCalls n size start count before payloads after lefts
+LineCalls n size start (finish_frame cpu) before payloads after lefts =
+    FinishCalls n size start before payloads after lefts
+LineCalls n size start (write cpu moment payload) before payloads after lefts =
+    WholeCalls n size start (pushes moment (length payload)) payload before payloads after lefts
+LineCalls n size start (close cpu) before payloads after lefts =
+    WholeCalls n size start pushes_close [] before payloads after lefts
+LineCalls n size start (step_reader cpu count) before payloads after lefts = NoCalls before payloads after lefts
+LineCalls n size start (take_page cpu) before payloads after lefts = NoCalls before payloads after lefts
+LineCalls n size start (wish cpu) before payloads after lefts = NoCalls before payloads after lefts
+LineCalls n size start (deliver collector cpu fill) before payloads after lefts = NoCalls before payloads after lefts
+
+-- the calls of lines, one line after the other
+abbrev pub LinesCalls : (n size start : ℕ) → List Command → Writer → List (List ℕ) → Writer → List (List ℕ) → Type 0
+LinesCalls n size start [] before payloads after lefts = NoCalls before payloads after lefts
+LinesCalls n size start (line ∷ lines) before payloads after lefts =
+    (between : Writer) × (middle : List (List ℕ))
+    × LineCalls n size start line before payloads between middle
+    × LinesCalls n size start lines between middle after lefts
+
+-- the frames on the stack are finished, the top one first, this number of them
+abbrev pub RestCalls : (n size start count : ℕ) → Writer → List (List ℕ) → Writer → List (List ℕ) → Type 0
+RestCalls n size start zero before payloads after lefts = NoCalls before payloads after lefts
+RestCalls n size start (suc count) before payloads after lefts =
+    (between : Writer) × (middle : List (List ℕ))
+    × FinishCalls n size start before payloads between middle
+    × RestCalls n size start count between middle after lefts

@@ -1,0 +1,125 @@
+-- Which records the `w` and `c` lines of a CPU commit. docs/FORMATS.md, "Script" and "Writer frames".
+use Rattle.std.specs.Prelude.{◌≡◌, ◌≢◌, ℕ, max, ◌+◌, ◌≤◌, ◌⊎◌, ⊤, Bool, IsTrue, true, false, ◌&&◌, if◌then◌else◌, nat_le, nat_lt, List, [], ◌∷◌, ◌++◌, length}
+use Rattle.trace_model.specs.declared.limits.TheConstants.{MIN_PAGES, MOMENT_LIMIT, LINK_FILLS}
+use Rattle.trace_model.specs.Record.{Record}
+use Rattle.trace_model.specs.Words.{padded, encoded_len}
+use Rattle.trace_model.specs.History.{Action, IsHistory, is_settled, reserved_records, committed_records, last_moment}
+use Rattle.trace_model.specs.Packing.{tail_of, IsPacked}
+use Rattle.trace_model.specs.Window.{Window, Deed, actions_of, WindowRun}
+use Rattle.script_model.specs.Script.{Command, begin_frame, step_frame, finish_frame, write, close, step_reader, take_page, wish, deliver}
+use Rattle.line_model.specs.Lines.{LineState, first_state, LinePart, LineParts, IsBegunByLines, IsMadeByLines}
+
+-- ---- the records of lines
+
+-- a record of len bytes is neither too long for an empty page of this size, nor is its moment too late
+abbrev pub is_recorded : (size moment len : ℕ) → Bool
+is_recorded size moment len =
+    nat_le len size && (nat_le (encoded_len len 0 true) size && nat_lt moment MOMENT_LIMIT)
+
+-- the record of a `w` line after one of moment last: its own moment, raised to that, and its payload in whole words
+abbrev pub record_of : (last moment : ℕ) → List ℕ → Record
+record_of last moment payload = record { moment = max moment last; bytes = padded payload }
+
+-- what one line adds to the records
+abbrev pub records_of_line : (size last : ℕ) → Command → List Record
+records_of_line size last (begin_frame cpu moment payload) = []
+records_of_line size last (step_frame cpu count) = []
+records_of_line size last (finish_frame cpu) = []
+records_of_line size last (write cpu moment payload) =
+    if is_recorded size moment (length payload) then record_of last moment payload ∷ [] else []
+records_of_line size last (close cpu) = []
+records_of_line size last (step_reader cpu count) = []
+records_of_line size last (take_page cpu) = []
+records_of_line size last (wish cpu) = []
+records_of_line size last (deliver collector cpu fill) = []
+
+-- The records of the `w` lines that are neither too long nor too late, in order, moments raised.
+abbrev pub records_of_lines : (size last : ℕ) → List Command → List Record
+records_of_lines size last [] = []
+records_of_lines size last (begin_frame cpu moment payload ∷ lines) = records_of_lines size last lines
+records_of_lines size last (step_frame cpu count ∷ lines) = records_of_lines size last lines
+records_of_lines size last (finish_frame cpu ∷ lines) = records_of_lines size last lines
+records_of_lines size last (write cpu moment payload ∷ lines) =
+    if is_recorded size moment (length payload)
+    then record_of last moment payload ∷ records_of_lines size (max moment last) lines
+    else records_of_lines size last lines
+records_of_lines size last (close cpu ∷ lines) = records_of_lines size last lines
+records_of_lines size last (step_reader cpu count ∷ lines) = records_of_lines size last lines
+records_of_lines size last (take_page cpu ∷ lines) = records_of_lines size last lines
+records_of_lines size last (wish cpu ∷ lines) = records_of_lines size last lines
+records_of_lines size last (deliver collector cpu fill ∷ lines) = records_of_lines size last lines
+
+-- a `w` or a `c` line
+abbrev pub IsWhole : Command → Type 0
+IsWhole (begin_frame cpu moment payload) = ⊥
+IsWhole (step_frame cpu count) = ⊥
+IsWhole (finish_frame cpu) = ⊥
+IsWhole (write cpu moment payload) = ⊤
+IsWhole (close cpu) = ⊤
+IsWhole (step_reader cpu count) = ⊥
+IsWhole (take_page cpu) = ⊥
+IsWhole (wish cpu) = ⊥
+IsWhole (deliver collector cpu fill) = ⊥
+
+abbrev pub AreWhole : List Command → Type 0
+AreWhole [] = ⊤
+AreWhole (line ∷ lines) = IsWhole line × AreWhole lines
+
+-- ---- laws
+
+-- Fills that are begun are at most one more than the records, since each fill but the last has a record; and at most
+-- the records if the tail has one.
+abbrev pub FillsAreFew : Type 0
+FillsAreFew = (n size start : ℕ) (events : List Deed) (w : Window)
+    → WindowRun n start events w
+    → IsPacked (actions_of events) size
+    → (w.opened ≤ start + length (reserved_records (actions_of events)) + 1)
+    × (tail_of (actions_of events) ≢ [] → w.opened ≤ start + length (reserved_records (actions_of events)))
+
+-- No frame is on the stack, each push has its leave, and all fills but the tail are closed.
+pub record IsAtRest (p : LineState) : Type 0 where
+  pub frames : p.frames ≡ []
+  pub not_finishing : p.finishing ≡ false
+  pub settled : IsTrue (is_settled p.history)
+  pub closed : p.window.done + 1 ≡ p.window.opened
+
+-- A `w` or `c` line from rest commits exactly its record or none, and ends at rest. So a frame that is alone is never
+-- refused for want of a page; and only if records have taken the numbers of fills is it refused for want of a number.
+abbrev pub LinesFromRestCommit : Type 0
+LinesFromRestCommit = (n size start : ℕ) (lines : List Command) (line : Command) (p q : LineState)
+    (events more : List Deed)
+    → MIN_PAGES ≤ n
+    → IsWhole line
+    → LineParts n size lines (first_state start) events p
+    → IsAtRest p
+    → LinePart n size line p more q
+    → IsHistory q.history
+    → IsPacked q.history size
+    → IsAtRest q
+    × ((committed_records q.history
+    ≡ committed_records p.history ++ records_of_line size (last_moment (reserved_records p.history)) line)
+    ⊎ ((LINK_FILLS ≤ start + length (reserved_records p.history) + n)
+    × (committed_records q.history ≡ committed_records p.history)))
+
+-- Of a CPU that has only `w` and `c` lines, at most as many as there are numbers left for fills, the committed records
+-- are exactly those of its `w` lines that are neither too long nor too late, in order, moments raised.
+abbrev pub WholeLinesCommit : Type 0
+WholeLinesCommit = (n size start : ℕ) (lines : List Command) (history : List Action)
+    → MIN_PAGES ≤ n
+    → AreWhole lines
+    → start + length lines + n ≤ LINK_FILLS
+    → IsHistory history
+    → IsPacked history size
+    → IsMadeByLines n size start lines history
+    → committed_records history ≡ records_of_lines size 0 lines
+
+-- The same of the lines so far: a `w` or `c` line leaves no frame open.
+abbrev pub WholeLinesHaveCommitted : Type 0
+WholeLinesHaveCommitted = (n size start : ℕ) (lines : List Command) (history : List Action)
+    → MIN_PAGES ≤ n
+    → AreWhole lines
+    → start + length lines + n ≤ LINK_FILLS
+    → IsHistory history
+    → IsPacked history size
+    → IsBegunByLines n size start lines history
+    → committed_records history ≡ records_of_lines size 0 lines

@@ -1,0 +1,67 @@
+//! Laws over what the calls of a writer make.
+ghost use Rattle.std.specs.Prelude.{◌≡◌, ◌⊎◌, ℕ, Bool, List, ◌∷◌, length};
+ghost use Rattle.trace_model.specs.Frames.{Frame, waiting, left};
+ghost use Rattle.trace_model.specs.Ring.{Core};
+ghost use Rattle.trace_model.specs.Steps.{Answer, Step, steps};
+ghost use Rattle.link_marks.specs.RingKept.{IsRingKept};
+ghost use Rattle.line_model.specs.Lines.{OpenFrame};
+ghost use Rattle.line_model.specs.LineParts.{CallsFinish, ClosesMake, LineCallsMake, LinesCallsGoOn, LinesCallsMake, PartsGoOn, PushesMake, RestCallsGoOn, RestCallsMake, StartIsBetweenLines, TopCallsGoOn, WriterMakesLines, WritesMake};
+ghost use Rattle.line_model.specs.CallEvents.{AreOpenFrames, CallsMakeEvents, Makes};
+
+/// One step of the top frame, whatever frames are below it, makes one of a few things.
+pub fn steps_make()
+    ensures make { (n size start : ℕ) (c : Core) (frame : Frame) (below : List Frame) (answer : Answer) (after : Core) →
+        IsRingKept n size start c → c.frames ≡ frame ∷ below → (frame.state ≡ waiting) ⊎ (frame.state ≡ left) →
+        Step n size c steps answer after → Makes n size c frame below after }
+{}
+
+/// A state has as many frames as the ring that it agrees with.
+pub fn states_count_frames()
+    ensures count { (frames : List Frame) (payloads : List (List ℕ)) (xs : List OpenFrame) (finishing : Bool) →
+        AreOpenFrames frames payloads xs finishing → length payloads ≡ length frames }
+{}
+
+/// Each call for the top frame makes events of it, from a state that agrees with the writer to one that does again.
+pub fn calls_make_events()
+    ensures make { CallsMakeEvents }
+{}
+
+/// Calls for a frame until it is popped are a part as of `f`.
+pub fn calls_finish()
+    ensures finish { CallsFinish }
+{}
+
+/// A push is the part of a `b` line, or of a refused line; and with calls until its frame is popped that of a `w` or
+/// `c` line.
+pub fn pushes_make_parts()
+    ensures pushes { PushesMake }
+    ensures writes { WritesMake }
+    ensures closes { ClosesMake }
+{}
+
+/// Parts go on line by line, from the start.
+pub fn parts_go_on()
+    ensures one_more { PartsGoOn }
+    ensures start { StartIsBetweenLines }
+{}
+
+/// The calls of a line make its part, `f` and `s` included, also if there is no frame; so do the calls of lines, and
+/// those that finish the frames which are left.
+pub fn line_calls_make_parts()
+    ensures line { LineCallsMake }
+    ensures lines { LinesCallsMake }
+    ensures rest { RestCallsMake }
+{}
+
+/// A writer that makes the calls of its lines on a new ring, and then finishes the frames which are left, makes the
+/// history of these lines.
+pub fn writers_make_lines()
+    ensures whole { WriterMakesLines }
+{}
+
+/// Calls go on one by one: for the top frame, line by line, and for the frames that are finished at the end.
+pub fn calls_go_on()
+    ensures top { TopCallsGoOn }
+    ensures lines { LinesCallsGoOn }
+    ensures rest { RestCallsGoOn }
+{}

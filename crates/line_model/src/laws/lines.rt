@@ -1,0 +1,25 @@
+//! Laws over what lines make of a history.
+ghost use Rattle.std.specs.Prelude.{◌≡◌, ◌<◌, ℕ, List, length};
+ghost use Rattle.trace_model.specs.History.{Action};
+ghost use Rattle.trace_model.specs.Window.{Window, Deed, actions_of, WindowRun};
+ghost use Rattle.script_model.specs.Script.{Command};
+ghost use Rattle.line_model.specs.Lines.{IsMadeByLines};
+ghost use Rattle.line_model.specs.LineExamples.{OneWrite, RefusedBegin, BeginAndSteps, NestedFrames, DroppedWrite, RecordsOfThree};
+
+/// The definition holds of a line that writes, of one that is refused, of a frame that makes single steps, and of a
+/// nested frame; and it doesn't hold of a history that lacks a line's record. Which records lines write, by example.
+pub fn lines_make_histories()
+    ensures one_write { OneWrite }
+    ensures refused { (payload : List ℕ) → 32 < length payload → RefusedBegin payload }
+    ensures steps { BeginAndSteps }
+    ensures nested { NestedFrames }
+    ensures dropped { DroppedWrite → ⊥ }
+    ensures three { (payload : List ℕ) → 32 < length payload → RecordsOfThree payload }
+{}
+
+/// What lines make of a history is, with the fills that are closed, taken and lost meanwhile, a run of the window.
+pub fn lines_are_window_runs()
+    ensures run { (n size start : ℕ) (lines : List Command) (history : List Action) →
+        IsMadeByLines n size start lines history →
+        (events : List Deed) × (w : Window) × WindowRun n start events w × (actions_of events ≡ history) }
+{}
