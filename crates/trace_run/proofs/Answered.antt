@@ -12,7 +12,7 @@ use Rattle.script_model.specs.ScriptLimits.{IsWithinLimits}
 use Rattle.world_model.specs.World.{World}
 use Rattle.world_model.specs.Headline.{IsGenuineWorld}
 use Rattle.world_model.proofs.GenuineWorlds.{world_genuine, taken_agree}
-use Rattle.trace_run.specs.declared.log.LogLine.{LogLine}
+use Rattle.replay_log.specs.declared.line.LogLine.{LogLine}
 use Rattle.trace_run.specs.declared.script_replay.ReplayState.{ReplayState}
 use Rattle.trace_run.specs.Replay.{IsAmid, IsReplay, AreExact, AreAlike, Join, IsHeadline}
 

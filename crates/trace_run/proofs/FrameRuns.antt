@@ -16,8 +16,8 @@ use Rattle.world_model.proofs.FramesMove.{Moves, stays, changes, pops, step_move
 use Rattle.world_model.proofs.LanePayloads.{pushes_none}
 use Rattle.world_model.proofs.LineEnds.{frame_runs_short}
 use Rattle.ring_frames.specs.declared.answer.Answer.{Answer}
-use Rattle.trace_run.specs.declared.log.LogLine.{LogLine}
-use Rattle.trace_run.specs.LogTypes.{shown_log}
+use Rattle.replay_log.specs.declared.line.LogLine.{LogLine}
+use Rattle.replay_log.specs.LogTypes.{shown_log}
 use Rattle.trace_run.specs.Value.{LaneValue}
 use Rattle.trace_run.specs.Lanes.{IsLane, Happens, Has}
 use Rattle.trace_run.specs.Frames.{StepsOnce, FollowsFrame, IsAmid}

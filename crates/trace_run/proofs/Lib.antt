@@ -1,6 +1,4 @@
--- the replay: pages found by their fills; lanes in their places; what a line leads to; what is answered
-pub mod Searches
-pub mod Added
+-- the replay: lanes in their places; what a line leads to; what is answered
 pub mod LanePlaces
 pub mod Placed
 pub mod LinesObeyed

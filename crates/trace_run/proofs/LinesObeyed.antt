@@ -24,13 +24,14 @@ use Rattle.world_model.proofs.OneWorld.{lane_of, behind_next}
 use Rattle.world_model.proofs.GenuineWorlds.{world_genuine, taken_agree}
 use Rattle.collector.specs.declared.added.Added.{Added}
 use Rattle.collector.specs.declared.added.Added.TheVariants.{New, Known}
-use Rattle.trace_run.specs.declared.log.LogLine.{LogLine}
+use Rattle.replay_log.specs.declared.line.LogLine.{LogLine}
 use Rattle.trace_run.specs.declared.script_replay.ReplayState.{ReplayState}
-use Rattle.trace_run.specs.LogTypes.{shown_log, shown_log_line}
+use Rattle.replay_log.specs.LogTypes.{shown_log, shown_log_line}
 use Rattle.trace_run.specs.Value.{LaneValue}
 use Rattle.trace_run.specs.Lanes.{IsLaneOf, HasLine}
 use Rattle.trace_run.specs.Places.{lane_at, AreSameBut, IsLaneFrom, IsLaneAt}
-use Rattle.trace_run.specs.Collected.{AreRising, IsFound, Adds, delivery_of, IsCollected, AreCollected}
+use Rattle.deliveries.specs.Deliveries.{AreRising, Adds}
+use Rattle.trace_run.specs.Collected.{IsFound, delivery_of, IsCollected, AreCollected}
 use Rattle.trace_run.specs.Replay.{cpu_of, IsOfRing, IsAmid, IsReady, LeadsOn}
 use Rattle.trace_run.proofs.Placed.{from_is_lane, first_world, new_at, obeys_ring, place_rises, found_taken, not_taken}
 

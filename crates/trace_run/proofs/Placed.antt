@@ -21,7 +21,8 @@ use Rattle.world_model.proofs.WorldsKept.{IsWorldKept}
 use Rattle.trace_run.specs.Value.{LaneValue}
 use Rattle.trace_run.specs.Lanes.{IsLane}
 use Rattle.trace_run.specs.Places.{IsLaneFrom, IsLaneAt}
-use Rattle.trace_run.specs.Collected.{AreRising, IsFound}
+use Rattle.deliveries.specs.Deliveries.{AreRising}
+use Rattle.trace_run.specs.Collected.{IsFound}
 use Rattle.trace_run.specs.Replay.{cpu_of, IsOfRing}
 
 -- ---- new lanes

@@ -18,8 +18,8 @@ use Rattle.ring_core.specs.Value.{CoreValue}
 use Rattle.ring_frames.specs.Answers.{Tells}
 use Rattle.ring_core.specs.Answers.{event_of}
 use Rattle.ring_core.specs.Steps.{IsStep, Makes}
-use Rattle.trace_run.specs.declared.log.LogLine.{LogLine}
-use Rattle.trace_run.specs.LogTypes.{shown_log}
+use Rattle.replay_log.specs.declared.line.LogLine.{LogLine}
+use Rattle.replay_log.specs.LogTypes.{shown_log}
 use Rattle.trace_run.specs.Value.{LaneValue}
 use Rattle.trace_run.specs.Lanes.{IsLane, Happens}
 use Rattle.trace_run.specs.Frames.{IsPushOf, push_event, IsPushed, Pushes}

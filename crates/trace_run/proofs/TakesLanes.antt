@@ -23,8 +23,8 @@ use Rattle.ring_core.specs.IsCore.{IsCore}
 use Rattle.ring_frames.specs.Answers.{Tells}
 use Rattle.ring_core.specs.Answers.{GivesBack}
 use Rattle.ring_core.specs.Steps.{Makes}
-use Rattle.trace_run.specs.declared.log.LogLine.{LogLine}
-use Rattle.trace_run.specs.LogTypes.{shown_log}
+use Rattle.replay_log.specs.declared.line.LogLine.{LogLine}
+use Rattle.replay_log.specs.LogTypes.{shown_log}
 use Rattle.trace_run.specs.Value.{LaneValue}
 use Rattle.trace_run.specs.Lanes.{IsLane, IsLaneOf, Has}
 use Rattle.trace_run.specs.Takes.{ReadsOnce, MayKeep, Keeps}

@@ -9,8 +9,8 @@ use Rattle.script_model.specs.Script.{take_page}
 use Rattle.link_marks.specs.Ranks.{reader_limit}
 use Rattle.world_model.specs.Lanes.{Lane, lane_behind, ReaderRun, IsAnswered}
 use Rattle.world_model.proofs.LineEnds.{reader_runs_short}
-use Rattle.trace_run.specs.declared.log.LogLine.{LogLine}
-use Rattle.trace_run.specs.LogTypes.{shown_log}
+use Rattle.replay_log.specs.declared.line.LogLine.{LogLine}
+use Rattle.replay_log.specs.LogTypes.{shown_log}
 use Rattle.trace_run.specs.Value.{LaneValue}
 use Rattle.trace_run.specs.Lanes.{IsLaneOf, Has, HasLine}
 use Rattle.trace_run.specs.Takes.{ReadsOnce, ReadsOn, IsReading}

@@ -4,8 +4,8 @@ use Rattle.trace_model.specs.Steps as model
 use Rattle.world_model.specs.Log.{logged}
 use Rattle.ring_frames.specs.declared.answer.Answer.{Answer}
 use Rattle.ring_frames.specs.Answers.{Tells}
-use Rattle.trace_run.specs.declared.log.LogLine.{LogLine}
-use Rattle.trace_run.specs.LogTypes.{shown_log}
+use Rattle.replay_log.specs.declared.line.LogLine.{LogLine}
+use Rattle.replay_log.specs.LogTypes.{shown_log}
 
 -- it stands behind the log
 abbrev pub IsTold : (line cpu : ℕ) → Answer → List LogLine → List LogLine → Type 0

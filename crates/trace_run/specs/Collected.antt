@@ -1,30 +1,17 @@
 -- What is found among the pages that were taken, and what collectors keep of what was delivered to them.
-use Rattle.std.specs.Prelude.{◌≡◌, ℕ, ◌<◌, List, [], ◌∷◌, ◌++◌, length, Option, Some, None, Contains}
+use Rattle.std.specs.Prelude.{◌≡◌, ℕ, List, length, Option, Some, None, Contains}
 use Rattle.std.specs.List.{slice_get}
 use Rattle.trace_model.specs.Parcel.{Parcel}
-use Rattle.trace_model.specs.Collection.{IsBelow, IsSame}
+use Rattle.trace_model.specs.Collection.{IsSame}
 use Rattle.text_model.specs.Log.{Delivery, new_page, known_page}
 use Rattle.collector.specs.declared.added.Added.{Added}
 use Rattle.collector.specs.declared.added.Added.TheVariants.{New, Known}
 use Rattle.trace_run.specs.Value.{LaneValue}
 
--- the fills of parcels rise
-abbrev pub AreRising : List Parcel → Type 0
-AreRising parcels = (j k : ℕ) (earlier later : Parcel)
-    → j < k
-    → slice_get parcels j ≡ Some earlier
-    → slice_get parcels k ≡ Some later
-    → earlier.fill < later.fill
-
 -- the parcel of this fill was taken from the ring of a lane
 abbrev pub IsFound : Option LaneValue → (fill : ℕ) → Parcel → Type 0
 IsFound None fill parcel = ⊥
 IsFound (Some lane) fill parcel = Contains lane.taken parcel × (parcel.fill ≡ fill)
-
--- what a collector keeps behind a parcel that was added: the parcel too, where it adds something
-abbrev pub Adds : Added → (old : List Parcel) → Parcel → (new : List Parcel) → Type 0
-Adds New old parcel new = (IsBelow (parcel ∷ []) old → ⊥) × (new ≡ old ++ parcel ∷ [])
-Adds Known old parcel new = IsBelow (parcel ∷ []) old × (new ≡ old)
 
 -- what a delivery brings, by what becomes of its parcel
 abbrev pub delivery_of : Added → Delivery

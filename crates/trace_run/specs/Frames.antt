@@ -10,7 +10,7 @@ use Rattle.ring_frames.specs.declared.answer.Answer.{Answer}
 use Rattle.ring_core.specs.Value.{CoreValue}
 use Rattle.ring_frames.specs.Answers.{Tells}
 use Rattle.ring_core.specs.Steps.{IsStep}
-use Rattle.trace_run.specs.declared.log.LogLine.{LogLine}
+use Rattle.replay_log.specs.declared.line.LogLine.{LogLine}
 use Rattle.trace_run.specs.Value.{LaneValue}
 use Rattle.trace_run.specs.Lanes.{IsLane, Has}
 

@@ -7,8 +7,8 @@ use Rattle.world_model.specs.Lanes.{Lane, IsNewLane, HasPayloads, LineRun}
 use Rattle.world_model.specs.World.{parcel_of}
 use Rattle.world_model.specs.Log.{log_of}
 use Rattle.ring_core.specs.IsCore.{IsCore}
-use Rattle.trace_run.specs.declared.log.LogLine.{LogLine}
-use Rattle.trace_run.specs.LogTypes.{shown_log}
+use Rattle.replay_log.specs.declared.line.LogLine.{LogLine}
+use Rattle.replay_log.specs.LogTypes.{shown_log}
 use Rattle.trace_run.specs.Value.{LaneValue}
 
 -- The value is this lane of a CPU, whose ring has n pages of this size and the first fill start: the ring is the

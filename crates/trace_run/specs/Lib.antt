@@ -1,4 +1,3 @@
-pub mod LogTypes
 pub mod Value
 pub mod Lanes
 pub mod Frames

@@ -11,9 +11,9 @@ use Rattle.script_model.specs.ScriptLimits.{IsWithinLimits, IsCommandWithin}
 use Rattle.world_model.specs.Lanes.{Lane}
 use Rattle.world_model.specs.World.{World, WorldBehind, WorldOf}
 use Rattle.world_model.specs.Headline.{StandsIn, IsOverwrittenBefore, IsOneOf, IsGenuineWorld}
-use Rattle.trace_run.specs.declared.log.LogLine.{LogLine}
+use Rattle.replay_log.specs.declared.line.LogLine.{LogLine}
 use Rattle.trace_run.specs.declared.script_replay.ReplayState.{ReplayState}
-use Rattle.trace_run.specs.LogTypes.{shown_log}
+use Rattle.replay_log.specs.LogTypes.{shown_log}
 use Rattle.trace_run.specs.Places.{lane_at, IsLaneAt}
 use Rattle.trace_run.specs.Collected.{AreCollected}
 

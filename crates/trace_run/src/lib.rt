@@ -6,11 +6,10 @@
 
 mod delivery;
 mod lane;
-mod log;
 mod places;
 mod script_replay;
 mod world;
 
-pub use log::LogLine;
+pub use replay_log::LogLine;
 pub use script_replay::replay;
 pub use world::{ReplayFault, World};

@@ -2,8 +2,8 @@
 ghost use Rattle.std.specs.Prelude.{◌≡◌};
 ghost use Rattle.trace_run.specs.declared.world.ReplayFault.TheVariants.{NoMemory as no_memory};
 
-use crate::log::LogLine;
 use collector::Collector;
+use replay_log::LogLine;
 use thiserror::Error;
 use trace_model::NoMemory;
 

@@ -1,6 +1,7 @@
 //! A command of a script as it is kept.
 
 use crate::order::Order;
+use std::mem::size_of;
 
 /// A command as it is kept: 32 bytes, its payload aside.
 #[derive(Clone, Copy, Debug, PartialEq, Eq)]
@@ -11,3 +12,6 @@ pub struct KeptLine {
     pub end: usize,
     pub order: Order,
 }
+
+// A script of many lines takes so much for each.
+const _: () = prove!(size_of::<KeptLine>() == 32);

@@ -25,6 +25,3 @@ pub use fault::ScriptFault;
 pub use fault_line::put_fault;
 pub use read::read_script;
 pub use script::Script;
-
-#[cfg(test)]
-mod tests;

@@ -2,9 +2,9 @@
 ghost use Rattle.std.specs.Prelude.{◌≡◌, ◌≤◌, ◌-◌, ◌++◌, length, replicate};
 
 use crate::lane::Lane;
-use crate::log::{At, LogLine, tell, tell_refusal};
 use nested_writer::WriteFault;
 use nested_writer::frame::Slot;
+use replay_log::{At, LogLine, tell, tell_refusal};
 use ring_core::{Answer, Event};
 use trace_model::NoMemory;
 

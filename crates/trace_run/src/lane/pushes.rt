@@ -1,6 +1,6 @@
 //! Frames that are pushed.
 use crate::lane::Lane;
-use crate::log::{At, LogLine, tell};
+use replay_log::{At, LogLine, tell};
 use ring_core::{Answer, Event};
 use trace_model::NoMemory;
 

@@ -6,9 +6,9 @@ ghost use Rattle.page_numbers.specs.Parcels.{parcel_of};
 
 use crate::lane::Lane;
 use crate::lane::frames::MOST_STEPS;
-use crate::log::{At, LogLine, tell, tell_any};
 use page_image::{Body, Page};
 use page_numbers::{Parcel, ParcelFault};
+use replay_log::{At, LogLine, tell, tell_any};
 use ring_core::{Answer, Event};
 use std::alloc::Global;
 use trace_model::{CpuId, NoMemory};
