@@ -1,4 +1,2 @@
-pub mod Lines
 pub mod OneOutput
 pub mod Told
-pub mod ImageFaultLemmas

@@ -1,9 +1,8 @@
 -- A text has one output: what a command gives for it are the same bytes, with the same exit status.
 use Rattle.std.proofs.Common.{◌≡◌, ℕ, Bool, List, inl, inr, sym, ap, subst, ◌∙◌}
 use Rattle.std.specs.List.{AllZip}
-use Rattle.trace_model.proofs.Images.{DecodesImage-FirstImageFault, DecodesImage-unique, FirstImageFault-unique}
 use Rattle.text_model.specs.Script.{LineFault}
-use Rattle.text_model.specs.Printing.{printed_fault, printed_image, printed_image_fault}
+use Rattle.text_model.specs.Printing.{printed_fault}
 use Rattle.script_model.specs.Script.{Script}
 use Rattle.script_model.specs.ScriptLimits.{IsWithinLimits}
 use Rattle.script_model.proofs.ParsedLimits.{ParsesScript-within}
@@ -14,7 +13,7 @@ use Rattle.world_model.specs.Printing.{printed_world}
 use Rattle.world_model.proofs.OneWorld.{one_world}
 use Rattle.collector_text.specs.Tells.{Tells}
 use Rattle.collector_text.proofs.OneText.{one_world_text}
-use Rattle.trace_cli.specs.Commands.{IsPrinting, PrintsReplay, PrintsFault, ReplayGives, PrintsImage, PrintsImageFault, DumpGives}
+use Rattle.trace_cli.specs.Commands.{IsPrinting, PrintsReplay, PrintsFault, ReplayGives}
 
 -- a script has one world, whose collectors have one text
 one_printing : (script : Script) (asked : Bool) (bytes others : List ℕ) → IsWithinLimits script
@@ -63,32 +62,3 @@ one_replay asked text bytes others status other (inl a) (inr b) =
 one_replay asked text bytes others status other (inr a) (inl b) =
     absurd (not_both asked text others bytes other status b a)
 one_replay asked text bytes others status other (inr a) (inr b) = same_faults text bytes others status other a b
-
-same_images : (text bytes others : List ℕ) (status other : ℕ) → PrintsImage text bytes status
-    → PrintsImage text others other → (bytes ≡ others) × (status ≡ other)
-same_images text bytes others status other a b =
-    let same =
-    DecodesImage-unique text a.time b.time a.size b.size a.missed b.missed a.records b.records a.reads b.reads in (
-      a.printed
-          ∙ (λ i. printed_image (same.0 i) (same.1 i) (same.2 i) (same.3 i))
-          ∙ sym b.printed,
-      a.done ∙ sym b.done,
-    )
-
-same_image_faults : (text bytes others : List ℕ) (status other : ℕ) → PrintsImageFault text bytes status
-    → PrintsImageFault text others other → (bytes ≡ others) × (status ≡ other)
-same_image_faults text bytes others status other a b = (
-  a.printed
-      ∙ ap printed_image_fault (FirstImageFault-unique text a.cause b.cause a.first b.first)
-      ∙ sym b.printed,
-  a.refused ∙ sym b.refused,
-)
-
-pub one_dump : (text bytes others : List ℕ) (status other : ℕ) → DumpGives text bytes status
-    → DumpGives text others other → (bytes ≡ others) × (status ≡ other)
-one_dump text bytes others status other (inl a) (inl b) = same_images text bytes others status other a b
-one_dump text bytes others status other (inl a) (inr b) =
-    absurd (DecodesImage-FirstImageFault text a.time a.size a.missed a.records b.cause a.reads b.first)
-one_dump text bytes others status other (inr a) (inl b) =
-    absurd (DecodesImage-FirstImageFault text b.time b.size b.missed b.records a.cause b.reads a.first)
-one_dump text bytes others status other (inr a) (inr b) = same_image_faults text bytes others status other a b

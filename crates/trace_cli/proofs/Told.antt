@@ -9,8 +9,8 @@ use Rattle.script_model.specs.Script.{Script}
 use Rattle.world_model.specs.Printing.{Shown, printed_world}
 use Rattle.collector_text.specs.Tells.{Tells}
 use Rattle.collector_text.proofs.OneText.{same_are_told}
-use Rattle.trace_run.specs.declared.log.LogLine as logged
-use Rattle.trace_run.specs.LogTypes.{shown_log}
+use Rattle.replay_log.specs.declared.line.LogLine as logged
+use Rattle.replay_log.specs.LogTypes.{shown_log}
 use Rattle.trace_run.specs.Replay.{IsHeadline}
 use Rattle.trace_cli.specs.Commands.{IsPrinting}
 

@@ -1,10 +1,8 @@
--- What the commands of the program print for a text, with which exit status.
+-- What the command `replay` prints for a text, with which exit status.
 use Rattle.std.specs.Prelude.{◌≡◌, ℕ, Bool, ◌⊎◌, List}
 use Rattle.std.specs.List.{AllZip}
-use Rattle.trace_model.specs.Record.{Record}
-use Rattle.trace_model.specs.Image.{Missed, DecodesImage, ImageCause, FirstImageFault}
 use Rattle.text_model.specs.Script.{LineFault}
-use Rattle.text_model.specs.Printing.{printed_fault, printed_image, printed_image_fault}
+use Rattle.text_model.specs.Printing.{printed_fault}
 use Rattle.script_model.specs.Script.{Script, ParsesScript, FirstScriptFault}
 use Rattle.world_model.specs.World.{World, WorldOf}
 use Rattle.world_model.specs.Headline.{IsGenuineWorld}
@@ -40,24 +38,3 @@ pub record PrintsFault (text bytes : List ℕ) (status : ℕ) : Type 0 where
 -- What `replay` gives for a text. A text spells a script or has a first fault, and never both.
 abbrev pub ReplayGives : Bool → List ℕ → List ℕ → ℕ → Type 0
 ReplayGives asked text bytes status = PrintsReplay asked text bytes status ⊎ PrintsFault text bytes status
-
--- the text is a page image, and these bytes are the printing of its reading
-pub record PrintsImage (text bytes : List ℕ) (status : ℕ) : Type 0 where
-  pub time : ℕ
-  pub size : ℕ
-  pub missed : Missed
-  pub records : List Record
-  pub reads : DecodesImage text time size missed records
-  pub printed : bytes ≡ printed_image time size missed records
-  pub done : status ≡ DONE
-
--- the text, as an image, has a first fault, and these bytes are its line
-pub record PrintsImageFault (text bytes : List ℕ) (status : ℕ) : Type 0 where
-  pub cause : ImageCause
-  pub first : FirstImageFault text cause
-  pub printed : bytes ≡ printed_image_fault cause
-  pub refused : status ≡ REFUSED
-
--- What `dump` gives for a text. A text has one reading as an image or a first fault, and never both.
-abbrev pub DumpGives : List ℕ → List ℕ → ℕ → Type 0
-DumpGives text bytes status = PrintsImage text bytes status ⊎ PrintsImageFault text bytes status

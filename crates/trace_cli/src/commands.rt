@@ -7,13 +7,13 @@ ghost use Rattle.collector_text.specs.Tells.{Tells};
 ghost use Rattle.command_io.specs.CommandRun.{IsCommandRun};
 ghost use Rattle.command_io.specs.Output.{bytes_of, status_of};
 ghost use Rattle.trace_script.specs.ScriptFaults.{TellsFirstFault, script_fault_text};
-ghost use Rattle.trace_run.specs.LogTypes.{shown_log};
+ghost use Rattle.replay_log.specs.LogTypes.{shown_log};
 ghost use Rattle.trace_run.specs.Replay.{IsHeadline};
 ghost use Rattle.trace_cli.specs.Commands.{IsPrinting, ReplayGives};
 
-use crate::log_printer::put_log;
 use collector_text::put_collectors;
 use command_io::{Command, Output, Sink, Source, run_command};
+use replay_log::put_log;
 use std::alloc::Global;
 use trace_model::NoMemory;
 use trace_run::{ReplayFault, World, replay};

@@ -1,7 +1,7 @@
 //! The values of the constants, and that a text has one output: the contracts of functions with an empty body.
 ghost use Rattle.std.specs.Prelude.{◌≡◌, ℕ, Bool, ◌++◌, List, codes};
 ghost use Rattle.std.specs.Fmt.{decimal};
-ghost use Rattle.trace_cli.specs.Commands.{ReplayGives, DumpGives};
+ghost use Rattle.trace_cli.specs.Commands.{ReplayGives};
 
 use crate::messages::{INPUT_TOO_LONG, READ_FAILED, USAGE_LINE, WRITE_FAILED};
 use trace_model::MAX_INPUT;
@@ -15,12 +15,9 @@ pub fn constants_are()
         ≡ codes "tracering: the input is longer than " ++ decimal MAX_INPUT ++ codes " bytes" }
 {}
 
-/// What a command may print for a text is one output: the same bytes, with the same exit status.
+/// What `replay` may print for a text is one output: the same bytes, with the same exit status.
 pub fn one_output()
-    ensures replay { (asked : Bool) (text bytes others : List ℕ) (status other : ℕ) →
+    ensures { (asked : Bool) (text bytes others : List ℕ) (status other : ℕ) →
         ReplayGives asked text bytes status → ReplayGives asked text others other →
-        (bytes ≡ others) × (status ≡ other) }
-    ensures dump { (text bytes others : List ℕ) (status other : ℕ) →
-        DumpGives text bytes status → DumpGives text others other →
         (bytes ≡ others) × (status ≡ other) }
 {}

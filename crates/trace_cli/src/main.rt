@@ -3,10 +3,7 @@
 #![tactic(auto)]
 
 mod commands;
-mod dump;
-mod image_printer;
 mod laws;
-mod log_printer;
 mod messages;
 
 use crate::messages::{EndFault, USAGE_LINE};
@@ -14,7 +11,7 @@ pub use command_io::{Sink, Source, Std};
 use command_io::{END_FAILED, USAGE, print_memory_line};
 use command_line::{Call, CallFault, call_of};
 pub use commands::replay_to;
-pub use dump::dump_to;
+pub use image_dump::dump_to;
 use std::alloc::{AllocError, Global};
 use std::io::ErrorKind;
 use std::process::ExitCode;

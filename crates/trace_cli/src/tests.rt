@@ -1,26 +1,12 @@
-//! Commands over ends in memory that fail, that never end, or that move one byte a call; and command
-//! lines.
-
-// The text of these lines, each with its end.
-macro_rules! lines {
-    ($($line:literal),*) => { concat!($($line, "\n"),*) };
-}
-
-mod images;
-mod long;
-mod random;
-mod replays;
-mod worked;
+//! Commands over ends in memory that fail, that never end, or that move one byte a call.
 
 use crate::commands::replay_to;
 use crate::messages::EndFault;
-use command_io::{Command, DONE, END_FAILED, NO_MEMORY, Output, REFUSED, Std, run_command};
-use command_line::{Call, CallFault, call_of};
+use command_io::{Command, END_FAILED, NO_MEMORY, Output, REFUSED, Std, run_command};
 use std::alloc::Global;
 use std::io;
 use std::io::{ErrorKind, Read, Write};
 use std::process::Abort;
-use std::test::Fail;
 use trace_model::NoMemory;
 
 // An end that moves one byte a call and fails at the call with this number, from 0, and at each behind.
@@ -92,19 +78,6 @@ impl Write for Closed {
 
     fn flush(&mut self) -> io::Result<()> {
         Ok(())
-    }
-}
-
-// Prints the text itself.
-struct Echo;
-
-impl Command for Echo {
-    ghost use Rattle.std.specs.Prelude.{◌≡◌, ℕ};
-
-    ghost gives = { λ _ text bytes status. (bytes ≡ text) × (status ≡ 0) };
-
-    fn output(&self, _alloc: Global, text: Vec<u8>) -> Result<Output, NoMemory> {
-        Ok(Output::Done(text))
     }
 }
 
@@ -196,21 +169,6 @@ fn an_endless_input_is_too_long(rt: HostRuntime) {
 }
 
 #[test]
-fn long_texts_are_read_and_written_whole(rt: HostRuntime) -> Result<(), Fail> {
-    let alloc = rt.alloc();
-    // About what is asked for at a time, which is 65,536 bytes.
-    for len in [0, 1, 65535, 65536, 65537, 200000] {
-        let input = vec![in alloc; 7u8; len]?;
-        let mut text = Vec::new(alloc);
-        let mut reader = Std::new(input.as_slice());
-        let status = run_command(&Echo, alloc, &mut reader, &mut Std::new(&mut text));
-        assert_eq!(rt; status, DONE, "{len} bytes");
-        assert!(rt; text == input, "{len} bytes");
-    }
-    Ok(())
-}
-
-#[test]
 fn a_command_out_of_memory_prints_its_line_alone(rt: HostRuntime) {
     let alloc = rt.alloc();
     let mut text = Vec::new(alloc);
@@ -218,52 +176,4 @@ fn a_command_out_of_memory_prints_its_line_alone(rt: HostRuntime) {
     let status = run_command(&Full, alloc, &mut reader, &mut Std::new(&mut text));
     assert_eq!(rt; status, NO_MEMORY);
     assert_eq!(rt; text.as_slice(), b"memory\n".as_slice());
-}
-
-#[test]
-fn the_two_commands_and_no_other_words_are_accepted(rt: HostRuntime) -> Result<(), Fail> {
-    let alloc = rt.alloc();
-    let bare = Call::Replay { log: false };
-    let logged = Call::Replay { log: true };
-    assert_eq!(rt; call_of(alloc, &["tracering", "replay"]), Ok(bare));
-    assert_eq!(rt; call_of(alloc, &["tracering", "dump"]), Ok(Call::Dump));
-    let refused = [
-        ["tracering", ""],
-        ["tracering", "run"],
-        ["tracering", "Dump"],
-        ["tracering", "help"],
-        ["tracering", "--help"],
-        ["tracering", "--version"],
-        ["tracering", "Replay"],
-        ["tracering", "--log"],
-    ];
-    for words in &refused {
-        assert_eq!(rt;
-            call_of(alloc, words.as_slice()),
-            Err(CallFault::Usage),
-            "{words:?}"
-        );
-    }
-    let calls = [
-        ("--log", Ok(logged)),
-        ("--", Ok(bare)),
-        ("--help", Err(CallFault::Usage)),
-        ("-h", Err(CallFault::Usage)),
-        ("--log=true", Err(CallFault::Usage)),
-        ("-l", Err(CallFault::Usage)),
-        ("log", Err(CallFault::Usage)),
-        ("script", Err(CallFault::Usage)),
-        ("replay", Err(CallFault::Usage)),
-        ("-", Err(CallFault::Usage)),
-    ];
-    for (word, want) in calls {
-        let words = ["tracering", "replay", word];
-        assert_eq!(rt; call_of(alloc, words.as_slice()), want, "{words:?}");
-    }
-    let dumped = ["tracering", "dump", "--log"];
-    assert_eq!(rt; call_of(alloc, dumped.as_slice()), Err(CallFault::Usage));
-    let twice = ["tracering", "replay", "--log", "--log"];
-    assert_eq!(rt; call_of(alloc, twice.as_slice()), Err(CallFault::Usage));
-    assert_eq!(rt; call_of(alloc, &["tracering"]), Err(CallFault::Usage));
-    Ok(())
 }
