@@ -1,0 +1,184 @@
+//! The lines of the text that ask something of a ring.
+use link_marks::{Link, Mark};
+use std::alloc::Global;
+use std::str::SplitWhitespace;
+use trace_model::{LINK_FILLS, MAX_PAGES, MAX_SIZE, MIN_PAGES, MIN_SIZE, NoMemory, START_FILL};
+
+/// What a line asks.
+#[derive(Debug, Drop)]
+pub enum Event {
+    /// A record frame is pushed, with its moment and its payload's length in bytes.
+    Push { moment: u64, len: usize },
+    /// A close frame is pushed.
+    PushClose,
+    /// The frame on top makes one step.
+    Step,
+    /// The frame on top makes steps until its record is reserved or refused, or it is gone.
+    Finish,
+    /// The payload is put to the front of the slot of the frame on top, which is then ended.
+    End(Vec<u8>),
+    /// A record is written whole.
+    Write { moment: u64, payload: Vec<u8> },
+    /// The reader makes one step.
+    Read,
+    /// The reader makes steps until the take has an answer.
+    Take,
+    /// The reader wishes for the tail page.
+    Wish,
+    /// Both ends are joined.
+    Settle,
+    /// How many bytes are lent for the payload of the frame on top?
+    Top,
+    /// How many frames are there?
+    Depth,
+    /// What is the image of the page that was taken last?
+    Image,
+    /// Which word has this link?
+    Pack(Link),
+    /// Which link does this word have?
+    Unpack(u64),
+}
+
+/// A ring that there can be: its pages, their data size in bytes, and its first fill.
+#[derive(Clone, Copy, Debug)]
+pub struct Shape {
+    pub pages: usize,
+    pub size: usize,
+    pub start: u64,
+    ghost pages_fit: { (MIN_PAGES ≤ pages) × (pages ≤ MAX_PAGES) },
+    ghost size_fits: { (MIN_SIZE ≤ size) × (size ≤ MAX_SIZE) × (size % 4 ≡ 0) },
+    ghost start_fits: { start + pages < LINK_FILLS },
+}
+
+/// The next word, as a number.
+fn number(words: &mut SplitWhitespace<'_>) -> Option<u64> {
+    words.next()?.parse().ok()
+}
+
+/// The number after this next word.
+fn named(words: &mut SplitWhitespace<'_>, name: &str) -> Option<usize> {
+    if words.next()? == name {
+        words.next()?.parse().ok()
+    } else {
+        None
+    }
+}
+
+/// The mark that the next word names.
+fn mark(words: &mut SplitWhitespace<'_>) -> Option<Mark> {
+    match words.next()? {
+        "normal" => Some(Mark::Normal),
+        "header" => Some(Mark::Header),
+        "update" => Some(Mark::Update),
+        _ => None,
+    }
+}
+
+/// So many bytes of one value.
+fn bytes_alike(alloc: Global, value: &str, count: &str) -> Result<Option<Vec<u8>>, NoMemory> {
+    match (value.parse::<u8>(), count.parse::<u16>()) {
+        (Ok(value), Ok(count)) => Ok(Some(vec![in alloc; value; usize::from(count)]?)),
+        _ => Ok(None),
+    }
+}
+
+/// A payload: hexadecimal digits, or `A7` for 28 bytes of the value 7, or `7*113` for 113 of them.
+fn payload(alloc: Global, word: Option<&str>) -> Result<Option<Vec<u8>>, NoMemory> {
+    let Some(text) = word else {
+        return Ok(Some(Vec::new(alloc)));
+    };
+    if let Some(value) = text.strip_prefix('A') {
+        return bytes_alike(alloc, value, "28");
+    }
+    if let Some((value, count)) = text.split_once('*') {
+        return bytes_alike(alloc, value, count);
+    }
+    match hex::decode(alloc, text) {
+        Ok(bytes) => Ok(Some(bytes)),
+        Err(hex::FromHexError::OutOfMemory) => Err(NoMemory),
+        Err(_) => Ok(None),
+    }
+}
+
+impl Event {
+    /// The event of a line, if any.
+    pub fn of(alloc: Global, line: &str) -> Result<Option<Event>, NoMemory> {
+        let mut words = line.split_whitespace();
+        let event = match words.next() {
+            Some("end") => payload(alloc, words.next())?.map(Event::End),
+            Some("write") => Event::write(alloc, &mut words)?,
+            Some(name) => Event::plain(name, &mut words),
+            None => None,
+        };
+        Ok(if words.next().is_none() { event } else { None })
+    }
+
+    /// A write of this moment and payload.
+    fn write(alloc: Global, words: &mut SplitWhitespace<'_>) -> Result<Option<Event>, NoMemory> {
+        let moment = number(words);
+        let payload = payload(alloc, words.next())?;
+        match (moment, payload) {
+            (Some(moment), Some(payload)) => Ok(Some(Event::Write { moment, payload })),
+            _ => Ok(None),
+        }
+    }
+
+    /// An event without a payload.
+    fn plain(name: &str, words: &mut SplitWhitespace<'_>) -> Option<Event> {
+        let event = match name {
+            "push" => Event::Push {
+                moment: number(words)?,
+                len: usize::try_from(number(words)?).ok()?,
+            },
+            "push_close" => Event::PushClose,
+            "step" => Event::Step,
+            "finish" => Event::Finish,
+            "read" => Event::Read,
+            "take" => Event::Take,
+            "wish" => Event::Wish,
+            "settle" => Event::Settle,
+            "top" => Event::Top,
+            "depth" => Event::Depth,
+            "image" => Event::Image,
+            "pack" => Event::Pack(Link {
+                mark: mark(words)?,
+                page: u16::try_from(number(words)?).ok()?,
+                fill: number(words)?,
+            }),
+            "unpack" => Event::Unpack(number(words)?),
+            _ => return None,
+        };
+        Some(event)
+    }
+}
+
+impl Shape {
+    /// The shape of the ring that a row begins with, by its line `[NAME] pages N size S`, and maybe `start F`.
+    pub fn of(line: &str) -> Option<Shape> {
+        let (_, rest) = line.split_once(']')?;
+        let mut words = rest.split_whitespace();
+        let pages = named(&mut words, "pages")?;
+        let size = named(&mut words, "size")?;
+        let start = match words.next() {
+            None => START_FILL,
+            Some("start") => number(&mut words)?,
+            Some(_) => return None,
+        };
+        Shape::fitting(pages, size, start)
+    }
+
+    /// The shape of these numbers, if a ring can have it.
+    fn fitting(pages: usize, size: usize, start: u64) -> Option<Shape> {
+        let is_sized = MIN_SIZE <= size && size <= MAX_SIZE && size % 4 == 0;
+        if pages < MIN_PAGES || MAX_PAGES < pages || !is_sized || LINK_FILLS <= start {
+            return None;
+        }
+        if LINK_FILLS <= start + pages as u64 {
+            return None;
+        }
+        Some(Shape { pages, size, start })
+    }
+}
+
+ghost use Rattle.std.specs.Prelude.{◌≡◌, ◌+◌, ◌≤◌, ◌<◌, ◌%◌};
+ghost use Rattle.trace_model.specs.declared.limits.TheConstants.{MIN_PAGES, MAX_PAGES, MIN_SIZE, MAX_SIZE, LINK_FILLS};

@@ -1,0 +1,45 @@
+//! The program `ring_rows`: reads worked exchanges with a ring, and writes them with what two rings answer.
+//!
+//! Standard input is a text of rows, as the file `stdout` of this crate, with or without answers. Each event of a row
+//! is carried out on a ring as a value (`ring_core`) and on the two ends of a running ring (`ring_shared`). If both
+//! answer the same, that is written after the event; else both answers are.
+#![tactic(auto)]
+
+mod ends;
+mod event;
+mod reply;
+mod ring;
+mod rows;
+mod value;
+
+use rows::{Fault, Rows};
+use std::process::ExitCode;
+
+/// The text was read to its end.
+const DONE: u8 = 0;
+
+/// A line of the text is none of a row.
+const REFUSED: u8 = 1;
+
+/// Memory was refused, or a read or a write failed.
+const FAILED: u8 = 3;
+
+/// Answers each line of standard input.
+fn answer_all<R: Input + Print + AllocGlobal>(rt: &R) -> Result<(), Fault> {
+    let mut rows = Rows::new(rt.alloc());
+    for (before, line) in rt.lines(rt.alloc()).enumerate() {
+        let number = (before as u64).wrapping_add(1);
+        if let Some(answered) = rows.answered(number, line?.as_str())? {
+            println!(rt; "{answered}")?;
+        }
+    }
+    Ok(())
+}
+
+fn main(rt: HostRuntime) -> ExitCode {
+    let Err(fault) = answer_all(&rt) else {
+        return ExitCode::from(DONE);
+    };
+    let _ = eprintln!(rt; "ring_rows: {fault}");
+    ExitCode::from(fault.status())
+}
