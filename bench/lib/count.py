@@ -1,0 +1,56 @@
+"""What a program takes: instructions, which callgrind counts the same at every run, and memory."""
+
+import os
+import subprocess
+
+from lib.programs import Failure
+
+
+def fed(source):
+    """What a program reads: a file, or nothing."""
+    return open(source or os.devnull, "rb")
+
+
+def callgrind(command, source=None, profile="/dev/null", function=None):
+    """How many instructions callgrind counts; with a function, while it runs. A profile is written for `functions`."""
+    toggle = [f"--toggle-collect={function}"] if function else []
+    counted = ["valgrind", "--tool=callgrind", f"--callgrind-out-file={profile}", *toggle, *command]
+    with fed(source) as given, open(os.devnull, "wb") as sink:
+        done = subprocess.run(counted, stdin=given, stdout=sink, stderr=subprocess.PIPE, text=True, check=False)
+    _, found, count = done.stderr.partition("Collected : ")
+    if done.returncode or not found:
+        raise Failure(f"{' '.join(map(str, counted))} ends with status {done.returncode}\n{done.stderr}")
+    return int(count.split()[0])
+
+
+def functions(profile):
+    """How many instructions each function of a profile takes with all that it calls."""
+    command = ["callgrind_annotate", "--inclusive=yes", "--threshold=100", profile]
+    text = subprocess.run(command, stdout=subprocess.PIPE, text=True, check=True).stdout
+    found = {}
+    for line in text.splitlines():
+        count, _, rest = line.strip().partition(" (")
+        if count.replace(",", "").isdigit() and ":" in rest:
+            name = rest.partition(":")[2].split()[0]
+            found[name] = max(found.get(name, 0), int(count.replace(",", "")))
+    return found
+
+
+def output(command, source=None):
+    """What the command prints; it has to end with status 0."""
+    with fed(source) as given:
+        done = subprocess.run(command, stdin=given, stdout=subprocess.PIPE, check=False)
+    if done.returncode:
+        raise Failure(f"{' '.join(map(str, command))} ends with status {done.returncode}")
+    return done.stdout
+
+
+def most_memory(command, source, sink):
+    """The exit status, and the most memory at any moment in bytes, by GNU time. The output is kept in `sink`.
+
+    A child of this process itself would report at least as much memory as this process has.
+    """
+    timed = ["/usr/bin/time", "--quiet", "-f", "%M", *command]
+    with open(source, "rb") as given, open(sink, "wb") as taken:
+        done = subprocess.run(timed, stdin=given, stdout=taken, stderr=subprocess.PIPE, check=False)
+    return done.returncode, int(done.stderr.split()[-1]) * 1024

@@ -1,0 +1,127 @@
+"""The programs that are measured, and how they are built: the product's own, and the rivals."""
+
+import os
+import shutil
+import subprocess
+import tempfile
+import zlib
+from pathlib import Path
+
+BENCH = Path(__file__).resolve().parent.parent
+TOP = BENCH.parent
+RUST_FLAGS = "--edition 2021 -C opt-level=3 -C codegen-units=1 -C panic=abort -C target-cpu=x86-64-v2".split()
+
+
+class Failure(Exception):
+    """Why a benchmark can't be run, or what a program answers wrongly."""
+
+
+def tried(command, **options):
+    """Runs the command without input, and answers its status and its output, both ends of it."""
+    ends = {"stdin": subprocess.DEVNULL, "stdout": subprocess.PIPE, "stderr": subprocess.STDOUT}
+    done = subprocess.run(command, text=True, check=False, **ends, **options)
+    return done.returncode, done.stdout
+
+
+def call(command, **options):
+    """Runs the command, whose output counts only if it fails."""
+    status, output = tried(command, **options)
+    if status:
+        raise Failure(f"{' '.join(map(str, command))} ends with status {status}\n{output}")
+
+
+def rival(folder, name):
+    """Builds the Rust program bench/rivals/NAME."""
+    program = folder / f"{name}-rival"
+    call(["rustc", *RUST_FLAGS, "-o", program, BENCH / "rivals" / name / "main.rs"])
+    return program
+
+
+def rival_in_c(folder, name, *libraries):
+    """Builds the C program bench/rivals/NAME."""
+    program = folder / f"{name}-rival-in-c"
+    call(["cc", "-O2", "-o", program, BENCH / "rivals" / name / "main.c", *libraries])
+    return program
+
+
+def crate_lines(file):
+    """The lines of a crates.txt by the crates' names."""
+    lines = [line for line in file.read_text().splitlines() if line and not line.startswith("#")]
+    return {line.partition(":")[0].split()[0]: line for line in lines}
+
+
+def dependencies(line, crates):
+    """The crates of this repository that the crate of this line is built on, the lowest first."""
+    found = []
+    for name in line.partition(":")[2].split():
+        if name in crates:
+            found += [lower for lower in [*dependencies(crates[name], crates), name] if lower not in found]
+    return found
+
+
+def staging(name):
+    """The folder in which a program's crate is made, with what an earlier run there proved, and nothing else.
+
+    It is outside of the checkout, since the merge gate allows no other crates there.
+    """
+    checkout = f"tracering-bench-{os.getuid()}-{zlib.crc32(bytes(TOP)):08x}"
+    folder = Path(tempfile.gettempdir()) / checkout / name
+    folder.mkdir(parents=True, exist_ok=True)
+    for part in ("src", "specs", "proofs"):
+        for old in folder.glob(f"crates/*/{part}"):
+            shutil.rmtree(old)
+    return folder
+
+
+def staged(name):
+    """Proves and builds the product's program or static library bench/programs/NAME, and answers what is built.
+
+    Its crate is made beside copies of the crates that it is built on. These are proved in this checkout first, which
+    keeps their proofs.
+    """
+    source, folder = BENCH / "programs" / name, staging(name)
+    [(crate, line)] = crate_lines(source / "crate").items()
+    crates = crate_lines(TOP / "crates.txt")
+    lower_crates = dependencies(line, crates)
+    for lower in lower_crates:
+        call(["rt", "lib"], cwd=TOP / "crates" / lower)
+        for part in ("src", "specs", "proofs"):
+            if (TOP / "crates" / lower / part).is_dir():
+                shutil.copytree(TOP / "crates" / lower / part, folder / "crates" / lower / part)
+    (folder / "crates.txt").write_text("".join(f"{crates[lower]}\n" for lower in lower_crates) + f"{line}\n")
+    shutil.copy(TOP / "HANDLES", folder)
+    here = folder / "crates" / crate
+    for file in source.rglob("*.rattle"):
+        copied(file, here / "src" / f"{file.stem}.rt")
+    for file in source.rglob("*.proof"):
+        function, _, part = file.stem.partition(".")
+        copied(file, here / "proofs" / function / f"{part}.antt")
+    if "staticlib" in line:
+        call(["rt", "lib"], cwd=here)
+        return here / "out" / f"lib{crate}.a"
+    program = here / "out" / crate
+    program.unlink(missing_ok=True)
+    # (This also runs the program, without a word and without input, so that its status says nothing.)
+    _, output = tried(["rt", "run"], cwd=here)
+    if not program.is_file():
+        raise Failure(f"bench/programs/{name} isn't built\n{output}")
+    return program
+
+
+def copied(file, to):
+    to.parent.mkdir(parents=True, exist_ok=True)
+    shutil.copy(file, to)
+
+
+def tracering():
+    """Has ./tracering build the program, and answers where it is."""
+    _, output = tried([TOP / "tracering", "dump"])
+    program = TOP / "crates/trace_cli/out/tracering"
+    if not program.is_file():
+        raise Failure(f"./tracering builds no program\n{output}")
+    return program
+
+
+def kit():
+    """The kit's folder."""
+    return Path(subprocess.run(["rt", "doc"], stdout=subprocess.PIPE, text=True, check=True).stdout.strip()).parent
