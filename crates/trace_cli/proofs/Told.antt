@@ -11,7 +11,7 @@ use Rattle.collector_text.specs.Tells.{Tells}
 use Rattle.collector_text.proofs.OneText.{same_are_told}
 use Rattle.replay_log.specs.declared.line.LogLine as logged
 use Rattle.replay_log.specs.LogTypes.{shown_log}
-use Rattle.trace_run.specs.Replay.{IsHeadline}
+use Rattle.script_replay.specs.Replay.{IsHeadline}
 use Rattle.trace_cli.specs.Commands.{IsPrinting}
 
 pub all_tell : (collectors delivered : List (List Parcel)) (shown : List Shown) → length collectors ≡ length delivered

@@ -8,16 +8,16 @@ ghost use Rattle.command_io.specs.CommandRun.{IsCommandRun};
 ghost use Rattle.command_io.specs.Output.{bytes_of, status_of};
 ghost use Rattle.trace_script.specs.ScriptFaults.{TellsFirstFault, script_fault_text};
 ghost use Rattle.replay_log.specs.LogTypes.{shown_log};
-ghost use Rattle.trace_run.specs.Replay.{IsHeadline};
+ghost use Rattle.script_replay.specs.Replay.{IsHeadline};
 ghost use Rattle.trace_cli.specs.Commands.{IsPrinting, ReplayGives};
 
 use collector_text::put_collectors;
 use command_io::{Command, Output, Sink, Source, run_command};
 use replay_log::put_log;
+use script_replay::{World, replay};
 use std::alloc::Global;
 use trace_model::NoMemory;
-use trace_run::{ReplayFault, World, replay};
-use trace_script::{Script, ScriptFault, put_fault, read_script};
+use trace_script::{ReplayFault, Script, ScriptFault, put_fault, read_script};
 
 /// The world of a script.
 fn replayed(alloc: Global, script: &Script) -> Result<World, NoMemory>

@@ -1,15 +1,6 @@
-//! The replay of a script: what its lines do to the rings of its CPUs, and to its collectors.
-//!
-//! A lane is the ring of one CPU with the payloads of its frames and the pages that were taken from it; a line is steps
-//! of its lane, or a delivery to a collector.
+//! What a script asks for, done: by the exact replay, step by step; and the audit of what a run took.
 #![tactic(auto)]
 
-mod delivery;
-mod lane;
-mod places;
-mod script_replay;
-mod world;
-
-pub use replay_log::LogLine;
-pub use script_replay::replay;
-pub use world::{ReplayFault, World};
+pub use run_audit::{AuditFault, Audited, Ledger, audit};
+pub use script_replay::{LogLine, World, replay};
+pub use trace_script::ReplayFault;

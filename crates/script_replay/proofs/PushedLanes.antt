@@ -1,0 +1,324 @@
+-- A frame that is pushed stands on top with its payload; one that is refused changes nothing.
+use Rattle.std.proofs.Common.{◌≡◌, ◌≢◌, ℕ, List, [], ◌∷◌, ◌++◌, length, map, refl, sym, ap, ◌∙◌, subst, append-nil}
+use Rattle.trace_model.specs.Frames.{Refusal, Frame}
+use Rattle.trace_model.specs.Ring.{Core}
+use Rattle.trace_model.specs.Steps as model
+use Rattle.trace_model.specs.Steps.{pushes, pushes_close, pushed, refused, Step, push_step, push_refused, close_step, close_refused, frame_step, frame_lacks, end_step, end_lacks, end_early, read_step, wish_step, Exchange}
+use Rattle.script_model.specs.Script.{begin_frame, finish_frame}
+use Rattle.link_marks.specs.Seats.{IsOfReader}
+use Rattle.world_model.specs.Lanes.{Lane, payloads_with, lane_with, FitsKind, FitFrames, PushesFrame, FinishesPushed, WritesFrame, LineRun}
+use Rattle.world_model.specs.Log.{logged}
+use Rattle.world_model.specs.World.{parcel_of}
+use Rattle.ring_core.specs.declared.event.Event.{Event}
+use Rattle.ring_core.specs.declared.event.Event.TheVariants as event
+use Rattle.ring_frames.specs.declared.answer.Answer.{Answer}
+use Rattle.ring_frames.specs.declared.answer.Answer.TheVariants as answer
+use Rattle.nested_writer.specs.declared.stack.leave.Ended.TheVariants.{Pending, Full}
+use Rattle.ring_core.specs.Value.{CoreValue}
+use Rattle.ring_frames.specs.Answers.{Tells}
+use Rattle.ring_core.specs.Answers.{event_of}
+use Rattle.ring_core.specs.Steps.{IsStep, Makes}
+use Rattle.replay_log.specs.declared.line.LogLine.{LogLine}
+use Rattle.replay_log.specs.LogTypes.{shown_log}
+use Rattle.script_replay.specs.Value.{LaneValue}
+use Rattle.script_replay.specs.Lanes.{IsLane, Happens}
+use Rattle.script_replay.specs.Frames.{IsPushOf, push_event, IsPushed, Pushes}
+use Rattle.script_replay.proofs.Logs.{told_one, told_more}
+use Rattle.script_replay.proofs.LaneValues.{taken_stay}
+use Rattle.script_replay.proofs.Told.{IsTold}
+
+-- what a push makes of the frames
+pub data PushEnds (payload : List ℕ) (before : Core) (told : model.Answer) (after : Core) : Type 0 where
+  stands : (frame : Frame)
+      → told ≡ pushed
+      → after.frames ≡ frame ∷ before.frames
+      → FitsKind frame.kind payload
+      → PushEnds payload before told after
+  fails : (why : Refusal) → told ≡ refused why → after.frames ≡ before.frames → PushEnds payload before told after
+
+len_same : (moment len moment' len' : ℕ) → pushes moment len ≡ pushes moment' len' → len ≡ len'
+len_same moment len moment' len' e = cc
+
+module _ (n size : ℕ) (payload : List ℕ) (c : Core) (told : model.Answer) (after : Core) where
+  record_ends : (moment len : ℕ)
+      → length payload ≡ len
+      → Step n size c (pushes moment len) told after
+      → PushEnds payload c told after
+  record_ends moment len long (push_step moment' len' e few short early a is) =
+      stands _ a (ap (λ (d : Core). d.frames) is) (long ∙ len_same moment len moment' len' e)
+  record_ends moment len long (push_refused moment' len' why e refusal a is) =
+      fails why a (ap (λ (d : Core). d.frames) is)
+  record_ends moment len long (close_step e few a is) = absurd (let z : ⊥ = cc in z)
+  record_ends moment len long (close_refused e many a is) = absurd (let z : ⊥ = cc in z)
+  record_ends moment len long (frame_step frame below e top step) = absurd (let z : ⊥ = cc in z)
+  record_ends moment len long (frame_lacks e empty a is) = absurd (let z : ⊥ = cc in z)
+  record_ends moment len long (end_step bytes frame below number moment' len' e top at kind size_is a is) =
+      absurd (let z : ⊥ = cc in z)
+  record_ends moment len long (end_lacks bytes e empty a is) = absurd (let z : ⊥ = cc in z)
+  record_ends moment len long (end_early bytes frame below e top waits a is) = absurd (let z : ⊥ = cc in z)
+  record_ends moment len long (read_step e step) = absurd (let z : ⊥ = cc in z)
+  record_ends moment len long (wish_step e a is) = absurd (let z : ⊥ = cc in z)
+
+  close_ends : payload ≡ [] → Step n size c pushes_close told after → PushEnds payload c told after
+  close_ends none (push_step moment' len' e few short early a is) = absurd (let z : ⊥ = cc in z)
+  close_ends none (push_refused moment' len' why e refusal a is) = absurd (let z : ⊥ = cc in z)
+  close_ends none (close_step e few a is) = stands _ a (ap (λ (d : Core). d.frames) is) none
+  close_ends none (close_refused e many a is) = fails _ a (ap (λ (d : Core). d.frames) is)
+  close_ends none (frame_step frame below e top step) = absurd (let z : ⊥ = cc in z)
+  close_ends none (frame_lacks e empty a is) = absurd (let z : ⊥ = cc in z)
+  close_ends none (end_step bytes frame below number moment' len' e top at kind size_is a is) =
+      absurd (let z : ⊥ = cc in z)
+  close_ends none (end_lacks bytes e empty a is) = absurd (let z : ⊥ = cc in z)
+  close_ends none (end_early bytes frame below e top waits a is) = absurd (let z : ⊥ = cc in z)
+  close_ends none (read_step e step) = absurd (let z : ⊥ = cc in z)
+  close_ends none (wish_step e a is) = absurd (let z : ⊥ = cc in z)
+
+  pub push_ends : (push : Event)
+      → IsPushOf push payload
+      → Step n size c (push_event push) told after
+      → PushEnds payload c told after
+  push_ends (event.Push moment len) of step = record_ends moment len of step
+  push_ends event.PushClose of step = close_ends of step
+  push_ends event.Step of step = absurd of
+  push_ends event.End of step = absurd of
+  push_ends (event.Read body) of step = absurd of
+  push_ends event.Wish of step = absurd of
+
+not_of_reader : (push : Event) (payload : List ℕ) → IsPushOf push payload → IsOfReader (push_event push) → ⊥
+not_of_reader (event.Push moment len) payload of reads = reads
+not_of_reader event.PushClose payload of reads = reads
+not_of_reader event.Step payload of reads = reads
+not_of_reader event.End payload of reads = reads
+not_of_reader (event.Read body) payload of reads = reads
+not_of_reader event.Wish payload of reads = reads
+
+fits_behind : (payload : List ℕ) (lane : Lane) (told : model.Answer) (after : Core)
+    → FitFrames lane.core.frames lane.payloads
+    → PushEnds payload lane.core told after
+    → FitFrames after.frames (payloads_with payload told lane.payloads)
+fits_behind payload lane told after fit (stands frame is frames fits) =
+    subst (λ (a : model.Answer). FitFrames after.frames (payloads_with payload a lane.payloads)) (sym is)
+    (subst (λ (fs : List Frame). FitFrames fs (payload ∷ lane.payloads)) (sym frames) (fits, fit))
+fits_behind payload lane told after fit (fails why is frames) =
+    subst (λ (a : model.Answer). FitFrames after.frames (payloads_with payload a lane.payloads)) (sym is)
+    (subst (λ (fs : List Frame). FitFrames fs lane.payloads) (sym frames) fit)
+
+-- the value behind a push, whatever is answered
+pushed_lane : (n size start cpu : ℕ) (old new : LaneValue) (lane : Lane) (push : Event) (payload : List ℕ)
+    (answer : Answer) (core : CoreValue)
+    → IsLane n size start cpu old lane
+    → IsPushOf push payload
+    → (s : IsStep n size start lane.core (push_event push) answer core)
+    → new ≡ record old { core = core; payloads = payloads_with payload s.answer old.payloads }
+    → IsPushed n size start cpu lane (push_event push) payload answer new
+pushed_lane n size start cpu old new lane push payload answer core is of s new_is = record {
+  told = s.answer;
+  core = s.after;
+  step = s.step;
+  tells = s.tells;
+  is_lane = subst (λ (v : LaneValue). IsLane n size start cpu v (lane_with lane payload s.answer s.after)) (sym new_is)
+      record {
+        most = is.most;
+        small = is.small;
+        large = is.large;
+        words = is.words;
+        known = is.known;
+        is_core = s.is_core;
+        payloads_are = ap (payloads_with payload s.answer) is.payloads_are;
+        fit = fits_behind payload lane s.answer s.after is.fit
+            (push_ends n size payload lane.core s.answer s.after push of s.step);
+        body = is.body;
+        taken_are = is.taken_are
+            ∙ ap (map (parcel_of cpu))
+            (sym (taken_stay n size lane.core (push_event push) s.answer s.after (not_of_reader push payload of)
+            s.step));
+      };
+}
+
+-- the push of the value is that of the model
+event_is : (v : CoreValue) (push : Event) (payload : List ℕ) → IsPushOf push payload → event_of v push ≡ push_event push
+event_is v (event.Push moment len) payload of = refl
+event_is v event.PushClose payload of = refl
+event_is v event.Step payload of = absurd of
+event_is v event.End payload of = absurd of
+event_is v (event.Read body) payload of = absurd of
+event_is v event.Wish payload of = absurd of
+
+made_push : (old : LaneValue) (push : Event) (payload : List ℕ) (a : Answer) (core : CoreValue)
+    → IsPushOf push payload
+    → Makes old.core (event_of old.core push) a core
+    → Makes old.core (push_event push) a core
+made_push old push payload a core of makes =
+    subst (λ (e : model.Event). Makes old.core e a core) (event_is old.core push payload of) makes
+
+-- it stands
+pub stands_pushed : (old : LaneValue) (push : Event) (payload : List ℕ) (a : Answer) (core : CoreValue)
+    (payloads : List (List ℕ))
+    → IsPushOf push payload
+    → Makes old.core (event_of old.core push) a core
+    → a ≡ answer.Pushed
+    → payloads ≡ payload ∷ old.payloads
+    → Pushes (push_event push) payload old a (record old { core = core; payloads = payloads })
+stands_pushed old push payload a core payloads of makes pushed_is is n size start cpu lane lane_is =
+    let s = made_push old push payload a core of makes n size start lane.core lane_is.is_core in
+    let told : s.answer ≡ pushed = subst (λ (x : Answer). Tells size x s.answer) pushed_is s.tells in
+    pushed_lane n size start cpu old (record old { core = core; payloads = payloads }) lane push payload a core lane_is
+    of s
+    (ap (λ (p : List (List ℕ)). record old { core = core; payloads = p })
+    (is ∙ ap (λ (x : model.Answer). payloads_with payload x old.payloads) (sym told)))
+
+payloads_stay : (size : ℕ) (payload : List ℕ) (payloads : List (List ℕ)) (a : Answer) (told : model.Answer)
+    → Tells size a told
+    → a ≢ answer.Pushed
+    → payloads_with payload told payloads ≡ payloads
+payloads_stay size payload payloads answer.Pushed told t not = absurd (not refl)
+payloads_stay size payload payloads answer.Going told t not =
+    ap (λ (x : model.Answer). payloads_with payload x payloads) t
+payloads_stay size payload payloads (answer.Reserved number) told t not =
+    ap (λ (x : model.Answer). payloads_with payload x payloads) t
+payloads_stay size payload payloads (answer.Ended Pending) told t not =
+    ap (λ (x : model.Answer). payloads_with payload x payloads) t
+payloads_stay size payload payloads (answer.Ended Full) told t not =
+    ap (λ (x : model.Answer). payloads_with payload x payloads) t
+payloads_stay size payload payloads answer.Gone told t not =
+    ap (λ (x : model.Answer). payloads_with payload x payloads) t
+payloads_stay size payload payloads (answer.Refused fault) told t not =
+    ap (λ (x : model.Answer). payloads_with payload x payloads) t
+payloads_stay size payload payloads (answer.Looking body) told t not =
+    ap (λ (x : model.Answer). payloads_with payload x payloads) t
+payloads_stay size payload payloads (answer.Empty done body) told t not =
+    ap (λ (x : model.Answer). payloads_with payload x payloads) t
+payloads_stay size payload payloads (answer.Moving fill body) told t not =
+    ap (λ (x : model.Answer). payloads_with payload x payloads) t
+payloads_stay size payload payloads (answer.Taken page missed) told t not =
+    ap (λ (x : model.Answer). payloads_with payload x payloads) t.1
+payloads_stay size payload payloads (answer.Wished fill) told t not =
+    ap (λ (x : model.Answer). payloads_with payload x payloads) t
+
+-- it is refused
+pub fails_pushed : (old : LaneValue) (push : Event) (payload : List ℕ) (a : Answer) (core : CoreValue)
+    → IsPushOf push payload
+    → Makes old.core (event_of old.core push) a core
+    → a ≢ answer.Pushed
+    → Pushes (push_event push) payload old a (record old { core = core })
+fails_pushed old push payload a core of makes not n size start cpu lane lane_is =
+    let s = made_push old push payload a core of makes n size start lane.core lane_is.is_core in
+    pushed_lane n size start cpu old (record old { core = core }) lane push payload a core lane_is of s
+    (ap (λ (p : List (List ℕ)). record old { core = core; payloads = p })
+    (sym (payloads_stay size payload old.payloads a s.answer s.tells not)))
+
+-- ---- lines that push
+
+pub pushes_frame : (n size start cpu : ℕ) (lane : Lane) (push : model.Event) (payload : List ℕ) (a : Answer)
+    (new : LaneValue)
+    → (p : IsPushed n size start cpu lane push payload a new)
+    → PushesFrame n size push payload lane record { event = push; answer = p.told }
+    (lane_with lane payload p.told p.core)
+pushes_frame n size start cpu lane push payload a new p =
+    record { event_is = refl; core = p.core; step = p.step; after_is = refl }
+
+pub begun : (n size start cpu line moment : ℕ) (lane : Lane) (payload : List ℕ) (a : Answer) (new : LaneValue)
+    (first log : List LogLine)
+    → IsPushed n size start cpu lane (pushes moment (length payload)) payload a new
+    → IsTold line cpu a first log
+    → Happens (λ n size before exchanges after. LineRun n size (begin_frame cpu moment payload) before exchanges after)
+    line cpu n size start lane first new log
+begun n size start cpu line moment lane payload a new first log p told =
+    let x : Exchange = record { event = pushes moment (length payload); answer = p.told } in
+    record {
+      exchanges = x ∷ [];
+      after = lane_with lane payload p.told p.core;
+      happened = (x, refl, pushes_frame n size start cpu lane (pushes moment (length payload)) payload a new p);
+      is_lane = p.is_lane;
+      log = told_one line cpu x (shown_log first) (shown_log log) (told size p.told p.tells);
+    }
+
+-- of a push that stands nothing is logged
+pub untold : (line cpu : ℕ) (a : Answer) (log : List LogLine) → a ≡ answer.Pushed → IsTold line cpu a log log
+untold line cpu a log is size told tells =
+    let pushed_is : told ≡ pushed = subst (λ (y : Answer). Tells size y told) is tells in
+    sym (append-nil (shown_log log)) ∙ ap (λ (x : model.Answer). shown_log log ++ logged line cpu x) (sym pushed_is)
+
+-- pushed, and finished
+pub written : (n size start cpu line : ℕ) (lane : Lane) (push : model.Event) (payload : List ℕ) (a : Answer)
+    (between new : LaneValue) (first log more : List LogLine)
+    → (p : IsPushed n size start cpu lane push payload a between)
+    → a ≡ answer.Pushed
+    → IsTold line cpu a first log
+    → Happens (λ n size before exchanges after. LineRun n size (finish_frame cpu) before exchanges after) line cpu n
+    size start (lane_with lane payload p.told p.core) log new more
+    → Happens (λ n size before exchanges after. WritesFrame n size push payload before exchanges after) line cpu n size
+    start lane first new more
+written n size start cpu line lane push payload a between new first log more p is told h =
+    let x : Exchange = record { event = push; answer = p.told } in
+    let pushed_is : p.told ≡ pushed = subst (λ (y : Answer). Tells size y p.told) is p.tells in
+    record {
+      exchanges = x ∷ h.exchanges;
+      after = h.after;
+      happened = record {
+        push = x;
+        rest = h.exchanges;
+        exchanges_are = refl;
+        between = lane_with lane payload p.told p.core;
+        pushes = pushes_frame n size start cpu lane push payload a between p;
+        finishes = subst (λ (t : model.Answer).
+            FinishesPushed n size t (lane_with lane payload p.told p.core) h.exchanges h.after) (sym pushed_is)
+            h.happened;
+      };
+      is_lane = h.is_lane;
+      log = told_more line cpu (x ∷ []) h.exchanges (shown_log first) (shown_log log) (shown_log more)
+          (told_one line cpu x (shown_log first) (shown_log log) (told size p.told p.tells)) h.log;
+    }
+
+-- ---- a push that is refused
+
+-- the model answers `pushed` where the ring does
+told_pushed : (size : ℕ) (a : Answer) (told : model.Answer) → Tells size a told → told ≡ pushed → a ≢ answer.Pushed → ⊥
+told_pushed size answer.Pushed told t is not = not refl
+told_pushed size answer.Going told t is not = let z : ⊥ = cc in z
+told_pushed size (answer.Reserved number) told t is not = let z : ⊥ = cc in z
+told_pushed size (answer.Ended Pending) told t is not = let z : ⊥ = cc in z
+told_pushed size (answer.Ended Full) told t is not = let z : ⊥ = cc in z
+told_pushed size answer.Gone told t is not = let z : ⊥ = cc in z
+told_pushed size (answer.Refused fault) told t is not = let z : ⊥ = cc in z
+told_pushed size (answer.Looking body) told t is not = let z : ⊥ = cc in z
+told_pushed size (answer.Empty done body) told t is not = let z : ⊥ = cc in z
+told_pushed size (answer.Moving fill body) told t is not = let z : ⊥ = cc in z
+told_pushed size (answer.Taken page missed) told t is not = let e = t.1 in let z : ⊥ = cc in z
+told_pushed size (answer.Wished fill) told t is not = let z : ⊥ = cc in z
+
+none_follows : (n size : ℕ) (payload : List ℕ) (c : Core) (told : model.Answer) (after : Core) (lane : Lane)
+    → (told ≡ pushed → ⊥)
+    → PushEnds payload c told after
+    → FinishesPushed n size told lane [] lane
+none_follows n size payload c told after lane not (stands frame is frames fits) = absurd (not is)
+none_follows n size payload c told after lane not (fails why is frames) =
+    subst (λ (t : model.Answer). FinishesPushed n size t lane [] lane) (sym is) (refl, refl)
+
+pub not_written : (n size start cpu line : ℕ) (lane : Lane) (push : Event) (payload : List ℕ) (a : Answer)
+    (new : LaneValue) (first log : List LogLine)
+    → IsPushOf push payload
+    → IsPushed n size start cpu lane (push_event push) payload a new
+    → a ≢ answer.Pushed
+    → IsTold line cpu a first log
+    → Happens (λ n size before exchanges after. WritesFrame n size (push_event push) payload before exchanges after)
+    line cpu n size start lane first new log
+not_written n size start cpu line lane push payload a new first log of p not told =
+    let x : Exchange = record { event = push_event push; answer = p.told } in
+    let behind : Lane = lane_with lane payload p.told p.core in
+    record {
+      exchanges = x ∷ [];
+      after = behind;
+      happened = record {
+        push = x;
+        rest = [];
+        exchanges_are = refl;
+        between = behind;
+        pushes = pushes_frame n size start cpu lane (push_event push) payload a new p;
+        finishes = none_follows n size payload lane.core p.told p.core behind
+            (λ is. told_pushed size a p.told p.tells is not)
+            (push_ends n size payload lane.core p.told p.core push of p.step);
+      };
+      is_lane = p.is_lane;
+      log = told_one line cpu x (shown_log first) (shown_log log) (told size p.told p.tells);
+    }

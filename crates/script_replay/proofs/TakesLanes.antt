@@ -1,0 +1,238 @@
+-- What a step of the reader makes of a lane as a value.
+use Rattle.std.proofs.Common.{◌≡◌, ◌≢◌, ℕ, zero, ◌-◌, Bool, true, false, List, [], ◌∷◌, ◌++◌, length, drop, map, Option, Some, None, refl, sym, ap, ◌∙◌, subst, arith, append-nil}
+use Rattle.std.specs.Prelude.{IfSome}
+use Rattle.std.proofs.lemmas.Bool.{false≢true}
+use Rattle.std.proofs.lemmas.List.{map-append}
+use Rattle.trace_model.specs.Ring.{Core}
+use Rattle.trace_model.specs.Parcel.{Parcel}
+use Rattle.trace_model.specs.Steps as model
+use Rattle.trace_model.specs.Steps.{Event, pushes, pushes_close, steps, ends, reads, wishes, reading, empty, moving, swapped, Step, push_step, push_refused, close_step, close_refused, frame_step, frame_lacks, end_step, end_lacks, end_early, read_step, wish_step, Exchange}
+use Rattle.link_marks.specs.Seats.{IsOfReader}
+use Rattle.link_marks.proofs.RingsKept.{reached_kept}
+use Rattle.link_marks.proofs.SeatSteps.{reader_leaves_writer}
+use Rattle.world_model.specs.Lanes.{Lane, lane_behind, payloads_left, Wishes}
+use Rattle.world_model.specs.World.{parcel_of, parcels_in}
+use Rattle.world_model.proofs.FramesMove.{stays}
+use Rattle.world_model.proofs.LanePayloads.{as_many, fit_moved}
+use Rattle.world_model.proofs.TakenPages.{taken_by, run_takes, parcels_of_is}
+use Rattle.page_numbers.specs.Parcels as page
+use Rattle.ring_frames.specs.declared.answer.Answer.{Answer}
+use Rattle.ring_frames.specs.declared.answer.Answer.TheVariants.{Pushed, Going, Reserved, Ended, Gone, Refused, Looking, Empty, Moving, Taken, Wished}
+use Rattle.ring_core.specs.Value.{CoreValue}
+use Rattle.ring_core.specs.IsCore.{IsCore}
+use Rattle.ring_frames.specs.Answers.{Tells}
+use Rattle.ring_core.specs.Answers.{GivesBack}
+use Rattle.ring_core.specs.Steps.{Makes}
+use Rattle.replay_log.specs.declared.line.LogLine.{LogLine}
+use Rattle.replay_log.specs.LogTypes.{shown_log}
+use Rattle.script_replay.specs.Value.{LaneValue}
+use Rattle.script_replay.specs.Lanes.{IsLane, IsLaneOf, Has}
+use Rattle.script_replay.specs.Takes.{ReadsOnce, MayKeep, Keeps}
+use Rattle.script_replay.proofs.Logs.{told_one}
+use Rattle.script_replay.proofs.Told.{IsTold}
+use Rattle.script_replay.proofs.TakesNumbers as numbers
+
+module _ (n size start cpu : ℕ) (v : LaneValue) (lane : Lane) (is : IsLane n size start cpu v lane)
+    (event : Event) (answer : model.Answer) (after : Core) (of : IsOfReader event)
+    (step : Step n size lane.core event answer after) where
+  abbrev x : Exchange
+  x = record { event = event; answer = answer }
+
+  frames_stay : after.frames ≡ lane.core.frames
+  frames_stay = (reader_leaves_writer n size lane.core event answer after of step).frames
+
+  all_left : payloads_left after.frames lane.payloads ≡ lane.payloads
+  all_left =
+      let same = ap length frames_stay in
+      let count = as_many lane.core.frames lane.payloads is.fit in
+      ap (λ (k : ℕ). drop k lane.payloads)
+      (let e : length lane.payloads - length after.frames ≡ zero = omega arith in e)
+
+  takes : map (parcel_of cpu) after.reader.taken ≡ v.taken ++ parcels_in cpu answer
+  takes =
+      ap (map (parcel_of cpu))
+      (run_takes n size start lane.core after (x ∷ []) (reached_kept n size start lane.core is.is_core.reached)
+      (after, step, refl))
+      ∙ map-append (parcel_of cpu) lane.core.reader.taken (taken_by (x ∷ []))
+      ∙ (λ i. sym is.taken_are i ++ (sym (parcels_of_is cpu (x ∷ [])) ∙ append-nil (parcels_in cpu answer)) i)
+
+  pub reader_behind : (new : LaneValue)
+      → IsCore n size start new.core after
+      → new.payloads ≡ v.payloads
+      → IfSome new.body (λ body. length body ≡ size)
+      → new.taken ≡ v.taken ++ parcels_in cpu answer
+      → IsLane n size start cpu new (lane_behind lane after)
+  reader_behind new core payloads body taken = record {
+    most = is.most;
+    small = is.small;
+    large = is.large;
+    words = is.words;
+    known = is.known;
+    is_core = core;
+    payloads_are = payloads ∙ is.payloads_are ∙ sym all_left;
+    fit = fit_moved lane.core.frames after.frames lane.payloads is.fit (stays frames_stay);
+    body = body;
+    taken_are = taken ∙ sym takes;
+  }
+
+-- ---- the wish
+
+abbrev IsWish : Event → Type 0
+IsWish (pushes moment len) = ⊥
+IsWish pushes_close = ⊥
+IsWish steps = ⊥
+IsWish (ends payload) = ⊥
+IsWish reads = ⊥
+IsWish wishes = Unit {0}
+
+brings_none : (n size cpu : ℕ) (c : Core) (event : Event) (answer : model.Answer) (after : Core)
+    → IsWish event
+    → Step n size c event answer after
+    → parcels_in cpu answer ≡ []
+brings_none n size cpu c event answer after wish (push_step moment len e few short early a is) =
+    absurd (subst IsWish e wish)
+brings_none n size cpu c event answer after wish (push_refused moment len why e refused a is) =
+    absurd (subst IsWish e wish)
+brings_none n size cpu c event answer after wish (close_step e few a is) = absurd (subst IsWish e wish)
+brings_none n size cpu c event answer after wish (close_refused e many a is) = absurd (subst IsWish e wish)
+brings_none n size cpu c event answer after wish (frame_step frame below e top step) = absurd (subst IsWish e wish)
+brings_none n size cpu c event answer after wish (frame_lacks e none a is) = absurd (subst IsWish e wish)
+brings_none n size cpu c event answer after wish
+    (end_step payload frame below number moment len e top at kind slot a is) = absurd (subst IsWish e wish)
+brings_none n size cpu c event answer after wish (end_lacks payload e none a is) = absurd (subst IsWish e wish)
+brings_none n size cpu c event answer after wish (end_early payload frame below e top none a is) =
+    absurd (subst IsWish e wish)
+brings_none n size cpu c event answer after wish (read_step e step) = absurd (subst IsWish e wish)
+brings_none n size cpu c event answer after wish (wish_step e a is) = ap (parcels_in cpu) a
+
+pub wishes_of : (line cpu : ℕ) (v : LaneValue) (result : Answer) (new : LaneValue) (old_log new_log : List LogLine)
+    → Makes v.core wishes result new.core
+    → new ≡ record v { core = new.core }
+    → IsTold line cpu result old_log new_log
+    → Has (λ n size before xs after. Wishes n size before xs after) line cpu v old_log new new_log
+wishes_of line cpu v result new old_log new_log makes same told = λ n size start lane is.
+    let s = makes n size start lane.core is.is_core in
+    let x : Exchange = record { event = wishes; answer = s.answer } in
+    record {
+      exchanges = x ∷ [];
+      after = lane_behind lane s.after;
+      happened = record { answer = s.answer; exchanges_are = refl; core = s.after; step = s.step; after_is = refl };
+      is_lane = reader_behind n size start cpu v lane is wishes s.answer s.after tt s.step new s.is_core
+          (ap (λ (w : LaneValue). w.payloads) same)
+          (subst (λ (b : Option (List ℕ)). IfSome b (λ body. length body ≡ size))
+          (sym (ap (λ (w : LaneValue). w.body) same)) is.body)
+          (ap (λ (w : LaneValue). w.taken) same
+          ∙ sym (append-nil v.taken)
+          ∙ ap (λ (l : List Parcel). v.taken ++ l)
+          (sym (brings_none n size cpu lane.core wishes s.answer s.after tt s.step)));
+      log = told_one line cpu x (shown_log old_log) (shown_log new_log) (told size s.answer s.tells);
+    }
+
+-- ---- a step of a take
+
+pub may_keep : (cpu : ℕ) (v : LaneValue) (result : Answer) (new : CoreValue) (body : List ℕ)
+    → IsLaneOf cpu v
+    → Makes v.core reads result new
+    → GivesBack body result
+    → MayKeep cpu result
+may_keep cpu v result new body (n, size, start, lane, is) makes gives =
+    let s = makes n size start lane.core is.is_core in
+    numbers.may_keep n size start cpu lane.core reads body result s.answer s.after
+    (reached_kept n size start lane.core is.is_core.reached) is.large is.known s.step gives s.tells
+
+module _ (line cpu n size start : ℕ) (v : LaneValue) (lane : Lane) (is : IsLane n size start cpu v lane)
+    (core : CoreValue) (told : model.Answer) (after : Core) (step : Step n size lane.core reads told after)
+    (core_is : IsCore n size start core after) (body : List ℕ) (fits : length body ≡ size) (goes_on : Bool)
+    (new : LaneValue) where
+  abbrev Reads : Type 0
+  Reads =
+      ReadsOnce goes_on n size lane (record { event = reads; answer = told } ∷ []) (lane_behind lane after)
+      × IsLane n size start cpu new (lane_behind lane after)
+
+  reads_to : (given : model.Answer)
+      → told ≡ given
+      → (goes_on ≡ true → given ≡ reading)
+      → (goes_on ≡ false → given ≢ reading)
+      → (w : LaneValue)
+      → new ≡ w
+      → w.core ≡ core
+      → w.payloads ≡ v.payloads
+      → IfSome w.body (λ b. length b ≡ size)
+      → w.taken ≡ v.taken ++ parcels_in cpu given
+      → Reads
+  reads_to given told_is goes answers w new_is core_same payloads body_fits taken = (
+    record {
+      answer = told;
+      exchanges_are = refl;
+      core = after;
+      step = step;
+      after_is = refl;
+      goes = λ e. told_is ∙ goes e;
+      answers = λ e same. answers e (sym told_is ∙ same);
+    },
+    subst (λ (u : LaneValue). IsLane n size start cpu u (lane_behind lane after)) (sym new_is)
+        (reader_behind n size start cpu v lane is reads told after tt step w
+        (subst (λ (u : CoreValue). IsCore n size start u after) (sym core_same) core_is) payloads body_fits
+        (taken ∙ ap (λ (a : model.Answer). v.taken ++ parcels_in cpu a) (sym told_is))),
+  )
+
+  no_more : (given : model.Answer) → goes_on ≡ false → goes_on ≡ true → given ≡ reading
+  no_more given stopped goes = absurd (false≢true (sym stopped ∙ goes))
+
+  keeps_reads : (result : Answer)
+      → Tells size result told
+      → GivesBack body result
+      → Keeps cpu result goes_on (record v { core = core; body = None }) new
+      → Reads
+  keeps_reads Pushed tells gives keeps = absurd gives
+  keeps_reads Going tells gives keeps = absurd gives
+  keeps_reads (Reserved number) tells gives keeps = absurd gives
+  keeps_reads (Ended ended) tells gives keeps = absurd gives
+  keeps_reads Gone tells gives keeps = absurd gives
+  keeps_reads (Refused fault) tells gives keeps = absurd gives
+  keeps_reads (Looking back) tells gives (goes, is_new) =
+      reads_to reading tells (λ e. refl) (λ e. absurd (false≢true (sym e ∙ goes)))
+      (record v { core = core; body = Some back }) is_new refl refl (ap length gives ∙ fits) (sym (append-nil v.taken))
+  keeps_reads (Empty done back) tells gives (goes, is_new) =
+      reads_to (empty done) tells (no_more (empty done) goes) (λ e same. let z : ⊥ = cc in z)
+      (record v { core = core; body = Some back }) is_new refl refl (ap length gives ∙ fits) (sym (append-nil v.taken))
+  keeps_reads (Moving fill back) tells gives (goes, is_new) =
+      reads_to (moving fill.0) tells (no_more (moving fill.0) goes) (λ e same. let z : ⊥ = cc in z)
+      (record v { core = core; body = Some back }) is_new refl refl (ap length gives ∙ fits) (sym (append-nil v.taken))
+  keeps_reads (Taken contents missed) (t, told_is, whole) gives (goes, (body, body_is, is_new)) =
+      let parcel_is : page.parcel_of cpu contents missed ≡ parcel_of cpu t = (λ i. record {
+        cpu = cpu;
+        fill = whole.written.fill_is i;
+        first = whole.written.first_is i;
+        missed = whole.missed_is i;
+        records = whole.written.records_are i;
+      }) in
+      reads_to (swapped t) told_is (no_more (swapped t) goes) (λ e same. let z : ⊥ = cc in z)
+      (record v { core = core; body = Some body; taken = v.taken ++ page.parcel_of cpu contents missed ∷ [] })
+      is_new refl refl (body_is ∙ whole.written.size_is) (ap (λ (p : Parcel). v.taken ++ p ∷ []) parcel_is)
+  keeps_reads (Wished fill) tells gives keeps = absurd gives
+
+pub reads_once : (line cpu : ℕ) (v between new : LaneValue) (body : List ℕ) (result : Answer) (goes_on : Bool)
+    (old_log new_log : List LogLine)
+    → length body ≡ v.core.stack.size
+    → Makes v.core reads result between.core
+    → between ≡ record v { core = between.core; body = None }
+    → GivesBack body result
+    → IsTold line cpu result old_log new_log
+    → Keeps cpu result goes_on between new
+    → Has (ReadsOnce goes_on) line cpu v old_log new new_log
+reads_once line cpu v between new body result goes_on old_log new_log body_is makes same gives told keeps =
+    λ n size start lane is.
+    let s = makes n size start lane.core is.is_core in
+    let x : Exchange = record { event = reads; answer = s.answer } in
+    let (reads_so, is_lane) =
+    keeps_reads line cpu n size start v lane is between.core s.answer s.after s.step s.is_core body
+    (body_is ∙ is.is_core.shows.frames.size_is) goes_on new result s.tells gives
+    (subst (λ (w : LaneValue). Keeps cpu result goes_on w new) same keeps) in
+    record {
+      exchanges = x ∷ [];
+      after = lane_behind lane s.after;
+      happened = reads_so;
+      is_lane = is_lane;
+      log = told_one line cpu x (shown_log old_log) (shown_log new_log) (told size s.answer s.tells);
+    }

@@ -1,0 +1,154 @@
+-- Steps of the reader, one behind the other: so many are made, or its take is answered.
+use Rattle.std.proofs.Common.{◌≡◌, ◌≢◌, ℕ, suc, ◌+◌, ◌<◌, ◌≤◌, inl, inr, ⊎_elim, Bool, true, false, List, [], ◌∷◌, ◌++◌, refl, sym, ◌∙◌, subst, arith, length-append}
+use Rattle.std.specs.Prelude.{All}
+use Rattle.std.proofs.lemmas.List.Elements.{All-push}
+use Rattle.trace_model.specs.declared.limits.TheConstants.{MAX_PAGES}
+use Rattle.trace_model.specs.Ring.{Core}
+use Rattle.trace_model.specs.Steps.{reads, reading, Step, Exchange}
+use Rattle.script_model.specs.Script.{take_page}
+use Rattle.link_marks.specs.Ranks.{reader_limit}
+use Rattle.world_model.specs.Lanes.{Lane, lane_behind, ReaderRun, IsAnswered}
+use Rattle.world_model.proofs.LineEnds.{reader_runs_short}
+use Rattle.replay_log.specs.declared.line.LogLine.{LogLine}
+use Rattle.replay_log.specs.LogTypes.{shown_log}
+use Rattle.script_replay.specs.Value.{LaneValue}
+use Rattle.script_replay.specs.Lanes.{IsLaneOf, Has, HasLine}
+use Rattle.script_replay.specs.Takes.{ReadsOnce, ReadsOn, IsReading}
+use Rattle.script_replay.proofs.Logs.{told_more}
+
+abbrev AllReading : List Exchange → Type 0
+AllReading xs = All (λ (x : Exchange). x.answer ≡ reading) xs
+
+-- ---- one step more
+
+run_more : (n size : ℕ) (before between after : Lane) (xs : List Exchange) (x : Exchange)
+    → ReaderRun n size before xs between
+    → AllReading xs
+    → x.event ≡ reads
+    → (core : Core)
+    → Step n size between.core reads x.answer core
+    → after ≡ lane_behind between core
+    → ReaderRun n size before (xs ++ x ∷ []) after
+run_more n size before between after [] x run all event core step is =
+    subst (λ (l : Lane). ReaderRun n size l (x ∷ []) after) (sym run)
+    (event, (λ some. absurd (some refl)), core, step, sym is)
+run_more n size before between after (y ∷ ys) x (first, more, next, own, run) all event core step is = (
+  first,
+  (λ some. all 0 y (omega arith)),
+  next,
+  own,
+  run_more n size (lane_behind before next) between after ys x run (λ k d low. all (suc k) d (omega arith))
+      event core step is,
+)
+
+answered_more : (xs : List Exchange) (x : Exchange) → x.answer ≢ reading → IsAnswered (xs ++ x ∷ [])
+answered_more [] x ends = ends
+answered_more (y ∷ []) x ends = ends
+answered_more (y ∷ z ∷ ys) x ends = answered_more (z ∷ ys) x ends
+
+reading_more : (steps n size : ℕ) (goes_on : Bool) (before between after : Lane) (xs ys : List Exchange)
+    → IsReading steps true n size before xs between
+    → ReadsOnce goes_on n size between ys after
+    → IsReading (steps + 1) goes_on n size before (xs ++ ys) after
+reading_more steps n size goes_on before between after xs ys r once =
+    let x : Exchange = record { event = reads; answer = once.answer } in
+    let all : AllReading xs = r.goes refl in
+    subst (λ (l : List Exchange). IsReading (steps + 1) goes_on n size before (xs ++ l) after)
+    (sym once.exchanges_are) record {
+      run = run_more n size before between after xs x r.run all refl once.core once.step once.after_is;
+      made = let count = length-append xs (x ∷ []) in let made = r.made in omega arith;
+      goes = λ e. All-push (λ (y : Exchange). y.answer ≡ reading) xs x all (once.goes e);
+      answers = λ e. answered_more xs x (once.answers e);
+    }
+
+-- ---- of a value
+
+pub read_more : (line cpu steps : ℕ) (goes_on : Bool) (first between new : LaneValue)
+    (log log_between new_log : List LogLine)
+    → Has (IsReading steps true) line cpu first log between log_between
+    → Has (ReadsOnce goes_on) line cpu between log_between new new_log
+    → Has (IsReading (steps + 1) goes_on) line cpu first log new new_log
+read_more line cpu steps goes_on first between new log log_between new_log so_far once = λ n size start lane is.
+    let h = so_far n size start lane is in
+    let k = once n size start h.after h.is_lane in
+    record {
+      exchanges = h.exchanges ++ k.exchanges;
+      after = k.after;
+      happened = reading_more steps n size goes_on lane h.after k.after h.exchanges k.exchanges h.happened k.happened;
+      is_lane = k.is_lane;
+      log =
+          told_more line cpu h.exchanges k.exchanges (shown_log log) (shown_log log_between) (shown_log new_log)
+          h.log k.log;
+    }
+
+-- behind them the value is a lane still
+pub lane_of : {run : (n size : ℕ) → Lane → List Exchange → Lane → Type 0} (line cpu : ℕ) (v new : LaneValue)
+    (log new_log : List LogLine)
+    → IsLaneOf cpu v
+    → Has run line cpu v log new new_log
+    → IsLaneOf cpu new
+lane_of line cpu v new log new_log (n, size, start, lane, is) has =
+    let h = has n size start lane is in
+    (n, size, start, h.after, h.is_lane)
+
+-- all steps are made
+pub all_read : (line cpu steps count : ℕ) (goes_on : Bool) (v new : LaneValue) (log new_log : List LogLine)
+    → steps ≡ count
+    → Has (IsReading steps goes_on) line cpu v log new new_log
+    → Has (ReadsOn count) line cpu v log new new_log
+all_read line cpu steps count goes_on v new log new_log all has = λ n size start lane is.
+    let h = has n size start lane is in
+    record {
+      exchanges = h.exchanges;
+      after = h.after;
+      happened = (h.happened.run, ((let made = h.happened.made in omega arith), inl (h.happened.made ∙ all)));
+      is_lane = h.is_lane;
+      log = h.log;
+    }
+
+-- the take is answered
+pub answer_read : (line cpu steps count : ℕ) (v new : LaneValue) (log new_log : List LogLine)
+    → steps ≤ count
+    → Has (IsReading steps false) line cpu v log new new_log
+    → Has (ReadsOn count) line cpu v log new new_log
+answer_read line cpu steps count v new log new_log few has = λ n size start lane is.
+    let h = has n size start lane is in
+    record {
+      exchanges = h.exchanges;
+      after = h.after;
+      happened = (h.happened.run, ((let made = h.happened.made in omega arith), inr (h.happened.answers refl)));
+      is_lane = h.is_lane;
+      log = h.log;
+    }
+
+-- ---- a whole take
+
+-- what isn't unanswered is answered
+answered_if : (xs : List Exchange) → ((IsAnswered xs → ⊥) → ⊥) → IsAnswered xs
+answered_if [] not = absurd (not (λ e. e))
+answered_if (x ∷ []) not = λ e. not (λ ends. ends e)
+answered_if (x ∷ y ∷ xs) not = answered_if (y ∷ xs) not
+
+pub take_is_answered : (line cpu count : ℕ) (v new : LaneValue) (log new_log : List LogLine)
+    → reader_limit MAX_PAGES < count
+    → Has (ReadsOn count) line cpu v log new new_log
+    → HasLine (take_page cpu) line cpu v log new new_log
+take_is_answered line cpu count v new log new_log many has = λ n size start lane is.
+    let h = has n size start lane is in
+    let (run, (few, stop)) = h.happened in
+    record {
+      exchanges = h.exchanges;
+      after = h.after;
+      happened = (
+        run,
+        ⊎_elim
+            (λ all. answered_if h.exchanges (λ not.
+            let short = reader_runs_short n size start lane h.after h.exchanges is.is_core.reached run not in
+            let most = is.most in
+            let none : ⊥ = omega arith in
+            none))
+            (λ answered. answered) stop,
+      );
+      is_lane = h.is_lane;
+      log = h.log;
+    }

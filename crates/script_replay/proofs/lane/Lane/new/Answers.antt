@@ -1,0 +1,10 @@
+use Rattle.std.proofs.Common.{ℕ, List, map, reverse, refl, ap, Bor}
+use Rattle.script_replay.proofs.TakesNew.{new_lane}
+use Rattle.script_replay.proofs.lane.Lane.new.Goals as goal
+
+pub returns : goal.returns
+returns c =
+    new_lane c.args.pages c.args.size c.args.start _ c.requires.most c.requires.small c.requires.large
+    c.requires.words c.in_ok-new_at.ensures
+    (ap (λ (l : List (Bor (List ℕ))). reverse (map (λ payload. payload.now) l)) c.in_ok-with_capacity.ensures.items)
+    refl c.new.ensures.items

@@ -1,0 +1,90 @@
+-- What steps of frames, and pushes, do to a lane as a value.
+use Rattle.std.specs.Prelude.{◌≡◌, ℕ, ◌≤◌, List, [], length}
+use Rattle.trace_model.specs.Ring.{Core}
+use Rattle.trace_model.specs.Steps as model
+use Rattle.trace_model.specs.Steps.{Step, Exchange}
+use Rattle.world_model.specs.Lanes.{Lane, lane_behind, lane_with, event_on_top, FrameRun, IsStepped, WritesFrame}
+use Rattle.ring_core.specs.declared.event.Event.{Event}
+use Rattle.ring_core.specs.declared.event.Event.TheVariants as event
+use Rattle.ring_frames.specs.declared.answer.Answer.{Answer}
+use Rattle.ring_core.specs.Value.{CoreValue}
+use Rattle.ring_frames.specs.Answers.{Tells}
+use Rattle.ring_core.specs.Steps.{IsStep}
+use Rattle.replay_log.specs.declared.line.LogLine.{LogLine}
+use Rattle.script_replay.specs.Value.{LaneValue}
+use Rattle.script_replay.specs.Lanes.{IsLane, Has}
+
+-- ---- steps
+
+-- the ring's frame on top makes its step, in each lane that the value is
+abbrev pub AsksTop : LaneValue → Answer → CoreValue → Type 0
+AsksTop old answer new = (n size start cpu : ℕ) (lane : Lane)
+    → IsLane n size start cpu old lane
+    → IsStep n size start lane.core (event_on_top lane.core.frames lane.payloads) answer new
+
+-- the frame on top of this lane makes its step, and the value is the lane behind it
+pub record IsSteppedOnce (n size start cpu : ℕ) (lane : Lane) (answer : Answer) (new : LaneValue) : Type 0 where
+  pub told : model.Answer
+  pub core : Core
+  pub step : Step n size lane.core (event_on_top lane.core.frames lane.payloads) told core
+  pub tells : Tells size answer told
+  pub is_lane : IsLane n size start cpu new (lane_behind lane core)
+
+abbrev pub StepsOnce : LaneValue → Answer → LaneValue → Type 0
+StepsOnce old answer new = (n size start cpu : ℕ) (lane : Lane)
+    → IsLane n size start cpu old lane
+    → IsSteppedOnce n size start cpu lane answer new
+
+-- the frame on top makes steps until so many are made or it is gone
+abbrev pub FollowsFrame : (count : ℕ) → (n size : ℕ) → Lane → List Exchange → Lane → Type 0
+FollowsFrame count n size before exchanges after =
+    FrameRun n size (length before.core.frames) before exchanges after
+    × IsStepped count (length before.core.frames) exchanges after
+
+-- Amid that: so many steps are made by the frame on top of so many.
+pub record IsAmid (depth steps n size : ℕ) (before : Lane) (exchanges : List Exchange) (after : Lane) : Type 0 where
+  pub run : FrameRun n size depth before exchanges after
+  pub made : length exchanges ≡ steps
+  pub few : length after.core.frames ≤ depth
+
+-- ---- pushes
+
+-- the event pushes a frame for this payload
+abbrev pub IsPushOf : Event → List ℕ → Type 0
+IsPushOf (event.Push moment len) payload = length payload ≡ len
+IsPushOf event.PushClose payload = payload ≡ []
+IsPushOf event.Step payload = ⊥
+IsPushOf event.End payload = ⊥
+IsPushOf (event.Read body) payload = ⊥
+IsPushOf event.Wish payload = ⊥
+
+-- the push in the model
+abbrev pub push_event : Event → model.Event
+push_event (event.Push moment len) = model.pushes moment len
+push_event event.PushClose = model.pushes_close
+push_event event.Step = model.steps
+push_event event.End = model.steps
+push_event (event.Read body) = model.steps
+push_event event.Wish = model.steps
+
+-- a frame was to be pushed on this lane, and the value is the lane behind that
+pub record IsPushed (n size start cpu : ℕ) (lane : Lane) (event : model.Event) (payload : List ℕ) (answer : Answer)
+    (new : LaneValue)
+    : Type 0 where
+  pub told : model.Answer
+  pub core : Core
+  pub step : Step n size lane.core event told core
+  pub tells : Tells size answer told
+  pub is_lane : IsLane n size start cpu new (lane_with lane payload told core)
+
+abbrev pub Pushes : model.Event → List ℕ → LaneValue → Answer → LaneValue → Type 0
+Pushes event payload old answer new = (n size start cpu : ℕ) (lane : Lane)
+    → IsLane n size start cpu old lane
+    → IsPushed n size start cpu lane event payload answer new
+
+-- a frame is pushed and finished
+abbrev pub HasWritten : model.Event → List ℕ → (line cpu : ℕ)
+    → LaneValue → List LogLine → LaneValue → List LogLine → Type 0
+HasWritten event payload line cpu old old_log new new_log =
+    Has (λ n size before exchanges after. WritesFrame n size event payload before exchanges after)
+    line cpu old old_log new new_log

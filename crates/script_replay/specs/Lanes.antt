@@ -1,0 +1,59 @@
+-- What ties a lane as a value to one of a script's world, and what a line does to it.
+use Rattle.std.specs.Prelude.{◌≡◌, ℕ, ◌%◌, ◌<◌, ◌≤◌, List, ◌++◌, length, map, IfSome}
+use Rattle.trace_model.specs.declared.limits.TheConstants.{MAX_PAGES, MIN_SIZE, MAX_SIZE, MAX_CPUS}
+use Rattle.trace_model.specs.Steps.{Exchange}
+use Rattle.script_model.specs.Script.{Command}
+use Rattle.world_model.specs.Lanes.{Lane, IsNewLane, HasPayloads, LineRun}
+use Rattle.world_model.specs.World.{parcel_of}
+use Rattle.world_model.specs.Log.{log_of}
+use Rattle.ring_core.specs.IsCore.{IsCore}
+use Rattle.replay_log.specs.declared.line.LogLine.{LogLine}
+use Rattle.replay_log.specs.LogTypes.{shown_log}
+use Rattle.script_replay.specs.Value.{LaneValue}
+
+-- The value is this lane of a CPU, whose ring has n pages of this size and the first fill start: the ring is the
+-- lane's, with a payload for each frame, and what was taken from it is kept as parcels of the CPU.
+pub record IsLane (n size start cpu : ℕ) (v : LaneValue) (lane : Lane) : Type 0 where
+  pub most : n ≤ MAX_PAGES
+  pub small : MIN_SIZE ≤ size
+  pub large : size ≤ MAX_SIZE
+  pub words : size % 4 ≡ 0
+  pub known : cpu < MAX_CPUS
+  pub is_core : IsCore n size start v.core lane.core
+  pub payloads_are : v.payloads ≡ lane.payloads
+  pub fit : HasPayloads lane
+  pub body : IfSome v.body (λ body. length body ≡ size)
+  pub taken_are : v.taken ≡ map (parcel_of cpu) lane.core.reader.taken
+
+-- the value is a lane of this CPU
+abbrev pub IsLaneOf : (cpu : ℕ) → LaneValue → Type 0
+IsLaneOf cpu v = (n size start : ℕ) × (lane : Lane) × IsLane n size start cpu v lane
+
+-- the value is a new lane, of whichever CPU
+abbrev pub IsNewLaneOf : (n size start : ℕ) → LaneValue → Type 0
+IsNewLaneOf n size start v =
+    (lane : Lane) × IsNewLane n start lane × ((cpu : ℕ) → cpu < MAX_CPUS → IsLane n size start cpu v lane)
+
+-- Exchanges of this kind lead from a lane to another one, which the value after them is, and what is logged of them
+-- stands behind the log.
+pub record Happens (run : (n size : ℕ) → Lane → List Exchange → Lane → Type 0) (line cpu n size start : ℕ)
+    (before : Lane) (old_log : List LogLine) (new : LaneValue) (new_log : List LogLine)
+    : Type 0 where
+  pub exchanges : List Exchange
+  pub after : Lane
+  pub happened : run n size before exchanges after
+  pub is_lane : IsLane n size start cpu new after
+  pub log : shown_log new_log ≡ shown_log old_log ++ log_of line cpu exchanges
+
+-- so it is for each lane that the value before is
+abbrev pub Has : ((n size : ℕ) → Lane → List Exchange → Lane → Type 0) → (line cpu : ℕ)
+    → LaneValue → List LogLine → LaneValue → List LogLine → Type 0
+Has run line cpu old old_log new new_log = (n size start : ℕ) (lane : Lane)
+    → IsLane n size start cpu old lane
+    → Happens run line cpu n size start lane old_log new new_log
+
+-- what a line of the script asks for is done
+abbrev pub HasLine : Command → (line cpu : ℕ) → LaneValue → List LogLine → LaneValue → List LogLine → Type 0
+HasLine command line cpu old old_log new new_log =
+    Has (λ n size before exchanges after. LineRun n size command before exchanges after)
+    line cpu old old_log new new_log

@@ -1,0 +1,131 @@
+-- What a replay of a script answers: the script's world; and what holds between two of its lines.
+use Rattle.std.specs.Prelude.{◌≡◌, ℕ, [], ◌∷◌, ◌++◌, ◌↔◌, List, Some, Contains}
+use Rattle.std.specs.List.{slice_get}
+use Rattle.trace_model.specs.Record.{Record}
+use Rattle.trace_model.specs.History.{Action, committed_records}
+use Rattle.trace_model.specs.Window.{Deed}
+use Rattle.trace_model.specs.Parcel.{Parcel}
+use Rattle.trace_model.specs.Collection.{Has, Misses, IsSame, IsLeastUpperBound}
+use Rattle.script_model.specs.Script.{Command, begin_frame, step_frame, finish_frame, write, close, step_reader, take_page, wish, deliver, Script}
+use Rattle.script_model.specs.ScriptLimits.{IsWithinLimits, IsCommandWithin}
+use Rattle.world_model.specs.Lanes.{Lane}
+use Rattle.world_model.specs.World.{World, WorldBehind, WorldOf}
+use Rattle.world_model.specs.Headline.{StandsIn, IsOverwrittenBefore, IsOneOf, IsGenuineWorld}
+use Rattle.replay_log.specs.declared.line.LogLine.{LogLine}
+use Rattle.script_replay.specs.declared.replaying.ReplayState.{ReplayState}
+use Rattle.replay_log.specs.LogTypes.{shown_log}
+use Rattle.script_replay.specs.Places.{lane_at, IsLaneAt}
+use Rattle.script_replay.specs.Collected.{AreCollected}
+
+-- ---- what is answered
+
+-- The collectors and the log are those of this world of the script: each collector has and misses what was delivered
+-- to it.
+pub record IsReplay (script : Script) (collectors : List (List Parcel)) (log : List LogLine) (w : World) : Type 0 where
+  pub world : WorldOf script w
+  pub log_is : shown_log log ≡ w.log
+  pub collectors_are : AreCollected collectors w.delivered
+
+-- What a collector keeps makes of a CPU's history: it has just the committed records that stand in the fill of one of
+-- the pages that were delivered to it, under their own numbers, and misses just the numbers that were overwritten
+-- unread before one of them.
+pub record KeepsExactly (history : List Action) (start : ℕ) (deeds : List Deed) (cpu : ℕ) (kept delivered : List Parcel)
+    : Type 0 where
+  pub has : (number : ℕ) (r : Record)
+      → Has kept cpu number r
+      ↔ ((slice_get (committed_records history) number ≡ Some r)
+      × (parcel : Parcel)
+      × IsOneOf delivered cpu parcel
+      × StandsIn history start parcel.fill number)
+  pub misses : (number : ℕ)
+      → Misses kept cpu number
+      ↔ ((parcel : Parcel)
+      × IsOneOf delivered cpu parcel
+      × IsOverwrittenBefore history start deeds parcel.fill number)
+
+-- so it is of each collector, for each CPU
+abbrev pub AreExact : (script : Script) → List (List Parcel) → (w : World) → IsGenuineWorld script w → Type 0
+AreExact script collectors w genuine = (collector cpu : ℕ) (kept delivered : List Parcel) (lane : Lane)
+    → slice_get collectors collector ≡ Some kept
+    → slice_get w.delivered collector ≡ Some delivered
+    → (at : slice_get w.lanes cpu ≡ Some lane)
+    → KeepsExactly lane.core.history script.start (genuine.cut cpu lane at).deeds cpu kept delivered
+
+-- two collectors to which the same pages were delivered have and miss the same
+abbrev pub AreAlike : List (List Parcel) → World → Type 0
+AreAlike collectors w = (one other : ℕ) (kept others delivered others_delivered : List Parcel)
+    → slice_get collectors one ≡ Some kept
+    → slice_get collectors other ≡ Some others
+    → slice_get w.delivered one ≡ Some delivered
+    → slice_get w.delivered other ≡ Some others_delivered
+    → ((parcel : Parcel) → Contains delivered parcel ↔ Contains others_delivered parcel)
+    → IsSame kept others
+
+-- any two collectors have a least collection above both: what the one has and misses, and the other
+abbrev pub Join : List (List Parcel) → Type 0
+Join collectors = (one other : ℕ) (kept others : List Parcel)
+    → slice_get collectors one ≡ Some kept
+    → slice_get collectors other ≡ Some others
+    → IsLeastUpperBound kept others (kept ++ others)
+
+-- The headline. What is answered is the script's world. In it each CPU's parcels part its committed records, under
+-- their own numbers, with just the numbers missing that were overwritten unread; each collector has just the records of
+-- the pages that were delivered to it, and misses just the numbers that were overwritten unread before those;
+-- collectors to which the same pages were delivered are the same; and any two have a least one above both.
+pub record IsHeadline (script : Script) (collectors : List (List Parcel)) (log : List LogLine) : Type 0 where
+  pub world : World
+  pub replay : IsReplay script collectors log world
+  pub genuine : IsGenuineWorld script world
+  pub exact : AreExact script collectors world genuine
+  pub alike : AreAlike collectors world
+  pub join : Join collectors
+
+-- ---- between two lines
+
+-- the CPU that a command names
+abbrev pub cpu_of : Command → ℕ
+cpu_of (begin_frame cpu moment payload) = cpu
+cpu_of (step_frame cpu count) = cpu
+cpu_of (finish_frame cpu) = cpu
+cpu_of (write cpu moment payload) = cpu
+cpu_of (close cpu) = cpu
+cpu_of (step_reader cpu count) = cpu
+cpu_of (take_page cpu) = cpu
+cpu_of (wish cpu) = cpu
+cpu_of (deliver collector cpu fill) = cpu
+
+-- it is no delivery
+abbrev pub IsOfRing : Command → Type 0
+IsOfRing (begin_frame cpu moment payload) = Unit {0}
+IsOfRing (step_frame cpu count) = Unit {0}
+IsOfRing (finish_frame cpu) = Unit {0}
+IsOfRing (write cpu moment payload) = Unit {0}
+IsOfRing (close cpu) = Unit {0}
+IsOfRing (step_reader cpu count) = Unit {0}
+IsOfRing (take_page cpu) = Unit {0}
+IsOfRing (wish cpu) = Unit {0}
+IsOfRing (deliver collector cpu fill) = ⊥
+
+-- Behind so many lines: the lanes that were made, each at its CPU, the collectors and the log are those of the world
+-- there, and each lane that wasn't made is new.
+pub record IsAmid (script : Script) (lines : List (ℕ × Command)) (state : ReplayState) : Type 0 where
+  pub world : World
+  pub behind : WorldBehind script lines world
+  pub lanes_are : (cpu : ℕ) (lane : Lane)
+      → slice_get world.lanes cpu ≡ Some lane
+      → IsLaneAt script cpu (lane_at state.lanes.items cpu) lane
+  pub collectors_are : AreCollected state.collectors.items world.delivered
+  pub log_is : shown_log state.log.items ≡ world.log
+
+-- a command of this script may be obeyed behind some of its lines
+pub record IsReady (script : Script) (command : Command) (state : ReplayState) : Type 0 where
+  pub limits : IsWithinLimits script
+  pub within : IsCommandWithin script.cpus script.collectors command
+  pub lines : List (ℕ × Command)
+  pub amid : IsAmid script lines state
+
+-- one line more is obeyed, whichever are behind
+abbrev pub LeadsOn : Script → ℕ × Command → ReplayState → ReplayState → Type 0
+LeadsOn script line old new = (lines : List (ℕ × Command))
+    → IsAmid script lines old
+    → IsAmid script (lines ++ line ∷ []) new

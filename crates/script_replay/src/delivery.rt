@@ -1,0 +1,27 @@
+//! A page that was taken from the ring of a CPU is found for its delivery.
+ghost use Rattle.std.specs.Prelude.{◌≡◌, ◌≢◌, None, IfSome, All};
+ghost use Rattle.deliveries.specs.Deliveries.{AreRising};
+ghost use Rattle.script_replay.specs.Collected.{IsFound};
+ghost use Rattle.script_replay.specs.Places.{lane_at};
+
+use crate::lane::Lane;
+use deliveries::find;
+use page_numbers::Parcel;
+use trace_model::{CpuId, FillNo};
+
+/// The page of this fill that was taken from the ring of a CPU.
+pub(crate) fn taken_page<'l, 'a>(
+    places: &'l [Option<Box<Lane<'a>>>],
+    cpu: CpuId,
+    fill: FillNo,
+) -> Option<&'l Parcel>
+    requires { IfSome (lane_at places.now cpu.0) (λ lane. AreRising lane.taken) }
+    ensures found { IfSome result (λ parcel. IsFound (lane_at places.now cpu.0) fill.0 parcel.now) }
+    ensures not_found { result ≡ None
+        → IfSome (lane_at places.now cpu.0) (λ lane. All (λ parcel. parcel.fill ≢ fill.0) lane.taken) }
+{
+    match places.get(cpu.0 as usize) {
+        Some(Some(lane)) => find(lane.taken(), fill),
+        _ => None,
+    }
+}

@@ -1,0 +1,128 @@
+//! The steps of the frame on top.
+ghost use Rattle.std.specs.Prelude.{◌≡◌, ◌≤◌, ◌-◌, ◌++◌, length, replicate};
+
+use crate::lane::Lane;
+use nested_writer::WriteFault;
+use nested_writer::frame::Slot;
+use replay_log::{At, LogLine, tell, tell_refusal};
+use ring_core::{Answer, Event};
+use trace_model::NoMemory;
+
+/// More steps than a frame or a take makes in a ring of the most pages.
+pub(crate) const MOST_STEPS: u64 = 8192;
+
+/// Puts the payload to the front of the slot, and zeros behind it.
+#[inline(always)]
+fn put_padded(slot: &mut [u8], payload: &[u8])
+    requires { length payload.now ≤ length slot.old }
+    ensures { slot.new ≡ payload.now ++ replicate (length slot.old - length payload.now) 0 }
+{
+    let (front, behind) = slot.split_at_mut(payload.len());
+    front.copy_from_slice(payload);
+    behind.fill(0);
+}
+
+impl<'a> Lane<'a> {
+    ghost use Rattle.std.specs.Prelude.{◌≡◌, ◌≢◌, ℕ, ◌-◌, [], drop, length, OnOk};
+    ghost use Rattle.script_model.specs.Script.{step_frame, finish_frame};
+    ghost use Rattle.nested_writer.specs.Calls.{IsTopSlot};
+    ghost use Rattle.script_replay.specs.Lanes.{IsLaneOf, Has, HasLine};
+    ghost use Rattle.script_replay.specs.Frames.{AsksTop, StepsOnce, FollowsFrame};
+
+    /// Lets the frame on top make so many steps, if it stands so long.
+    #[inline(never)]
+    pub(crate) fn step(
+        &mut self,
+        at: At,
+        count: u64,
+        log: &mut Vec<LogLine>,
+    ) -> Result<(), NoMemory>
+        requires { IsLaneOf at.cpu.0 self.old }
+        ensures { OnOk result (HasLine (step_frame at.cpu.0 count) at.line at.cpu.0
+            self.old log.old.items self.new log.new.items) }
+    {
+        if self.core.depth() == 0 {
+            return tell_refusal(at, WriteFault::NoFrame, log);
+        }
+        self.follow(at, count, log)
+    }
+
+    /// Lets the frame on top make steps until it is gone.
+    #[inline(never)]
+    pub(crate) fn finish(&mut self, at: At, log: &mut Vec<LogLine>) -> Result<(), NoMemory>
+        requires { IsLaneOf at.cpu.0 self.old }
+        ensures { OnOk result (HasLine (finish_frame at.cpu.0) at.line at.cpu.0
+            self.old log.old.items self.new log.new.items) }
+    {
+        if self.core.depth() == 0 {
+            return tell_refusal(at, WriteFault::NoFrame, log);
+        }
+        self.follow(at, MOST_STEPS, log)
+    }
+
+    /// The frame on top makes steps until so many are made or it is gone, so that fewer payloads are kept.
+    #[inline(always)]
+    fn follow(&mut self, at: At, count: u64, log: &mut Vec<LogLine>) -> Result<(), NoMemory>
+        requires lane { IsLaneOf at.cpu.0 self.old }
+        requires stands { self.old.core.stack.frames ≢ [] }
+        ensures { OnOk result (Has (FollowsFrame count) at.line at.cpu.0
+            self.old log.old.items self.new log.new.items) }
+    {
+        let depth = self.payloads.len();
+        let mut steps = 0;
+        while steps < count && self.payloads.len() == depth {
+            let answer = self.step_once();
+            tell(at, answer, log)?;
+            steps += 1;
+        }
+        Ok(())
+    }
+
+    /// One step of the frame on top, with whose payload its record ends. The payload of a frame that is gone is
+    /// dropped.
+    #[inline(always)]
+    fn step_once(&mut self) -> Answer
+        requires { (cpu : ℕ) × IsLaneOf cpu self.old }
+        ensures { StepsOnce self.old result self.new }
+    {
+        let answer = self.ask_top();
+        self.forget_gone();
+        answer
+    }
+
+    /// One step of the ring's frame on top.
+    #[inline(always)]
+    fn ask_top(&mut self) -> Answer
+        requires { (cpu : ℕ) × IsLaneOf cpu self.old }
+        ensures ring { self.new ≡ record self.old { core = self.new.core } }
+        ensures step { AsksTop self.old result self.new.core }
+    {
+        match self.core.top_slot() {
+            Ok(slot) => self.end_top(slot),
+            Err(_) => self.core.step(Event::Step),
+        }
+    }
+
+    /// The record of the frame on top is written, and ended.
+    #[inline(always)]
+    fn end_top(&mut self, slot: Slot) -> Answer
+        requires lane { (cpu : ℕ) × IsLaneOf cpu self.old }
+        requires slot { IsTopSlot self.old.core.stack.frames slot }
+        ensures ring { self.new ≡ record self.old { core = self.new.core } }
+        ensures step { AsksTop self.old result self.new.core }
+    {
+        let payload = self.payloads[self.payloads.len() - 1];
+        put_padded(self.core.payload_mut(slot), payload);
+        self.core.step(Event::End)
+    }
+
+    /// Drops the payloads of frames that are gone.
+    #[inline(always)]
+    fn forget_gone(&mut self)
+        ensures { self.new ≡ record self.old {
+          payloads = drop (length self.old.payloads - length self.old.core.stack.frames) self.old.payloads;
+        } }
+    {
+        self.payloads.truncate(self.core.depth());
+    }
+}

@@ -1,0 +1,165 @@
+//! The reader of a lane: takes, and its wish.
+ghost use Rattle.std.specs.Prelude.{◌≡◌, ◌+◌, ◌^◌, ◌<◌, ◌≤◌, length, IfOk};
+ghost use Rattle.trace_model.specs.declared.limits.TheConstants.{MAX_CPUS};
+ghost use Rattle.page_image.specs.Contents.{IsPage, records_of_page};
+ghost use Rattle.page_numbers.specs.Parcels.{parcel_of};
+
+use crate::lane::Lane;
+use crate::lane::frames::MOST_STEPS;
+use page_image::{Body, Page};
+use page_numbers::{Parcel, ParcelFault};
+use replay_log::{At, LogLine, tell, tell_any};
+use ring_core::{Answer, Event};
+use std::alloc::Global;
+use trace_model::{CpuId, NoMemory};
+
+/// The page as a parcel.
+fn parcel(alloc: Global, cpu: CpuId, page: Page, missed: u64) -> Result<Parcel, NoMemory>
+    requires page { IsPage page }
+    requires known { cpu.0 < MAX_CPUS }
+    requires numbers { page.first + length (records_of_page page) < 2 ^ 64 }
+    requires missed { missed ≤ page.first }
+    ensures { IfOk result (λ parcel. parcel ≡ parcel_of cpu.0 page missed) }
+{
+    match Parcel::of(alloc, cpu, page, missed) {
+        Ok(parcel) => Ok(parcel),
+        Err(ParcelFault::NoMemory) => Err(NoMemory),
+        Err(_) => unreachable!(),
+    }
+}
+
+impl<'a> Lane<'a> {
+    ghost use Rattle.std.specs.Prelude.{◌≡◌, ℕ, ◌+◌, ◌^◌, ◌<◌, ◌≤◌, None, IfOk, OnOk, length};
+    ghost use Rattle.trace_model.specs.declared.limits.TheConstants.{MAX_CPUS};
+    ghost use Rattle.page_image.specs.Contents.{IsPage, records_of_page};
+    ghost use Rattle.script_model.specs.Script.{step_reader, take_page, wish};
+    ghost use Rattle.script_replay.specs.Lanes.{IsLaneOf, Has, HasLine};
+    ghost use Rattle.script_replay.specs.Takes.{ReadsOnce, ReadsOn, Keeps, KeepsPage, MayKeep};
+
+    /// Lets the reader make so many steps, if its take lasts so long.
+    pub(crate) fn step_reader(
+        &mut self,
+        alloc: Global,
+        at: At,
+        count: u64,
+        log: &mut Vec<LogLine>,
+    ) -> Result<(), NoMemory>
+        requires { IsLaneOf at.cpu.0 self.old }
+        ensures { OnOk result (HasLine (step_reader at.cpu.0 count) at.line at.cpu.0
+            self.old log.old.items self.new log.new.items) }
+    {
+        self.read(alloc, at, count, log)
+    }
+
+    /// Lets the reader make steps until it answers.
+    pub(crate) fn take(
+        &mut self,
+        alloc: Global,
+        at: At,
+        log: &mut Vec<LogLine>,
+    ) -> Result<(), NoMemory>
+        requires { IsLaneOf at.cpu.0 self.old }
+        ensures { OnOk result (HasLine (take_page at.cpu.0) at.line at.cpu.0
+            self.old log.old.items self.new log.new.items) }
+    {
+        self.read(alloc, at, MOST_STEPS, log)
+    }
+
+    /// Lets the reader wish for the tail page.
+    pub(crate) fn wish(&mut self, at: At, log: &mut Vec<LogLine>) -> Result<(), NoMemory>
+        requires { IsLaneOf at.cpu.0 self.old }
+        ensures { OnOk result (HasLine (wish at.cpu.0) at.line at.cpu.0
+            self.old log.old.items self.new log.new.items) }
+    {
+        let answer = self.core.step(Event::Wish);
+        tell(at, answer, log)
+    }
+
+    /// The reader makes steps until so many are made or it answers.
+    fn read(
+        &mut self,
+        alloc: Global,
+        at: At,
+        count: u64,
+        log: &mut Vec<LogLine>,
+    ) -> Result<(), NoMemory>
+        requires { IsLaneOf at.cpu.0 self.old }
+        ensures { OnOk result (Has (ReadsOn count) at.line at.cpu.0
+            self.old log.old.items self.new log.new.items) }
+    {
+        let mut steps = 0;
+        let mut goes_on = true;
+        while steps < count && goes_on {
+            goes_on = self.read_once(alloc, at, log)?;
+            steps += 1;
+        }
+        Ok(())
+    }
+
+    /// One step of the reader: does its take go on?
+    fn read_once(&mut self, alloc: Global, at: At, log: &mut Vec<LogLine>) -> Result<bool, NoMemory>
+        requires { IsLaneOf at.cpu.0 self.old }
+        ensures { IfOk result (λ goes_on. Has (ReadsOnce goes_on) at.line at.cpu.0
+            self.old log.old.items self.new log.new.items) }
+    {
+        let body = self.next_body(alloc)?;
+        let answer = self.core.step(Event::Read(body));
+        tell_any(at, &answer, log)?;
+        self.keep(alloc, at.cpu, answer)
+    }
+
+    /// The body that comes with the reader's next step.
+    fn next_body(&mut self, alloc: Global) -> Result<Body, NoMemory>
+        requires { (cpu : ℕ) × IsLaneOf cpu self.old }
+        ensures size { IfOk result (λ body. length body ≡ self.old.core.stack.size) }
+        ensures rest { OnOk result (self.new ≡ record self.old { body = None }) }
+    {
+        match self.body.take() {
+            Some(body) => Ok(body),
+            None => Body::new(alloc, self.core.size()),
+        }
+    }
+
+    /// Keeps what an answer of the reader brings, a body or a page: does the take go on?
+    fn keep(&mut self, alloc: Global, cpu: CpuId, answer: Answer) -> Result<bool, NoMemory>
+        requires { MayKeep cpu.0 answer }
+        ensures { IfOk result (λ goes_on. Keeps cpu.0 answer goes_on self.old self.new) }
+    {
+        match answer {
+            Answer::Looking(body) => {
+                self.body = Some(body);
+                Ok(true)
+            }
+            Answer::Empty(_, body) | Answer::Moving(_, body) => {
+                self.body = Some(body);
+                Ok(false)
+            }
+            Answer::Taken(page, missed) => {
+                self.keep_page(alloc, cpu, page, missed)?;
+                Ok(false)
+            }
+            _ => unreachable!(),
+        }
+    }
+
+    /// Keeps the records of a page that was taken as a parcel, in as many bytes as they take; and the page's own body
+    /// for the next take.
+    fn keep_page(
+        &mut self,
+        alloc: Global,
+        cpu: CpuId,
+        page: Page,
+        missed: u64,
+    ) -> Result<(), NoMemory>
+        requires page { IsPage page }
+        requires known { cpu.0 < MAX_CPUS }
+        requires numbers { page.first + length (records_of_page page) < 2 ^ 64 }
+        requires missed { missed ≤ page.first }
+        ensures { OnOk result (KeepsPage cpu.0 page missed self.old self.new) }
+    {
+        let parcel = parcel(alloc, cpu, page.fitted(alloc)?, missed)?;
+        self.taken.push(parcel)?;
+        self.body = Some(page.into_body());
+        Ok(())
+    }
+}

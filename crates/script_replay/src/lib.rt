@@ -1,0 +1,15 @@
+//! The replay of a script: what its lines do to the rings of its CPUs, and to its collectors.
+//!
+//! A lane is the ring of one CPU with the payloads of its frames and the pages that were taken from it; a line is steps
+//! of its lane, or a delivery to a collector.
+#![tactic(auto)]
+
+mod delivery;
+mod lane;
+mod places;
+mod replaying;
+mod world;
+
+pub use replay_log::LogLine;
+pub use replaying::replay;
+pub use world::World;

@@ -1,0 +1,223 @@
+//! The replay of a script over the rings of its CPUs: its lines are obeyed, one behind the other.
+ghost use Rattle.std.specs.Prelude.{◌≡◌, ℕ, ◌++◌, [], ◌∷◌, List, length, All, IsOkUnless, IfOk, OnOk};
+ghost use Rattle.text_model.specs.Log as model;
+ghost use Rattle.script_model.specs.Script as model_script;
+ghost use Rattle.script_model.specs.Script.{deliver as delivers};
+ghost use Rattle.script_model.specs.ScriptLimits.{IsWithinLimits};
+ghost use Rattle.world_model.specs.World.{World as WorldSeen};
+ghost use Rattle.world_model.specs.Headline.{IsGenuineWorld};
+ghost use Rattle.trace_script.specs.ScriptTypes.{shown_command, shown_line};
+ghost use Rattle.replay_log.specs.LogTypes.{shown_log_line};
+ghost use Rattle.script_replay.specs.Lanes.{IsLaneOf, HasLine};
+ghost use Rattle.script_replay.specs.Collected.{delivery_of};
+ghost use Rattle.script_replay.specs.Replay.{cpu_of, IsOfRing, IsAmid, IsReady, LeadsOn, IsReplay, AreExact, AreAlike, Join, IsHeadline};
+ghost use Rattle.trace_script.specs.declared.replay_fault.ReplayFault.TheVariants.{NoMemory as no_memory};
+
+use crate::delivery::taken_page;
+use crate::lane::Lane;
+use crate::places::make_lane;
+use crate::world::World;
+use collector::{Added, Collector};
+use deliveries::collect;
+use replay_log::{At, LogLine};
+use std::alloc::Global;
+use trace_model::{CpuId, FillNo, NoMemory};
+use trace_script::{Command, ReplayFault, Script, ScriptLine};
+
+/// A replay between two lines: the lanes that were made so far, each at its CPU's index; the collectors; the log.
+#[derive(Drop)]
+pub(crate) struct ReplayState<'a> {
+    lanes: Vec<Option<Box<Lane<'a>>>>,
+    collectors: Vec<Collector>,
+    log: Vec<LogLine>,
+}
+
+/// A lane does what a command asks for of it; of a delivery nothing.
+#[inline(always)]
+fn run_line<'a>(
+    alloc: Global,
+    lane: &mut Lane<'a>,
+    at: At,
+    command: Command<'a>,
+    log: &mut Vec<LogLine>,
+) -> Result<(), NoMemory>
+    requires { IsLaneOf at.cpu.0 lane.old }
+    ensures { OnOk result (HasLine (shown_command command.entry) at.line at.cpu.0
+        lane.old log.old.items lane.new log.new.items) }
+{
+    match command {
+        Command::Begin {
+            moment,
+            payload,
+            ..
+        } => lane.begin(at, moment.0, payload, log),
+        Command::Step { count, .. } => lane.step(at, count, log),
+        Command::Finish { .. } => lane.finish(at, log),
+        Command::Write {
+            moment,
+            payload,
+            ..
+        } => lane.write(at, moment.0, payload, log),
+        Command::Close { .. } => lane.close(at, log),
+        Command::StepReader { count, .. } => lane.step_reader(alloc, at, count, log),
+        Command::Take { .. } => lane.take(alloc, at, log),
+        Command::Wish { .. } => lane.wish(at, log),
+        Command::Deliver { .. } => Ok(()),
+    }
+}
+
+/// A line of a CPU's ring.
+#[inline(always)]
+fn obey_ring<'a>(
+    alloc: Global,
+    script: &Script,
+    state: &mut ReplayState<'a>,
+    cpu: CpuId,
+    line: ScriptLine<'a>,
+) -> Result<(), NoMemory>
+    requires ready { IsReady script.now (shown_command line.command) state.old }
+    requires ring { IsOfRing (shown_command line.command) }
+    requires cpu { cpu.0 ≡ cpu_of (shown_command line.command) }
+    ensures { OnOk result (LeadsOn script.now (shown_line line.entry) state.old state.new) }
+{
+    let at = At {
+        line: line.number,
+        cpu,
+    };
+    make_lane(alloc, script, &mut state.lanes, cpu)?;
+    match &mut state.lanes[cpu.0 as usize] {
+        Some(lane) => run_line(alloc, &mut **lane, at, line.command, &mut state.log),
+        None => unreachable!(),
+    }
+}
+
+/// What is logged of a page that was delivered.
+fn told_delivery(added: Added, line: u64, collector: usize, cpu: CpuId, fill: FillNo) -> LogLine
+    ensures { shown_log_line result ≡ model.delivery_line line collector cpu.0 fill.0 (delivery_of added) }
+{
+    match added {
+        Added::New => LogLine::New {
+            line,
+            collector,
+            cpu,
+            fill,
+        },
+        Added::Known => LogLine::Known {
+            line,
+            collector,
+            cpu,
+            fill,
+        },
+    }
+}
+
+/// A line that delivers a fill of a CPU to a collector.
+#[inline(never)]
+fn deliver(
+    state: &mut ReplayState,
+    line: u64,
+    collector: usize,
+    cpu: CpuId,
+    fill: FillNo,
+) -> Result<(), NoMemory>
+    requires { (script : model_script.Script) × IsReady script (delivers collector cpu.0 fill.0) state.old }
+    ensures { OnOk result ((script : model_script.Script) → IsReady script (delivers collector cpu.0 fill.0) state.old
+        → LeadsOn script (line, delivers collector cpu.0 fill.0) state.old state.new) }
+{
+    let Some(parcel) = taken_page(state.lanes.as_slice(), cpu, fill) else {
+        state.log.push(LogLine::NotTaken {
+            line,
+            collector,
+            cpu,
+            fill,
+        })?;
+        return Ok(());
+    };
+    let added = collect(&mut state.collectors[collector], parcel)?;
+    state
+        .log
+        .push(told_delivery(added, line, collector, cpu, fill))?;
+    Ok(())
+}
+
+/// A line of the script. What it leaves where memory is refused is not used. Each kind of line has a call of its own,
+/// in which the compiler knows the kind.
+#[inline(always)]
+fn obey<'a>(
+    alloc: Global,
+    script: &Script,
+    state: &mut ReplayState<'a>,
+    line: ScriptLine<'a>,
+) -> Result<(), NoMemory>
+    requires { IsReady script.now (shown_command line.command) state.old }
+    ensures { OnOk result (LeadsOn script.now (shown_line line.entry) state.old state.new) }
+{
+    match line.command {
+        Command::Deliver {
+            collector,
+            cpu,
+            fill,
+        } => deliver(state, line.number, collector, cpu, fill),
+        Command::Begin { cpu, .. } => obey_ring(alloc, script, state, cpu, line),
+        Command::Step { cpu, .. } => obey_ring(alloc, script, state, cpu, line),
+        Command::Finish { cpu } => obey_ring(alloc, script, state, cpu, line),
+        Command::Write { cpu, .. } => obey_ring(alloc, script, state, cpu, line),
+        Command::Close { cpu } => obey_ring(alloc, script, state, cpu, line),
+        Command::StepReader { cpu, .. } => obey_ring(alloc, script, state, cpu, line),
+        Command::Take { cpu } => obey_ring(alloc, script, state, cpu, line),
+        Command::Wish { cpu } => obey_ring(alloc, script, state, cpu, line),
+    }
+}
+
+/// So many collectors that keep nothing.
+fn new_collectors(alloc: Global, count: usize) -> Result<Vec<Collector>, NoMemory>
+    ensures count { IfOk result (λ collectors. length collectors.items ≡ count) }
+    ensures new { IfOk result (λ collectors. All (λ kept. kept ≡ []) collectors.items) }
+{
+    let mut collectors = Vec::new(alloc);
+    while collectors.len() < count {
+        collectors.push(Collector::new(alloc))?;
+    }
+    Ok(collectors)
+}
+
+/// All lines of the script.
+fn obey_all<'a>(alloc: Global, script: &'a Script) -> Result<ReplayState<'a>, NoMemory>
+    ensures limits { OnOk result (IsWithinLimits script.now) }
+    ensures amid { IfOk result (λ state. IsAmid script.now script.now.commands state) }
+{
+    let mut state = ReplayState {
+        lanes: Vec::new(alloc),
+        collectors: new_collectors(alloc, script.collectors())?,
+        log: Vec::new(alloc),
+    };
+    let commands = script.commands();
+    for index in 0..commands.len() {
+        obey(alloc, script, &mut state, commands.line(index))?;
+    }
+    Ok(state)
+}
+
+/// Replays a script over rings, one for each CPU that its lines name. It answers no fault but `NoMemory`.
+pub fn replay(alloc: Global, script: &Script) -> Result<World, ReplayFault>
+    ensures world { IfOk result (λ world. (w : WorldSeen)
+        × IsReplay script.now world.collectors.items world.log.items w) }
+    ensures genuine { IfOk result (λ world. (w : WorldSeen)
+        → IsReplay script.now world.collectors.items world.log.items w → IsGenuineWorld script.now w) }
+    ensures exact { IfOk result (λ world. (w : WorldSeen) (genuine : IsGenuineWorld script.now w)
+        → IsReplay script.now world.collectors.items world.log.items w
+        → AreExact script.now world.collectors.items w genuine) }
+    ensures alike { IfOk result (λ world. (w : WorldSeen)
+        → IsReplay script.now world.collectors.items world.log.items w → AreAlike world.collectors.items w) }
+    ensures join { IfOk result (λ world. Join world.collectors.items) }
+    ensures headline { IfOk result (λ world. IsHeadline script.now world.collectors.items world.log.items) }
+    ensures memory { IsOkUnless result no_memory }
+{
+    let ReplayState {
+        lanes,
+        collectors,
+        log,
+    } = obey_all(alloc, script)?;
+    drop(lanes);
+    Ok(World { collectors, log })
+}
