@@ -1,0 +1,3 @@
+pub mod Value
+pub mod Takes
+pub mod Ledgers

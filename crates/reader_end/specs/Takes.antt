@@ -1,0 +1,34 @@
+-- What a take of a reader's end finds.
+use Rattle.std.specs.Prelude.{◌≡◌, ℕ, [], ◌∷◌, ◌++◌, Some, None}
+use Rattle.world_model.specs.World.{parcel_of}
+use Rattle.page_image.specs.Contents.{Contents}
+use Rattle.ring_shared.specs.Takes.{IsPageTaken, IsEmptyFound, IsSentAway}
+use Rattle.reader_end.specs.declared.end.Found.{Found}
+use Rattle.reader_end.specs.declared.end.Found.TheVariants.{Page, Empty, Moving}
+use Rattle.reader_end.specs.Value.{ReaderEndValue}
+
+-- a page was taken, and its parcel is the last one
+pub record IsPageFound (before after : ReaderEndValue) : Type 0 where
+  pub page : Contents
+  pub missed : ℕ
+  pub is : IsPageTaken before.reader.shape before.reader.part page missed after.reader.part
+  pub one_more : after.taken ≡ before.taken ++ parcel_of before.cpu is.taken ∷ []
+
+-- all closed fills are taken or lost, and the reader knows how many they are
+pub record IsNoneFound (before after : ReaderEndValue) : Type 0 where
+  pub done : ℕ
+  pub is : IsEmptyFound before.reader.shape before.reader.part done after.reader.part
+  pub empty_at : after.reader.empty_at ≡ Some done
+  pub taken_are : after.taken ≡ before.taken
+
+-- nothing was taken, and the next take goes on
+pub record IsPutOff (before after : ReaderEndValue) : Type 0 where
+  pub fill : ℕ
+  pub is : IsSentAway before.reader.shape before.reader.part fill after.reader.part
+  pub empty_at : after.reader.empty_at ≡ None
+  pub taken_are : after.taken ≡ before.taken
+
+abbrev pub IsFound : Found → ReaderEndValue → ReaderEndValue → Type 0
+IsFound Page before after = IsPageFound before after
+IsFound Empty before after = IsNoneFound before after
+IsFound Moving before after = IsPutOff before after
