@@ -1,0 +1,60 @@
+-- The payloads of frames, which are kept with the bottom frame's first and shown with the top one's first.
+use Rattle.std.proofs.Common.{◌≡◌, ℕ, suc, ◌+◌, ◌-◌, ◌<◌, ◌≤◌, List, [], ◌∷◌, ◌++◌, length, take, drop, get_or, reverse, map, sym, ap, ◌∙◌, arith}
+use Rattle.std.specs.Prelude.{slice_set}
+use Rattle.std.proofs.lemmas.List.{map-append, reverse-append, length-reverse, length-drop, length-map, length-take-le, take-append-drop, take-map, take-take, take_more_set, drop_at, get_or-take, get_or-map, get_or-reverse}
+
+-- ---- one more
+
+pub pushed_first : {B : Type 0} (f : B → List ℕ) (items : List B) (depth : ℕ) (x : B)
+    → depth < length items
+    → reverse (map f (take (suc depth) (slice_set items depth x))) ≡ f x ∷ reverse (map f (take depth items))
+pushed_first f items depth x low =
+    let next : suc depth ≡ depth + 1 = omega arith in
+    ap (λ (k : ℕ). reverse (map f (take k (slice_set items depth x)))) next
+    ∙ ap (λ (l : List _). reverse (map f l)) (take_more_set items depth x low)
+    ∙ ap reverse (map-append f (take depth items) (x ∷ []))
+    ∙ reverse-append (map f (take depth items)) (f x ∷ [])
+
+-- ---- those of the lowest frames are the last ones
+
+lowest_last : (xs : List (List ℕ)) (depth : ℕ)
+    → reverse (take depth xs) ≡ drop (length (reverse xs) - depth) (reverse xs)
+lowest_last xs depth =
+    let whole : reverse xs ≡ reverse (drop depth xs) ++ reverse (take depth xs) =
+    ap reverse (sym (take-append-drop depth xs)) ∙ reverse-append (take depth xs) (drop depth xs) in
+    sym (ap (drop (length (reverse xs) - depth)) whole
+    ∙ drop_at (reverse (drop depth xs)) (reverse (take depth xs)) (length (reverse xs) - depth)
+    (omega (arith, length-reverse (drop depth xs), length-reverse xs, length-drop depth xs)))
+
+left_first : {B : Type 0} (f : B → List ℕ) (items : List B) (depth : ℕ)
+    → reverse (map f (take depth items)) ≡ drop (length (reverse (map f items)) - depth) (reverse (map f items))
+left_first f items depth = ap reverse (sym (take-map f depth items)) ∙ lowest_last (map f items) depth
+
+pub fewer_left : {B : Type 0} (f : B → List ℕ) (items : List B) (depth fewer : ℕ)
+    → fewer ≤ depth
+    → reverse (map f (take fewer items))
+    ≡ drop (length (reverse (map f (take depth items))) - fewer) (reverse (map f (take depth items)))
+fewer_left f items depth fewer few =
+    ap (λ (l : List _). reverse (map f l)) (sym (take-take fewer depth items few))
+    ∙ left_first f (take depth items) fewer
+
+-- ---- the top one's
+
+pub first_is : {B : Type 0} (f : B → List ℕ) (items : List B) (depth : ℕ) (x : B) (payload : List ℕ)
+    (rest : List (List ℕ))
+    → depth ≤ length items
+    → 0 < depth
+    → x ≡ get_or items (depth - 1) x
+    → reverse (map f (take depth items)) ≡ payload ∷ rest
+    → f x ≡ payload
+first_is f items depth x payload rest room some at is =
+    let front : List _ = take depth items in
+    let xs : List (List ℕ) = map f front in
+    let many : length front ≡ depth = length-take-le depth items room in
+    let as_long : length xs ≡ length front = length-map front f in
+    ap f at
+    ∙ ap f (sym (get_or-take depth items (depth - 1) x (omega arith)))
+    ∙ sym (get_or-map f front (depth - 1) x (f x) (omega (arith, many)))
+    ∙ ap (λ (k : ℕ). get_or xs k (f x)) (let e : depth - 1 ≡ length xs - 1 - 0 = omega (arith, as_long, many) in e)
+    ∙ sym (get_or-reverse xs 0 (f x) (omega (arith, as_long, many)))
+    ∙ ap (λ (l : List (List ℕ)). get_or l 0 (f x)) is

@@ -1,0 +1,9 @@
+-- single calls
+pub mod FramePayloads
+pub mod PushedFrames
+pub mod TopCalls
+-- lines
+pub mod LineRuns
+pub mod LinesMade
+-- which lines are a CPU's
+pub mod PlacesFound

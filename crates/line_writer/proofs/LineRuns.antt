@@ -1,0 +1,141 @@
+-- Calls for the frame on top, one after the other; and the lines that are made of them.
+use Rattle.std.proofs.Common.{◌≡◌, ◌≢◌, ℕ, suc, ◌+◌, ◌-◌, ◌<◌, ◌≤◌, ◌⊎◌, ⊎_elim, Bool, true, false, List, [], ◌∷◌, ◌++◌, length, refl, sym, ap, ◌∙◌, subst, arith, length-append}
+use Rattle.trace_model.specs.Steps.{Event, pushes, Exchange}
+use Rattle.script_model.specs.Script.{begin_frame, step_frame, finish_frame}
+use Rattle.line_model.specs.WriterCalls.{Writer, IsWriterCall, TopCalls, StepsCalls, steps_top, FinishCalls, finishes_top, begins_frame, begins_none, WholeCalls, writes_frame, writes_none}
+use Rattle.line_model.proofs.PartsJoined.{top_calls_go_on}
+use Rattle.line_model.proofs.CallParts.{call_moves}
+use Rattle.ring_steps.specs.declared.rule.Shape.{Shape}
+use Rattle.ring_shared.specs.Value.{WriterValue, SameWriter}
+use Rattle.line_writer.specs.declared.frames.LineWriter.{LineWriter}
+use Rattle.line_writer.specs.LineWriters.{writer_in, payloads_of, IsLineWriter, Pushes, CallsTop, Makes, MakesLine}
+use Rattle.line_writer.specs.Runs.{IsAmid}
+use Rattle.line_writer.proofs.TopCalls.{moved_few}
+
+-- ---- calls for the frame on top
+
+pub same_then : (a b c : WriterValue) → SameWriter a b → SameWriter b c → SameWriter a c
+same_then a b c first then = (then.0 ∙ first.0, then.1 ∙ first.1)
+
+pub amid_none : (depth : ℕ) (old : LineWriter)
+    → IsLineWriter old
+    → depth ≡ length old.writer.part.frames
+    → IsAmid depth 0 old old
+amid_none depth old is deep = record {
+  is = is;
+  same = (refl, refl);
+  calls = [];
+  made = refl;
+  run = (refl, refl);
+  few = omega arith;
+}
+
+-- one more
+pub amid_more : (depth count : ℕ) (old now next : LineWriter)
+    → IsAmid depth count old now
+    → 0 < depth
+    → length now.writer.part.frames ≡ depth
+    → CallsTop now next
+    → IsAmid depth (count + 1) old next
+amid_more depth count old now next amid some deep top =
+    let s : Shape = old.writer.shape in
+    let top_here : length now.writer.part.frames ≡ suc (depth - 1) = omega arith in
+    let call = subst (λ (shape : Shape). IsWriterCall shape.pages shape.size
+    shape.start (writer_in now.writer.part) top.x (writer_in next.writer.part)) amid.same.0 top.call in
+    let low = moved_few now.writer.part.frames next.writer.part.frames
+    (call_moves s.pages s.size s.start (writer_in now.writer.part) top.x (writer_in next.writer.part)
+    (payloads_of now) top.event_is call) in
+    let made = amid.made in
+    record {
+      is = top.is;
+      same = same_then old.writer now.writer next.writer amid.same top.same;
+      calls = amid.calls ++ top.x ∷ [];
+      made = omega (arith, length-append amid.calls (top.x ∷ []));
+      run = subst (λ (l : List (List ℕ)). TopCalls s.pages s.size s.start (depth - 1) (writer_in old.writer.part)
+          (payloads_of old) (amid.calls ++ top.x ∷ []) (writer_in next.writer.part) l) (sym top.lefts_are)
+          (top_calls_go_on s.pages s.size s.start (depth - 1) (writer_in old.writer.part) (payloads_of old) amid.calls
+          (writer_in now.writer.part) (payloads_of now) top.x (writer_in next.writer.part) amid.run top_here
+          top.event_is call);
+      few = omega arith;
+    }
+
+-- ---- `s` and `f`
+
+module _ (depth made : ℕ) (old new : LineWriter) (deep : depth ≡ length old.writer.part.frames) (some : 0 < depth)
+    (amid : IsAmid depth made old new) where
+  abbrev pages : ℕ
+  pages = old.writer.shape.pages
+
+  abbrev size : ℕ
+  size = old.writer.shape.size
+
+  abbrev start : ℕ
+  start = old.writer.shape.start
+
+  abbrev before : Writer
+  before = writer_in old.writer.part
+
+  abbrev after : Writer
+  after = writer_in new.writer.part
+
+  deep_is : length old.writer.part.frames ≡ suc (depth - 1)
+  deep_is = omega arith
+
+  -- the frame is stepped
+  module _ (count : ℕ) (one : 1 ≤ count) (few : made ≤ count)
+      (stop : (count ≤ made) ⊎ (length new.writer.part.frames ≢ depth)) where
+    by_calls : (calls : List Exchange)
+        → length calls ≡ made
+        → TopCalls pages size start (depth - 1) before (payloads_of old) calls after (payloads_of new)
+        → StepsCalls pages size start count before (payloads_of old) after (payloads_of new)
+    by_calls [] many (same, all) =
+        ⊎_elim (λ enough. absurd (omega arith))
+        (λ other. absurd (other (ap (λ (w : Writer). length w.frames) (sym same) ∙ sym deep))) stop
+    by_calls (x ∷ calls) many run = steps_top (depth - 1) x calls deep_is run (omega (arith, many))
+
+    pub stepped : (cpu : ℕ) → MakesLine (step_frame cpu count) old new
+    stepped cpu = record { is = amid.is; same = amid.same; made = by_calls amid.calls amid.made amid.run }
+
+  -- the frame is finished
+  pub finished : (cpu : ℕ) → length new.writer.part.frames ≢ depth → MakesLine (finish_frame cpu) old new
+  finished cpu other =
+      let low : length new.writer.part.frames ≤ depth - 1 = let few = amid.few in omega arith in
+      record { is = amid.is; same = amid.same; made = finishes_top (depth - 1) amid.calls deep_is amid.run low }
+
+-- ---- `b`, `w` and `c`
+
+pub begun : (cpu moment : ℕ) (payload : List ℕ) (old new : LineWriter) (stands : Bool)
+    → Pushes (pushes moment (length payload)) payload old stands new
+    → MakesLine (begin_frame cpu moment payload) old new
+begun cpu moment payload old new true p =
+    let (call, payloads) = p.has_pushed refl in
+    record { is = p.is; same = p.same; made = begins_frame call payloads }
+begun cpu moment payload old new false p =
+    let (why, call, payloads) = p.has_refused refl in
+    record { is = p.is; same = p.same; made = begins_none why call payloads }
+
+module _ (event : Event) (payload : List ℕ) (old between new : LineWriter) (stands : Bool)
+    (p : Pushes event payload old stands between) where
+  abbrev pub MakesWhole : LineWriter → Type 0
+  MakesWhole last =
+      Makes (λ n size start before payloads after lefts.
+      WholeCalls n size start event payload before payloads after lefts) old last
+
+  pub not_written : stands ≡ false → MakesWhole between
+  not_written e =
+      let (why, call, payloads) = p.has_refused e in
+      record { is = p.is; same = p.same; made = writes_none why call payloads }
+
+  pub written : (cpu : ℕ) → stands ≡ true → MakesLine (finish_frame cpu) between new → MakesWhole new
+  written cpu e f =
+      let (call, payloads) = p.has_pushed e in
+      record {
+        is = f.is;
+        same = same_then old.writer between.writer new.writer p.same f.same;
+        made = writes_frame (writer_in between.writer.part) call
+            (subst (λ (shape : Shape). FinishCalls shape.pages shape.size shape.start (writer_in between.writer.part)
+            (payload ∷ payloads_of old) (writer_in new.writer.part) (payloads_of new)) p.same.0
+            (subst (λ (l : List (List ℕ)). FinishCalls between.writer.shape.pages between.writer.shape.size
+            between.writer.shape.start (writer_in between.writer.part) l (writer_in new.writer.part)
+            (payloads_of new)) payloads f.made));
+      }

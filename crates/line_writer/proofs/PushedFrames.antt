@@ -1,0 +1,187 @@
+-- A frame that is pushed is on top with its payload; one that is refused changes nothing.
+use Rattle.std.proofs.Common.{◌≡◌, ◌≢◌, ℕ, ◌<◌, ◌≤◌, true, false, List, [], ◌∷◌, length, map, reverse, take, refl, sym, ap, ◌∙◌, subst, inl, inr, arith, Bor}
+use Rattle.std.specs.Prelude.{slice_set}
+use Rattle.std.proofs.lemmas.List.{length-set}
+use Rattle.trace_model.specs.declared.limits.TheConstants.{MAX_FRAMES}
+use Rattle.trace_model.specs.Frames.{Frame, Refusal}
+use Rattle.trace_model.specs.Steps as model
+use Rattle.trace_model.specs.Steps.{Event, pushes, pushes_close, pushed, refused}
+use Rattle.world_model.specs.Lanes.{FitsKind, FitFrames}
+use Rattle.line_model.specs.WriterCalls.{Writer, IsWriterCall}
+use Rattle.line_model.proofs.PushParts.{Pushing, pushing_of}
+use Rattle.line_model.proofs.CloseParts.{Closing, closing_of}
+use Rattle.nested_writer.specs.declared.stack.leave.Ended.TheVariants.{Pending, Full}
+use Rattle.ring_frames.specs.declared.answer.Answer.{Answer}
+use Rattle.ring_frames.specs.declared.answer.Answer.TheVariants as answer
+use Rattle.ring_frames.specs.Answers.{Tells}
+use Rattle.ring_steps.specs.declared.rule.Shape.{Shape}
+use Rattle.ring_steps.specs.Views.{Writing}
+use Rattle.ring_shared.specs.Value.{WriterValue}
+use Rattle.ring_shared.specs.Calls.{IsCall, MakesSome}
+use Rattle.line_writer.specs.declared.frames.LineWriter.{LineWriter}
+use Rattle.line_writer.specs.LineWriters.{writer_in, payloads_of, IsLineWriter, Pushes}
+use Rattle.line_writer.proofs.FramePayloads.{pushed_first}
+
+-- a call, as far as lines are concerned
+pub call_of : (shape : Shape) (before : Writing) (event : Event) (result : Answer) (after : Writing)
+    → (c : IsCall shape before event result after)
+    → IsWriterCall shape.pages shape.size shape.start (writer_in before) record { event = event; answer = c.answer }
+    (writer_in after)
+call_of shape before event result after c = record {
+  core = c.core;
+  next = c.next;
+  reached = c.reached;
+  before_is = ap writer_in c.before_is;
+  step = c.step;
+  after_is = ap writer_in c.after_is;
+}
+
+-- ---- what a push makes of the frames
+
+pub data IsAnswered (payload : List ℕ) (before : Writer) (told : model.Answer) (after : Writer) : Type 0 where
+  stands : (frame : Frame)
+      → told ≡ pushed
+      → after.frames ≡ frame ∷ before.frames
+      → FitsKind frame.kind payload
+      → length before.frames < MAX_FRAMES
+      → IsAnswered payload before told after
+  fails : (why : Refusal) → told ≡ refused why → after ≡ before → IsAnswered payload before told after
+
+of_record : (size moment : ℕ) (payload : List ℕ) (before : Writer) (told : model.Answer) (after : Writer)
+    → Pushing size before moment (length payload) told after
+    → IsAnswered payload before told after
+of_record size moment payload before told after (inl (e, may, is)) =
+    stands _ e (ap (λ (w : Writer). w.frames) is) refl
+    (let few : MAX_FRAMES ≤ length before.frames → ⊥ = λ many. may (inl many) in omega arith)
+of_record size moment payload before told after (inr (why, e, because, is)) = fails why e is
+
+of_close : (before : Writer) (told : model.Answer) (after : Writer)
+    → Closing before told after
+    → IsAnswered [] before told after
+of_close before told after (inl (e, few, is)) = stands _ e (ap (λ (w : Writer). w.frames) is) refl few
+of_close before told after (inr (why, e, many, is)) = fails why e is
+
+module _ (shape : Shape) (before : Writing) (result : Answer) (after : Writing) where
+  pub record_answered : (moment : ℕ) (payload : List ℕ)
+      → (c : IsCall shape before (pushes moment (length payload)) result after)
+      → IsAnswered payload (writer_in before) c.answer (writer_in after)
+  record_answered moment payload c =
+      of_record shape.size moment payload (writer_in before) c.answer (writer_in after)
+      (pushing_of shape.pages shape.size shape.start moment (length payload) c.answer (writer_in before)
+      (writer_in after) (call_of shape before (pushes moment (length payload)) result after c))
+
+  pub close_answered : (c : IsCall shape before pushes_close result after)
+      → IsAnswered [] (writer_in before) c.answer (writer_in after)
+  close_answered c =
+      of_close (writer_in before) c.answer (writer_in after)
+      (closing_of shape.pages shape.size shape.start c.answer (writer_in before) (writer_in after)
+      (call_of shape before pushes_close result after c))
+
+-- ---- what the answer tells
+
+told_pushed : (size : ℕ) (a : Answer) (told : model.Answer) → Tells size a told → told ≡ pushed → a ≢ answer.Pushed → ⊥
+told_pushed size answer.Pushed told t is not = not refl
+told_pushed size answer.Going told t is not = let z : ⊥ = cc in z
+told_pushed size (answer.Reserved number) told t is not = let z : ⊥ = cc in z
+told_pushed size (answer.Ended Pending) told t is not = let z : ⊥ = cc in z
+told_pushed size (answer.Ended Full) told t is not = let z : ⊥ = cc in z
+told_pushed size answer.Gone told t is not = let z : ⊥ = cc in z
+told_pushed size (answer.Refused fault) told t is not = let z : ⊥ = cc in z
+told_pushed size (answer.Looking body) told t is not = let z : ⊥ = cc in z
+told_pushed size (answer.Empty done body) told t is not = let z : ⊥ = cc in z
+told_pushed size (answer.Moving fill body) told t is not = let z : ⊥ = cc in z
+told_pushed size (answer.Taken page missed) told t is not = let e = t.1 in let z : ⊥ = cc in z
+told_pushed size (answer.Wished fill) told t is not = let z : ⊥ = cc in z
+
+pushed_told : (size : ℕ) (a : Answer) (told : model.Answer) → Tells size a told → a ≡ answer.Pushed → told ≡ pushed
+pushed_told size a told t is = subst (λ (x : Answer). Tells size x told) is t
+
+-- ---- the writer behind it
+
+module _ (old : LineWriter) (is : IsLineWriter old) (v : WriterValue) (event : Event) (payload : List ℕ)
+    (result : Answer) (makes : MakesSome old.writer event result v)
+    (answered : IsAnswered payload (writer_in old.writer.part) makes.call.answer (writer_in v.part)) where
+  call : (told : model.Answer)
+      → makes.call.answer ≡ told
+      → IsWriterCall old.writer.shape.pages old.writer.shape.size old.writer.shape.start (writer_in old.writer.part)
+      record { event = event; answer = told } (writer_in v.part)
+  call told e =
+      subst (λ (a : model.Answer). IsWriterCall old.writer.shape.pages old.writer.shape.size old.writer.shape.start
+      (writer_in old.writer.part) record { event = event; answer = a } (writer_in v.part)) e
+      (call_of old.writer.shape old.writer.part event result v.part makes.call)
+
+  -- it is refused
+  behind_refused : IsAnswered payload (writer_in old.writer.part) makes.call.answer (writer_in v.part)
+      → result ≢ answer.Pushed
+      → Pushes event payload old false record { writer = v; payloads = old.payloads }
+  behind_refused (stands frame e top fits few) not =
+      absurd (told_pushed old.writer.shape.size result makes.call.answer makes.call.tells e not)
+  behind_refused (fails why e same) not =
+      let new : LineWriter = record { writer = v; payloads = old.payloads } in
+      let frames : v.part.frames ≡ old.writer.part.frames = ap (λ (w : Writer). w.frames) same in
+      let payloads : payloads_of new ≡ payloads_of old =
+      ap (λ (l : List Frame). reverse (map (λ (b : Bor (List ℕ)). b.now) (take (length l) old.payloads))) frames in
+      record {
+        is = record {
+          writer = makes.writer;
+          room = is.room;
+          fit = subst (λ (l : List (List ℕ)). FitFrames v.part.frames l) (sym payloads)
+              (subst (λ (l : List Frame). FitFrames l (payloads_of old)) (sym frames) is.fit);
+        };
+        same = (makes.shape_is, makes.table_is);
+        has_pushed = λ e. absurd (cc);
+        has_refused = λ z. (why, call (refused why) e, payloads);
+      }
+
+  pub refused_push : result ≢ answer.Pushed
+      → Pushes event payload old false record { writer = v; payloads = old.payloads }
+  refused_push not = behind_refused answered not
+
+  -- it is pushed
+  room_behind : IsAnswered payload (writer_in old.writer.part) makes.call.answer (writer_in v.part)
+      → result ≡ answer.Pushed
+      → length old.writer.part.frames < length old.payloads
+  room_behind (stands frame e top fits few) pushed_is = let room = is.room in omega arith
+  room_behind (fails why e same) pushed_is =
+      let told = pushed_told old.writer.shape.size result makes.call.answer makes.call.tells pushed_is in
+      absurd (let both : pushed ≡ refused why = sym told ∙ e in cc)
+
+  pub has_room : result ≡ answer.Pushed → length old.writer.part.frames < length old.payloads
+  has_room pushed_is = room_behind answered pushed_is
+
+  module _ (item : Bor (List ℕ)) (item_is : item.now ≡ payload) where
+    behind_pushed : IsAnswered payload (writer_in old.writer.part) makes.call.answer (writer_in v.part)
+        → result ≡ answer.Pushed
+        → Pushes event payload old true
+        record { writer = v; payloads = slice_set old.payloads (length old.writer.part.frames) item }
+    behind_pushed (fails why e same) pushed_is =
+        let told = pushed_told old.writer.shape.size result makes.call.answer makes.call.tells pushed_is in
+        absurd (let both : pushed ≡ refused why = sym told ∙ e in cc)
+    behind_pushed (stands frame e top fits few) pushed_is =
+        let depth : ℕ = length old.writer.part.frames in
+        let items : List (Bor (List ℕ)) = slice_set old.payloads depth item in
+        let new : LineWriter = record { writer = v; payloads = items } in
+        let f : Bor (List ℕ) → List ℕ = λ b. b.now in
+        let payloads : payloads_of new ≡ payload ∷ payloads_of old =
+        ap (λ (l : List Frame). reverse (map f (take (length l) items))) top
+        ∙ pushed_first f old.payloads depth item (let room = is.room in omega arith)
+        ∙ ap (λ (p : List ℕ). p ∷ payloads_of old) item_is in
+        record {
+          is = record {
+            writer = makes.writer;
+            room = length-set old.payloads depth item ∙ is.room;
+            fit = subst (λ (l : List (List ℕ)). FitFrames v.part.frames l) (sym payloads)
+                (subst (λ (l : List Frame). FitFrames l (payload ∷ payloads_of old)) (sym top) (fits, is.fit));
+          };
+          same = (makes.shape_is, makes.table_is);
+          has_pushed = λ z. (call pushed e, payloads);
+          has_refused = λ z. absurd (cc);
+        }
+
+    pub pushed_push : (depth : ℕ)
+        → depth ≡ length old.writer.part.frames
+        → result ≡ answer.Pushed
+        → Pushes event payload old true record { writer = v; payloads = slice_set old.payloads depth item }
+    pushed_push depth deep pushed_is =
+        subst (λ (k : ℕ). Pushes event payload old true
+        record { writer = v; payloads = slice_set old.payloads k item }) (sym deep) (behind_pushed answered pushed_is)

@@ -1,0 +1,72 @@
+use Rattle.std.proofs.Common.{◌≡◌, refl, ℕ, ◌+◌, ◌<◌, List, length, Some, sym, ap, ◌∙◌, subst, arith, vec_len}
+use Rattle.std.specs.Prelude.{Vec}
+use Rattle.std.specs.declared.alloc.Global.{Global}
+use Rattle.std.specs.List.{slice_get}
+use Rattle.std.proofs.lemmas.Option.{slice_get_read}
+use Rattle.script_model.specs.Script.{Command, Script}
+use Rattle.script_model.specs.ScriptLimits.{IsCommandWithin, IsWithinLimits}
+use Rattle.trace_script.specs.ScriptTypes.{shown_command, shown_line}
+use Rattle.trace_script.specs.declared.command.ScriptLine.{ScriptLine}
+use Rattle.trace_model.specs.declared.numbers.CpuId.{CpuId}
+use Rattle.line_writer.specs.Places.{IsWriterOf, ArePlaced}
+use Rattle.line_writer.proofs.LinesMade.{element}
+use Rattle.line_writer.proofs.PlacesFound.{cpu_within, none_more, one_more}
+use Rattle.line_writer.proofs.lines.lines_by_cpu.Goals as goal
+use Rattle.line_writer.proofs.lines.lines_by_cpu.Goals.{in-Some+in_ok-push, in_default}
+
+line_at : (commands seen : List (ℕ × Command)) (place : ℕ) (line : ScriptLine)
+    → seen ≡ commands
+    → slice_get seen place ≡ Some (shown_line line)
+    → slice_get commands place ≡ Some (shown_line line)
+line_at commands seen place line same at = ap (λ (l : List (ℕ × Command)). slice_get l place) (sym same) ∙ at
+
+low_cpu : (script : Script) (seen : List (ℕ × Command)) (place : ℕ) (line : ScriptLine) (of : CpuId)
+    → IsWithinLimits script
+    → seen ≡ script.commands
+    → slice_get seen place ≡ Some (shown_line line)
+    → IsWriterOf (shown_command line.command) (Some of)
+    → of.0 < script.cpus
+low_cpu script seen place line of limits same at is =
+    cpu_within script.cpus script.collectors (shown_command line.command) of is
+    (element (λ (l : ℕ × Command). IsCommandWithin script.cpus script.collectors l.1) script.commands place
+    (shown_line line) limits.each_command (line_at script.commands seen place line same at))
+
+pub index_mut-requires : goal.index_mut-requires
+index_mut-requires c =
+    let low = low_cpu c.args.script.now c.commands-commands.result.now c.loop-place.place c.line.result c.in-Some.cpu
+    c.commands-commands.ensures.limits c.commands-commands.ensures.commands c.line.ensures c.in-Some.ensures in
+    let count = c.loop-place.invariant.count in
+    omega arith
+
+pub loop-place-preserved : goal.loop-place-preserved
+loop-place-preserved c =
+    let script : Script = c.args.script.now in
+    let seen = c.commands-commands.result.now in
+    let place : ℕ = c.loop-place.place in
+    let at = line_at script.commands seen place c.line.result c.commands-commands.ensures.commands c.line.ensures in
+    let count = c.loop-place.invariant.count in
+    let was = c.loop-place.invariant.placed in
+    elim c.match-writer_of.branch [
+      | in-Some+in_ok-push w ↦ record {
+        count = ap (λ (v : Vec (Vec ℕ Global) Global). vec_len v) w.lists-is ∙ count;
+        placed = subst (λ (v : Vec (Vec ℕ Global) Global). ArePlaced script.commands (place + 1) v.items)
+            (sym w.lists-is)
+            (one_more script.commands place (shown_line c.line.result) at c.loop-place.lists.items w.in-Some.cpu
+            w.index_mut.result.now w.push.new.self w.in-Some.ensures
+            (slice_get_read c.loop-place.lists.items (length c.loop-place.lists.items) w.in-Some.cpu.0
+            w.index_mut.result.now refl
+            (let low = low_cpu script seen place c.line.result w.in-Some.cpu c.commands-commands.ensures.limits
+            c.commands-commands.ensures.commands c.line.ensures w.in-Some.ensures in
+            let ok = c.loop-place.lists.ok in
+            omega (arith, ok.0, ok.1))
+            w.index_mut.ensures.value)
+            w.in_ok-push.ensures.items was);
+      }
+      | in_default w ↦ record {
+        count = ap (λ (v : Vec (Vec ℕ Global) Global). vec_len v) w.lists-is ∙ count;
+        placed = subst (λ (v : Vec (Vec ℕ Global) Global). ArePlaced script.commands (place + 1) v.items)
+            (sym w.lists-is)
+            (none_more script.commands place (shown_line c.line.result) at c.loop-place.lists.items w.in_default.ensures
+            was);
+      }
+    ]

@@ -1,0 +1,16 @@
+use Rattle.line_writer.proofs.obeying.obey_line.Goals as goal
+
+pub returns-in-Begin-clause-line : goal.returns-in-Begin-clause-line
+returns-in-Begin-clause-line g c = rw c.in-Begin.is c.begin.ensures
+
+pub returns-in-Step-clause-line : goal.returns-in-Step-clause-line
+returns-in-Step-clause-line g c = rw c.in-Step.is c.step.ensures.line
+
+pub returns-in-Finish-clause-line : goal.returns-in-Finish-clause-line
+returns-in-Finish-clause-line g c = rw c.in-Finish.is c.finish.ensures.line
+
+pub returns-in-Write-clause-line : goal.returns-in-Write-clause-line
+returns-in-Write-clause-line g c = rw c.in-Write.is c.write.ensures.line
+
+pub returns-in-Close-clause-line : goal.returns-in-Close-clause-line
+returns-in-Close-clause-line g c = rw c.in-Close.is c.close.ensures.line

@@ -1,0 +1,9 @@
+use Rattle.std.proofs.Common.{take}
+use Rattle.line_model.specs.Lines.{writer_lines}
+use Rattle.line_model.specs.ReplayedLines.{commands_of}
+use Rattle.line_writer.specs.LineWriters.{MakesLines}
+use Rattle.line_writer.proofs.obeying.obey_places.Given as goal
+
+abbrev pub invariant-loop-place : goal.invariant-loop-place
+invariant-loop-place g l =
+    MakesLines (take l.place-index (writer_lines l.cpu.0 (commands_of l.script.commands))) l.fn.lane l.lane

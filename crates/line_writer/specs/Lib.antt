@@ -1,0 +1,8 @@
+-- what a CPU's writer lines make of its ring
+pub mod Obeying
+-- a writer with the payloads of its frames, and its calls
+pub mod Distance
+pub mod LineWriters
+pub mod Runs
+-- which lines are a CPU's
+pub mod Places

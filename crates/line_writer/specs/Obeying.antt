@@ -1,0 +1,40 @@
+-- What the writer lines of a CPU make of its ring, when a gate lets the writer pass.
+use Rattle.std.specs.Prelude.{◌≡◌, ℕ, ◌+◌, ◌≤◌, Bool, false, List, [], length, Some, Result, Ok, Err}
+use Rattle.std.specs.List.{slice_get, AllZip}
+use Rattle.trace_model.specs.declared.limits.TheConstants.{LINK_FILLS}
+use Rattle.trace_model.specs.declared.numbers.FillNo.{FillNo}
+use Rattle.trace_model.specs.History.{committed_records}
+use Rattle.script_model.specs.Script.{Command}
+use Rattle.line_model.specs.Lines.{writer_lines, IsMadeByLines}
+use Rattle.line_model.specs.WrittenRecords.{AreWhole, records_of_lines}
+use Rattle.line_model.specs.ReplayedLines.{commands_of}
+use Rattle.ring_shared.specs.Value.{WriterValue, SameWriter}
+use Rattle.line_writer.specs.declared.gate.Who.{Who}
+use Rattle.line_writer.specs.declared.gate.Who.TheVariants as who
+
+-- the command at this place is the line
+abbrev pub IsLineAt : List (ℕ × Command) → (place : ℕ) → Command → Type 0
+IsLineAt commands place line = (number : ℕ) × (slice_get commands place ≡ Some (number, line))
+
+-- the places are those of the CPU's writer lines among these commands, one for one, in order
+abbrev pub AreLinesOf : (cpu : ℕ) → List (ℕ × Command) → (places : List ℕ) → Type 0
+AreLinesOf cpu commands places = AllZip (IsLineAt commands) places (writer_lines cpu (commands_of commands))
+
+-- From a new ring, the CPU's writer lines have made the history of the same writer, and no frame is left. With `w` and
+-- `c` lines alone, at most as many as there are numbers left for fills, the committed records are exactly those of the
+-- `w` lines that are neither too long nor too late, in order, moments raised.
+pub record HasObeyed (cpu : ℕ) (commands : List (ℕ × Command)) (before after : WriterValue) : Type 0 where
+  pub same : SameWriter before after
+  pub at_rest : after.part.frames ≡ []
+  pub made : IsMadeByLines before.shape.pages before.shape.size before.shape.start
+      (writer_lines cpu (commands_of commands)) after.part.history
+  pub committed : AreWhole (writer_lines cpu (commands_of commands))
+      → before.shape.start + length (writer_lines cpu (commands_of commands)) + before.shape.pages ≤ LINK_FILLS
+      → committed_records after.part.history
+      ≡ records_of_lines before.shape.size 0 (writer_lines cpu (commands_of commands))
+
+-- The lines are obeyed; or the gate didn't let the writer pass after this fill.
+abbrev pub Obeys : {Gate : Type 0} (answers : Gate → Who → (cpu fill : ℕ) → Bool → Type 0) → Gate
+    → (cpu : ℕ) → List (ℕ × Command) → WriterValue → Result WriterValue FillNo → Type 0
+Obeys answers gate cpu commands before (Ok after) = HasObeyed cpu commands before after
+Obeys answers gate cpu commands before (Err fill) = answers gate who.Writer cpu fill.0 false

@@ -1,0 +1,17 @@
+-- The calls for a frame, amid them.
+use Rattle.std.specs.Prelude.{◌≡◌, ℕ, ◌-◌, ◌≤◌, List, length}
+use Rattle.trace_model.specs.Steps.{Exchange}
+use Rattle.line_model.specs.WriterCalls.{TopCalls}
+use Rattle.ring_shared.specs.Value.{SameWriter}
+use Rattle.line_writer.specs.declared.frames.LineWriter.{LineWriter}
+use Rattle.line_writer.specs.LineWriters.{writer_in, payloads_of, IsLineWriter}
+
+-- so many calls were made for the frame that was on top of so many
+pub record IsAmid (depth count : ℕ) (old new : LineWriter) : Type 0 where
+  pub is : IsLineWriter new
+  pub same : SameWriter old.writer new.writer
+  pub calls : List Exchange
+  pub made : length calls ≡ count
+  pub run : TopCalls old.writer.shape.pages old.writer.shape.size old.writer.shape.start (depth - 1)
+      (writer_in old.writer.part) (payloads_of old) calls (writer_in new.writer.part) (payloads_of new)
+  pub few : length new.writer.part.frames ≤ depth

@@ -1,0 +1,115 @@
+//! A writer with the payloads of its frames, and its single calls.
+ghost use Rattle.std.specs.Prelude.{◌≡◌, ◌≤◌, ◌-◌, ◌++◌, ◌↔◌, true, length, replicate};
+ghost use Rattle.ring_frames.specs.declared.answer.Answer.TheVariants.{Pushed};
+
+use nested_writer::frame::Slot;
+use ring_frames::Answer;
+use ring_shared::Writer;
+use trace_model::MAX_FRAMES;
+
+/// Whether the frame was pushed.
+fn is_pushed(answer: Answer) -> bool
+    ensures { result ≡ true ↔ answer ≡ Pushed }
+{
+    matches!(answer, Answer::Pushed)
+}
+
+/// Puts the payload to the front of the slot, and zeros behind it.
+fn put_padded(slot: &mut [u8], payload: &[u8])
+    requires { length payload.now ≤ length slot.old }
+    ensures { slot.new ≡ payload.now ++ replicate (length slot.old - length payload.now) 0 }
+{
+    let (front, behind) = slot.split_at_mut(payload.len());
+    front.copy_from_slice(payload);
+    behind.fill(0);
+}
+
+/// The writer of a ring, and the payload of each of its frames: of the bottom frame first.
+#[derive(Drop)]
+pub(crate) struct LineWriter<'a> {
+    pub(crate) writer: Writer,
+    /// Those of frames that are popped are left behind.
+    payloads: [&'a [u8]; MAX_FRAMES],
+}
+
+impl<'a> LineWriter<'a> {
+    ghost use Rattle.std.specs.Prelude.{◌≡◌, ◌≢◌, [], length};
+    ghost use Rattle.trace_model.specs.Steps.{pushes, pushes_close};
+    ghost use Rattle.nested_writer.specs.Calls.{IsTopSlot};
+    ghost use Rattle.ring_shared.specs.Calls.{IsWriter};
+    ghost use Rattle.line_writer.specs.LineWriters.{payloads_of, IsLineWriter, Pushes, CallsTop};
+
+    /// A writer without frames.
+    pub(crate) fn new(writer: Writer) -> LineWriter<'a>
+        requires writer { IsWriter writer }
+        requires none { writer.part.frames ≡ [] }
+        ensures writer { result.writer ≡ writer }
+        ensures payloads { payloads_of result ≡ [] }
+        ensures is { IsLineWriter result }
+    {
+        LineWriter {
+            writer,
+            payloads: [&[], &[], &[], &[]],
+        }
+    }
+
+    /// How many frames there are.
+    pub(crate) fn depth(&self) -> usize
+        requires { IsWriter self.now.writer }
+        ensures { result ≡ length self.now.writer.part.frames }
+    {
+        self.writer.depth()
+    }
+
+    /// Pushes a frame for a record of this moment and payload: whether it was pushed.
+    pub(crate) fn push(&mut self, moment: u64, payload: &'a [u8]) -> bool
+        requires { IsLineWriter self.old }
+        ensures { Pushes (pushes moment (length payload.now)) payload.now self.old result self.new }
+    {
+        let depth = self.depth();
+        if !is_pushed(self.writer.begin(moment, payload.len())) {
+            return false;
+        }
+        self.payloads[depth] = payload;
+        true
+    }
+
+    /// Pushes a close frame: whether it was pushed.
+    pub(crate) fn push_close(&mut self) -> bool
+        requires { IsLineWriter self.old }
+        ensures { Pushes pushes_close [] self.old result self.new }
+    {
+        let depth = self.depth();
+        if !is_pushed(self.writer.begin_close()) {
+            return false;
+        }
+        let none = &[];
+        self.payloads[depth] = none;
+        true
+    }
+
+    /// One call for the frame on top: it ends with its payload if its record is reserved, or else makes a step.
+    pub(crate) fn call_top(&mut self)
+        requires is { IsLineWriter self.old }
+        requires top { self.old.writer.part.frames ≢ [] }
+        ensures { CallsTop self.old self.new }
+    {
+        match self.writer.top_slot() {
+            Ok(slot) => self.end_top(slot),
+            Err(_) => {
+                let _answer = self.writer.step();
+            }
+        }
+    }
+
+    /// The record of the frame on top is written, and ended.
+    fn end_top(&mut self, slot: Slot)
+        requires is { IsLineWriter self.old }
+        requires slot { IsTopSlot self.old.writer.frames.stack.frames slot }
+        ensures { CallsTop self.old self.new }
+    {
+        let payload = self.payloads[self.depth() - 1];
+        put_padded(self.writer.payload_mut(slot), payload);
+        let _answer = self.writer.end();
+    }
+}

@@ -1,0 +1,35 @@
+//! The gate of a run.
+ghost use Rattle.std.specs.Prelude.{◌≡◌, ℕ, Bool, true};
+ghost use Rattle.line_writer.specs.declared.gate.Who.{Who as WhoSeen};
+
+use trace_model::{CpuId, FillNo};
+
+/// Which end of a ring asks.
+#[derive(Clone, Copy, Debug, PartialEq, Eq)]
+pub enum Who {
+    Writer,
+    Reader,
+}
+
+/// What the two ends of a ring pass in a run: a writer after each fill that it has closed, a reader after each page that
+/// it has taken.
+pub trait Gate: Sync {
+    ghost answers: { Self → WhoSeen → (cpu fill : ℕ) → Bool → Type 0 };
+
+    /// Whether this end of the CPU's ring may go on. On false the run ends. A writer's `fill` is the number of the oldest
+    /// fill that isn't closed; a reader's is that of the page.
+    fn pass(&self, who: Who, cpu: CpuId, fill: FillNo) -> bool
+        ensures { answers self.now who cpu.0 fill.0 result };
+}
+
+/// The gate that is always open.
+#[derive(Clone, Copy, Debug)]
+pub struct OpenGate;
+
+impl Gate for OpenGate {
+    ghost answers = { λ gate who cpu fill answer. answer ≡ true };
+
+    fn pass(&self, _who: Who, _cpu: CpuId, _fill: FillNo) -> bool {
+        true
+    }
+}

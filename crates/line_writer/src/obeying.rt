@@ -1,0 +1,94 @@
+//! A CPU's writer lines, obeyed one after the other.
+ghost use Rattle.std.specs.Prelude.{◌≡◌, ℕ, false, OnOk, IfErr};
+ghost use Rattle.script_model.specs.ScriptLimits.{IsCommandWithin};
+ghost use Rattle.line_model.specs.Lines.{writer_lines};
+ghost use Rattle.line_model.specs.ReplayedLines.{commands_of};
+ghost use Rattle.trace_script.specs.ScriptTypes.{shown_command};
+ghost use Rattle.ring_steps.specs.NewRings.{first_writing};
+ghost use Rattle.line_writer.specs.declared.gate.Who.TheVariants as who;
+ghost use Rattle.line_writer.specs.LineWriters.{IsLineWriter, MakesLine, MakesLines};
+ghost use Rattle.line_writer.specs.Obeying.{AreLinesOf, Obeys};
+
+use crate::end::WriterEnd;
+use crate::frames::LineWriter;
+use crate::gate::Gate;
+use trace_model::{CpuId, FillNo};
+use trace_script::{Command, Script};
+
+/// One line. For a line of the reader or of a collector the writer does nothing.
+fn obey_line<'a, G: Gate>(
+    lane: &mut LineWriter<'a>,
+    gate: &G,
+    cpu: CpuId,
+    command: Command<'a>,
+) -> Result<(), FillNo>
+    requires is { IsLineWriter lane.old }
+    requires within { (cpus collectors : ℕ) × IsCommandWithin cpus collectors (shown_command command) }
+    ensures line { OnOk result (MakesLine (shown_command command.entry) lane.old lane.new) }
+    ensures shut { IfErr result (λ fill. G.answers gate.now who.Writer cpu.0 fill.0 false) }
+{
+    match command {
+        Command::Begin {
+            moment,
+            payload,
+            ..
+        } => {
+            lane.begin(cpu, moment.0, payload);
+            Ok(())
+        }
+        Command::Step { count, .. } => lane.step(gate, cpu, count),
+        Command::Finish { .. } => lane.finish(gate, cpu),
+        Command::Write {
+            moment,
+            payload,
+            ..
+        } => lane.write(gate, cpu, moment.0, payload),
+        Command::Close { .. } => lane.close(gate, cpu),
+        Command::StepReader { .. } => Ok(()),
+        Command::Take { .. } => Ok(()),
+        Command::Wish { .. } => Ok(()),
+        Command::Deliver { .. } => Ok(()),
+    }
+}
+
+/// The lines at these places of the script.
+fn obey_places<'a, G: Gate>(
+    lane: &mut LineWriter<'a>,
+    script: &'a Script,
+    places: &[usize],
+    cpu: CpuId,
+    gate: &G,
+) -> Result<(), FillNo>
+    requires is { IsLineWriter lane.old }
+    requires places { AreLinesOf cpu.0 script.now.commands places.now }
+    ensures lines { OnOk result (MakesLines (writer_lines cpu.0 (commands_of script.now.commands)) lane.old lane.new) }
+    ensures shut { IfErr result (λ fill. G.answers gate.now who.Writer cpu.0 fill.0 false) }
+{
+    let commands = script.commands();
+    for place in places {
+        obey_line(lane, gate, cpu, commands.line(*place).command)?;
+    }
+    Ok(())
+}
+
+/// Obeys the lines of a CPU's writer, which stand at these places of the script, on a new ring; then finishes the frames
+/// that are left, the top one first. After each fill that the writer closes, the gate is asked: the fill at which it
+/// didn't let the writer pass ends this at once.
+pub fn obey_lines<G: Gate>(
+    end: WriterEnd,
+    script: &Script,
+    places: &[usize],
+    cpu: CpuId,
+    gate: &G,
+) -> Result<WriterEnd, FillNo>
+    requires first { end.part ≡ first_writing end.shape }
+    requires places { AreLinesOf cpu.0 script.now.commands places.now }
+    ensures { Obeys G.answers gate.now cpu.0 script.now.commands end result }
+{
+    let WriterEnd { writer } = end;
+    let mut lane = LineWriter::new(writer);
+    obey_places(&mut lane, script, places, cpu, gate)?;
+    lane.finish_rest(gate, cpu)?;
+    let LineWriter { writer, .. } = lane;
+    Ok(WriterEnd { writer })
+}

@@ -1,0 +1,115 @@
+//! The calls of one line, with a gate that is asked after each fill that they close.
+use crate::frames::LineWriter;
+use crate::gate::{Gate, Who};
+use trace_model::{CpuId, FillNo};
+
+impl<'a> LineWriter<'a> {
+    ghost use Rattle.std.specs.Prelude.{◌≡◌, ◌≢◌, ◌≤◌, false, [], OnOk, IfErr};
+    ghost use Rattle.script_model.specs.Script.{begin_frame, step_frame, finish_frame, write, close};
+    ghost use Rattle.line_writer.specs.declared.gate.Who.TheVariants as who;
+    ghost use Rattle.line_writer.specs.LineWriters.{IsLineWriter, CallsTop, MakesLine, FinishesRest};
+
+    /// One call for the frame on top. If it closes a fill, the gate is asked: the fill at which it is shut.
+    pub(crate) fn call_gated<G: Gate>(&mut self, gate: &G, cpu: CpuId) -> Result<(), FillNo>
+        requires is { IsLineWriter self.old }
+        requires top { self.old.writer.part.frames ≢ [] }
+        ensures calls { CallsTop self.old self.new }
+        ensures shut { IfErr result (λ fill. G.answers gate.now who.Writer cpu.0 fill.0 false) }
+    {
+        let done = self.writer.done();
+        self.call_top();
+        let fill = FillNo(self.writer.done());
+        if fill.0 != done && !gate.pass(Who::Writer, cpu, fill) {
+            return Err(fill);
+        }
+        Ok(())
+    }
+
+    /// A line `s`: at most so many calls for the frame on top, as long as it is on the stack.
+    pub(crate) fn step<G: Gate>(&mut self, gate: &G, cpu: CpuId, count: u64) -> Result<(), FillNo>
+        requires is { IsLineWriter self.old }
+        requires some { 1 ≤ count }
+        ensures line { OnOk result (MakesLine (step_frame cpu.0 count) self.old self.new) }
+        ensures shut { IfErr result (λ fill. G.answers gate.now who.Writer cpu.0 fill.0 false) }
+    {
+        let depth = self.depth();
+        if depth == 0 {
+            return Ok(());
+        }
+        let mut made = 0;
+        while made < count && self.depth() == depth {
+            self.call_gated(gate, cpu)?;
+            made += 1;
+        }
+        Ok(())
+    }
+
+    /// A line `f`: calls for the frame on top until it is popped.
+    pub(crate) fn finish<G: Gate>(&mut self, gate: &G, cpu: CpuId) -> Result<(), FillNo>
+        requires { IsLineWriter self.old }
+        ensures line { OnOk result (MakesLine (finish_frame cpu.0) self.old self.new) }
+        ensures shut { IfErr result (λ fill. G.answers gate.now who.Writer cpu.0 fill.0 false) }
+    {
+        let depth = self.depth();
+        if depth == 0 {
+            return Ok(());
+        }
+        loop {
+            self.call_gated(gate, cpu)?;
+            if self.depth() != depth {
+                return Ok(());
+            }
+        }
+    }
+
+    /// A line `b`: a frame is pushed.
+    pub(crate) fn begin(&mut self, cpu: CpuId, moment: u64, payload: &'a [u8])
+        requires { IsLineWriter self.old }
+        ensures { MakesLine (begin_frame cpu.0 moment payload.now) self.old self.new }
+    {
+        let _cpu = cpu;
+        let _pushed = self.push(moment, payload);
+    }
+
+    /// A line `w`: a frame is pushed and finished.
+    pub(crate) fn write<G: Gate>(
+        &mut self,
+        gate: &G,
+        cpu: CpuId,
+        moment: u64,
+        payload: &'a [u8],
+    ) -> Result<(), FillNo>
+        requires { IsLineWriter self.old }
+        ensures line { OnOk result (MakesLine (write cpu.0 moment payload.now) self.old self.new) }
+        ensures shut { IfErr result (λ fill. G.answers gate.now who.Writer cpu.0 fill.0 false) }
+    {
+        if !self.push(moment, payload) {
+            return Ok(());
+        }
+        self.finish(gate, cpu)
+    }
+
+    /// A line `c`: a close frame is pushed and finished.
+    pub(crate) fn close<G: Gate>(&mut self, gate: &G, cpu: CpuId) -> Result<(), FillNo>
+        requires { IsLineWriter self.old }
+        ensures line { OnOk result (MakesLine (close cpu.0) self.old self.new) }
+        ensures shut { IfErr result (λ fill. G.answers gate.now who.Writer cpu.0 fill.0 false) }
+    {
+        if !self.push_close() {
+            return Ok(());
+        }
+        self.finish(gate, cpu)
+    }
+
+    /// The frames that are left are finished, the top one first.
+    pub(crate) fn finish_rest<G: Gate>(&mut self, gate: &G, cpu: CpuId) -> Result<(), FillNo>
+        requires { IsLineWriter self.old }
+        ensures rest { OnOk result (FinishesRest self.old self.new) }
+        ensures shut { IfErr result (λ fill. G.answers gate.now who.Writer cpu.0 fill.0 false) }
+    {
+        while self.depth() > 0 {
+            self.finish(gate, cpu)?;
+        }
+        Ok(())
+    }
+}
