@@ -1,0 +1,25 @@
+use Rattle.std.proofs.Common.{subst, sym}
+use Rattle.ring_shared.specs.Value.{WriterValue}
+use Rattle.line_writer.specs.Obeying.{HasObeyed}
+use Rattle.threaded_run.proofs.Ends.{writer_by_gate, reader_by_gate, ends_joined}
+use Rattle.threaded_run.proofs.threads.join.Goals as goal
+
+pub returns-in_default-clause-shut : goal.returns-in_default-clause-shut
+returns-in_default-clause-shut g c =
+    let p = c.running.inside.writer.promise in
+    writer_by_gate g.G.Gate.answers _ c.args.running p.cpu.0 c.in_default.field-0 _ c.running.view_is c.in_default.ensures
+
+pub returns-in-Err-clause-shut : goal.returns-in-Err-clause-shut
+returns-in-Err-clause-shut g c =
+    let p = c.running.inside.reader.promise in
+    reader_by_gate g.G.Gate.answers _ c.args.running p.gate.now p.cpu.0 c.in-Err.stop c.fault_of.result c.running.view_is
+    c.running.invariant.4 c.fault_of.ensures c.in-Err.ensures
+
+pub returns-in-Ok-took-clause-joined : goal.returns-in-Ok-took-clause-joined
+returns-in-Ok-took-clause-joined g c =
+    let w = c.running.inside.writer.promise in
+    let r = c.running.inside.reader.promise in
+    let is = c.running.invariant in
+    ends_joined _ c.args.running w.cpu.0 w.was.value r.was.value c.end.inside.writer c.in-Ok-took.reader c.running.view_is
+    is.0 is.1 is.3 c.end.invariant
+    (subst (λ (e : WriterValue). HasObeyed w.cpu.0 w.script.now.commands w.was.value e) (sym c.end.view_is) c.in-Ok.ensures) c.in-Ok-took.ensures

@@ -1,0 +1,4 @@
+pub mod Runs
+pub mod Taking
+pub mod Threads
+pub mod Joining

@@ -1,0 +1,59 @@
+-- What a threaded run leaves.
+use Rattle.std.specs.Prelude.{◌≡◌, ℕ, ◌+◌, ◌<◌, ◌≤◌, List, length, Some, vec_len}
+use Rattle.std.specs.List.{slice_get}
+use Rattle.trace_model.specs.declared.limits.TheConstants.{LINK_FILLS}
+use Rattle.trace_model.specs.History.{Action, IsHistory, committed_records}
+use Rattle.trace_model.specs.Packing.{IsPacked}
+use Rattle.trace_model.specs.Ring.{Core}
+use Rattle.script_model.specs.Script.{Command, Script}
+use Rattle.line_model.specs.Lines.{writer_lines, IsMadeByLines}
+use Rattle.line_model.specs.WrittenRecords.{AreWhole, records_of_lines}
+use Rattle.line_model.specs.ReplayedLines.{commands_of}
+use Rattle.ring_steps.specs.declared.rule.Shape.{Shape}
+use Rattle.ring_steps.specs.Views.{Writing}
+use Rattle.run_audit.specs.declared.ledger.Ledger.{Ledger}
+use Rattle.run_audit.specs.Headline.{AreOfRings}
+use Rattle.reader_end.specs.Ledgers.{IsLedger}
+use Rattle.threaded_run.specs.declared.running.Ran.{Ran}
+
+-- the shape of the rings of a script
+abbrev pub shape_of : Script → Shape
+shape_of script = record { pages = script.pages; size = script.size; start = script.start }
+
+-- the lines of a CPU's writer
+abbrev pub lines_of : Script → (cpu : ℕ) → List Command
+lines_of script cpu = writer_lines cpu (commands_of script.commands)
+
+-- The history keeps the discipline of the stack, is packed in pages of the ring's size, and is made by the lines of the
+-- CPU's writer. With `w` and `c` lines alone, at most as many as there are numbers left for fills, the committed records
+-- are exactly those of the `w` lines that are neither too long nor too late, in order, moments raised.
+pub record IsRunHistory (script : Script) (cpu : ℕ) (history : List Action) : Type 0 where
+  pub allowed : IsHistory history
+  pub packed : IsPacked history script.size
+  pub made : IsMadeByLines script.pages script.size script.start (lines_of script cpu) history
+  pub committed : AreWhole (lines_of script cpu)
+      → script.start + length (lines_of script cpu) + script.pages ≤ LINK_FILLS
+      → committed_records history ≡ records_of_lines script.size 0 (lines_of script cpu)
+
+-- The ledger of a CPU: its ring has a history of that CPU's lines, the parcels are what the ring's reader took, all of it
+-- and in order, and the ring is settled. So they and then the page that is left cut the committed records of the history.
+pub record IsRunLedger (script : Script) (cpu : ℕ) (ledger : Ledger) : Type 0 where
+  pub writing : Writing
+  pub history : IsRunHistory script cpu writing.history
+  pub is_ledger : IsLedger cpu (shape_of script) writing ledger
+
+-- the state of the ring when it was settled
+abbrev pub ring_of : {script : Script} {cpu : ℕ} {ledger : Ledger} → IsRunLedger script cpu ledger → Core
+ring_of run = run.is_ledger.settled.parts.core
+
+-- A run leaves as many collectors as its script has, and a ledger for each CPU, in their order. The ledgers are those of
+-- rings, whose last states are these: so the headline holds of each collector that is audited against them.
+pub record IsRan (script : Script) (ran : Ran) : Type 0 where
+  pub collectors : vec_len ran.collectors ≡ script.collectors
+  pub cpus : vec_len ran.ledgers ≡ script.cpus
+  pub rings : ℕ → Core
+  pub each : (cpu : ℕ) (ledger : Ledger)
+      → slice_get ran.ledgers.items cpu ≡ Some ledger
+      → (run : IsRunLedger script cpu ledger) × (rings cpu ≡ ring_of run)
+  pub are_of_rings : AreOfRings script.pages script.size script.start rings ran.ledgers.items
+  pub histories : (cpu : ℕ) → cpu < script.cpus → IsRunHistory script cpu (rings cpu).history

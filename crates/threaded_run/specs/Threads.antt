@@ -1,0 +1,54 @@
+-- The two threads of each ring, and what they leave.
+use Rattle.std.specs.Prelude.{◌≡◌, ℕ, suc, Bool, false, List, [], ◌∷◌, length, Some, Vec}
+use Rattle.std.specs.List.{slice_get}
+use Rattle.std.specs.declared.alloc.Global.{Global}
+use Rattle.script_model.specs.Script.{Script}
+use Rattle.trace_script.specs.declared.replay_fault.ReplayFault.{ReplayFault}
+use Rattle.trace_script.specs.declared.replay_fault.ReplayFault.TheVariants.{GateShut}
+use Rattle.ring_shared.specs.Value.{WriterValue}
+use Rattle.ring_shared.specs.Calls.{IsWriter}
+use Rattle.run_audit.specs.declared.ledger.Ledger.{Ledger}
+use Rattle.line_writer.specs.declared.gate.Who.{Who}
+use Rattle.line_writer.specs.Obeying.{AreLinesOf}
+use Rattle.reader_end.specs.Value.{ReaderEndValue}
+use Rattle.threaded_run.specs.Runs.{shape_of, IsRunHistory, IsRunLedger}
+
+-- For each CPU of the script, these are the places of its writer's lines.
+pub record ArePlaces (script : Script) (places : List (Vec ℕ Global)) : Type 0 where
+  pub count : length places ≡ script.cpus
+  pub each : (cpu : ℕ) (own : Vec ℕ Global) → slice_get places cpu ≡ Some own → AreLinesOf cpu script.commands own.items
+
+-- What contracts see of the two threads of a CPU's ring.
+pub record RunningValue (Gate : Type 0) : Type 0 where
+  pub cpu : ℕ
+  pub script : Script
+  pub gate : Gate
+
+-- a run that ends so was ended by the gate: it didn't let an end of a ring pass
+abbrev pub IsByGate : {Gate : Type 0} (answers : Gate → Who → (cpu fill : ℕ) → Bool → Type 0) → Gate
+    → ReplayFault → Type 0
+IsByGate answers gate fault = fault ≡ GateShut → (who : Who) × (cpu : ℕ) × (fill : ℕ) × answers gate who cpu fill false
+
+-- Both ends are those of one ring, after all lines of its CPU.
+pub record IsJoined (script : Script) (cpu : ℕ) (ends : WriterValue × ReaderEndValue) : Type 0 where
+  pub is_writer : IsWriter ends.0
+  pub shape_is : ends.0.shape ≡ shape_of script
+  pub at_rest : ends.0.part.frames ≡ []
+  pub history : IsRunHistory script cpu ends.0.part.history
+  pub cpu_is : ends.1.cpu ≡ cpu
+  pub one_ring : ends.1.reader.table ≡ ends.0.table
+
+-- these are the threads of this CPU in the run of a script
+abbrev pub IsRunningAt : {Gate : Type 0} → Script → Gate → (cpu : ℕ) → RunningValue Gate → Type 0
+IsRunningAt script gate cpu threads = (threads.cpu ≡ cpu) × (threads.script ≡ script) × (threads.gate ≡ gate)
+
+-- these are the threads of the CPUs from this one on, in their order
+abbrev pub AreRunning : {Gate : Type 0} → Script → Gate → (cpu : ℕ) → List (RunningValue Gate) → Type 0
+AreRunning script gate cpu [] = Unit {0}
+AreRunning script gate cpu (threads ∷ others) =
+    IsRunningAt script gate cpu threads × AreRunning script gate (suc cpu) others
+
+-- and these are their ledgers
+abbrev pub AreRunLedgers : Script → (cpu : ℕ) → List Ledger → Type 0
+AreRunLedgers script cpu [] = Unit {0}
+AreRunLedgers script cpu (ledger ∷ ledgers) = IsRunLedger script cpu ledger × AreRunLedgers script (suc cpu) ledgers

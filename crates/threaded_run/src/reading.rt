@@ -1,0 +1,99 @@
+//! A reader's thread.
+ghost use Rattle.std.specs.Prelude.{◌≡◌, ◌≢◌, [], IfErr};
+ghost use Rattle.threaded_run.specs.Taking.{IsStop, HasTaken};
+
+use crate::sharing::share;
+use crossbeam_channel::Sender;
+use crossbeam_utils::Backoff;
+use line_writer::{Gate, Who};
+use page_numbers::Parcel;
+use reader_end::{Found, ReaderEnd};
+use std::alloc::Global;
+use std::snapshot::Snapshot;
+use std::sync::Wait;
+use std::sync::atomic::{AtomicBool, Ordering};
+use std::thread::Promise;
+use trace_model::{CpuId, FillNo, NoMemory};
+
+/// Why a reader's thread has stopped before its writer's was over.
+#[derive(Clone, Copy, Debug)]
+pub(crate) enum Stop {
+    NoMemory,
+    /// The gate didn't let the reader pass after it took the page of this fill.
+    Shut(FillNo),
+}
+
+impl From<NoMemory> for Stop {
+    ghost use Rattle.threaded_run.specs.declared.reading.Stop.TheVariants.{NoMemory as no_memory};
+
+    ghost from_gives = { λ _ stop. stop ≡ no_memory };
+
+    fn from(_refused: NoMemory) -> Stop {
+        Stop::NoMemory
+    }
+}
+
+/// What a reader's thread hands back keeps this: it is the same end, with what it took, or the gate stopped it.
+#[derive(Drop)]
+pub(crate) struct Takes<'a, G: Gate> {
+    pub(crate) gate: &'a G,
+    pub(crate) cpu: CpuId,
+    pub(crate) was: Snapshot<ReaderEnd>,
+}
+
+impl<'a, G: Gate> Promise<Result<ReaderEnd, Stop>> for Takes<'a, G> {
+    ghost kept_by = { λ p r. HasTaken G.answers p.gate.now p.cpu.0 p.was.value r };
+}
+
+/// Shares the page that was taken last, and asks the gate.
+fn pass_on<R: Wait, G: Gate>(
+    rt: &R,
+    end: &ReaderEnd,
+    cpu: CpuId,
+    gate: &G,
+    collectors: &[Sender<Parcel>],
+) -> Result<(), Stop>
+    requires { end.now.taken ≢ [] }
+    ensures { IfErr result (IsStop G.answers gate.now cpu.0) }
+{
+    let Some(parcel) = end.last() else {
+        unreachable!()
+    };
+    share(rt, parcel, collectors)?;
+    let fill = parcel.fill();
+    if gate.pass(Who::Reader, cpu, fill) {
+        return Ok(());
+    }
+    Err(Stop::Shut(fill))
+}
+
+/// Takes pages, and passes each one on, until the writer's thread was over before a take that found nothing. Where there
+/// is nothing to take, it gives way to other threads.
+pub(crate) fn take_pages<R: Wait, G: Gate>(
+    rt: &R,
+    alloc: Global,
+    end: ReaderEnd,
+    cpu: CpuId,
+    gate: &G,
+    over: &AtomicBool,
+    collectors: &[Sender<Parcel>],
+) -> Result<ReaderEnd, Stop>
+    ensures { HasTaken G.answers gate.now cpu.0 end result }
+{
+    let mut end = end;
+    let backoff = Backoff::new();
+    for _ in rt.forever() {
+        let was_over = over.load(Ordering::SeqCst);
+        let (next, found) = end.take(alloc)?;
+        end = next;
+        match found {
+            Found::Page => {
+                pass_on(rt, &end, cpu, gate, collectors)?;
+                backoff.reset();
+            }
+            Found::Empty if was_over => break,
+            Found::Empty | Found::Moving => backoff.snooze(),
+        }
+    }
+    Ok(end)
+}

@@ -1,0 +1,129 @@
+//! The rings of a run.
+ghost use Rattle.std.specs.Prelude.{◌≡◌, ◌≢◌, ◌≤◌, length, vec_len, vec_capacity, OnOk, IfOk, IfErr};
+ghost use Rattle.trace_script.specs.declared.replay_fault.ReplayFault.TheVariants.{GateShut};
+ghost use Rattle.threaded_run.specs.Threads.{ArePlaces, AreRunning, AreRunLedgers, IsByGate};
+
+use crate::joining::with_next;
+use crate::threads::{Job, Running, complete, start};
+use crossbeam_channel::Sender;
+use line_writer::Gate;
+use page_numbers::Parcel;
+use run_audit::Ledger;
+use std::alloc::Global;
+use std::sync::Wait;
+use std::sync::atomic::AtomicBool;
+use std::thread;
+use std::thread::{Scope, Threads};
+use trace_model::CpuId;
+use trace_script::{ReplayFault, Script};
+
+/// Starts the threads of each CPU's ring. On a fault, those that were started before it are among the threads.
+fn start_rings<'s, E, R: Threads + Wait + Sync, G: Gate>(
+    rt: &'s R,
+    scope: &Scope<'s, E>,
+    alloc: Global,
+    job: &Job<'s, G>,
+    places: &'s [Vec<usize>],
+    over: &'s [AtomicBool],
+    threads: &mut Vec<Running<'s, G>>,
+) -> Result<(), ReplayFault>
+    requires places { ArePlaces job.now.script.now places.now }
+    requires over { length over.now ≡ job.now.script.now.cpus }
+    requires none { vec_len threads.old ≡ 0 }
+    requires room { job.now.script.now.cpus ≤ vec_capacity threads.old }
+    ensures running { AreRunning job.now.script.now job.now.gate.now 0 threads.new.items }
+    ensures count { OnOk result (vec_len threads.new ≡ job.now.script.now.cpus) }
+    ensures fault { IfErr result (λ fault. fault ≢ GateShut) }
+{
+    let cpus = job.script.cpus();
+    for cpu in 0..cpus {
+        let index = cpu as usize;
+        let running = start(
+            rt,
+            scope,
+            alloc,
+            job,
+            CpuId(cpu),
+            places[index].as_slice(),
+            &over[index],
+        )?;
+        threads.push_reserved(running);
+    }
+    Ok(())
+}
+
+/// Joins all of these threads, and settles the rings.
+fn complete_rings<R: Threads + Wait, G: Gate>(
+    rt: &R,
+    alloc: Global,
+    job: &Job<'_, G>,
+    threads: Vec<Running<'_, G>>,
+) -> Result<Vec<Ledger>, ReplayFault>
+    requires running { AreRunning job.now.script.now job.now.gate.now 0 threads.items }
+    ensures ledgers { IfOk result (λ ledgers. AreRunLedgers job.now.script.now 0 ledgers.items) }
+    ensures count { IfOk result (λ ledgers. vec_len ledgers ≡ vec_len threads.entry) }
+    ensures shut { IfErr result (IsByGate G.answers job.now.gate.now) }
+{
+    let mut ledgers = Ok(Vec::new(alloc));
+    for running in threads {
+        ledgers = with_next(ledgers, complete(rt, alloc, running, job.collectors));
+    }
+    ledgers
+}
+
+/// The rings of a run, in a scope: all threads that are started are joined, also after a fault.
+fn run_in<'s, E, R: Threads + Wait + Sync, G: Gate>(
+    rt: &'s R,
+    scope: &Scope<'s, E>,
+    alloc: Global,
+    job: &Job<'s, G>,
+    places: &'s [Vec<usize>],
+    over: &'s [AtomicBool],
+) -> Result<Vec<Ledger>, ReplayFault>
+    requires places { ArePlaces job.now.script.now places.now }
+    requires over { length over.now ≡ job.now.script.now.cpus }
+    ensures ledgers { IfOk result (λ ledgers. AreRunLedgers job.now.script.now 0 ledgers.items) }
+    ensures count { IfOk result (λ ledgers. vec_len ledgers ≡ job.now.script.now.cpus) }
+    ensures shut { IfErr result (IsByGate G.answers job.now.gate.now) }
+{
+    let mut threads = Vec::with_capacity(alloc, over.len())?;
+    let started = start_rings(rt, scope, alloc, job, places, over, &mut threads);
+    let ledgers = complete_rings(rt, alloc, job, threads);
+    started?;
+    ledgers
+}
+
+/// The rings of a run, each with a writer's and a reader's thread: a ledger for each CPU.
+pub(crate) fn run_rings<R: Threads + Wait + Sync, G: Gate>(
+    rt: &R,
+    alloc: Global,
+    script: &Script,
+    gate: &G,
+    places: &[Vec<usize>],
+    over: &[AtomicBool],
+    collectors: &[Sender<Parcel>],
+) -> Result<Vec<Ledger>, ReplayFault>
+    requires places { ArePlaces script.now places.now }
+    requires over { length over.now ≡ script.now.cpus }
+    ensures ledgers { IfOk result (λ ledgers. AreRunLedgers script.now 0 ledgers.items) }
+    ensures count { IfOk result (λ ledgers. vec_len ledgers ≡ script.now.cpus) }
+    ensures shut { IfErr result (IsByGate G.answers gate.now) }
+{
+    thread::scope(
+        thread::scope_env(),
+        rt,
+        |scope| -> Result<Vec<Ledger>, ReplayFault>
+            requires { ArePlaces script.now places.now × (length over.now ≡ script.now.cpus) }
+            ensures { IfOk result (λ ledgers. AreRunLedgers script.entry.now 0 ledgers.items)
+                × IfOk result (λ ledgers. vec_len ledgers ≡ script.entry.now.cpus)
+                × IfErr result (IsByGate G.answers gate.entry.now) }
+        {
+            let job = Job {
+                script,
+                gate,
+                collectors,
+            };
+            run_in(rt, scope, alloc, &job, places, over)
+        },
+    )
+}

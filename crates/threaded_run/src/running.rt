@@ -1,0 +1,158 @@
+//! The run of a script by threads.
+ghost use Rattle.std.specs.Prelude.{◌≡◌, ◌≢◌, ℕ, ◌≤◌, length, vec_len, vec_capacity, false, OnOk, IfOk, IfErr};
+ghost use Rattle.trace_script.specs.declared.replay_fault.ReplayFault.TheVariants.{GateShut};
+ghost use Rattle.line_writer.specs.declared.gate.Who.{Who as WhoSeen};
+ghost use Rattle.threaded_run.specs.Runs.{IsRan};
+ghost use Rattle.threaded_run.specs.Threads.{ArePlaces, AreRunLedgers, IsByGate};
+
+use crate::collecting::{Collecting, join_collectors, start_collectors};
+use crate::rings::run_rings;
+use collector::Collector;
+use crossbeam_channel::Sender;
+use line_writer::{Gate, lines_by_cpu};
+use page_numbers::Parcel;
+use run_audit::Ledger;
+use std::alloc::Global;
+use std::sync::Wait;
+use std::sync::atomic::AtomicBool;
+use std::thread;
+use std::thread::{Scope, Threads};
+use trace_script::{ReplayFault, Script};
+
+/// What a run leaves.
+#[derive(Drop)]
+pub struct Ran {
+    /// The collectors of the script, in their order. No channel promises that what was taken reached them: audit each.
+    pub collectors: Vec<Collector>,
+    /// A ledger for each CPU, in their order.
+    pub ledgers: Vec<Ledger>,
+}
+
+/// For each of so many CPUs whether its writer is over: not yet.
+fn new_flags(alloc: Global, count: usize) -> Result<Vec<AtomicBool>, ReplayFault>
+    ensures count { IfOk result (λ flags. vec_len flags ≡ count) }
+    ensures fault { IfErr result (λ fault. fault ≢ GateShut) }
+{
+    let mut flags = Vec::with_capacity(alloc, count)?;
+    for made in 0..count {
+        let _made = made;
+        flags.push_reserved(AtomicBool::new(false));
+    }
+    Ok(flags)
+}
+
+/// Starts the collectors' threads, and runs the rings.
+fn run_all<'s, E, R: Threads + Wait + Sync, G: Gate>(
+    rt: &'s R,
+    scope: &Scope<'s, E>,
+    alloc: Global,
+    script: &Script,
+    gate: &G,
+    places: &[Vec<usize>],
+    over: &[AtomicBool],
+    senders: &mut Vec<Sender<Parcel>>,
+    threads: &mut Vec<Collecting>,
+) -> Result<Vec<Ledger>, ReplayFault>
+    requires places { ArePlaces script.now places.now }
+    requires over { length over.now ≡ script.now.cpus }
+    requires no_senders { vec_len senders.old ≡ 0 }
+    requires room_for_senders { script.now.collectors ≤ vec_capacity senders.old }
+    requires no_threads { vec_len threads.old ≡ 0 }
+    requires room_for_threads { script.now.collectors ≤ vec_capacity threads.old }
+    ensures collectors { OnOk result (vec_len threads.new ≡ script.now.collectors) }
+    ensures ledgers { IfOk result (λ ledgers. AreRunLedgers script.now 0 ledgers.items) }
+    ensures cpus { IfOk result (λ ledgers. vec_len ledgers ≡ script.now.cpus) }
+    ensures shut { IfErr result (IsByGate G.answers gate.now) }
+{
+    start_collectors(rt, scope, alloc, script.collectors(), senders, threads)?;
+    run_rings(rt, alloc, script, gate, places, over, senders.as_slice())
+}
+
+/// The threads of a run, in the scope of its collectors' threads. These are joined, also after a fault: they end once
+/// nothing can be sent any more.
+fn run_in<'s, E, R: Threads + Wait + Sync, G: Gate>(
+    rt: &'s R,
+    scope: &Scope<'s, E>,
+    alloc: Global,
+    script: &Script,
+    gate: &G,
+    places: &[Vec<usize>],
+    over: &[AtomicBool],
+) -> Result<Ran, ReplayFault>
+    requires places { ArePlaces script.now places.now }
+    requires over { length over.now ≡ script.now.cpus }
+    ensures ran { IfOk result (IsRan script.now) }
+    ensures shut { IfErr result (IsByGate G.answers gate.now) }
+{
+    let count = script.collectors();
+    let mut senders = Vec::with_capacity(alloc, count)?;
+    let mut threads = Vec::with_capacity(alloc, count)?;
+    let ledgers = run_all(
+        rt,
+        scope,
+        alloc,
+        script,
+        gate,
+        places,
+        over,
+        &mut senders,
+        &mut threads,
+    );
+    drop(senders);
+    let collectors = join_collectors(rt, alloc, threads);
+    let ledgers = ledgers?;
+    let collectors = collectors?;
+    Ok(Ran {
+        collectors,
+        ledgers,
+    })
+}
+
+/// The run, with the places of each CPU's writer lines, and a flag for each CPU.
+fn run_with<R: Threads + Wait + Sync, G: Gate>(
+    rt: &R,
+    alloc: Global,
+    script: &Script,
+    gate: &G,
+    places: &[Vec<usize>],
+    over: &[AtomicBool],
+) -> Result<Ran, ReplayFault>
+    requires places { ArePlaces script.now places.now }
+    requires over { length over.now ≡ script.now.cpus }
+    ensures ran { IfOk result (IsRan script.now) }
+    ensures shut { IfErr result (IsByGate G.answers gate.now) }
+{
+    thread::scope(
+        thread::scope_env(),
+        rt,
+        |scope| -> Result<Ran, ReplayFault>
+            requires { ArePlaces script.now places.now × (length over.now ≡ script.now.cpus) }
+            ensures { IfOk result (IsRan script.entry.now) × IfErr result (IsByGate G.answers gate.entry.now) }
+        { run_in(rt, scope, alloc, script, gate, places, over) },
+    )
+}
+
+/// Runs a script by threads: for each CPU one that obeys its writer's lines (`b`, `s`, `f`, `w`, `c`) and then finishes
+/// the frames that are left, and one that takes pages meanwhile; for each collector one that adds what was taken. Lines
+/// of readers and deliveries are not obeyed: each page is shared to every collector.
+///
+/// A writer's thread asks the gate after each fill that it closes, a reader's after each page that it takes and shares.
+/// If the gate doesn't let one pass, that thread ends, and the answer is `GateShut`; if a thread can't be started, it is
+/// `NoThread`. In each case the other threads run to their ends, and all are joined. The call waits for its threads: what
+/// it promises holds if it returns.
+pub fn run<R: Threads + Wait + Sync, G: Gate>(
+    rt: &R,
+    alloc: Global,
+    script: &Script,
+    gate: &G,
+) -> Result<Ran, ReplayFault>
+    // The collectors and the ledgers are as many as the script says; each ledger is that of its CPU's lines.
+    ensures ran { IfOk result (IsRan script.now) }
+    // The gate is blamed only if it was shut for a thread.
+    ensures shut { IfErr result (λ fault. fault ≡ GateShut
+        → (who : WhoSeen) × (cpu fill : ℕ) × G.answers gate.now who cpu fill false) }
+{
+    let places = lines_by_cpu(alloc, script)?;
+    let over = new_flags(alloc, script.cpus() as usize)?;
+    run_with(rt, alloc, script, gate, places.as_slice(), over.as_slice())
+}
