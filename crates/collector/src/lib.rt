@@ -23,6 +23,3 @@ pub use collector::Collector;
 pub use fault::AddFault;
 pub use listed::CpuRecords;
 pub use runs::MissingRuns;
-
-#[cfg(test)]
-mod tests;

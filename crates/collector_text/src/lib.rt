@@ -7,6 +7,3 @@ mod lines;
 mod runs;
 
 pub use collectors::put_collectors;
-
-#[cfg(test)]
-mod tests;

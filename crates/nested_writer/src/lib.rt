@@ -15,6 +15,3 @@ pub use stack::WriterStack;
 pub use stack::allot::Allot;
 pub use stack::leave::Ended;
 pub use stack::write::Wrote;
-
-#[cfg(test)]
-mod tests;

@@ -8,6 +8,3 @@ mod lending;
 
 pub use entries::{Entry, Records};
 pub use lending::{records, slot_mut};
-
-#[cfg(test)]
-mod tests;

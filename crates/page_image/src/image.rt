@@ -140,6 +140,3 @@ pub fn read_image(alloc: Global, bytes: &[u8]) -> Result<Image, ImageFault>
 {
     read(alloc, bytes)
 }
-
-#[cfg(test)]
-mod tests;

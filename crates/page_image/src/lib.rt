@@ -16,6 +16,3 @@ pub use image::{Image, ImageFault, Missed, read_image};
 pub use page::Page;
 pub use record_words::Place;
 pub use walk::{Passed, Reached, step_over_word};
-
-#[cfg(test)]
-mod tests;

@@ -10,6 +10,3 @@ mod parcel;
 
 pub use fault::ParcelFault;
 pub use parcel::Parcel;
-
-#[cfg(test)]
-mod tests;

@@ -244,9 +244,9 @@ impl Tally {
 
 /// Compares an entry with a record.
 fn compare_entry(rt: &impl Abort, entry: Entry<'_>, number: u64, expected: Written) {
-    assert_eq!(rt; entry.number, RecordNo(number));
-    assert_eq!(rt; entry.moment.0, expected.moment);
-    assert_eq!(rt; entry.bytes, [expected.byte; 4].as_slice());
+    assert!(rt; entry.number == RecordNo(number));
+    assert!(rt; entry.moment.0 == expected.moment);
+    assert!(rt; entry.bytes == [expected.byte; 4].as_slice());
 }
 
 impl<'a> Side<'a> {
@@ -272,7 +272,7 @@ impl<'a> Side<'a> {
             answer = self.collector.add(again);
         }
         let expected = self.plain.add(draft)?;
-        assert_eq!(rt; answer, expected, "{draft:?}");
+        assert!(rt; answer == expected, "{draft:?}");
         Ok(expected)
     }
 
@@ -290,7 +290,7 @@ impl<'a> Side<'a> {
             answer = self.collector.merge(&other.collector);
         }
         let expected = self.plain.merge(&other.plain)?;
-        assert_eq!(rt; answer, expected);
+        assert!(rt; answer == expected);
         self.compare(rt, numbers);
         Ok(expected)
     }
@@ -298,18 +298,14 @@ impl<'a> Side<'a> {
     /// Whether both have and miss the same.
     fn same(&self, rt: &impl Abort, other: &Side<'a>) -> bool {
         let expected = self.plain.is_same(&other.plain);
-        assert_eq!(rt; self.collector.same(&other.collector), expected);
+        assert!(rt; self.collector.same(&other.collector) == expected);
         expected
     }
 
     /// Compares what is known of a number.
     fn compare_number(&self, rt: &impl Abort, cpu: CpuId, number: u64) {
         let is_missing = self.collector.is_missing(cpu, RecordNo(number));
-        assert_eq!(rt;
-            is_missing,
-            self.plain.misses(cpu, number),
-            "{cpu:?} {number}"
-        );
+        assert!(rt; is_missing == self.plain.misses(cpu, number), "{cpu:?} {number}");
         match (
             self.collector.get(cpu, RecordNo(number)),
             self.plain.record(cpu, number),
@@ -331,7 +327,7 @@ impl<'a> Side<'a> {
             }
             from = entry.number.0.wrapping_add(1);
         }
-        assert_eq!(rt; self.plain.next_record(cpu, from), None);
+        assert!(rt; self.plain.next_record(cpu, from) == None);
     }
 
     /// Compares the missing numbers of a CPU.
@@ -339,21 +335,21 @@ impl<'a> Side<'a> {
         let mut from = 0;
         for (first, last) in self.collector.missing(cpu) {
             let run = (first.0, last.0.wrapping_add(1));
-            assert_eq!(rt; Some(run), self.plain.next_run(cpu, from));
+            assert!(rt; Some(run) == self.plain.next_run(cpu, from));
             from = run.1;
         }
-        assert_eq!(rt; self.plain.next_run(cpu, from), None);
+        assert!(rt; self.plain.next_run(cpu, from) == None);
     }
 
     /// Compares the parcels that are kept.
     fn compare_kept(&self, rt: &impl Abort) {
         let (kept, expected) = (self.collector.parcels(), self.plain.kept());
-        assert_eq!(rt; kept.len(), expected.len());
+        assert!(rt; kept.len() == expected.len());
         for (parcel, draft) in kept.iter().zip(expected) {
-            assert_eq!(rt; parcel.cpu(), draft.cpu);
-            assert_eq!(rt; parcel.first().0, draft.first);
-            assert_eq!(rt; parcel.missed(), draft.first.wrapping_sub(draft.low));
-            assert_eq!(rt; parcel.count(), draft.records.len() as u64);
+            assert!(rt; parcel.cpu() == draft.cpu);
+            assert!(rt; parcel.first().0 == draft.first);
+            assert!(rt; parcel.missed() == draft.first.wrapping_sub(draft.low));
+            assert!(rt; parcel.count() == draft.records.len() as u64);
         }
     }
 

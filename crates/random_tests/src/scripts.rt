@@ -122,12 +122,12 @@ fn compare_refused(
     let alloc = rt.alloc();
     let (number, index) = told_fault(alloc, text, count_lines(script))?;
     let (status, same) = replayed(alloc, first_lines(script, number), false)?;
-    assert_eq!(rt; status, REFUSED);
-    assert_eq!(rt; same.as_slice(), text);
+    assert!(rt; status == REFUSED);
+    assert!(rt; same.as_slice() == text);
     let (status, before) = replayed(alloc, first_lines(script, number.saturating_sub(1)), false)?;
     if status != DONE {
         let lacks = format!(in alloc; "line {number}: BadLine\n")?;
-        assert_eq!(rt; before.as_slice(), lacks.as_bytes());
+        assert!(rt; before.as_slice() == lacks.as_bytes());
     }
     Ok(index)
 }
@@ -136,7 +136,7 @@ fn compare_refused(
 fn compare_done(rt: &(impl Abort + AllocGlobal), script: &[u8], text: &[u8]) -> Result<(), Fail> {
     assert!(rt; text.starts_with(b"collector 0\n"));
     let (status, logged) = replayed(rt.alloc(), script, true)?;
-    assert_eq!(rt; status, DONE);
+    assert!(rt; status == DONE);
     assert!(rt; logged.as_slice().ends_with(text));
     Ok(())
 }
@@ -157,12 +157,12 @@ fn any_script_is_replayed_or_refused_for_its_first_fault(rt: HostRuntime) -> Res
             compare_done(&rt, &script, &text)?;
             FAULTS.len()
         } else {
-            assert_eq!(rt; status, REFUSED);
+            assert!(rt; status == REFUSED);
             compare_refused(&rt, &script, &text)?
         };
         assert!(rt; index < met.len());
         met[index] = 1;
     }
-    assert_eq!(rt; met, [1; 5]);
+    assert!(rt; met == [1; 5]);
     Ok(())
 }

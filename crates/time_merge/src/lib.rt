@@ -9,6 +9,3 @@ mod lines;
 
 pub use by_time::listing;
 pub use lines::Line;
-
-#[cfg(test)]
-mod tests;

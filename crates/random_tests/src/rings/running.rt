@@ -88,31 +88,31 @@ fn compare_answers(rt: &impl Abort, answer: &Answer, expected: &Answer) {
         | (Answer::Going, Answer::Going)
         | (Answer::Gone, Answer::Gone) => {}
         (Answer::Reserved(number), Answer::Reserved(expected)) => {
-            assert_eq!(rt; number.0, expected.0)
+            assert!(rt; number.0 == expected.0)
         }
-        (Answer::Ended(ended), Answer::Ended(expected)) => assert_eq!(rt; *ended, *expected),
-        (Answer::Refused(fault), Answer::Refused(expected)) => assert_eq!(rt; *fault, *expected),
+        (Answer::Ended(ended), Answer::Ended(expected)) => assert!(rt; *ended == *expected),
+        (Answer::Refused(fault), Answer::Refused(expected)) => assert!(rt; *fault == *expected),
         _ => assert!(rt; false, "{answer:?} in place of {expected:?}"),
     }
 }
 
 /// Compares two pages that were taken.
 fn compare_pages(rt: &impl Abort, page: &Page, expected: &Page) {
-    assert_eq!(rt; page.fill().0, expected.fill().0);
-    assert_eq!(rt; page.first().0, expected.first().0);
-    assert_eq!(rt; page.count(), expected.count());
+    assert!(rt; page.fill().0 == expected.fill().0);
+    assert!(rt; page.first().0 == expected.first().0);
+    assert!(rt; page.count() == expected.count());
     assert!(rt; page.has_data_of(expected));
 }
 
 /// Compares what a take answers with the last of its steps.
 fn compare_takes(rt: &impl Abort, took: &Take, expected: &Answer) {
     match (took, expected) {
-        (Take::Empty(done, _), Answer::Empty(expected, _)) => assert_eq!(rt; *done, *expected),
+        (Take::Empty(done, _), Answer::Empty(expected, _)) => assert!(rt; *done == *expected),
         (Take::Moving(fill, _), Answer::Moving(expected, _)) => {
-            assert_eq!(rt; fill.0, expected.0)
+            assert!(rt; fill.0 == expected.0)
         }
         (Take::Page(page, missed), Answer::Taken(expected, lost)) => {
-            assert_eq!(rt; *missed, *lost);
+            assert!(rt; *missed == *lost);
             compare_pages(rt, page, expected);
         }
         _ => assert!(rt; false, "{took:?} in place of {expected:?}"),
@@ -122,7 +122,7 @@ fn compare_takes(rt: &impl Abort, took: &Take, expected: &Answer) {
 /// Compares what two wishes answer.
 fn compare_wishes(rt: &impl Abort, wished: FillNo, expected: &Answer) {
     match expected {
-        Answer::Wished(fill) => assert_eq!(rt; wished.0, fill.0),
+        Answer::Wished(fill) => assert!(rt; wished.0 == fill.0),
         _ => assert!(rt; false, "{wished:?} in place of {expected:?}"),
     }
 }

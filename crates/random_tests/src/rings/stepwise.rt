@@ -104,22 +104,22 @@ impl<'a> Source<'a> {
 /// Compares a record with the entry of a page.
 fn compare_record(rt: &impl Abort, entry: &Entry<'_>, expected: Written<'_>) {
     let payload = expected.payload;
-    assert_eq!(rt; entry.moment.0, expected.moment);
-    assert_eq!(rt; payload.len(), expected.len);
-    assert_eq!(rt; entry.bytes.len(), slot_len(expected.len));
+    assert!(rt; entry.moment.0 == expected.moment);
+    assert!(rt; payload.len() == expected.len);
+    assert!(rt; entry.bytes.len() == slot_len(expected.len));
     assert!(rt; payload.len() <= entry.bytes.len());
-    assert_eq!(rt; &entry.bytes[..payload.len()], payload);
+    assert!(rt; &entry.bytes[..payload.len()] == payload);
     for padding in &entry.bytes[payload.len()..] {
-        assert_eq!(rt; *padding, 0);
+        assert!(rt; *padding == 0);
     }
 }
 
 /// Compares a page with the fill that is taken.
 fn compare_fill(rt: &impl Abort, page: &Page, missed: u64, expected: &TakenFill<'_>) {
-    assert_eq!(rt; page.fill(), FillNo(expected.fill));
-    assert_eq!(rt; page.first(), RecordNo(expected.first as u64));
-    assert_eq!(rt; missed, expected.missed);
-    assert_eq!(rt; page.count(), expected.records.len() as u64);
+    assert!(rt; page.fill() == FillNo(expected.fill));
+    assert!(rt; page.first() == RecordNo(expected.first as u64));
+    assert!(rt; missed == expected.missed);
+    assert!(rt; page.count() == expected.records.len() as u64);
     assert!(rt; page.first().0.checked_add(page.count()).is_some());
     let mut seen = 0;
     for entry in records(page) {
@@ -127,7 +127,7 @@ fn compare_fill(rt: &impl Abort, page: &Page, missed: u64, expected: &TakenFill<
         compare_record(rt, &entry, expected.records[seen]);
         seen += 1;
     }
-    assert_eq!(rt; seen, expected.records.len());
+    assert!(rt; seen == expected.records.len());
 }
 
 /// Compares an answer but that of a page.
@@ -139,11 +139,11 @@ fn compare(rt: &impl Abort, answer: &Answer, expected: Meets) {
         | (Answer::Ended(Ended::Pending), Meets::Pending)
         | (Answer::Gone, Meets::Gone)
         | (Answer::Looking(_), Meets::Looking) => {}
-        (Answer::Reserved(number), Meets::Reserved(expected)) => assert_eq!(rt; number.0, expected),
-        (Answer::Refused(fault), Meets::Refused(expected)) => assert_eq!(rt; *fault, expected),
-        (Answer::Empty(done, _), Meets::Empty(expected)) => assert_eq!(rt; *done, expected),
-        (Answer::Moving(fill, _), Meets::Moving(expected)) => assert_eq!(rt; fill.0, expected),
-        (Answer::Wished(fill), Meets::Wished(expected)) => assert_eq!(rt; fill.0, expected),
+        (Answer::Reserved(number), Meets::Reserved(expected)) => assert!(rt; number.0 == expected),
+        (Answer::Refused(fault), Meets::Refused(expected)) => assert!(rt; *fault == expected),
+        (Answer::Empty(done, _), Meets::Empty(expected)) => assert!(rt; *done == expected),
+        (Answer::Moving(fill, _), Meets::Moving(expected)) => assert!(rt; fill.0 == expected),
+        (Answer::Wished(fill), Meets::Wished(expected)) => assert!(rt; fill.0 == expected),
         _ => assert!(rt; false, "{answer:?} in place of {expected:?}"),
     }
 }

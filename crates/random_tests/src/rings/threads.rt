@@ -198,14 +198,14 @@ fn check_records(rt: &impl Abort, page: &Page) {
     assert!(rt; number.checked_add(page.count()).is_some());
     let mut count = 0u64;
     for entry in records(page) {
-        assert_eq!(rt; entry.number.0, number);
-        assert_eq!(rt; entry.moment.0, number);
+        assert!(rt; entry.number.0 == number);
+        assert!(rt; entry.moment.0 == number);
         let payload = payload_of(number);
-        assert_eq!(rt; entry.bytes, &payload[..len_of(number)]);
+        assert!(rt; entry.bytes == &payload[..len_of(number)]);
         number = number.wrapping_add(1);
         count = count.wrapping_add(1);
     }
-    assert_eq!(rt; count, page.count());
+    assert!(rt; count == page.count());
 }
 
 impl Seen {
@@ -215,7 +215,7 @@ impl Seen {
         if let Some(last) = self.fill {
             assert!(rt; last < fill);
         }
-        assert_eq!(rt; self.expected.checked_add(missed), Some(first));
+        assert!(rt; self.expected.checked_add(missed) == Some(first));
         check_records(rt, page);
         Seen {
             expected: first.wrapping_add(page.count()),
@@ -229,15 +229,12 @@ impl Seen {
     fn check_total(self, rt: &impl Abort, settled: &Settled, total: u64) {
         let mut unread = 0;
         if let Some(tail) = settled.unread() {
-            assert_eq!(rt; tail.first().0, self.expected);
+            assert!(rt; tail.first().0 == self.expected);
             check_records(rt, tail);
             unread = tail.count();
         }
-        assert_eq!(rt; self.expected.checked_add(unread), Some(total));
-        assert_eq!(rt;
-            self.read.wrapping_add(self.missed).wrapping_add(unread),
-            total
-        );
+        assert!(rt; self.expected.checked_add(unread) == Some(total));
+        assert!(rt; self.read.wrapping_add(self.missed).wrapping_add(unread) == total);
     }
 }
 
@@ -246,7 +243,7 @@ impl Reading {
     fn take(&mut self, rt: &impl Abort, body: Body) -> Body
         ensures { self.new.table ≡ self.old.table }
     {
-        assert_eq!(rt; body.size(), SIZE);
+        assert!(rt; body.size() == SIZE);
         match self.reader.take(body) {
             Take::Page(page, missed) => {
                 self.seen = self.seen.see(rt, &page, missed);
@@ -300,8 +297,8 @@ fn account(rt: &impl Abort, alloc: Global, writing: Writing, reading: Reading)
 {
     let Writing { writer, next } = writing;
     let Reading { reader, seen } = reading;
-    assert_eq!(rt; writer.depth(), 0);
-    assert_eq!(rt; reader.empty_at(), Some(writer.done()));
+    assert!(rt; writer.depth() == 0);
+    assert!(rt; reader.empty_at() == Some(writer.done()));
     match settle(alloc, writer, reader) {
         Ok(settled) => seen.check_total(rt, &settled, next),
         Err(_) => unreachable!(),

@@ -4,7 +4,7 @@ ghost use Rattle.trace_model.specs.Reading.{EndsInRecord};
 ghost use Rattle.trace_model.specs.Order.{moment_of_last};
 ghost use Rattle.page_image.specs.Contents.{IsPage, records_of_page};
 
-use crate::{Body, Page, Place};
+use page_image::{Body, Page, Place};
 use record_words::size_of;
 use std::alloc::Global;
 use std::process::Abort;
@@ -83,29 +83,42 @@ const FAR_APART_DATA: &[u8] = b"\x02\0\0\0\x11\x22\x33\x44\x55\0\0\0\
 /// Compares what the page of those records tells of itself.
 fn compare(rt: &impl Abort, page: &Page, size: usize) {
     assert!(rt; page.data() == FAR_APART_DATA);
-    let told = (page.time(), page.end(), page.count(), page.size());
-    assert_eq!(rt; told, (3, 28, 2, size));
-    assert_eq!(rt; (page.first(), page.fill()), (RecordNo(7), FillNo(3)));
+    assert!(rt; page.time() == 3 && page.end() == 28 && page.count() == 2 && page.size() == size);
+    assert!(rt; page.first() == RecordNo(7) && page.fill() == FillNo(3));
 }
+
+/// The start and the length of a place, and whether it is that of a payload of those records.
+const PLACES: &[(usize, usize, bool)] = &[
+    (4, 8, true),
+    (4, 4, false),
+    (16, 4, false),
+    (24, 4, true),
+];
 
 #[test]
 fn a_page_tells_what_was_put_into_it(rt: HostRuntime) -> Result<(), Fail> {
     let page = page_of(&rt, rt.alloc(), ROOM, FAR_APART)?;
     compare(&rt, &page, ROOM);
-    for (start, len, is_place) in [(4, 8, true), (4, 4, false), (16, 4, false), (24, 4, true)] {
-        assert_eq!(rt;
-            page.is_place(Place { start, len }),
-            is_place,
-            "{len} bytes at {start}"
-        );
+    for (start, len, is_place) in PLACES {
+        let place = Place {
+            start: *start,
+            len: *len,
+        };
+        assert!(rt; page.is_place(place) == *is_place, "{len} bytes at {start}");
     }
+    Ok(())
+}
+
+#[test]
+fn a_page_is_copied_to_its_length_and_given_other_numbers(rt: HostRuntime) -> Result<(), Fail> {
+    let page = page_of(&rt, rt.alloc(), ROOM, FAR_APART)?;
     let fitted = page.fitted(rt.alloc())?;
     compare(&rt, &fitted, 28);
     let page = page.numbered(RecordNo(9), FillNo(4));
-    assert_eq!(rt; (page.first(), page.fill()), (RecordNo(9), FillNo(4)));
+    assert!(rt; page.first() == RecordNo(9) && page.fill() == FillNo(4));
     assert!(rt; page.has_data_of(&fitted));
     let body = page.into_body();
-    assert_eq!(rt; body.size(), ROOM);
+    assert!(rt; body.size() == ROOM);
     let mut page = Page::fresh(body, RecordNo(7), FillNo(3));
     assert!(rt; !page.has_data_of(&fitted));
     let _place = page.put_payload(0, 3, b"\x11\x22\x33\x44\x55");

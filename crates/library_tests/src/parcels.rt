@@ -3,9 +3,9 @@
 ghost use Rattle.std.specs.Prelude.{IfOk};
 ghost use Rattle.page_image.specs.Contents.{IsPage};
 
-use crate::{Parcel, ParcelFault};
 use page_borrow::Entry;
 use page_image::{Image, ImageFault, Page, read_image};
+use page_numbers::{Parcel, ParcelFault};
 use record_words::WordFault;
 use std::alloc::Global;
 use std::process::Abort;
@@ -22,17 +22,16 @@ const TWOS: &[u8; 84] = b"\0\0\0\0\0\0\0\0\x01\0\0\0\0\0\0\0\
 
 /// Compares all that the parcel with these bytes tells.
 fn compare(rt: &impl Abort, parcel: &Parcel) {
-    assert_eq!(rt; (parcel.cpu(), parcel.fill()), (CpuId(0), FillNo(1)));
-    let numbers = (parcel.first(), parcel.count(), parcel.missed());
-    assert_eq!(rt; numbers, (RecordNo(1), 1, 1));
+    assert!(rt; parcel.cpu() == CpuId(0) && parcel.fill() == FillNo(1));
+    assert!(rt; parcel.first() == RecordNo(1) && parcel.count() == 1 && parcel.missed() == 1);
     let mut records = parcel.records();
     let entry = Entry {
         number: RecordNo(1),
         moment: Moment(2),
         bytes: &[2; 28],
     };
-    assert_eq!(rt; records.next(), Some(entry));
-    assert_eq!(rt; records.next(), None);
+    assert!(rt; records.next() == Some(entry));
+    assert!(rt; records.next() == None);
 }
 
 #[test]
@@ -43,7 +42,7 @@ fn a_parcel_is_read_from_its_bytes_and_shared_and_written(rt: HostRuntime) -> Re
     assert!(rt; shared.has_page_of(&parcel));
     drop(parcel);
     compare(&rt, &shared);
-    assert_eq!(rt; shared.to_bytes(rt.alloc())?.as_slice(), TWOS.as_slice());
+    assert!(rt; shared.to_bytes(rt.alloc())?.as_slice() == TWOS.as_slice());
     Ok(())
 }
 
@@ -86,10 +85,8 @@ fn the_first_fault_of_bytes_is_told(rt: HostRuntime) -> Result<(), Fail> {
             assert!(rt; *at <= COMMIT);
             bytes[*at..*at + 8].copy_from_slice(&value.to_le_bytes());
         }
-        match Parcel::from_bytes(rt.alloc(), &bytes) {
-            Ok(_) => assert!(rt; false, "{expected:?}"),
-            Err(fault) => assert_eq!(rt; fault, *expected),
-        }
+        let fault = Parcel::from_bytes(rt.alloc(), &bytes).err();
+        assert!(rt; fault == Some(*expected), "{expected:?}");
     }
     let answer = Parcel::from_bytes(rt.alloc(), &TWOS[..47]);
     assert!(rt; matches!(answer, Err(ParcelFault::Image(ImageFault::TooShort))));
@@ -124,12 +121,11 @@ fn is_parcel(rt: &impl Abort, alloc: Global, bytes: &[u8]) -> Result<bool, NoMem
         return Ok(false);
     };
     let written = parcel.to_bytes(alloc)?;
-    match Parcel::from_bytes(alloc, &written) {
-        Ok(again) => {
-            assert!(rt; again.has_page_of(&parcel) && again.to_bytes(alloc)? == written);
-        }
-        Err(fault) => assert!(rt; false, "{fault:?}"),
-    }
+    let Ok(again) = Parcel::from_bytes(alloc, &written) else {
+        assert!(rt; false, "what is written of it isn't read");
+        return Ok(false);
+    };
+    assert!(rt; again.has_page_of(&parcel) && again.to_bytes(alloc)? == written);
     Ok(true)
 }
 
@@ -156,10 +152,10 @@ fn forged_parcels(rt: HostRuntime) -> Result<(), Fail> {
         for at in start..*end {
             parcels = parcels.wrapping_add(count_parcels(&rt, rt.alloc(), at)?);
         }
-        assert_eq!(rt; parcels, *expected, "up to {end}");
+        assert!(rt; parcels == *expected, "{parcels} up to {end}");
         start = *end;
     }
-    assert_eq!(rt; start, TWOS.len());
+    assert!(rt; start == TWOS.len());
     Ok(())
 }
 
@@ -188,7 +184,7 @@ fn a_page_is_a_parcel_if_there_are_such_a_cpu_and_such_numbers(
         let page = page_of_twos(rt.alloc())?.numbered(RecordNo(*first), FillNo(1));
         match (Parcel::of(rt.alloc(), CpuId(*cpu), page, *missed), expected) {
             (Ok(parcel), None) => compare(&rt, &parcel),
-            (Err(fault), Some(expected)) => assert_eq!(rt; fault, *expected),
+            (Err(fault), Some(expected)) => assert!(rt; fault == *expected, "{fault:?}"),
             _ => assert!(rt; false, "CPU {cpu}, first {first}, missed {missed}"),
         }
     }

@@ -1,8 +1,7 @@
 //! The texts of collectors of parcels that are read from bytes: the four numbers of a parcel on two lines, the image's
 //! header on the next, and the data behind it.
-use crate::put_collectors;
-use collector::Collector;
-use page_numbers::Parcel;
+use crate::collectors::collector_of;
+use collector_text::put_collectors;
 use std::test::Fail;
 
 /// CPU 0, nothing missing: record 0 at moment 10, record 1 at moment 30.
@@ -80,14 +79,10 @@ fn each_collector_is_its_records_by_time_and_its_missing_runs_by_cpu(
 ) -> Result<(), Fail> {
     let mut collectors = Vec::new(rt.alloc());
     for parcels in COLLECTORS {
-        let mut collector = Collector::new(rt.alloc());
-        for bytes in *parcels {
-            let _added = collector.add(Parcel::from_bytes(rt.alloc(), bytes)?)?;
-        }
-        collectors.push(collector)?;
+        collectors.push(collector_of(rt.alloc(), parcels)?)?;
     }
     let mut out = Vec::from_slice(rt.alloc(), b"7 c0 empty\n")?;
     put_collectors(rt.alloc(), &mut out, &collectors)?;
-    assert_eq!(rt; out.as_slice(), TEXT);
+    assert!(rt; out.as_slice() == TEXT);
     Ok(())
 }

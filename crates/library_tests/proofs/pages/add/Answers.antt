@@ -4,7 +4,7 @@ use Rattle.trace_model.specs.Words.{slot_len}
 use Rattle.trace_model.specs.Order.{moment_of_last}
 use Rattle.trace_model.proofs.Appended.{moment_of_last-push}
 use Rattle.page_image.specs.Contents.{records_of_page}
-use Rattle.page_image.proofs.tests.add.Goals as goal
+use Rattle.library_tests.proofs.pages.add.Goals as goal
 
 length-written : (new old bytes : List ℕ) (start len : ℕ) → length new ≡ length old → old ≡ slice_range bytes start (start + len) → start + len ≡ length bytes → length new ≡ len
 length-written new old bytes start len same range end =

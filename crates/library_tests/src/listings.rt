@@ -1,9 +1,10 @@
 //! Listings of parcels that are read from bytes: the numbers on two lines, the image's header on the next, and the data
 //! behind it.
-use crate::{Line, listing};
+use crate::collectors::collector_of;
 use collector::Collector;
-use page_numbers::Parcel;
+use std::process::Abort;
 use std::test::Fail;
+use time_merge::{Line, listing};
 use trace_model::{CpuId, Moment, RecordNo};
 
 /// CPU 0: a record at moment 9, a time stamp that goes back, and a record at moment 4.
@@ -44,26 +45,33 @@ const LISTINGS: &[(&[&[u8]], &[(u64, u32, u64, u8)])] = &[
     ),
 ];
 
+/// Compares the listing of a collector with these lines.
+fn compare(
+    rt: &(impl Abort + AllocGlobal),
+    collector: &Collector,
+    expected: &[(u64, u32, u64, u8)],
+) -> Result<(), Fail> {
+    let lines = listing(rt.alloc(), collector)?;
+    assert!(rt; lines.len() == expected.len());
+    for (line, (moment, cpu, number, byte)) in lines.iter().zip(expected) {
+        let told = Line {
+            moment: Moment(*moment),
+            cpu: CpuId(*cpu),
+            number: RecordNo(*number),
+            bytes: &[*byte; 4],
+        };
+        assert!(rt; *line == told);
+    }
+    Ok(())
+}
+
 #[test]
 fn lines_rise_by_moment_and_cpu_and_number_though_moments_of_a_cpu_fall(
     rt: HostRuntime,
 ) -> Result<(), Fail> {
     for (parcels, expected) in LISTINGS {
-        let mut collector = Collector::new(rt.alloc());
-        for bytes in *parcels {
-            let _added = collector.add(Parcel::from_bytes(rt.alloc(), bytes)?)?;
-        }
-        let lines = listing(rt.alloc(), &collector)?;
-        assert_eq!(rt; lines.len(), expected.len());
-        for (line, (moment, cpu, number, byte)) in lines.iter().zip(*expected) {
-            let told = Line {
-                moment: Moment(*moment),
-                cpu: CpuId(*cpu),
-                number: RecordNo(*number),
-                bytes: &[*byte; 4],
-            };
-            assert_eq!(rt; *line, told);
-        }
+        let collector = collector_of(rt.alloc(), parcels)?;
+        compare(&rt, &collector, expected)?;
     }
     Ok(())
 }

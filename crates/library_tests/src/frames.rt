@@ -1,7 +1,7 @@
 //! What a stack does by itself, which no exchange with a ring can tell: the rows of a ring are in the text that
 //! `ring_rows` reads.
-use crate::Wrote::{Nothing, Record};
-use crate::{Allot, Ended, WriteFault, WriterStack};
+use nested_writer::Wrote::{Nothing, Record};
+use nested_writer::{Allot, Ended, WriteFault, WriterStack};
 use page_image::Body;
 use std::test::Fail;
 use trace_model::LINK_FILLS;
@@ -10,15 +10,15 @@ use trace_model::LINK_FILLS;
 #[test]
 fn nothing_is_written_under_a_frame(rt: HostRuntime) -> Result<(), Fail> {
     let mut stack = WriterStack::new(rt.alloc(), 2, 64)?;
-    assert_eq!(rt; stack.begin(9, 4), Ok(()));
-    assert_eq!(rt; stack.write(9, b"abcd"), Nothing);
+    assert!(rt; stack.begin(9, 4) == Ok(()));
+    assert!(rt; stack.write(9, b"abcd") == Nothing);
     assert!(rt; stack.plain_top().is_none());
     assert!(rt; matches!(stack.allot(), Ok(Allot::Fits(_))));
-    assert_eq!(rt; stack.write(9, b"abcd"), Nothing);
-    assert_eq!(rt; stack.end(), Ok(Ended::Full));
-    assert_eq!(rt; stack.write(9, b"abcd"), Nothing);
+    assert!(rt; stack.write(9, b"abcd") == Nothing);
+    assert!(rt; stack.end() == Ok(Ended::Full));
+    assert!(rt; stack.write(9, b"abcd") == Nothing);
     assert!(rt; matches!(stack.allot(), Err(WriteFault::NotReserved)));
-    assert_eq!(rt; stack.depth(), 1);
+    assert!(rt; stack.depth() == 1);
     Ok(())
 }
 
@@ -26,21 +26,18 @@ fn nothing_is_written_under_a_frame(rt: HostRuntime) -> Result<(), Fail> {
 #[test]
 fn a_record_written_alone_leaves_no_frame(rt: HostRuntime) -> Result<(), Fail> {
     let mut stack = WriterStack::new(rt.alloc(), 2, 32)?;
-    assert_eq!(rt; stack.write_alone(9, b""), Record);
-    assert_eq!(rt; stack.write_alone(9, b"abcd"), Record);
-    assert_eq!(rt; stack.write_alone(9, b"123456789abcdefg"), Nothing);
-    assert_eq!(rt; stack.depth(), 0);
-    assert_eq!(rt; stack.write_alone(10, b"xy"), Record);
+    assert!(rt; stack.write_alone(9, b"") == Record);
+    assert!(rt; stack.write_alone(9, b"abcd") == Record);
+    assert!(rt; stack.write_alone(9, b"123456789abcdefg") == Nothing);
+    assert!(rt; stack.depth() == 0);
+    assert!(rt; stack.write_alone(10, b"xy") == Record);
     stack.stand_again(10, 2);
     assert!(rt; stack.is_at_bottom());
-    assert_eq!(rt; stack.write_alone(11, b"z"), Nothing);
+    assert!(rt; stack.write_alone(11, b"z") == Nothing);
     stack.pop_bottom();
     let tail = stack.into_tail();
-    assert_eq!(rt; tail.count(), 3);
-    assert_eq!(rt;
-        tail.data(),
-        b"\x01\0\0\0\0\0\0\0\x01\0\0\0abcd\x21\0\0\0xy\0\0".as_slice()
-    );
+    assert!(rt; tail.count() == 3);
+    assert!(rt; tail.data() == b"\x01\0\0\0\0\0\0\0\x01\0\0\0abcd\x21\0\0\0xy\0\0".as_slice());
     Ok(())
 }
 
@@ -48,24 +45,24 @@ fn a_record_written_alone_leaves_no_frame(rt: HostRuntime) -> Result<(), Fail> {
 #[test]
 fn a_close_frame_needs_a_page_once_a_record_came(rt: HostRuntime) -> Result<(), Fail> {
     let mut stack = WriterStack::new(rt.alloc(), 4, 32)?;
-    assert_eq!(rt; stack.begin_close(), Ok(()));
+    assert!(rt; stack.begin_close() == Ok(()));
     assert!(rt; matches!(stack.allot(), Ok(Allot::Fits(_))));
-    assert_eq!(rt; stack.begin(1, 4), Ok(()));
+    assert!(rt; stack.begin(1, 4) == Ok(()));
     assert!(rt; matches!(stack.allot(), Ok(Allot::Fits(_))));
-    assert_eq!(rt; stack.end(), Ok(Ended::Pending));
+    assert!(rt; stack.end() == Ok(Ended::Pending));
     assert!(rt; matches!(stack.allot(), Ok(Allot::NeedsPage)));
-    assert_eq!(rt; stack.end(), Err(WriteFault::NotReserved));
+    assert!(rt; stack.end() == Err(WriteFault::NotReserved));
     assert!(rt; stack.awaits_page());
-    assert_eq!(rt; stack.size(), 32);
+    assert!(rt; stack.size() == 32);
     assert!(rt; stack.opened() - stack.done() < stack.pages() as u64);
     assert!(rt; stack.opened() + (stack.pages() as u64) < LINK_FILLS);
     stack.add_page(Body::new(rt.alloc(), 32)?);
     assert!(rt; matches!(stack.allot(), Ok(Allot::Fits(_))));
-    assert_eq!(rt; stack.end(), Ok(Ended::Full));
+    assert!(rt; stack.end() == Ok(Ended::Full));
     assert!(rt; stack.is_at_bottom());
     assert!(rt; stack.opened() - stack.done() > 1);
     let page = stack.drop_front();
-    assert_eq!(rt; (page.fill().0, page.first().0, page.time()), (0, 0, 1));
-    assert_eq!(rt; page.data(), b"\x01\0\0\0\0\0\0\0".as_slice());
+    assert!(rt; (page.fill().0, page.first().0, page.time()) == (0, 0, 1));
+    assert!(rt; page.data() == b"\x01\0\0\0\0\0\0\0".as_slice());
     Ok(())
 }

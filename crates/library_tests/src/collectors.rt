@@ -1,9 +1,10 @@
 //! Parcels in a row, what each is answered, and what the collector has then. Their bytes are written out: the numbers
 //! on two lines, the image's header on the next, and the data behind it.
 
-use crate::{AddFault, Added, Collector};
+use collector::{AddFault, Added, Collector};
 use page_borrow::Entry;
 use page_numbers::Parcel;
+use std::alloc::Global;
 use std::process::Abort;
 use std::test::Fail;
 use trace_model::{CpuId, Moment, RecordNo};
@@ -110,53 +111,84 @@ const ROWS: &[Row] = &[
     },
 ];
 
-/// Compares what a collector has and misses with this row.
-fn compare(rt: &impl Abort, collector: &Collector, row: &Row) {
+/// A collector of the parcels with these bytes.
+pub fn collector_of(alloc: Global, parcels: &[&[u8]]) -> Result<Collector, Fail> {
+    let mut collector = Collector::new(alloc);
+    for bytes in parcels {
+        let _added = collector.add(Parcel::from_bytes(alloc, bytes)?)?;
+    }
+    Ok(collector)
+}
+
+/// Whether a collector has this record, and doesn't miss it.
+fn has(collector: &Collector, entry: Entry<'_>) -> bool {
+    collector.get(CpuId(0), entry.number) == Some(entry)
+        && !collector.is_missing(CpuId(0), entry.number)
+}
+
+/// Compares the records that a collector has with these.
+fn compare_records(rt: &impl Abort, collector: &Collector, expected: &[(u64, u64, u8)]) {
     let mut records = collector.records(CpuId(0));
-    for (number, moment, byte) in row.records {
+    for (number, moment, byte) in expected {
         let entry = Entry {
             number: RecordNo(*number),
             moment: Moment(*moment),
             bytes: &[*byte; 4],
         };
-        assert_eq!(rt; records.next(), Some(entry));
-        assert_eq!(rt; collector.get(CpuId(0), entry.number), Some(entry));
-        assert!(rt; !collector.is_missing(CpuId(0), entry.number));
+        assert!(rt; records.next() == Some(entry) && has(collector, entry));
     }
-    assert_eq!(rt; records.next(), None);
-    let mut missing = collector.missing(CpuId(0));
-    for (first, last) in row.missing {
-        assert_eq!(rt; missing.next(), Some((RecordNo(*first), RecordNo(*last))));
-        assert!(rt; collector.is_missing(CpuId(0), RecordNo(*last)));
-        assert_eq!(rt; collector.get(CpuId(0), RecordNo(*first)), None);
-    }
-    assert_eq!(rt; missing.next(), None);
-    assert_eq!(rt; collector.parcels().len(), row.kept);
+    assert!(rt; records.next() == None);
 }
 
-/// Adds the parcels of a row in their order, compares, and merges what they make with an empty collector both ways.
-fn deliver(rt: &(impl Abort + AllocGlobal), row: &Row) -> Result<(), Fail> {
+/// Whether a collector misses the first and the last number of this run, and has neither.
+fn misses(collector: &Collector, first: RecordNo, last: RecordNo) -> bool {
+    collector.is_missing(CpuId(0), last) && collector.get(CpuId(0), first) == None
+}
+
+/// Compares the runs of numbers that a collector misses with these.
+fn compare_missing(rt: &impl Abort, collector: &Collector, expected: &[(u64, u64)]) {
+    let mut missing = collector.missing(CpuId(0));
+    for (first, last) in expected {
+        let (first, last) = (RecordNo(*first), RecordNo(*last));
+        assert!(rt; missing.next() == Some((first, last)) && misses(collector, first, last));
+    }
+    assert!(rt; missing.next() == None);
+}
+
+/// Compares what a collector has and misses with this row.
+fn compare(rt: &impl Abort, collector: &Collector, row: &Row) {
+    compare_records(rt, collector, row.records);
+    compare_missing(rt, collector, row.missing);
+    assert!(rt; collector.parcels().len() == row.kept);
+}
+
+/// A collector to which the parcels of a row are added in their order.
+fn delivered(rt: &(impl Abort + AllocGlobal), row: &Row) -> Result<Collector, Fail> {
     let mut collector = Collector::new(rt.alloc());
     for (bytes, answer) in row.deliveries {
         let parcel = Parcel::from_bytes(rt.alloc(), bytes)?;
-        assert_eq!(rt; collector.holds(&parcel), *answer == Ok(Added::Known));
-        assert_eq!(rt; collector.add(parcel), *answer);
+        assert!(rt; collector.holds(&parcel) == (*answer == Ok(Added::Known)));
+        assert!(rt; collector.add(parcel) == *answer);
     }
-    compare(rt, &collector, row);
-    let empty = Collector::new(rt.alloc());
-    assert!(rt; collector.same(&collector) && !collector.same(&empty));
-    assert_eq!(rt; collector.merge(&empty), Ok(()));
-    let mut merged = empty;
-    assert_eq!(rt; merged.merge(&collector), Ok(()));
-    assert!(rt; merged.same(&collector));
-    compare(rt, &merged, row);
-    Ok(())
+    Ok(collector)
+}
+
+/// Merges two collectors, of which one is empty, both ways.
+fn merge(rt: &impl Abort, collector: &mut Collector, empty: &mut Collector) {
+    assert!(rt; collector.same(collector) && !collector.same(empty));
+    assert!(rt; collector.merge(empty) == Ok(()));
+    assert!(rt; empty.merge(collector) == Ok(()));
+    assert!(rt; empty.same(collector));
 }
 
 #[test]
 fn what_adds_something_is_kept_unless_it_is_at_odds(rt: HostRuntime) -> Result<(), Fail> {
     for row in ROWS {
-        deliver(&rt, row)?;
+        let mut collector = delivered(&rt, row)?;
+        compare(&rt, &collector, row);
+        let mut empty = Collector::new(rt.alloc());
+        merge(&rt, &mut collector, &mut empty);
+        compare(&rt, &empty, row);
     }
     Ok(())
 }

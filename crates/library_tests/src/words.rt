@@ -1,7 +1,8 @@
 //! Records written and words read, with their bytes written out.
 ghost use Rattle.std.specs.Prelude.{◌≤◌};
 
-use crate::{Place, Word, WordFault, next_word, put_payload, put_record, size_of};
+use record_words::{Place, Word, WordFault, next_word, put_payload, put_record, size_of};
+use std::process::Abort;
 use trace_model::MOMENT_LIMIT;
 
 /// How long the buffer is that a record is put into, in bytes.
@@ -18,24 +19,31 @@ const RECORDS: &[(u64, bool, usize, &[u8], usize)] = &[
     (134_217_731, true, 4, b"\x01\0\0\0", 8),
 ];
 
+/// Compares the bytes in front of a record's payload.
+fn compare(rt: &impl Abort, out: &[u8], head: &[u8]) {
+    assert!(rt; head.len() <= out.len());
+    assert!(rt; &out[..head.len()] == head);
+}
+
+/// Puts a record into a buffer, without its payload's bytes and with them.
+fn put(rt: &impl Abort, delta: u64, first: bool, payload: &[u8], head: &[u8], size: usize) {
+    assert!(rt; payload.len() <= ROOM && (first || delta < MOMENT_LIMIT));
+    assert!(rt; size_of(payload.len(), delta, first) == size && size <= ROOM);
+    let mut out = [0xff; ROOM];
+    let place = put_record(&mut out, delta, first, payload.len());
+    assert!(rt; place.start == head.len() && place.start + place.len == size);
+    compare(rt, &out, head);
+    assert!(rt; put_payload(&mut out, delta, first, payload) == size);
+    compare(rt, &out, head);
+    compare(rt, &out[place.start..], payload);
+}
+
 #[test]
 fn a_record_is_written_as_its_words_and_its_payload(rt: HostRuntime) {
+    let payload = [0x5a; ROOM];
     for (delta, first, len, head, size) in RECORDS {
-        assert!(rt; *len <= ROOM && (*first || *delta < MOMENT_LIMIT));
-        assert_eq!(rt; size_of(*len, *delta, *first), *size);
-        assert!(rt; *size <= ROOM);
-        let mut out = [0xff; ROOM];
-        let place = put_record(&mut out, *delta, *first, *len);
-        assert_eq!(rt; &out[..place.start], *head);
-        assert_eq!(rt; place.start + place.len, *size);
-        let payload = [0x5a; ROOM];
-        assert_eq!(rt;
-            put_payload(&mut out, *delta, *first, &payload[..*len]),
-            *size
-        );
-        assert_eq!(rt; &out[..place.start], *head);
-        assert!(rt; *len <= place.len);
-        assert_eq!(rt; &out[place.start..place.start + *len], &payload[..*len]);
+        assert!(rt; *len <= ROOM);
+        put(&rt, *delta, *first, &payload[..*len], head, *size);
     }
 }
 
@@ -82,6 +90,6 @@ const WORDS: &[(&[u8], usize, Result<Word, WordFault>)] = &[
 fn a_word_is_read_as_what_its_bytes_say(rt: HostRuntime) {
     for (data, at, answer) in WORDS {
         assert!(rt; *at < data.len());
-        assert_eq!(rt; next_word(data, *at), *answer);
+        assert!(rt; next_word(data, *at) == *answer);
     }
 }
