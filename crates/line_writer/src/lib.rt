@@ -15,6 +15,3 @@ pub use end::WriterEnd;
 pub use gate::{Gate, OpenGate, Who};
 pub use lines::lines_by_cpu;
 pub use obeying::obey_lines;
-
-#[cfg(test)]
-mod tests;

@@ -11,6 +11,3 @@ mod settling;
 pub use end::{Found, ReaderEnd};
 pub use run_audit::Ledger;
 pub use settling::settle;
-
-#[cfg(test)]
-mod tests;

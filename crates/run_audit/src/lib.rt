@@ -16,6 +16,3 @@ mod search;
 pub use auditing::audit;
 pub use fault::{AuditFault, Audited};
 pub use ledger::Ledger;
-
-#[cfg(test)]
-mod tests;

@@ -16,6 +16,3 @@ mod threads;
 mod writing;
 
 pub use running::{Ran, run};
-
-#[cfg(test)]
-mod tests;

@@ -1,6 +1,5 @@
 //! Collectors and ledgers, and what their audit answers. The bytes of parcels are written out: the numbers on two
 //! lines, the image's header on the next, and the data after it.
-use crate::{AuditFault, Audited, Ledger, audit};
 use collector::Collector;
 use page_image::Body;
 use page_numbers::Parcel;
@@ -8,6 +7,7 @@ use ring_shared::{Settled, ring, settle};
 use std::process::Abort;
 use std::test::Fail;
 use trace_model::{CpuId, FillNo};
+use trace_run::{AuditFault, Audited, Ledger, audit};
 
 /// Fill 0 with number 0: `11111111` at 1.
 const FIRST: &[u8] = b"\0\0\0\0\0\0\0\0\0\0\0\0\0\0\0\0\

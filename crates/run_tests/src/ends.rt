@@ -4,8 +4,8 @@ ghost use Rattle.ring_shared.specs.Value.{SameWriter};
 ghost use Rattle.ring_shared.specs.Calls.{IsWriter};
 ghost use Rattle.ring_shared.specs.Takes.{SameRing};
 
-use crate::{Found, Ledger, ReaderEnd, settle};
 use page_numbers::Parcel;
+use reader_end::{Found, Ledger, ReaderEnd, settle};
 use ring_shared::{Writer, ring};
 use std::alloc::Global;
 use std::process::Abort;
