@@ -1,7 +1,7 @@
 -- The texts of collectors, one behind the other.
-use Rattle.std.proofs.Common.{◌≡◌, ℕ, ◌+◌, ◌-◌, ◌<◌, ◌≤◌, List, [], ◌∷◌, ◌++◌, length, get_or, take, drop, flat_map, append_assoc, sym, ap, ◌∙◌, subst, arith, length-take-le, length-drop, length-append}
-use Rattle.std.specs.List.{AllZip, enumerate_from, slice_range}
-use Rattle.std.proofs.lemmas.List.{append-nil, drop-append-le, drop-drop, take-append-le, take_all, take_more}
+use Rattle.std.proofs.Common.{◌≡◌, ℕ, ◌+◌, ◌-◌, ◌≤◌, List, [], ◌∷◌, ◌++◌, length, take, drop, flat_map, append_assoc, sym, ap, ◌∙◌, subst, arith, length-drop, length-append}
+use Rattle.std.specs.List.{slice_range}
+use Rattle.std.proofs.lemmas.List.{drop-append-le, drop-drop, take-append-le, take_all}
 use Rattle.std.proofs.Math.Seq.{drop-append_seam, take-add}
 use Rattle.std.specs.Prelude.{codes}
 use Rattle.std.specs.Fmt.{decimal}
@@ -13,36 +13,6 @@ use Rattle.text_model.specs.Text.{line_feed}
 use Rattle.world_model.specs.Printing.{Shown, printed_collector, printed_line, printed_runs}
 use Rattle.collector_text.specs.Tells.{Tells, StandsBetween, runs_of, text_below}
 use Rattle.collector_text.proofs.OneText.{same_are_told}
-use Rattle.collector_text.proofs.Appended.{text_more, zip_length, zip_more}
-
--- the text of these collectors stands behind what was there before
-pub record ArePut (collectors : List (List Parcel)) (before out : List ℕ) : Type 0 where
-  pub shown : List Shown
-  pub tell : AllZip Tells collectors shown
-  pub text : out ≡ before ++ flat_map (λ (pair : ℕ × Shown). printed_collector pair.0 pair.1) (enumerate_from 0 shown)
-
--- of no collector there is none
-pub put_none : (before : List ℕ) → ArePut [] before before
-put_none before = record { shown = []; tell = tt; text = sym (append-nil before) }
-
--- and so it does with that of the next
-pub put_more : (collectors : List (List Parcel)) (i : ℕ) (collector : List Parcel) (before so_far out : List ℕ)
-    (shown : Shown)
-    → i < length collectors → collector ≡ get_or collectors i collector → ArePut (take i collectors) before so_far
-    → Tells collector shown
-    → out ≡ so_far ++ printed_collector i shown → ArePut (take (i + 1) collectors) before out
-put_more collectors i collector before so_far out shown inside is put told text =
-    let more : take (i + 1) collectors ≡ take i collectors ++ collector ∷ [] =
-    take_more collectors i collector inside ∙ ap (λ (c : List Parcel). take i collectors ++ c ∷ []) (sym is) in
-    let so_many = zip_length Tells (take i collectors) put.shown put.tell in
-    let taken : length (take i collectors) ≡ i = length-take-le i collectors (omega arith) in
-    record {
-      shown = put.shown ++ shown ∷ [];
-      tell = subst (λ (cs : List (List Parcel)). AllZip Tells cs (put.shown ++ shown ∷ [])) (sym more)
-          (zip_more Tells (take i collectors) put.shown collector shown put.tell told);
-      text = text_more (λ (pair : ℕ × Shown). printed_collector pair.0 pair.1) before so_far out put.shown shown i
-          (sym so_many ∙ taken) put.text text;
-    }
 
 -- the lines and the runs are what stands below a collector's head line
 pub told_below : (parcels : List Parcel) (before middle out : List ℕ) (lines : List Line) → IsListing parcels lines
@@ -91,13 +61,13 @@ stands_kept parcels text more out start end is stands =
     }
 
 -- what was put last ends the text
-pub stands_last : (parcels : List Parcel) (text out : List ℕ) (start : ℕ) → start ≡ length text
+pub stands_last : (parcels : List Parcel) (text out : List ℕ) (start end : ℕ) → start ≡ length text → end ≡ length out
     → (shown : Shown) × Tells parcels shown × (out ≡ text ++ text_below shown)
-    → StandsBetween parcels out start (length out)
-stands_last parcels text out start begin (shown, tells, is) =
+    → StandsBetween parcels out start end
+stands_last parcels text out start end begin last (shown, tells, is) =
     let longer = length-append text (text_below shown) in
     let all : length out ≡ length text + length (text_below shown) = ap length is ∙ longer in
-    let so_many : length out - start ≡ length (text_below shown) = omega arith in
+    let so_many : end - start ≡ length (text_below shown) = omega arith in
     record {
       shown = shown;
       tells = tells;

@@ -16,6 +16,13 @@ use trace_model::NoMemory;
 /// How many bytes of a text are copied at once.
 const PART: usize = 1024;
 
+/// Where a part of a text stands: its bytes from `start` up to `end`.
+#[derive(Clone, Copy, Debug, PartialEq, Eq)]
+pub struct Span {
+    pub start: usize,
+    pub end: usize,
+}
+
 /// The head line of the collector of this number.
 fn put_head(out: &mut Vec<u8>, number: u64) -> Result<(), NoMemory>
     ensures { OnOk result (out.new.items ≡ out.old.items
@@ -27,16 +34,16 @@ fn put_head(out: &mut Vec<u8>, number: u64) -> Result<(), NoMemory>
     Ok(())
 }
 
-/// Puts what stands between these places of the text once more.
-fn put_again(alloc: Global, out: &mut Vec<u8>, start: usize, end: usize) -> Result<(), NoMemory>
-    requires forward { start ≤ end }
-    requires inside { end ≤ length out.old.items }
-    ensures { OnOk result (out.new.items ≡ out.old.items ++ slice_range out.old.items start end) }
+/// Puts this part of the text once more.
+fn put_again(alloc: Global, out: &mut Vec<u8>, span: Span) -> Result<(), NoMemory>
+    requires forward { span.start ≤ span.end }
+    requires inside { span.end ≤ length out.old.items }
+    ensures { OnOk result (out.new.items ≡ out.old.items ++ slice_range out.old.items span.start span.end) }
 {
     let mut part = Vec::with_capacity(alloc, PART)?;
-    let mut at = start;
-    while at < end {
-        let behind = at + PART.min(end - at);
+    let mut at = span.start;
+    while at < span.end {
+        let behind = at + PART.min(span.end - at);
         part.clear();
         part.extend_from_slice(&out[at..behind])?;
         out.extend_from_slice(&part)?;
@@ -46,54 +53,54 @@ fn put_again(alloc: Global, out: &mut Vec<u8>, start: usize, end: usize) -> Resu
 }
 
 /// The text of a collector below its head line: a line for each record, by time, and one for each run of missing
-/// numbers. Of the collector before it that stands between two places; where both have and miss the same, it is put
-/// once more.
+/// numbers. Of an earlier collector that stands in a part of the text; where both have and miss the same, that part is
+/// put once more.
 fn put_below(
     alloc: Global,
     out: &mut Vec<u8>,
     collector: &Collector,
     before: Option<&Collector>,
-    start: usize,
-    end: usize,
+    span: Span,
 ) -> Result<(), NoMemory>
-    requires { IfSome before (λ b. StandsBetween b.now out.old.items start end) }
+    requires { IfSome before (λ b. StandsBetween b.now out.old.items span.start span.end) }
     ensures { OnOk result ((shown : Shown) × Tells collector.now shown
         × (out.new.items ≡ out.old.items ++ text_below shown)) }
 {
     if let Some(other) = before {
         if other.same(collector) {
-            return put_again(alloc, out, start, end);
+            return put_again(alloc, out, span);
         }
     }
     put_lines(alloc, out, collector)?;
     put_runs(out, collector)
 }
 
-/// The text of the collector of this number: its head line, and what stands below it. Answers where that begins. Of the
-/// collector before it that begins at `start`, and ends the text.
-fn put_collector(
+/// Puts the text of a collector under this number: a line `collector K`, below it a line for each of its records, by
+/// time, and a line for each run of a CPU's missing numbers, by rising CPU and number. Answers where what stands below
+/// the first line is. Of an earlier collector that is at `span`; where both have and miss the same, it is copied.
+///
+/// Where memory is refused, a part of that may have been put.
+pub fn put_collector(
     alloc: Global,
     out: &mut Vec<u8>,
     number: u64,
     collector: &Collector,
     before: Option<&Collector>,
-    start: usize,
-) -> Result<usize, NoMemory>
-    requires { IfSome before (λ b. StandsBetween b.now out.old.items start (length out.old.items)) }
+    span: Span,
+) -> Result<Span, NoMemory>
+    requires { IfSome before (λ b. StandsBetween b.now out.old.items span.start span.end) }
     ensures told { OnOk result ((shown : Shown) × Tells collector.now shown
         × (out.new.items ≡ out.old.items ++ printed_collector number shown)) }
-    ensures below { IfOk result (λ begin. StandsBetween collector.now out.new.items begin
-        (length out.new.items)) }
+    ensures below { IfOk result (λ own. StandsBetween collector.now out.new.items own.start own.end) }
 {
-    let end = out.len();
     put_head(out, number)?;
-    let begin = out.len();
-    put_below(alloc, out, collector, before, start, end)?;
-    Ok(begin)
+    let start = out.len();
+    put_below(alloc, out, collector, before, span)?;
+    let end = out.len();
+    Ok(Span { start, end })
 }
 
-/// Puts the text of each collector, numbered from 0: a line `collector K`, below it a line for each of its records, by
-/// time, and a line for each run of a CPU's missing numbers, by rising CPU and number.
+/// Puts the text of each collector, numbered from 0.
 ///
 /// Where memory is refused, a part of that may have been put.
 pub fn put_collectors(
@@ -106,9 +113,9 @@ pub fn put_collectors(
         ++ flat_map (λ pair. printed_collector pair.0 pair.1) (enumerate_from 0 shown))) }
 {
     let mut before: Option<&Collector> = None;
-    let mut start = 0;
+    let mut span = Span { start: 0, end: 0 };
     for (i, collector) in collectors.iter().enumerate() {
-        start = put_collector(alloc, out, i as u64, collector, before, start)?;
+        span = put_collector(alloc, out, i as u64, collector, before, span)?;
         before = Some(collector);
     }
     Ok(())

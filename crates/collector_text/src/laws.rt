@@ -1,11 +1,12 @@
-//! What is printed of collectors is decided by what they have and miss: the contract of a function with an empty body.
-ghost use Rattle.std.specs.Prelude.{◌≡◌, ℕ, Bool, List};
+//! What is printed of collectors is decided by what they have and miss, and stays where it is: the contracts of functions
+//! with an empty body.
+ghost use Rattle.std.specs.Prelude.{◌≡◌, ℕ, ◌++◌, Bool, List};
 ghost use Rattle.std.specs.List.{AllZip};
 ghost use Rattle.trace_model.specs.Parcel.{Parcel};
 ghost use Rattle.trace_model.specs.Collection.{IsSame};
 ghost use Rattle.text_model.specs.Log.{LogLine};
 ghost use Rattle.world_model.specs.Printing.{Shown, printed_collector, printed_world};
-ghost use Rattle.collector_text.specs.Tells.{Tells};
+ghost use Rattle.collector_text.specs.Tells.{Tells, StandsBetween};
 
 /// What tells a collector tells each collector that is the same, and all that tells it has one text. So what is printed
 /// of a world is one text too.
@@ -18,4 +19,10 @@ pub fn texts_are_one()
     ensures world { (collectors : List (List Parcel)) (shown other : List Shown) (asked : Bool) (log : List LogLine) →
         AllZip Tells collectors shown → AllZip Tells collectors other →
         printed_world asked log shown ≡ printed_world asked log other }
+{}
+
+/// What is printed of a collector stands where it is when more text is put behind it.
+pub fn texts_stay()
+    ensures { (parcels : List Parcel) (text more : List ℕ) (start end : ℕ) →
+        StandsBetween parcels text start end → StandsBetween parcels (text ++ more) start end }
 {}

@@ -6,4 +6,4 @@ pub mod laws;
 mod lines;
 mod runs;
 
-pub use collectors::put_collectors;
+pub use collectors::{Span, put_collector, put_collectors};

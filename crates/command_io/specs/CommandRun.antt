@@ -6,7 +6,8 @@ use Rattle.command_io.specs.declared.command.TheConstants.{MEMORY_LINE}
 use Rattle.command_io.specs.declared.status.TheConstants.{DONE, REFUSED, NO_MEMORY, END_FAILED}
 
 -- In what follows the source has `unread` before the run and `left` after it, and the sink `contents` before it
--- and `contents_after` after it. An end whose bytes aren't known has `None`, and then nothing is said of them.
+-- and `contents_after` after it. An end whose bytes aren't known has `None`, and then nothing is said of them; but that
+-- the source has given `count` bytes before the run and `count_after` after it is known of each.
 -- Of known bytes std's words say: `Consumes unread left bytes`, that `unread` is `bytes` and then `left`;
 -- `IsAtEnd left`, that none is left; `Appends contents contents_after bytes`, that `contents_after` is `contents`
 -- and then `bytes`; `Keeps contents contents_after`, that they are the same.
@@ -17,10 +18,11 @@ pub record ReadsAll (unread left : Option (List ℕ)) (text : List ℕ) : Type 0
   pub ended : IsAtEnd left
 
 -- more than n bytes were taken from the source
-pub record TakesMoreThan (n : ℕ) (unread left : Option (List ℕ)) : Type 0 where
+pub record TakesMoreThan (n : ℕ) (unread left : Option (List ℕ)) (count_after : ℕ) : Type 0 where
   pub bytes : List ℕ
   pub taken : Consumes unread left bytes
   pub more : n < length bytes
+  pub counted : n < count_after
 
 -- at most n bytes were taken from the source
 pub record TakesAtMost (n : ℕ) (unread left : Option (List ℕ)) : Type 0 where
@@ -77,7 +79,8 @@ pub record WritesNothing (contents contents_after : Option (List ℕ)) (write_fa
 
 -- Both ends had not failed before the run; `read_failed` and `write_failed` say whether they have now.
 pub record IsCommandRun (gives : List ℕ → List ℕ → ℕ → Type 0)
-    (unread left contents contents_after : Option (List ℕ)) (read_failed write_failed : Bool) (status : ℕ)
+    (unread left contents contents_after : Option (List ℕ)) (count count_after : ℕ) (read_failed write_failed : Bool)
+    (status : ℕ)
     : Type 0 where
   -- no other exit status comes
   pub one_of : (status ≡ DONE) ⊎ (status ≡ REFUSED) ⊎ (status ≡ NO_MEMORY) ⊎ (status ≡ END_FAILED)
@@ -92,7 +95,13 @@ pub record IsCommandRun (gives : List ℕ → List ℕ → ℕ → Type 0)
       → (status ≡ END_FAILED)
       × (WritesOutputPrefix gives unread left contents contents_after
       ⊎ WritesMemoryPrefix unread left contents contents_after)
-  -- else 4 comes only where more was read than may be, and then nothing was written
+  -- and wherever more was read than may be, of a source that had given nothing before, and then nothing was written
+  pub long_fault : count ≡ 0 → MAX_INPUT < count_after
+      → (status ≡ END_FAILED)
+      × TakesMoreThan MAX_INPUT unread left count_after
+      × WritesNothing contents contents_after write_failed
+  -- else 4 comes only where an output for the source has it, and then all of that was written
   pub end_fault : status ≡ END_FAILED
       → (read_failed ≡ true) ⊎ (write_failed ≡ true)
-      ⊎ (TakesMoreThan MAX_INPUT unread left × WritesNothing contents contents_after write_failed)
+      ⊎ (TakesMoreThan MAX_INPUT unread left count_after × WritesNothing contents contents_after write_failed)
+      ⊎ WritesOutput gives unread left contents contents_after status

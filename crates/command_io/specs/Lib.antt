@@ -1,4 +1,5 @@
 pub mod Ends
 pub mod Failing
+pub mod Counting
 pub mod Output
 pub mod CommandRun

@@ -1,6 +1,6 @@
 //! What every command does with its two ends: it reads all of its source, makes its output of that text
 //! as a whole, and writes it to the sink. Nothing is written before the output stands.
-ghost use Rattle.std.specs.Prelude.{◌≡◌, ℕ, ◌↔◌, false, true, List, Err, IfOk};
+ghost use Rattle.std.specs.Prelude.{◌≡◌, ℕ, ◌<◌, ◌↔◌, ⊤, false, true, List, Err, IfOk};
 ghost use Rattle.std.specs.Io.KnownBytes.{Appends};
 ghost use Rattle.command_io.specs.CommandRun.{AppendsPrefix, IsCommandRun, IsOutput, TakesAtMost, TakesMoreThan};
 ghost use Rattle.command_io.specs.Output.{bytes_of, status_of};
@@ -19,9 +19,12 @@ pub const MEMORY_LINE: [u8; 7] = *b"memory\n";
 pub trait Command {
     // Whether these bytes with this exit status may be the output for a text.
     ghost gives: { Self → (text bytes : List ℕ) (status : ℕ) → Type 0 };
+    // What has to hold of it before, as that threads may share what it holds.
+    ghost ready: { Self → Type 0 } = { λ _. ⊤ };
 
     /// The output for a text. The text is handed over, so that it can be given back before the output is made.
     fn output(&self, alloc: Global, text: Vec<u8>) -> Result<Output, NoMemory>
+        requires { ready self.now }
         ensures { IfOk result (λ output. gives self.now text.items (bytes_of output) (status_of output)) };
 }
 
@@ -31,13 +34,15 @@ fn output_for<C: Command, R: Source>(
     alloc: Global,
     reader: &mut R,
 ) -> Result<Output, InputFault>
-    requires { R.failed reader.old ≡ false }
+    requires ready { C.ready command.now }
+    requires sound { R.failed reader.old ≡ false }
     ensures output { IfOk result (λ output.
         IsOutput (C.gives command.now) (R.remaining reader.old) (R.remaining reader.new)
         (bytes_of output) (status_of output)) }
     ensures read_fault { (R.failed reader.new ≡ true) ↔ (result ≡ Err InputFault.Read) }
     ensures too_long { result ≡ Err InputFault.TooLong
-        → TakesMoreThan MAX_INPUT (R.remaining reader.old) (R.remaining reader.new) }
+        → TakesMoreThan MAX_INPUT (R.remaining reader.old) (R.remaining reader.new) (R.count reader.new) }
+    ensures counted { R.count reader.old ≡ 0 → MAX_INPUT < R.count reader.new → result ≡ Err InputFault.TooLong }
     ensures no_memory { result ≡ Err InputFault.NoMemory
         → TakesAtMost MAX_INPUT (R.remaining reader.old) (R.remaining reader.new) }
 {
@@ -85,11 +90,12 @@ pub fn run_command<C: Command, R: Source, W: Sink>(
     reader: &mut R,
     writer: &mut W,
 ) -> u8
+    requires ready { C.ready command.now }
     requires sound_reader { R.failed reader.old ≡ false }
     requires sound_writer { W.failed writer.old ≡ false }
     ensures { IsCommandRun (C.gives command.now)
         (R.remaining reader.old) (R.remaining reader.new) (W.contents writer.old) (W.contents writer.new)
-        (R.failed reader.new) (W.failed writer.new) result }
+        (R.count reader.old) (R.count reader.new) (R.failed reader.new) (W.failed writer.new) result }
 {
     match output_for(command, alloc, reader) {
         Ok(output) => print(writer, output.bytes(), output.status()),

@@ -7,6 +7,7 @@
 ghost use Rattle.std.specs.Prelude.{◌≡◌, ℕ, Bool, true, false, List, length, Option, IsTrue, ◌↔◌};
 ghost use Rattle.std.specs.Io.{ReadsAtMost, WritesAtMost};
 ghost use Rattle.std.specs.Io.KnownBytes.{ReadConsumes, WriteAppends};
+ghost use Rattle.command_io.specs.Counting.{count_more};
 ghost use Rattle.command_io.specs.Failing.{read_fails, write_fails};
 
 use std::io;
@@ -18,6 +19,8 @@ pub trait Source {
     ghost remaining: { Self → Option (List ℕ) };
     // Whether a read has failed so far.
     ghost failed: { Self → Bool };
+    // How many bytes it has given so far; the count stops at 2^64 - 1.
+    ghost count: { Self → ℕ };
 
     /// Reads some bytes into the front of `buf` and answers how many: 0 at the end, or for an
     /// empty `buf`. Behind a read that failed there is no other.
@@ -25,7 +28,8 @@ pub trait Source {
         requires { failed self.old ≡ false }
         ensures bound { ReadsAtMost result buf.new }
         ensures bytes { ReadConsumes (remaining self.old) (remaining self.new) result buf.new }
-        ensures fails { failed self.new ≡ read_fails result };
+        ensures fails { failed self.new ≡ read_fails result }
+        ensures counts { count self.new ≡ count_more (count self.old) result };
 }
 
 /// What a command writes to.
@@ -44,24 +48,27 @@ pub trait Sink {
         ensures fails { failed self.new ≡ write_fails result (length buf.now) };
 }
 
-/// An end of std as an end of a command, with a note whether it has failed.
+/// An end of std as an end of a command, with a note whether it has failed, and how many bytes it has given.
 #[derive(Drop)]
 pub struct Std<T> {
     inner: T,
     failed: bool,
+    count: u64,
 }
 
 impl<T> Std<T> {
-    ghost use Rattle.command_io.specs.Ends.{inner_of, has_failed};
+    ghost use Rattle.command_io.specs.Ends.{inner_of, has_failed, count_of};
 
-    /// The end `inner`, which has not failed yet.
+    /// The end `inner`, which has not failed yet, and has given nothing.
     pub fn new(inner: T) -> Std<T>
         ensures inner { inner_of result ≡ inner }
         ensures fresh { has_failed result ≡ false }
+        ensures none { count_of result ≡ 0 }
     {
         Std {
             inner,
             failed: false,
+            count: 0,
         }
     }
 
@@ -71,19 +78,29 @@ impl<T> Std<T> {
     {
         self.failed
     }
+
+    /// How many bytes it has given to those who read from it; the count stops at 2^64 - 1.
+    pub fn count(&self) -> u64
+        ensures { result ≡ count_of self.now }
+    {
+        self.count
+    }
 }
 
 impl<T: Read> Source for Std<T> {
-    ghost use Rattle.command_io.specs.Ends.{inner_of, has_failed};
+    ghost use Rattle.command_io.specs.Ends.{inner_of, has_failed, count_of};
 
     ghost remaining = { λ s. T.remaining (inner_of s) };
 
     ghost failed = { has_failed };
 
+    ghost count = { count_of };
+
     fn read(&mut self, buf: &mut [u8]) -> io::Result<usize> {
         let result = self.inner.read(buf);
-        if result.is_err() {
-            self.failed = true;
+        match &result {
+            Ok(count) => self.count = self.count.saturating_add(*count as u64),
+            Err(_) => self.failed = true,
         }
         result
     }

@@ -58,7 +58,8 @@ pub fn read_all<R: Source>(alloc: Global, reader: &mut R) -> Result<Vec<u8>, Inp
     ensures limited { IfOk result (λ text. vec_len text ≤ MAX_INPUT) }
     ensures read_fault { (R.failed reader.new ≡ true) ↔ (result ≡ Err InputFault.Read) }
     ensures too_long { result ≡ Err InputFault.TooLong
-        → TakesMoreThan MAX_INPUT (R.remaining reader.old) (R.remaining reader.new) }
+        → TakesMoreThan MAX_INPUT (R.remaining reader.old) (R.remaining reader.new) (R.count reader.new) }
+    ensures counted { R.count reader.old ≡ 0 → MAX_INPUT < R.count reader.new → result ≡ Err InputFault.TooLong }
     ensures no_memory { result ≡ Err InputFault.NoMemory
         → TakesAtMost MAX_INPUT (R.remaining reader.old) (R.remaining reader.new) }
 {

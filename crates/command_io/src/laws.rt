@@ -2,9 +2,10 @@
 ghost use Rattle.std.specs.Prelude.{◌≡◌, ◌∷◌, ◌++◌, [], codes};
 
 use crate::command::MEMORY_LINE;
+use crate::output::THREAD_LINE;
 use crate::status::{DONE, END_FAILED, NO_MEMORY, REFUSED, USAGE};
 
-/// The exit statuses, and the line of a command that ran out of memory.
+/// The exit statuses, and the lines of a command that ran out of memory, or could not start a thread.
 pub fn constants_are()
     ensures done { DONE ≡ 0 }
     ensures refused { REFUSED ≡ 1 }
@@ -12,4 +13,5 @@ pub fn constants_are()
     ensures no_memory { NO_MEMORY ≡ 3 }
     ensures end_failed { END_FAILED ≡ 4 }
     ensures memory_line { MEMORY_LINE ≡ codes "memory" ++ 10 ∷ [] }
+    ensures thread_line { THREAD_LINE.now ≡ codes "thread" ++ 10 ∷ [] }
 {}

@@ -5,7 +5,10 @@ ghost use Rattle.command_io.specs.CommandRun.{AppendsPrefix};
 ghost use Rattle.command_io.specs.Output.{bytes_of, status_of};
 
 use crate::ends::Sink;
-use crate::status::{DONE, REFUSED};
+use crate::status::{DONE, END_FAILED, REFUSED};
+
+/// The only line of a command that could not start a thread.
+pub const THREAD_LINE: &[u8] = b"thread\n";
 
 /// The bytes that a command prints, by how it ends.
 #[derive(Debug, Drop)]
@@ -14,6 +17,8 @@ pub enum Output {
     Done(Vec<u8>),
     /// The input is refused, and the bytes are the fault's line; the exit status is 1.
     Refused(Vec<u8>),
+    /// A thread that the work needs could not be started, and the bytes are [`THREAD_LINE`]; the exit status is 4.
+    NoThread,
 }
 
 impl Output {
@@ -24,16 +29,18 @@ impl Output {
         match self {
             Output::Done(bytes) => bytes.as_slice(),
             Output::Refused(line) => line.as_slice(),
+            Output::NoThread => THREAD_LINE,
         }
     }
 
-    /// The exit status, 0 or 1.
+    /// The exit status, 0, 1 or 4.
     pub fn status(&self) -> u8
         ensures { result ≡ status_of self.now }
     {
         match self {
             Output::Done(_) => DONE,
             Output::Refused(_) => REFUSED,
+            Output::NoThread => END_FAILED,
         }
     }
 }

@@ -12,5 +12,5 @@ pub const USAGE: u8 = 2;
 /// Memory was refused.
 pub const NO_MEMORY: u8 = 3;
 
-/// A read or a write failed, or the input is longer than what is read.
+/// A read or a write failed, the input is longer than what is read, or a thread could not be started.
 pub const END_FAILED: u8 = 4;

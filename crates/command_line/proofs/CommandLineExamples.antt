@@ -3,7 +3,7 @@ use Rattle.std.proofs.Common.{◌≡◌, ◌⊎◌, inl, inr, List, ◌∷◌, [
 use Rattle.clap.proofs.OnLiterals.{clap_on_literals}
 use Rattle.command_line.specs.CommandLine.{IsCallOf, IsAccepted, log_text, names_command}
 use Rattle.command_line.specs.declared.call.Call.{Call}
-use Rattle.command_line.specs.declared.call.Call.TheVariants.{Replay, Dump}
+use Rattle.command_line.specs.declared.call.Call.TheVariants.{Replay, Run, Dump}
 use Rattle.command_line.specs.declared.call.CallFault.{CallFault}
 use Rattle.command_line.specs.declared.call.CallFault.TheVariants.{Usage, NoMemory}
 
@@ -31,6 +31,18 @@ replay_logged : (first : List ℕ) → log_text (first ∷ codes "replay" ∷ co
 unfolding clap_on_literals log_text
 replay_logged first = refl
 
+run_accepted : (first : List ℕ) → IsAccepted (first ∷ codes "run" ∷ [])
+unfolding clap_on_literals
+run_accepted first = refl
+
+run_named : (first : List ℕ) → names_command (first ∷ codes "run" ∷ []) ≡ Some (codes "run")
+unfolding clap_on_literals names_command
+run_named first = refl
+
+run_log_refused : (first : List ℕ) → IsAccepted (first ∷ codes "run" ∷ codes "--log" ∷ []) → ⊥
+unfolding clap_on_literals
+run_log_refused first accepted = cc
+
 dump_accepted : (first : List ℕ) → IsAccepted (first ∷ codes "dump" ∷ [])
 unfolding clap_on_literals
 dump_accepted first = refl
@@ -46,6 +58,7 @@ dump_log_refused first accepted = cc
 pub call_of_replay : (first : List ℕ) (result : Result Call CallFault) → IsCallOf (first ∷ codes "replay" ∷ []) result → (result ≡ Ok (Replay false)) ⊎ (result ≡ Err NoMemory)
 call_of_replay first (Ok (Replay false)) a = inl refl
 call_of_replay first (Ok (Replay true)) a = absurd (a.no_log (replay_unlogged first) refl)
+call_of_replay first (Ok Run) a = absurd (let wrong = sym (replay_named first) ∙ a.named Run refl in cc)
 call_of_replay first (Ok Dump) a = absurd (let wrong = sym (replay_named first) ∙ a.named Dump refl in cc)
 call_of_replay first (Err Usage) a = absurd (a.no_replay refl (replay_accepted first) (replay_named first))
 call_of_replay first (Err NoMemory) a = inr refl
@@ -53,12 +66,26 @@ call_of_replay first (Err NoMemory) a = inr refl
 pub call_of_replay_log : (first : List ℕ) (result : Result Call CallFault) → IsCallOf (first ∷ codes "replay" ∷ codes "--log" ∷ []) result → (result ≡ Ok (Replay true)) ⊎ (result ≡ Err NoMemory)
 call_of_replay_log first (Ok (Replay true)) a = inl refl
 call_of_replay_log first (Ok (Replay false)) a = absurd (a.log (replay_logged first) refl)
+call_of_replay_log first (Ok Run) a = absurd (let wrong = sym (replay_log_named first) ∙ a.named Run refl in cc)
 call_of_replay_log first (Ok Dump) a = absurd (let wrong = sym (replay_log_named first) ∙ a.named Dump refl in cc)
 call_of_replay_log first (Err Usage) a = absurd (a.no_replay refl (replay_log_accepted first) (replay_log_named first))
 call_of_replay_log first (Err NoMemory) a = inr refl
 
+pub call_of_run : (first : List ℕ) (result : Result Call CallFault) → IsCallOf (first ∷ codes "run" ∷ []) result → (result ≡ Ok Run) ⊎ (result ≡ Err NoMemory)
+call_of_run first (Ok Run) a = inl refl
+call_of_run first (Ok (Replay log)) a = absurd (let wrong = sym (run_named first) ∙ a.named (Replay log) refl in cc)
+call_of_run first (Ok Dump) a = absurd (let wrong = sym (run_named first) ∙ a.named Dump refl in cc)
+call_of_run first (Err Usage) a = absurd (a.no_run refl (run_accepted first) (run_named first))
+call_of_run first (Err NoMemory) a = inr refl
+
+pub call_of_run_log : (first : List ℕ) (result : Result Call CallFault) → IsCallOf (first ∷ codes "run" ∷ codes "--log" ∷ []) result → (result ≡ Err Usage) ⊎ (result ≡ Err NoMemory)
+call_of_run_log first (Ok call) a = absurd (run_log_refused first (a.accepted call refl))
+call_of_run_log first (Err Usage) a = inl refl
+call_of_run_log first (Err NoMemory) a = inr refl
+
 pub call_of_dump : (first : List ℕ) (result : Result Call CallFault) → IsCallOf (first ∷ codes "dump" ∷ []) result → (result ≡ Ok Dump) ⊎ (result ≡ Err NoMemory)
 call_of_dump first (Ok Dump) a = inl refl
+call_of_dump first (Ok Run) a = absurd (let wrong = sym (dump_named first) ∙ a.named Run refl in cc)
 call_of_dump first (Ok (Replay log)) a = absurd (let wrong = sym (dump_named first) ∙ a.named (Replay log) refl in cc)
 call_of_dump first (Err Usage) a = absurd (a.no_dump refl (dump_accepted first) (dump_named first))
 call_of_dump first (Err NoMemory) a = inr refl

@@ -42,7 +42,7 @@ command_line_is_free = refl
 -- what is made of the matches is an answer to the words
 pub call_of_matches-words : (words : List Text) (m : ArgMatches) (call : Option Call) → HasMatchesOf command_line words m → IsAccepted words
     → IfSome call (λ x. subcommand_name_of m ≡ Some (name_of x))
-    → (call ≡ None → (subcommand_name_of m ≢ Some (codes "replay")) × (subcommand_name_of m ≢ Some (codes "dump")))
+    → (call ≡ None → (subcommand_name_of m ≢ Some (codes "replay")) × (subcommand_name_of m ≢ Some (codes "run")) × (subcommand_name_of m ≢ Some (codes "dump")))
     → (flag_text (subcommand_rows_of m) ≡ Some (codes "true") → call ≢ Some (Replay false))
     → (flag_text (subcommand_rows_of m) ≡ Some (codes "false") → call ≢ Some (Replay true))
     → IsCallOf words (ok_or call Usage)
@@ -54,7 +54,8 @@ call_of_matches-words words m None has accepted named none log no_log =
       log = λ _ is. cc;
       no_log = λ _ is. cc;
       no_replay = λ _ _ is. (none refl).0 (name ∙ is);
-      no_dump = λ _ _ is. (none refl).1 (name ∙ is);
+      no_run = λ _ _ is. (none refl).1 (name ∙ is);
+      no_dump = λ _ _ is. (none refl).2 (name ∙ is);
     }
 call_of_matches-words words m (Some x) has accepted named none log no_log =
     let name = name_of_matches command_line words m refl has in
@@ -65,5 +66,6 @@ call_of_matches-words words m (Some x) has accepted named none log no_log =
       log = λ asked is. log (flag ∙ asked) (let same : x ≡ Replay false = cc in ap Some same);
       no_log = λ unasked is. no_log (flag ∙ unasked) (let same : x ≡ Replay true = cc in ap Some same);
       no_replay = λ is. absurd (cc);
+      no_run = λ is. absurd (cc);
       no_dump = λ is. absurd (cc);
     }

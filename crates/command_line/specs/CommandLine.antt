@@ -5,7 +5,7 @@ use Rattle.clap.specs.declared.builder.action.ArgAction.TheVariants.{SetTrue}
 use Rattle.clap.specs.declared.error.ErrorKind.{ErrorKind}
 use Rattle.clap.specs.declared.error.ErrorKind.TheVariants.{OutOfMemory}
 use Rattle.command_line.specs.declared.call.Call.{Call}
-use Rattle.command_line.specs.declared.call.Call.TheVariants.{Replay, Dump}
+use Rattle.command_line.specs.declared.call.Call.TheVariants.{Replay, Run, Dump}
 use Rattle.command_line.specs.declared.call.CallFault.{CallFault}
 use Rattle.command_line.specs.declared.call.CallFault.TheVariants.{Usage, NoMemory}
 
@@ -13,12 +13,18 @@ use Rattle.command_line.specs.declared.call.CallFault.TheVariants.{Usage, NoMemo
 abbrev pub log_rule : Rule
 log_rule = record (new_rule (codes "log")) { long = Some (codes "log"); action = Some SetTrue }
 
--- the program's two commands: `replay`, which takes `--log`, and `dump`
+-- the program with its two commands that carry out a script: `replay`, which takes `--log`, and `run`
+abbrev pub script_commands : App
+script_commands =
+    let replay = with_rule (new_app (codes "replay")) log_rule in
+    let run = new_app (codes "run") in
+    with_subcommand (with_subcommand (new_app (codes "tracering")) replay.top) run.top
+
+-- and with its third command, `dump`
 abbrev pub command_line : App
 command_line =
-    let replay = with_rule (new_app (codes "replay")) log_rule in
     let dump = new_app (codes "dump") in
-    with_subcommand (with_subcommand (new_app (codes "tracering")) replay.top) dump.top
+    with_subcommand script_commands dump.top
 
 -- the parse accepts the words
 abbrev pub IsAccepted : List Text → Type 0
@@ -39,6 +45,7 @@ log_text words = flag_text (subcommand_of command_line words)
 -- the name of the command that is asked for
 abbrev pub name_of : Call → Text
 name_of (Replay log) = codes "replay"
+name_of Run = codes "run"
 name_of Dump = codes "dump"
 
 -- What the program makes of its words: the command and the flag that the parse finds, where it accepts the
@@ -49,6 +56,7 @@ pub record IsCallOf (words : List Text) (result : Result Call CallFault) : Type 
   pub log : log_text words ≡ Some (codes "true") → result ≢ Ok (Replay false)
   pub no_log : log_text words ≡ Some (codes "false") → result ≢ Ok (Replay true)
   pub no_replay : result ≡ Err Usage → IsAccepted words → names_command words ≢ Some (codes "replay")
+  pub no_run : result ≡ Err Usage → IsAccepted words → names_command words ≢ Some (codes "run")
   pub no_dump : result ≡ Err Usage → IsAccepted words → names_command words ≢ Some (codes "dump")
 
 -- the parse fails because memory was refused, or at the words

@@ -13,6 +13,8 @@ use std::alloc::AllocError;
 pub enum Call {
     /// `tracering replay`, with the log where `--log` is given.
     Replay { log: bool },
+    /// `tracering run`.
+    Run,
     /// `tracering dump`.
     Dump,
 }

@@ -39,7 +39,7 @@ pub fn dump_to<R: Source, W: Sink>(alloc: Global, reader: &mut R, writer: &mut W
     requires sound_writer { W.failed writer.old ≡ false }
     ensures { IsCommandRun DumpGives
         (R.remaining reader.old) (R.remaining reader.new) (W.contents writer.old) (W.contents writer.new)
-        (R.failed reader.new) (W.failed writer.new) result }
+        (R.count reader.old) (R.count reader.new) (R.failed reader.new) (W.failed writer.new) result }
 {
     run_command(&DumpCommand, alloc, reader, writer)
 }

@@ -14,10 +14,10 @@ ghost use Rattle.trace_cli.specs.Commands.{IsPrinting, ReplayGives};
 use collector_text::put_collectors;
 use command_io::{Command, Output, Sink, Source, run_command};
 use replay_log::put_log;
-use script_replay::{World, replay};
 use std::alloc::Global;
 use trace_model::NoMemory;
-use trace_script::{ReplayFault, Script, ScriptFault, put_fault, read_script};
+use trace_run::{ReplayFault, World, replay};
+use trace_script::{Script, ScriptFault, put_fault, read_script};
 
 /// The world of a script.
 fn replayed(alloc: Global, script: &Script) -> Result<World, NoMemory>
@@ -60,7 +60,7 @@ fn print_replay(alloc: Global, script: Script, log: bool) -> Result<Vec<u8>, NoM
 }
 
 /// The line that tells a script's fault.
-fn fault_line(alloc: Global, fault: ScriptFault) -> Result<Vec<u8>, NoMemory>
+pub(crate) fn fault_line(alloc: Global, fault: ScriptFault) -> Result<Vec<u8>, NoMemory>
     ensures { IfOk result (λ line. line.items ≡ script_fault_text fault ++ 10 ∷ []) }
 {
     let mut line = Vec::new(alloc);
@@ -83,7 +83,7 @@ impl Command for ReplayCommand {
 }
 
 /// The script that a text spells, or its first fault. The text is given back.
-fn read_text(alloc: Global, text: Vec<u8>) -> Result<Script, ScriptFault>
+pub(crate) fn read_text(alloc: Global, text: Vec<u8>) -> Result<Script, ScriptFault>
     ensures script { IfOk result (λ script. ParsesScript text.items script) }
     ensures fault { IfErr result (λ fault. TellsFirstFault text.items fault) }
 {
@@ -109,7 +109,7 @@ pub fn replay_to<R: Source, W: Sink>(alloc: Global, reader: &mut R, writer: &mut
     requires sound_writer { W.failed writer.old ≡ false }
     ensures { IsCommandRun (ReplayGives log)
         (R.remaining reader.old) (R.remaining reader.new) (W.contents writer.old) (W.contents writer.new)
-        (R.failed reader.new) (W.failed writer.new) result }
+        (R.count reader.old) (R.count reader.new) (R.failed reader.new) (W.failed writer.new) result }
 {
     run_command(&ReplayCommand { log }, alloc, reader, writer)
 }

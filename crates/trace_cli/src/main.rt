@@ -1,10 +1,11 @@
-//! The program `tracering`: replays scripts of writers, readers and collectors of a trace ring, and
-//! prints page images.
+//! The program `tracering`: replays scripts of writers, readers and collectors of a trace ring, runs them by
+//! threads, and prints page images.
 #![tactic(auto)]
 
 mod commands;
 mod laws;
 mod messages;
+mod running;
 
 use crate::messages::{EndFault, USAGE_LINE};
 pub use command_io::{Sink, Source, Std};
@@ -12,6 +13,7 @@ use command_io::{END_FAILED, USAGE, print_memory_line};
 use command_line::{Call, CallFault, call_of};
 pub use commands::replay_to;
 pub use image_dump::dump_to;
+pub use running::run_to;
 use std::alloc::{AllocError, Global};
 use std::io::ErrorKind;
 use std::process::ExitCode;
@@ -38,13 +40,14 @@ fn main(rt: HostRuntime) -> ExitCode {
     let mut output = Std::new(rt.stdout());
     let status = match given_call(&rt) {
         Ok(Call::Replay { log }) => replay_to(rt.alloc(), &mut input, &mut output, log),
+        Ok(Call::Run) => run_to(&rt, rt.alloc(), &mut input, &mut output),
         Ok(Call::Dump) => dump_to(rt.alloc(), &mut input, &mut output),
         Err(CallFault::NoMemory) => print_memory_line(&mut output),
         Err(CallFault::Usage) => USAGE,
     };
     let message = match status {
         USAGE => Some(USAGE_LINE),
-        END_FAILED => Some(EndFault::of_ends(&input, &output).message()),
+        END_FAILED => EndFault::of_ends(&input, &output).map(|fault| fault.message()),
         _ => None,
     };
     if let Some(line) = message {

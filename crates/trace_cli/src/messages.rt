@@ -1,11 +1,12 @@
 //! The lines that the program writes to standard error.
-ghost use Rattle.std.specs.Prelude.{◌≡◌, true, false};
-ghost use Rattle.command_io.specs.Ends.{has_failed};
+ghost use Rattle.std.specs.Prelude.{◌≡◌, ◌<◌, ◌≤◌, true, false};
+ghost use Rattle.command_io.specs.Ends.{count_of, has_failed};
 
 use command_io::Std;
+use trace_model::MAX_INPUT;
 
 /// How the program is called.
-pub const USAGE_LINE: &str = "usage: tracering replay [--log] | dump";
+pub const USAGE_LINE: &str = "usage: tracering replay [--log] | run | dump";
 
 /// The input couldn't be read to its end.
 pub const READ_FAILED: &str = "tracering: reading failed";
@@ -16,7 +17,7 @@ pub const WRITE_FAILED: &str = "tracering: writing failed";
 /// The input is longer than `MAX_INPUT`.
 pub const INPUT_TOO_LONG: &str = "tracering: the input is longer than 268435456 bytes";
 
-/// Why a command gives the exit status 4.
+/// Why a command gives the exit status 4, if it isn't for its output.
 #[derive(Clone, Copy, Debug, PartialEq, Eq)]
 pub enum EndFault {
     /// A read failed.
@@ -28,20 +29,25 @@ pub enum EndFault {
 }
 
 impl EndFault {
-    /// The fault of a command over these two ends, which gave the exit status 4.
-    pub fn of_ends<R, W>(input: &Std<R>, output: &Std<W>) -> EndFault
-        ensures read { has_failed input.now ≡ true → result ≡ EndFault.Read }
+    /// The fault of a command over these two ends, which gave the exit status 4. There is none if neither end failed and
+    /// no more was read than may be: then the command printed the line of its fault.
+    pub fn of_ends<R, W>(input: &Std<R>, output: &Std<W>) -> Option<EndFault>
+        ensures read { has_failed input.now ≡ true → result ≡ Some EndFault.Read }
         ensures write { has_failed input.now ≡ false → has_failed output.now ≡ true
-            → result ≡ EndFault.Write }
+            → result ≡ Some EndFault.Write }
         ensures too_long { has_failed input.now ≡ false → has_failed output.now ≡ false
-            → result ≡ EndFault.TooLong }
+            → MAX_INPUT < count_of input.now → result ≡ Some EndFault.TooLong }
+        ensures none { has_failed input.now ≡ false → has_failed output.now ≡ false
+            → count_of input.now ≤ MAX_INPUT → result ≡ None }
     {
         if input.has_failed() {
-            EndFault::Read
+            Some(EndFault::Read)
         } else if output.has_failed() {
-            EndFault::Write
+            Some(EndFault::Write)
+        } else if input.count() > MAX_INPUT as u64 {
+            Some(EndFault::TooLong)
         } else {
-            EndFault::TooLong
+            None
         }
     }
 

@@ -1,4 +1,6 @@
 //! Commands over ends in memory that fail, that never end, or that move one byte a call.
+ghost use Rattle.std.specs.Prelude.{◌≡◌};
+ghost use Rattle.command_io.specs.declared.status.TheConstants.{END_FAILED as END_FAILED_SEEN};
 
 use crate::commands::replay_to;
 use crate::messages::EndFault;
@@ -92,6 +94,17 @@ impl Command for Full {
     }
 }
 
+// Needs a thread that can't be started.
+struct Threadless;
+
+impl Command for Threadless {
+    ghost gives = { λ _ text bytes status. status ≡ END_FAILED_SEEN };
+
+    fn output(&self, _alloc: Global, _text: Vec<u8>) -> Result<Output, NoMemory> {
+        Ok(Output::NoThread)
+    }
+}
+
 const FAULTY_SCRIPT: &str = "nothing\n";
 
 const FAULT_LINE: &str = "line 1: BadLine\n";
@@ -106,7 +119,7 @@ fn compare_failing_reader(rt: &(impl Abort + AllocGlobal), call: usize) {
     let status = replay_to(alloc, &mut reader, &mut writer, false);
     // Eight bytes and the end take nine reads.
     let (want, wanted, failures) = if call < 9 {
-        assert_eq!(rt; EndFault::of_ends(&reader, &writer), EndFault::Read);
+        assert_eq!(rt; EndFault::of_ends(&reader, &writer), Some(EndFault::Read));
         (END_FAILED, "", 1)
     } else {
         (REFUSED, FAULT_LINE, 0)
@@ -126,7 +139,7 @@ fn compare_failing_writer(rt: &(impl Abort + AllocGlobal), call: usize) {
     let status = replay_to(alloc, &mut reader, &mut writer, true);
     // The line's sixteen bytes take sixteen writes.
     let (want, written, failures) = if call < 16 {
-        assert_eq!(rt; EndFault::of_ends(&reader, &writer), EndFault::Write);
+        assert_eq!(rt; EndFault::of_ends(&reader, &writer), Some(EndFault::Write));
         (END_FAILED, call, 1)
     } else {
         (REFUSED, 16, 0)
@@ -153,7 +166,7 @@ fn failing_ends(rt: HostRuntime) {
     let mut writer = Std::new(Closed);
     let closed = replay_to(alloc, &mut reader, &mut writer, false);
     assert_eq!(rt; closed, END_FAILED);
-    assert_eq!(rt; EndFault::of_ends(&reader, &writer), EndFault::Write);
+    assert_eq!(rt; EndFault::of_ends(&reader, &writer), Some(EndFault::Write));
 }
 
 #[test]
@@ -164,7 +177,10 @@ fn an_endless_input_is_too_long(rt: HostRuntime) {
     let mut writer = Std::new(&mut text);
     let status = replay_to(alloc, &mut reader, &mut writer, true);
     assert_eq!(rt; status, END_FAILED);
-    assert_eq!(rt; EndFault::of_ends(&reader, &writer), EndFault::TooLong);
+    assert_eq!(rt;
+        EndFault::of_ends(&reader, &writer),
+        Some(EndFault::TooLong)
+    );
     assert_eq!(rt; text.len(), 0);
 }
 
@@ -176,4 +192,16 @@ fn a_command_out_of_memory_prints_its_line_alone(rt: HostRuntime) {
     let status = run_command(&Full, alloc, &mut reader, &mut Std::new(&mut text));
     assert_eq!(rt; status, NO_MEMORY);
     assert_eq!(rt; text.as_slice(), b"memory\n".as_slice());
+}
+
+#[test]
+fn a_command_without_a_thread_prints_its_line_alone(rt: HostRuntime) {
+    let alloc = rt.alloc();
+    let mut text = Vec::new(alloc);
+    let mut reader = Std::new(FAULTY_SCRIPT.as_bytes());
+    let mut writer = Std::new(&mut text);
+    let status = run_command(&Threadless, alloc, &mut reader, &mut writer);
+    assert_eq!(rt; status, END_FAILED);
+    assert_eq!(rt; EndFault::of_ends(&reader, &writer), None);
+    assert_eq!(rt; text.as_slice(), b"thread\n".as_slice());
 }

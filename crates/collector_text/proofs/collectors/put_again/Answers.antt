@@ -10,13 +10,13 @@ loop-at-preserved c =
     let kept = c.loop-at.invariant in
     let from = kept.from in
     let low : at ≤ behind = omega arith in
-    let first : c.args.start ≤ behind = omega arith in
-    let high : behind ≤ c.args.end = omega (arith, c.min.ensures, c.loop-at-test.true) in
+    let first : c.args.span.start ≤ behind = omega arith in
+    let high : behind ≤ c.args.span.end = omega (arith, c.min.ensures, c.loop-at-test.true) in
     record {
       from = first;
       to = high;
       text = again_more c.args.out.now.items c.loop-at.out.items c.extend_from_slice.new.self.items
-          c.extend_from_slice-in-loop-at.new.self.items c.args.start at behind from low
+          c.extend_from_slice-in-loop-at.new.self.items c.args.span.start at behind from low
           (omega (arith, high, c.requires.inside)) kept.text
           (c.in_ok-extend_from_slice.ensures.items
           ∙ ap (λ (t : List ℕ). t ++ slice_range c.deref.result.now at behind) c.clear.ensures.items

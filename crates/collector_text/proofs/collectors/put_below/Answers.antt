@@ -6,8 +6,8 @@ pub returns-then-same : goal.returns-then-same
 returns-then-same c =
     let stands = rw c.in-Some.is at c.requires in
     on_ok_weaker c.put_again.result
-    (told_again c.in-Some.other.now c.args.collector.now c.args.out.now.items c.put_again.new.out.items c.args.start
-    c.args.end (c.same.ensures.0 c.if-same.true) stands)
+    (told_again c.in-Some.other.now c.args.collector.now c.args.out.now.items c.put_again.new.out.items c.args.span.start
+    c.args.span.end (c.same.ensures.0 c.if-same.true) stands)
     c.put_again.ensures
 
 pub returns : goal.returns

@@ -5,6 +5,7 @@ use Rattle.std.proofs.lemmas.Grind.{common_steps}
 use Rattle.std.specs.Io.KnownBytes.{Consumes}
 use Rattle.std.proofs.KnownBytes.{Consumes-trans}
 use Rattle.command_io.specs.declared.input.InputFault.TheVariants.{TooLong, NoMemory}
+use Rattle.command_io.proofs.Counted.{counted_past}
 use Rattle.command_io.proofs.input.read_all.Goals as goal
 
 -- what was read before and the chunk that went past the limit
@@ -18,6 +19,9 @@ returns-in_err-add_chunk-in-Ok-clause-too_long g c = λ refused.
       bytes = c.loop-text.text.items ++ take c.in-Ok.count c.deref.result.now;
       taken = Consumes-trans _ _ _ _ _ c.loop-text.invariant.taken (subst (Consumes _ _) (sym same) c.in-Ok.ensures.bytes.0);
       more = simp length-append (omega arith);
+      counted = rw c.in-Ok.ensures.counts (counted_past MAX_INPUT (vec_len c.loop-text.text)
+          (g.R.Source.count c.loop-text.reader) c.in-Ok.count c.deref.result.now (omega arith)
+          c.loop-text.invariant.at_least over);
     }
 
 -- what was read before and the chunk for which there was no room

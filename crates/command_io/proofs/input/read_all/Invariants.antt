@@ -1,4 +1,4 @@
-use Rattle.std.proofs.Common.{◌≡◌, ◌-◌, ◌≤◌, false, vec_len}
+use Rattle.std.proofs.Common.{◌≡◌, ◌+◌, ◌-◌, ◌≤◌, false, vec_len}
 use Rattle.std.specs.Io.KnownBytes.{Consumes}
 use Rattle.trace_model.specs.declared.limits.TheConstants.{MAX_INPUT}
 use Rattle.command_io.specs.declared.input.TheConstants.{CHUNK}
@@ -10,6 +10,8 @@ invariant-loop-text g l = record {
   limited : vec_len l.text ≤ MAX_INPUT;
   roomy : vec_len l.chunk ≡ CHUNK;
   sound : g.R.Source.failed l.reader ≡ false;
+  at_least : vec_len l.text ≤ g.R.Source.count l.reader;
+  at_most : g.R.Source.count l.reader ≤ g.R.Source.count l.fn.reader + vec_len l.text;
 }
 
 abbrev pub decreases-loop-text : goal.decreases-loop-text

@@ -1,0 +1,21 @@
+use Rattle.std.proofs.Common.{◌++◌, append_assoc, ◌∙◌, List, ℕ, ap}
+use Rattle.collector_text.proofs.Shown.{stands_kept}
+use Rattle.run_text.specs.Verdicts.{verdict_of}
+use Rattle.run_text.specs.Printing.{printed_audit}
+use Rattle.run_text.proofs.runs.put_audited.Goals as goal
+
+pub returns : goal.returns
+returns c =
+    let told = c.in_ok-own.ensures.told in
+    record {
+      told = (
+        record { collector = told.0; verdict = verdict_of c.answer_of-answer.result },
+        record { tells = told.1; verdict = c.answer_of-answer.ensures },
+        c.in_ok-put_audit.ensures
+            ∙ ap (λ (t : List ℕ). t ++ printed_audit (verdict_of c.answer_of-answer.result)) told.2
+            ∙ append_assoc c.args.out.now.items _ (printed_audit (verdict_of c.answer_of-answer.result)),
+      );
+      below = stands_kept c.args.collector.now c.put_collector.new.out.items
+          (printed_audit (verdict_of c.answer_of-answer.result)) c.put_audit.new.out.items _ _ c.in_ok-put_audit.ensures
+          c.in_ok-own.ensures.below;
+    }

@@ -1,0 +1,51 @@
+//! The line of an audit.
+ghost use Rattle.std.specs.Prelude.{◌≡◌, ◌++◌, OnOk, codes};
+ghost use Rattle.run_text.specs.Verdicts.{verdict_of};
+ghost use Rattle.run_text.specs.Printing.{place_text, printed_audit, verdict_text};
+
+use run_audit::{AuditFault, Audited};
+use text_values::put_number;
+use trace_model::{CpuId, FillNo, NoMemory};
+
+/// A CPU and a fill of its ring.
+fn put_place(out: &mut Vec<u8>, cpu: CpuId, fill: FillNo) -> Result<(), NoMemory>
+    ensures { OnOk result (out.new.items ≡ out.old.items ++ place_text cpu.0 fill.0) }
+{
+    put_number(out, u64::from(cpu.0))?;
+    out.push(b' ')?;
+    put_number(out, fill.0)?;
+    Ok(())
+}
+
+/// What an audit answered, without the line's end.
+fn put_verdict(out: &mut Vec<u8>, answer: Result<Audited, AuditFault>) -> Result<(), NoMemory>
+    ensures { OnOk result (out.new.items ≡ out.old.items ++ verdict_text (verdict_of answer)) }
+{
+    match answer {
+        Ok(_) => {
+            out.extend_from_slice(b"yes")?;
+            Ok(())
+        }
+        Err(AuditFault::Stray(cpu, fill)) => {
+            out.extend_from_slice(b"stray ")?;
+            put_place(out, cpu, fill)
+        }
+        Err(AuditFault::Lacks(cpu, fill)) => {
+            out.extend_from_slice(b"lacks ")?;
+            put_place(out, cpu, fill)
+        }
+    }
+}
+
+/// Puts the line that tells what an audit answered: `audit yes`, `audit stray C F` or `audit lacks C F`, C and F being
+/// the CPU and the fill of the parcel that the audit names.
+///
+/// If memory is refused, a part of that may have been put.
+pub fn put_audit(out: &mut Vec<u8>, answer: Result<Audited, AuditFault>) -> Result<(), NoMemory>
+    ensures { OnOk result (out.new.items ≡ out.old.items ++ printed_audit (verdict_of answer)) }
+{
+    out.extend_from_slice(b"audit ")?;
+    put_verdict(out, answer)?;
+    out.push(b'\n')?;
+    Ok(())
+}

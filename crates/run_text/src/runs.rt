@@ -1,0 +1,67 @@
+//! The text of a run's collectors.
+ghost use Rattle.std.specs.Prelude.{◌≡◌, ◌++◌, List, OnOk, IfOk, IfSome};
+ghost use Rattle.std.specs.List.{AllZip};
+ghost use Rattle.collector_text.specs.Tells.{StandsBetween};
+ghost use Rattle.run_audit.specs.Audit.{taken_in};
+ghost use Rattle.run_text.specs.Verdicts.{IsVerdict, verdict_of};
+ghost use Rattle.run_text.specs.Printing.{AuditedShown, TellsAudited, printed_audited, printed_run};
+
+use crate::audits::put_audit;
+use collector::Collector;
+use collector_text::{Span, put_collector};
+use run_audit::{AuditFault, Audited, Ledger, audit};
+use std::alloc::Global;
+use trace_model::NoMemory;
+
+/// The audit of a collector.
+fn answer_of(collector: &Collector, ledgers: &[Ledger]) -> Result<Audited, AuditFault>
+    ensures { IsVerdict collector.now (taken_in ledgers.now) (verdict_of result) }
+{
+    audit(collector, ledgers)
+}
+
+/// The text of a collector under this number, and the line of its audit. Answers where what stands below the first line
+/// is, up to the audit. Of an earlier collector that is at `span`; where both have and miss the same, it is copied.
+fn put_audited(
+    alloc: Global,
+    out: &mut Vec<u8>,
+    number: u64,
+    collector: &Collector,
+    ledgers: &[Ledger],
+    before: Option<&Collector>,
+    span: Span,
+) -> Result<Span, NoMemory>
+    requires { IfSome before (λ b. StandsBetween b.now out.old.items span.start span.end) }
+    ensures told { OnOk result ((shown : AuditedShown)
+        × TellsAudited (taken_in ledgers.now) collector.now shown
+        × (out.new.items ≡ out.old.items ++ printed_audited number shown)) }
+    ensures below { IfOk result (λ own. StandsBetween collector.now out.new.items own.start own.end) }
+{
+    let own = put_collector(alloc, out, number, collector, before, span)?;
+    let answer = answer_of(collector, ledgers);
+    put_audit(out, answer)?;
+    Ok(own)
+}
+
+/// Puts what a run left: the text of each collector, numbered from 0, and behind each the line of its audit against
+/// these ledgers.
+///
+/// If memory is refused, a part of that may have been put.
+pub fn put_run(
+    alloc: Global,
+    out: &mut Vec<u8>,
+    collectors: &[Collector],
+    ledgers: &[Ledger],
+) -> Result<(), NoMemory>
+    ensures { OnOk result ((shown : List AuditedShown)
+        × AllZip (TellsAudited (taken_in ledgers.now)) collectors.now shown
+        × (out.new.items ≡ out.old.items ++ printed_run shown)) }
+{
+    let mut before: Option<&Collector> = None;
+    let mut span = Span { start: 0, end: 0 };
+    for (i, collector) in collectors.iter().enumerate() {
+        span = put_audited(alloc, out, i as u64, collector, ledgers, before, span)?;
+        before = Some(collector);
+    }
+    Ok(())
+}
