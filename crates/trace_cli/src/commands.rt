@@ -14,10 +14,10 @@ ghost use Rattle.trace_cli.specs.Commands.{IsPrinting, ReplayGives};
 use collector_text::put_collectors;
 use command_io::{Command, Output, Sink, Source, run_command};
 use replay_log::put_log;
+use script_replay::{World, replay};
 use std::alloc::Global;
 use trace_model::NoMemory;
-use trace_run::{ReplayFault, World, replay};
-use trace_script::{Script, ScriptFault, put_fault, read_script};
+use trace_script::{ReplayFault, Script, ScriptFault, put_fault, read_script};
 
 /// The world of a script.
 fn replayed(alloc: Global, script: &Script) -> Result<World, NoMemory>

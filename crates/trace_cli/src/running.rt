@@ -11,13 +11,14 @@ ghost use Rattle.trace_cli.specs.Runs.{IsRunOutput, RunGives};
 
 use crate::commands::{fault_line, read_text};
 use command_io::{Command, Output, Sink, Source, run_command};
+use line_writer::OpenGate;
 use run_text::put_run;
 use std::alloc::Global;
 use std::sync::Wait;
 use std::thread::Threads;
+use threaded_run::{Ran, run};
 use trace_model::NoMemory;
-use trace_run::{OpenGate, Ran, ReplayFault, run};
-use trace_script::{Script, ScriptFault};
+use trace_script::{ReplayFault, Script, ScriptFault};
 
 /// What a run of the script leaves, or nothing if a thread can't be started.
 fn ran<R: Threads + Wait + Sync>(
