@@ -82,6 +82,38 @@ impl Page {
         Some(Place { start, len: slot })
     }
 
+    /// Adds a record of this moment, `delta` after the last one, with its payload in a slot of `slot` bytes and zeros
+    /// behind it, if it fits.
+    #[inline(always)]
+    pub fn put_payload(&mut self, moment: u64, delta: u64, slot: usize, payload: &[u8]) -> bool {
+        let delta = if self.is_empty() { 0 } else { delta };
+        match self.body.get_mut(self.end..self.end + 4 + slot) {
+            Some(record) if slot <= SHORT_SLOT && delta < EXTEND_FROM => {
+                record[..4].copy_from_slice(&word(slot / 4, delta));
+                // Only the slot's last word may have bytes behind the payload.
+                record[slot..].fill(0);
+                record[4..4 + payload.len()].copy_from_slice(payload);
+                if self.is_empty() {
+                    self.time = moment;
+                }
+                self.end += 4 + slot;
+                self.count += 1;
+                true
+            }
+            _ => self.put_payload_with_care(moment, delta, slot, payload),
+        }
+    }
+
+    #[cold]
+    #[inline(never)]
+    fn put_payload_with_care(&mut self, moment: u64, delta: u64, slot: usize, payload: &[u8]) -> bool {
+        let Some(place) = self.put(moment, delta, slot) else {
+            return false;
+        };
+        self.payload_mut(place)[..payload.len()].copy_from_slice(payload);
+        true
+    }
+
     /// Puts a record's words and its zeroed slot after the others, if they fit, and answers where the slot begins.
     #[cold]
     #[inline(never)]
