@@ -4,6 +4,7 @@ pub mod PushedFrames
 pub mod TopCalls
 -- lines
 pub mod LineRuns
+pub mod WrittenWhole
 pub mod LinesMade
 -- which lines are a CPU's
 pub mod PlacesFound

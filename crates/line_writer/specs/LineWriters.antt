@@ -2,10 +2,10 @@
 use Rattle.std.specs.Prelude.{◌≡◌, ℕ, ◌<◌, List, [], ◌∷◌, length, map, reverse, take, Bool, true, false}
 use Rattle.trace_model.specs.declared.limits.TheConstants.{MAX_FRAMES}
 use Rattle.trace_model.specs.Frames.{Refusal}
-use Rattle.trace_model.specs.Steps.{Event, pushed, refused, Exchange}
+use Rattle.trace_model.specs.Steps.{Event, pushes, pushed, refused, Exchange}
 use Rattle.script_model.specs.Script.{Command}
 use Rattle.world_model.specs.Lanes.{FitFrames, event_on_top, payloads_left}
-use Rattle.line_model.specs.WriterCalls.{Writer, IsWriterCall, LineCalls, LinesCalls, RestCalls}
+use Rattle.line_model.specs.WriterCalls.{Writer, IsWriterCall, WholeCalls, LineCalls, LinesCalls, RestCalls}
 use Rattle.ring_steps.specs.Views.{Writing}
 use Rattle.ring_shared.specs.Value.{SameWriter}
 use Rattle.ring_shared.specs.Calls.{IsWriter}
@@ -75,6 +75,12 @@ abbrev pub MakesLine : Command → LineWriter → LineWriter → Type 0
 MakesLine command old new =
     Makes (λ n size start before payloads after lefts. LineCalls n size start command before payloads after lefts) old
     new
+
+-- a record frame of this moment and payload is pushed and finished, or its push is refused
+abbrev pub WritesWhole : (moment : ℕ) → (payload : List ℕ) → LineWriter → LineWriter → Type 0
+WritesWhole moment payload old new =
+    Makes (λ n size start before payloads after lefts.
+    WholeCalls n size start (pushes moment (length payload)) payload before payloads after lefts) old new
 
 -- the calls of lines, one line after the other
 abbrev pub MakesLines : List Command → LineWriter → LineWriter → Type 0

@@ -37,7 +37,7 @@ impl<'a> LineWriter<'a> {
     ghost use Rattle.trace_model.specs.Steps.{pushes, pushes_close};
     ghost use Rattle.nested_writer.specs.Calls.{IsTopSlot};
     ghost use Rattle.ring_shared.specs.Calls.{IsWriter};
-    ghost use Rattle.line_writer.specs.LineWriters.{payloads_of, IsLineWriter, Pushes, CallsTop};
+    ghost use Rattle.line_writer.specs.LineWriters.{payloads_of, IsLineWriter, Pushes, CallsTop, WritesWhole};
 
     /// A writer without frames.
     pub(crate) fn new(writer: Writer) -> LineWriter<'a>
@@ -86,6 +86,16 @@ impl<'a> LineWriter<'a> {
         let none = &[];
         self.payloads[depth] = none;
         true
+    }
+
+    /// A record of this moment and payload is written whole, above the frames that stand; or it is refused, and no frame
+    /// of it is left.
+    #[inline(always)]
+    pub(crate) fn write_whole(&mut self, moment: u64, payload: &[u8])
+        requires { IsLineWriter self.old }
+        ensures { WritesWhole moment payload.now self.old self.new }
+    {
+        let _written = self.writer.write(moment, payload);
     }
 
     /// One call for the frame on top: it ends with its payload if its record is reserved, or else makes a step.

@@ -9,6 +9,20 @@ impl<'a> LineWriter<'a> {
     ghost use Rattle.line_writer.specs.declared.gate.Who.TheVariants as who;
     ghost use Rattle.line_writer.specs.LineWriters.{IsLineWriter, CallsTop, MakesLine, FinishesRest};
 
+    /// Asks the gate for each fill that was closed since so many were: the first one at which it is shut.
+    #[inline(always)]
+    fn pass_closed<G: Gate>(&self, gate: &G, cpu: CpuId, done: u64) -> Result<(), FillNo>
+        ensures { IfErr result (λ fill. G.answers gate.now who.Writer cpu.0 fill.0 false) }
+    {
+        for closed in done..self.writer.done() {
+            let fill = FillNo(closed + 1);
+            if !gate.pass(Who::Writer, cpu, fill) {
+                return Err(fill);
+            }
+        }
+        Ok(())
+    }
+
     /// One call for the frame on top. If it closes a fill, the gate is asked: the fill at which it is shut.
     pub(crate) fn call_gated<G: Gate>(&mut self, gate: &G, cpu: CpuId) -> Result<(), FillNo>
         requires is { IsLineWriter self.old }
@@ -18,11 +32,7 @@ impl<'a> LineWriter<'a> {
     {
         let done = self.writer.done();
         self.call_top();
-        let fill = FillNo(self.writer.done());
-        if fill.0 != done && !gate.pass(Who::Writer, cpu, fill) {
-            return Err(fill);
-        }
-        Ok(())
+        self.pass_closed(gate, cpu, done)
     }
 
     /// A line `s`: at most so many calls for the frame on top, as long as it is on the stack.
@@ -71,22 +81,22 @@ impl<'a> LineWriter<'a> {
         let _pushed = self.push(moment, payload);
     }
 
-    /// A line `w`: a frame is pushed and finished.
+    /// A line `w`: a record is written whole.
+    #[inline(always)]
     pub(crate) fn write<G: Gate>(
         &mut self,
         gate: &G,
         cpu: CpuId,
         moment: u64,
-        payload: &'a [u8],
+        payload: &[u8],
     ) -> Result<(), FillNo>
         requires { IsLineWriter self.old }
         ensures line { OnOk result (MakesLine (write cpu.0 moment payload.now) self.old self.new) }
         ensures shut { IfErr result (λ fill. G.answers gate.now who.Writer cpu.0 fill.0 false) }
     {
-        if !self.push(moment, payload) {
-            return Ok(());
-        }
-        self.finish(gate, cpu)
+        let done = self.writer.done();
+        self.write_whole(moment, payload);
+        self.pass_closed(gate, cpu, done)
     }
 
     /// A line `c`: a close frame is pushed and finished.
