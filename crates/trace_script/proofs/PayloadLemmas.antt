@@ -1,5 +1,5 @@
 -- What pairs of hexadecimal digits spell, digit by digit.
-use Rattle.std.proofs.Common.{◌≡◌, ◌≢◌, ℕ, suc, zero, ◌+◌, ◌-◌, ◌*◌, ◌%◌, ◌<◌, ◌≤◌, ◌⊎◌, true, false, ◌==◌, List, [], ◌∷◌, ◌++◌, length, get_or, take, drop, codes, Ok, Err, refl, sym, ◌∙◌, ap, inl, inr, subst, arith, append_assoc, length-append, length-drop}
+use Rattle.std.proofs.Common.{◌≡◌, ◌≢◌, ℕ, suc, zero, ◌+◌, ◌-◌, ◌*◌, ◌%◌, ◌<◌, ◌≤◌, ◌⊎◌, true, false, ◌==◌, List, [], ◌∷◌, ◌++◌, length, get_or, take, drop, codes, Ok, Err, refl, sym, ◌∙◌, ap, inl, inr, subst, arith, append_assoc, length-append, length-drop, Fits, w8, w16}
 use Rattle.std.specs.Char.{digit_value, is_digit}
 use Rattle.std.specs.List.{list_all, enumerate_from}
 use Rattle.std.specs.Str.{bytes_eq}
@@ -117,6 +117,36 @@ pair_fits high low = elim (high_of high) [
 
 pub pair_is_byte : (high low value : ℕ) → value ≡ pair_value high low → value < 4096 → value < 256
 pair_is_byte high low value is small = let pair = pair_of high low (omega (arith, is)) in omega (arith, is, pair.3)
+
+-- ---- what is pushed
+-- the values of four pairs fit together, and each is a byte where they are worth less than no digit
+pub two_fit : (a b : ℕ) → a ≤ 8192 → b ≤ 8192 → Fits w16 (a + b)
+two_fit a b first second = omega arith
+
+pub three_fit : (a b c : ℕ) → a ≤ 8192 → b ≤ 8192 → c ≤ 8192 → Fits w16 (a + b + c)
+three_fit a b c first second third = omega arith
+
+pub four_fit : (a b c d : ℕ) → a ≤ 8192 → b ≤ 8192 → c ≤ 8192 → d ≤ 8192 → Fits w16 (a + b + c + d)
+four_fit a b c d first second third fourth = omega arith
+
+pub first_is_byte : (a b c d : ℕ) → a + b + c + d < 4096 → (a < 4096 → a < 256) → Fits w8 a
+first_is_byte a b c d small byte = let is : a < 256 = byte (omega arith) in omega arith
+
+pub second_is_byte : (a b c d : ℕ) → a + b + c + d < 4096 → (b < 4096 → b < 256) → Fits w8 b
+second_is_byte a b c d small byte = let is : b < 256 = byte (omega arith) in omega arith
+
+pub third_is_byte : (a b c d : ℕ) → a + b + c + d < 4096 → (c < 4096 → c < 256) → Fits w8 c
+third_is_byte a b c d small byte = let is : c < 256 = byte (omega arith) in omega arith
+
+pub fourth_is_byte : (a b c d : ℕ) → a + b + c + d < 4096 → (d < 4096 → d < 256) → Fits w8 d
+fourth_is_byte a b c d small byte = let is : d < 256 = byte (omega arith) in omega arith
+
+-- the room for the others once one was pushed
+pub room_left : (len room len' room' more : ℕ) → len + suc more ≤ room → len' ≡ len + 1 → room' ≡ room → len' + more ≤ room'
+room_left len room len' room' more some one same = omega arith
+
+pub some_room : (len room more : ℕ) → len + suc more ≤ room → len < room
+some_room len room more some = omega arith
 
 -- eight bytes of a text, and what stands behind them, in the code's words
 pub eight_and_rest : (left : List ℕ) → 8 ≤ length left

@@ -18,7 +18,7 @@ use text_model::SIZE_STEP;
 use trace_model::{LINK_FILLS, MAX_PAGES, MAX_SIZE, MIN_PAGES, MIN_SIZE, START_FILL};
 
 /// The values of a script's header.
-#[derive(Clone, Copy, Debug, PartialEq, Eq)]
+#[derive(Clone, Copy, Debug)]
 pub struct Header {
     /// The pages of a ring, its spare aside.
     pub pages: usize,

@@ -4,7 +4,7 @@ use crate::order::Order;
 use std::mem::size_of;
 
 /// A command as it is kept: 32 bytes, its payload aside.
-#[derive(Clone, Copy, Debug, PartialEq, Eq)]
+#[derive(Clone, Copy, Debug)]
 pub struct KeptLine {
     /// The number of its line among all lines of the text, from 1.
     pub number: u64,

@@ -4,7 +4,7 @@ use crate::command::Command;
 use trace_model::{CpuId, FillNo, Moment};
 
 /// What a line of a script asks for, but for the payload.
-#[derive(Clone, Copy, Debug, PartialEq, Eq)]
+#[derive(Clone, Copy, Debug)]
 pub enum Order {
     Begin {
         cpu: CpuId,
