@@ -7,7 +7,7 @@ use crate::ranges::Content;
 use trace_model::CpuId;
 
 /// What one collector knows of numbers, beside what another one knows of them.
-#[derive(Clone, Copy, Debug)]
+#[derive(Clone, Copy)]
 pub(crate) enum Beside {
     /// Both miss them, or know nothing of them.
     Alike,
@@ -20,7 +20,7 @@ pub(crate) enum Beside {
 }
 
 /// What is known here and there, and up to which number, itself not among them, it is so.
-#[derive(Clone, Copy, Debug)]
+#[derive(Clone, Copy)]
 pub(crate) struct Both {
     pub(crate) end: u64,
     pub(crate) beside: Beside,

@@ -12,7 +12,7 @@ use std::ops::Bound;
 use trace_model::NoMemory;
 
 /// What is known of the numbers of a range.
-#[derive(Clone, Copy, Debug, PartialEq, Eq)]
+#[derive(Clone, Copy, PartialEq, Eq)]
 pub(crate) enum Content {
     /// Their records are those of the kept parcel at this index.
     Kept(usize),
@@ -21,7 +21,7 @@ pub(crate) enum Content {
 }
 
 /// A range of numbers, told by where it ends: its first number is its key.
-#[derive(Clone, Copy, Debug)]
+#[derive(Clone, Copy)]
 struct Span {
     /// The number behind the last one. A range that ends where it begins has no number, and marks a place.
     end: u64,
@@ -29,14 +29,14 @@ struct Span {
 }
 
 /// What is known of a number, and up to which one, itself not among them, the same is known.
-#[derive(Clone, Copy, Debug)]
+#[derive(Clone, Copy)]
 pub(crate) struct Stretch {
     pub(crate) end: u64,
     pub(crate) content: Option<Content>,
 }
 
 /// The numbers of one CPU of which something is known.
-#[derive(Debug, Drop)]
+#[derive(Drop)]
 pub(crate) struct Ranges {
     spans: BTreeMap<u64, Span>,
 }

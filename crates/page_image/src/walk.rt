@@ -11,7 +11,7 @@ use record_words::{Place, Word, WordFault, next_word};
 
 /// How far the words are read: up to this offset in bytes, with the moment there and how many records stand in
 /// front of it.
-#[derive(Clone, Copy, Debug, PartialEq, Eq)]
+#[derive(Clone, Copy, Debug)]
 pub struct Reached {
     pub at: usize,
     pub moment: u64,
@@ -20,7 +20,7 @@ pub struct Reached {
 
 /// A word that was stepped over: where its payload lies, if it is a record's, and how far the words are read then.
 /// The record's moment is the one reached.
-#[derive(Clone, Copy, Debug, PartialEq, Eq)]
+#[derive(Clone, Copy, Debug)]
 pub struct Passed {
     pub payload: Option<Place>,
     pub behind: Reached,

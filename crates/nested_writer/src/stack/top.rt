@@ -12,7 +12,7 @@ use record_words::{Place, SHORT_LIMIT};
 use std::marker::Model;
 
 /// Which fields tell the frame on top.
-#[derive(Clone, Copy, Debug, PartialEq, Eq)]
+#[derive(Clone, Copy)]
 enum Phase {
     /// No frame stands.
     Idle,
