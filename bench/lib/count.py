@@ -11,16 +11,27 @@ def fed(source):
     return open(source or os.devnull, "rb")
 
 
-def callgrind(command, source=None, profile="/dev/null", function=None):
+def callgrind(command, source=None, profile="/dev/null", function=None, flags=()):
     """How many instructions callgrind counts; with a function, while it runs. A profile is written for `functions`."""
     toggle = [f"--toggle-collect={function}"] if function else []
-    counted = ["valgrind", "--tool=callgrind", f"--callgrind-out-file={profile}", *toggle, *command]
+    counted = ["valgrind", "--tool=callgrind", f"--callgrind-out-file={profile}", *toggle, *flags, *command]
     with fed(source) as given, open(os.devnull, "wb") as sink:
         done = subprocess.run(counted, stdin=given, stdout=sink, stderr=subprocess.PIPE, text=True, check=False)
     _, found, count = done.stderr.partition("Collected : ")
     if done.returncode or not found:
         raise Failure(f"{' '.join(map(str, counted))} ends with status {done.returncode}\n{done.stderr}")
     return int(count.split()[0])
+
+
+def thread_counts(command, profile):
+    """How many instructions callgrind counts of each thread, that of `main` first."""
+    callgrind([*command], profile=profile, flags=["--separate-threads=yes"])
+    counts = []
+    for file in sorted(profile.parent.glob(f"{profile.name}-*")):
+        [line] = [line for line in file.read_text(errors="replace").splitlines() if line.startswith("totals:")]
+        counts.append(int(line.split()[1]))
+        file.unlink()
+    return counts
 
 
 def functions(profile):

@@ -30,10 +30,11 @@ def call(command, **options):
         raise Failure(f"{' '.join(map(str, command))} ends with status {status}\n{output}")
 
 
-def rival(folder, name):
-    """Builds the Rust program bench/rivals/NAME."""
-    program = folder / f"{name}-rival"
-    call(["rustc", *RUST_FLAGS, "-o", program, BENCH / "rivals" / name / "main.rs"])
+def rival(folder, name, cfg=None):
+    """Builds the Rust program bench/rivals/NAME, with this `cfg` set if there is one."""
+    program = folder / "-".join(["rival", name, *([cfg] if cfg else [])])
+    flags = [*RUST_FLAGS, "--cfg", cfg] if cfg else RUST_FLAGS
+    call(["rustc", *flags, "-o", program, BENCH / "rivals" / name / "main.rs"])
     return program
 
 
@@ -88,6 +89,7 @@ def staged(name):
         for part in ("src", "specs", "proofs"):
             if (TOP / "crates" / lower / part).is_dir():
                 shutil.copytree(TOP / "crates" / lower / part, folder / "crates" / lower / part)
+        linked(TOP / "crates" / lower / "out" / "rlib", folder / "crates" / lower / "out" / "rlib")
     (folder / "crates.txt").write_text("".join(f"{crates[lower]}\n" for lower in lower_crates) + f"{line}\n")
     shutil.copy(TOP / "HANDLES", folder)
     here = folder / "crates" / crate
@@ -106,6 +108,16 @@ def staged(name):
     if not program.is_file():
         raise Failure(f"bench/programs/{name} isn't built\n{output}")
     return program
+
+
+def linked(library, to):
+    """Links a proved library into another folder, or copies it if that is on another disk."""
+    shutil.rmtree(to, ignore_errors=True)
+    try:
+        shutil.copytree(library, to, copy_function=os.link)
+    except shutil.Error:
+        shutil.rmtree(to)
+        shutil.copytree(library, to)
 
 
 def copied(file, to):

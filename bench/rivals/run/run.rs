@@ -10,6 +10,7 @@ use std::sync::Arc;
 use std::thread;
 
 /// A write: its payload ends at this place, and begins where that of the command before it ends.
+#[cfg_attr(wide, repr(align(32)))]
 pub struct Command {
     pub moment: u64,
     pub end: u32,
