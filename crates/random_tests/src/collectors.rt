@@ -305,7 +305,10 @@ impl<'a> Side<'a> {
     /// Compares what is known of a number.
     fn compare_number(&self, rt: &impl Abort, cpu: CpuId, number: u64) {
         let is_missing = self.collector.is_missing(cpu, RecordNo(number));
-        assert!(rt; is_missing == self.plain.misses(cpu, number), "{cpu:?} {number}");
+        assert!(rt;
+            is_missing == self.plain.misses(cpu, number),
+            "{cpu:?} {number}"
+        );
         match (
             self.collector.get(cpu, RecordNo(number)),
             self.plain.record(cpu, number),
