@@ -84,7 +84,7 @@ const ROWS: &[Row] = &[
 fn settled_ring(rt: &(impl Abort + AllocGlobal)) -> Result<Settled, Fail> {
     let (writer, mut reader) = ring(rt.alloc(), 2, 32)?;
     let _took = reader.take(Body::new(rt.alloc(), 32)?);
-    assert_eq!(rt; reader.empty_at(), Some(writer.done()));
+    assert!(rt; reader.empty_at() == Some(writer.done()));
     match settle(rt.alloc(), writer, reader) {
         Ok(settled) => Ok(settled),
         Err(_) => unreachable!(),
@@ -113,7 +113,7 @@ fn compare(rt: &(impl Abort + AllocGlobal), row: &Row) -> Result<(), Fail> {
     for parcels in row.taken {
         ledgers.push(ledger_of(rt, parcels)?)?;
     }
-    assert_eq!(rt; audit(&collector, &ledgers), row.answer);
+    assert!(rt; audit(&collector, &ledgers) == row.answer);
     Ok(())
 }
 

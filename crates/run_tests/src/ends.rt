@@ -82,7 +82,7 @@ fn take_all(
     let mut end = end;
     for wanted in found {
         let (next, found) = end.take(alloc)?;
-        assert_eq!(rt; found, *wanted);
+        assert!(rt; found == *wanted);
         end = next;
     }
     Ok(end)
@@ -100,13 +100,13 @@ fn numbers_of(parcel: &Parcel) -> [u64; 4] {
 
 /// The ledger has the parcels of the row, and its page that is left.
 fn compare(rt: &impl Abort, ledger: &Ledger, row: &Row) {
-    assert_eq!(rt; ledger.taken.len(), row.taken.len());
+    assert!(rt; ledger.taken.len() == row.taken.len());
     for (parcel, wanted) in ledger.taken.iter().zip(row.taken) {
-        assert_eq!(rt; numbers_of(parcel), *wanted);
+        assert!(rt; numbers_of(parcel) == *wanted);
     }
     match ledger.settled.unread() {
-        Some(page) => assert_eq!(rt; Some([page.first().0, page.count()]), row.unread),
-        None => assert_eq!(rt; None, row.unread),
+        Some(page) => assert!(rt; row.unread == Some([page.first().0, page.count()])),
+        None => assert!(rt; row.unread.is_none()),
     }
 }
 
@@ -117,11 +117,11 @@ fn run(rt: &impl Abort, alloc: Global, row: &Row) -> Result<(), NoMemory> {
     let writer = write_all(rt, writer, row.written);
     let end = take_all(rt, alloc, end, row.found)?;
     match end.last() {
-        Some(parcel) => assert_eq!(rt; Some(&numbers_of(parcel)), row.taken.last()),
+        Some(parcel) => assert!(rt; Some(&numbers_of(parcel)) == row.taken.last()),
         None => assert!(rt; row.taken.is_empty()),
     }
     assert!(rt; end.has_all(&writer));
-    assert_eq!(rt; writer.depth(), 0);
+    assert!(rt; writer.depth() == 0);
     compare(rt, &settle(alloc, writer, end), row);
     Ok(())
 }
