@@ -16,7 +16,7 @@ pub enum Take {
 }
 
 /// What one step of a take answers.
-#[derive(Debug, Drop)]
+#[derive(Drop)]
 pub(crate) enum Turn {
     /// The take goes on.
     Looking(Body),
