@@ -60,6 +60,12 @@ def dependencies(line, crates):
     return found
 
 
+def highest(names, crates):
+    """Those of these crates that no other one of them is built on: with each, the kit proves all that are below it."""
+    below = {name for crate in names for name in crates[crate].partition(":")[2].split()}
+    return [name for name in names if name not in below]
+
+
 def staging(name):
     """The folder in which a program's crate is made, with what an earlier run there proved, and nothing else.
 
@@ -84,8 +90,9 @@ def staged(name):
     [(crate, line)] = crate_lines(source / "crate").items()
     crates = crate_lines(TOP / "crates.txt")
     lower_crates = dependencies(line, crates)
+    for top in highest(lower_crates, crates):
+        call(["rt", "lib"], cwd=TOP / "crates" / top)
     for lower in lower_crates:
-        call(["rt", "lib"], cwd=TOP / "crates" / lower)
         for part in ("src", "specs", "proofs"):
             if (TOP / "crates" / lower / part).is_dir():
                 shutil.copytree(TOP / "crates" / lower / part, folder / "crates" / lower / part)
