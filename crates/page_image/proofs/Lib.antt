@@ -5,5 +5,6 @@ mod Overwriting
 mod Sought
 mod Left
 mod Counting
+mod Copied
 mod ImageReads
 mod ImageWrites
