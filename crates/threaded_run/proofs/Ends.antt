@@ -1,5 +1,5 @@
 -- What the two threads of a ring hand back, as their promises say.
-use Rattle.std.specs.Prelude.{Bool, false, Result, Ok, Err}
+use Rattle.std.specs.Prelude.{Bool, false}
 use Rattle.std.proofs.Common.{◌≡◌, ℕ, ◌+◌, ◌≤◌, List, length, subst, sym, ap, ◌∙◌}
 use Rattle.trace_model.specs.declared.numbers.FillNo.{FillNo}
 use Rattle.trace_model.specs.declared.limits.TheConstants.{LINK_FILLS}
@@ -9,7 +9,7 @@ use Rattle.script_model.specs.Script.{Command, Script}
 use Rattle.line_model.specs.Lines.{IsMadeByLines}
 use Rattle.line_model.specs.WrittenRecords.{AreWhole, records_of_lines}
 use Rattle.ring_steps.specs.declared.rule.Shape.{Shape}
-use Rattle.ring_shared.specs.Value.{WriterValue, ReaderValue}
+use Rattle.ring_shared.specs.Value.{WriterValue}
 use Rattle.ring_shared.specs.Calls.{IsWriter}
 use Rattle.ring_shared.specs.Takes.{SameRing}
 use Rattle.ring_shared.specs.NewEnds.{AreNewEnds}
@@ -18,12 +18,12 @@ use Rattle.trace_script.specs.declared.replay_fault.ReplayFault.{ReplayFault}
 use Rattle.trace_script.specs.declared.replay_fault.ReplayFault.TheVariants.{GateShut}
 use Rattle.line_writer.specs.declared.gate.Who.{Who}
 use Rattle.line_writer.specs.declared.gate.Who.TheVariants as who
-use Rattle.line_writer.specs.Obeying.{HasObeyed, Obeys}
+use Rattle.line_writer.specs.Obeying.{HasObeyed}
 use Rattle.reader_end.specs.Value.{ReaderEndValue}
 use Rattle.threaded_run.specs.declared.reading.Stop.{Stop}
 use Rattle.threaded_run.specs.declared.reading.Stop.TheVariants.{Shut}
 use Rattle.threaded_run.specs.Runs.{shape_of, lines_of, IsRunHistory}
-use Rattle.threaded_run.specs.Taking.{IsStop, HasTaken}
+use Rattle.threaded_run.specs.Taking.{IsStop}
 use Rattle.threaded_run.specs.Threads.{RunningValue, IsByGate, IsJoined}
 
 -- ---- the gate

@@ -1,5 +1,5 @@
 -- The ledgers of a run are those of rings.
-use Rattle.std.specs.Prelude.{◌⊎◌, vec_len, map, Option, Some, None}
+use Rattle.std.specs.Prelude.{vec_len, map, Some}
 use Rattle.std.specs.List.{slice_get}
 use Rattle.std.proofs.Common.{◌≡◌, ℕ, zero, suc, ◌+◌, ◌<◌, List, [], ◌∷◌, length, refl, subst, sym, ap, ◌∙◌, inl, inr, arith}
 use Rattle.std.proofs.lemmas.Option.{slice_get_cases}
@@ -11,9 +11,8 @@ use Rattle.script_model.specs.Script.{Script}
 use Rattle.link_marks.specs.Reached.{IsReached}
 use Rattle.ring_steps.specs.Views.{Writing}
 use Rattle.run_audit.specs.declared.ledger.Ledger.{Ledger}
-use Rattle.run_audit.specs.Headline.{AreOfRings}
 use Rattle.threaded_run.specs.declared.running.Ran.{Ran}
-use Rattle.threaded_run.specs.Runs.{shape_of, IsRunHistory, IsRunLedger, ring_of, IsRan}
+use Rattle.threaded_run.specs.Runs.{IsRunHistory, IsRunLedger, ring_of, IsRan}
 use Rattle.threaded_run.specs.Threads.{AreRunLedgers}
 
 -- a state for a CPU that has no ring

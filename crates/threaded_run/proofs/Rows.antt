@@ -1,5 +1,5 @@
 -- Threads and ledgers of CPUs in a row, one more after the others.
-use Rattle.std.specs.Prelude.{Result, Ok, Err, Vec, vec_len, IfOk, IfErr, ◌⊎◌}
+use Rattle.std.specs.Prelude.{Result, Ok, Err, Vec, vec_len, IfOk, IfErr}
 use Rattle.std.specs.declared.alloc.Global.{Global}
 use Rattle.std.proofs.Common.{◌≡◌, ℕ, suc, ◌+◌, List, [], ◌∷◌, ◌++◌, length, subst, sym, inl, inr, arith}
 use Rattle.script_model.specs.Script.{Script}

@@ -1,4 +1,4 @@
-use Rattle.std.proofs.Common.{◌+◌, ℕ, sym, ap, ◌∙◌, arith}
+use Rattle.std.proofs.Common.{sym, ◌∙◌, arith}
 use Rattle.threaded_run.proofs.Rows.{running_pushed}
 use Rattle.threaded_run.proofs.rings.start_rings.Goals as goal
 
