@@ -64,11 +64,11 @@ class Runs:
     def medians(self, figure):
         return [median(getattr(run, figure) for run in runs) for runs in self.by_program]
 
-    def compared(self, figure, times):
+    def compared(self, what, figure, times):
         """A line of a table: ours, the best rival's with their ratio and its limit, and that of equal lines."""
         ours, best, wide = self.medians(figure)
-        line = tables.compared(f"{self.name}: {figure}", ours, best, times=times, digits=1)
-        return f"{line.replace(f': {figure}', '')} {wide:,.1f} | {ours / wide:.2f} |"
+        line = tables.compared(f"{what} of {self.name}", ours, best, times=times, digits=1)
+        return f"{line.replace(f'{what} of ', '')} {wide:,.1f} | {ours / wide:.2f} |"
 
 
 def writer_instructions(folder, program, length, *words):
@@ -93,13 +93,13 @@ def run(folder):
     yield ""
     yield from compared_head("Milliseconds")
     for runs in found:
-        yield runs.compared("milliseconds", TIME)
+        yield runs.compared("time", "milliseconds", TIME)
     yield ""
     yield "The most memory from the beginning of the run on, with the script, in megabytes: the median of the same runs."
     yield ""
     yield from compared_head("Megabytes")
     for runs in found:
-        yield runs.compared("most", MEMORY)
+        yield runs.compared("memory", "most", MEMORY)
     yield ""
     yield "How far that is above the memory at the beginning, in megabytes; and how many of the records were taken, in"
     yield "percent, as the threads happened to meet."
