@@ -1,10 +1,14 @@
 //! What a stack does by itself, which no exchange with a ring can tell: the rows of a ring are in the text that
 //! `ring_rows` reads.
+ghost use Rattle.std.specs.Prelude.{IfOk};
+ghost use Rattle.nested_writer.specs.IsStack.{Stands};
+
 use nested_writer::Wrote::{Nothing, Record};
 use nested_writer::{Allot, Ended, WriteFault, WriterStack};
 use page_image::Body;
+use std::process::Abort;
 use std::test::Fail;
-use trace_model::LINK_FILLS;
+use trace_model::{LINK_FILLS, NoMemory};
 
 /// Nothing is written at once above a frame, nor once one was ended and stays; and that one reserves nothing more.
 #[test]
@@ -41,9 +45,10 @@ fn a_record_written_alone_leaves_no_frame(rt: HostRuntime) -> Result<(), Fail> {
     Ok(())
 }
 
-/// A close frame that needed no page needs one once a record came, which a frame of a ring gives no time for.
-#[test]
-fn a_close_frame_needs_a_page_once_a_record_came(rt: HostRuntime) -> Result<(), Fail> {
+/// A stack of 4 pages whose one frame, a close frame, needed no page until a record came.
+fn late_to_close(rt: &(impl Abort + AllocGlobal)) -> Result<WriterStack, NoMemory>
+    ensures { IfOk result (λ stack. Stands stack) }
+{
     let mut stack = WriterStack::new(rt.alloc(), 4, 32)?;
     assert!(rt; stack.begin_close() == Ok(()));
     assert!(rt; matches!(stack.allot(), Ok(Allot::Fits(_))));
@@ -52,13 +57,29 @@ fn a_close_frame_needs_a_page_once_a_record_came(rt: HostRuntime) -> Result<(), 
     assert!(rt; stack.end() == Ok(Ended::Pending));
     assert!(rt; matches!(stack.allot(), Ok(Allot::NeedsPage)));
     assert!(rt; stack.end() == Err(WriteFault::NotReserved));
+    Ok(stack)
+}
+
+/// The page is added, and the frame on top, which needed it, is ended.
+fn end_with_page(rt: &impl Abort, stack: &mut WriterStack, body: Body)
+    requires { Stands stack.old }
+    ensures { Stands stack.new }
+{
     assert!(rt; stack.awaits_page());
-    assert!(rt; stack.size() == 32);
+    assert!(rt; stack.size() == body.size());
     assert!(rt; stack.opened() - stack.done() < stack.pages() as u64);
     assert!(rt; stack.opened() + (stack.pages() as u64) < LINK_FILLS);
-    stack.add_page(Body::new(rt.alloc(), 32)?);
+    stack.add_page(body);
     assert!(rt; matches!(stack.allot(), Ok(Allot::Fits(_))));
     assert!(rt; stack.end() == Ok(Ended::Full));
+}
+
+/// A close frame that needed no page needs one once a record came, which a frame of a ring gives no time for.
+#[test]
+fn a_close_frame_needs_a_page_once_a_record_came(rt: HostRuntime) -> Result<(), Fail> {
+    let body = Body::new(rt.alloc(), 32)?;
+    let mut stack = late_to_close(&rt)?;
+    end_with_page(&rt, &mut stack, body);
     assert!(rt; stack.is_at_bottom());
     assert!(rt; stack.opened() - stack.done() > 1);
     let page = stack.drop_front();
