@@ -6,6 +6,7 @@
 mod body;
 mod count;
 mod image;
+pub mod laws;
 mod page;
 mod places;
 mod put;

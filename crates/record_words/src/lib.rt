@@ -6,6 +6,7 @@
 
 mod copy;
 mod format;
+pub mod laws;
 mod next;
 mod put;
 mod size;
