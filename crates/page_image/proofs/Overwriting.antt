@@ -1,15 +1,17 @@
 -- A part of a body written anew, as a page's data sees it.
-use Rattle.std.proofs.Common.{◌≡◌, ℕ, ◌+◌, ◌-◌, ◌≤◌, List, ◌++◌, length, take, drop, sym, ap, ◌∙◌, subst, arith, rules}
+use Rattle.std.proofs.Common.{◌≡◌, ℕ, ◌+◌, ◌-◌, ◌≤◌, List, [], ◌∷◌, ◌++◌, length, take, drop, Option, IfSome, refl, sym, ap, ◌∙◌, subst, arith, rules}
 use Rattle.std.proofs.lemmas.List.{same_lists, places, take_all}
 use Rattle.trace_model.specs.Record.{Record}
-use Rattle.trace_model.specs.Words.{Decodes}
+use Rattle.trace_model.specs.Words.{Decodes, records_of}
+use Rattle.trace_model.specs.Order.{moment_of_last}
 use Rattle.trace_model.specs.Reading.{IsPlaceIn, EndsInRecord, records_in}
 use Rattle.trace_model.specs.Overwriting.{overwritten, bytes_at, IsReplacedAt, IsPlaceOf}
 use Rattle.trace_model.proofs.Unique.{records_in-Decodes}
 use Rattle.trace_model.proofs.Overwritten.{length-overwritten}
 use Rattle.trace_model.proofs.Places.{overwritten-reads, EndsInRecord-overwritten, IsPlaceOf-overwritten, Decodes-overwritten, records_in-overwritten_end}
-use Rattle.page_image.specs.Contents.{Contents, records_of_page}
+use Rattle.page_image.specs.Contents.{Contents, IsPage, is_blank, records_of_page}
 use Rattle.page_image.specs.Lending.{PayloadWritten}
+use Rattle.page_image.proofs.Putting.{place_of}
 
 pub written_within : (items part : List ℕ) (end start n : ℕ) → start ≤ end → end ≤ length items → n ≡ length items →
     take end (take n ((take start items ++ (part ++ drop (length part) (drop start items))) ++ drop (length (take start items ++ (part ++ drop (length part) (drop start items)))) items)) ≡ take (length (take end items)) (overwritten (take end items) start part)
@@ -21,6 +23,25 @@ pub range_within : (items : List ℕ) (end start len : ℕ) → start + len ≤ 
 range_within items end start len within =
     same_lists _ _ (search (rules, places)) (λ k d h. grind (arith, places))
 
+-- the moment of the last record is the same if one has other bytes
+moment_of_last-replaced : (front behind : List Record) (m : ℕ) (old new : List ℕ) → moment_of_last (front ++ record { moment = m; bytes = old } ∷ behind) ≡ moment_of_last (front ++ record { moment = m; bytes = new } ∷ behind)
+moment_of_last-replaced [] [] m old new = refl
+moment_of_last-replaced [] (r ∷ behind) m old new = refl
+moment_of_last-replaced (r ∷ []) behind m old new = moment_of_last-replaced [] behind m old new
+moment_of_last-replaced (r ∷ (s ∷ front)) behind m old new = moment_of_last-replaced (s ∷ front) behind m old new
+
+-- the last record has its moment still
+last_replaced : (number : ℕ) (records others : List Record) (old new : List ℕ) → IsReplacedAt number records others old new → moment_of_last records ≡ moment_of_last others
+last_replaced number records others old new is =
+    ap moment_of_last is.was ∙ moment_of_last-replaced is.front is.behind is.moment old new ∙ sym (ap moment_of_last is.is)
+
+-- bytes as many as others are blank if those are
+is_blank-as_long : (bytes others : List ℕ) → length bytes ≡ length others → is_blank bytes ≡ is_blank others
+is_blank-as_long [] [] same = refl
+is_blank-as_long [] (b ∷ others) same = absurd (omega arith)
+is_blank-as_long (a ∷ bytes) [] same = absurd (omega arith)
+is_blank-as_long (a ∷ bytes) (b ∷ others) same = refl
+
 -- a payload of the right length written anew
 pub payload_written : (page : Contents) (start len : ℕ) (part : List ℕ) → IsPlaceIn page.bytes start len → length part ≡ len → PayloadWritten page start part
 payload_written page start len part p fills =
@@ -28,8 +49,19 @@ payload_written page start len part p fills =
     let new : List ℕ = overwritten bytes start part in
     let kept : length new ≡ length bytes = length-overwritten bytes start len p part fills in
     let same : take (length bytes) new ≡ new = take_all (length bytes) new (omega arith) in
+    let long : length (take (length bytes) new) ≡ length bytes = ap length same ∙ kept in
+    let one : IsPage page → (number : ℕ) → IsPlaceOf bytes number start (length part)
+    → IsReplacedAt number (records_of_page page) (records_in page.time (take (length bytes) new)) (bytes_at start (length part) bytes) part
+    = λ is number there.
+    let place : IsPlaceOf bytes number start len = subst (IsPlaceOf bytes number start) fills there in
+    let h = Decodes-overwritten bytes page.time (records_of_page page) number start len part place fills is.reads in
+    let found : records_in page.time (take (length bytes) new) ≡ h.0 = ap (records_in page.time) same ∙ records_in-Decodes new page.time h.0 h.1 in
+    subst (λ (n : ℕ). IsReplacedAt number (records_of_page page) (records_in page.time (take (length bytes) new)) (bytes_at start n bytes) part) (sym fills)
+    (subst (λ (rs : List Record). IsReplacedAt number (records_of_page page) rs (bytes_at start len bytes) part) (sym found) h.2) in
     record {
       bytes = same;
+      length_stays = long;
+      blank_stays = is_blank-as_long (take (length bytes) new) bytes long;
       page_reads = λ is. let h = overwritten-reads bytes page.time (records_of_page page) start len part p fills is.reads in record {
         reads = subst (λ (b : List ℕ). Decodes b page.time (records_in page.time b)) (sym same) h.0;
         counted = is.counted ∙ sym h.1 ∙ ap (λ (b : List ℕ). length (records_in page.time b)) (sym same);
@@ -37,12 +69,13 @@ payload_written page start len part p fills =
       };
       open_stays = λ ends. subst EndsInRecord (sym same) (EndsInRecord-overwritten bytes start len part p fills ends);
       places_stay = λ number at size there. subst (λ (b : List ℕ). IsPlaceOf b number at size) (sym same) (IsPlaceOf-overwritten bytes number at size start len part there p fills);
-      one_record = λ is number there.
-          let place : IsPlaceOf bytes number start len = subst (IsPlaceOf bytes number start) fills there in
-          let h = Decodes-overwritten bytes page.time (records_of_page page) number start len part place fills is.reads in
-          let found : records_in page.time (take (length bytes) new) ≡ h.0 = ap (records_in page.time) same ∙ records_in-Decodes new page.time h.0 h.1 in
-          subst (λ (n : ℕ). IsReplacedAt number (records_of_page page) (records_in page.time (take (length bytes) new)) (bytes_at start n bytes) part) (sym fills)
-          (subst (λ (rs : List Record). IsReplacedAt number (records_of_page page) rs (bytes_at start len bytes) part) (sym found) h.2);
+      payloads_stay = λ at size there.
+          (subst (λ (b : List ℕ). IsPlaceOf b (length (records_of 0 there.front)) at size) (sym same)
+          (IsPlaceOf-overwritten bytes _ at size start len part (place_of bytes at size there) p fills)).place;
+      last_stays = λ is prev last.
+          let own : IsPlaceOf bytes (length (records_of 0 p.front)) start (length part) = subst (IsPlaceOf bytes (length (records_of 0 p.front)) start) (sym fills) (place_of bytes start len p) in
+          subst (λ (o : Option ℕ). IfSome o (λ m. m ≡ prev)) (last_replaced _ _ _ _ _ (one is _ own)) last;
+      one_record = one;
       last_record = λ is ends front r was.
           ap (records_in page.time) same
           ∙ records_in-overwritten_end bytes page.time front r start len part p (ap (λ (n : ℕ). start + n) (sym fills) ∙ ends) fills (subst (Decodes bytes page.time) was is.reads);

@@ -175,6 +175,7 @@ pub record PutPage (old new : Contents) (prev moment : ℕ) (payload : List ℕ)
   pub place : IsPlaceIn new.bytes start (length payload)
   pub number : IsPage old → IsPlaceOf new.bytes old.count start (length payload)
   pub places_stay : (number at size : ℕ) → IsPlaceOf old.bytes number at size → IsPlaceOf new.bytes number at size
+  pub last : IsPage old → IfSome (moment_of_last (records_of_page new)) (λ last. last ≡ moment)
 
 pub put_page : (old new : Contents) (prev moment : ℕ) (payload : List ℕ) (start : ℕ) → EndsInRecord old.bytes → IfSome (moment_of_last (records_of_page old)) (λ last. last ≡ prev) → prev ≤ moment → moment < MOMENT_LIMIT → IsSlot payload
     → new.bytes ≡ old.bytes ++ encoding (moment - prev) (is_blank old.bytes) payload → new.time ≡ cond (is_blank old.bytes) moment old.time → new.count ≡ old.count + 1 → start + length payload ≡ length new.bytes
@@ -199,4 +200,14 @@ put_page old new prev moment payload start ends last order small slot bytes_is t
           (subst (λ (n : ℕ). IsPlaceOf (old.bytes ++ encoding (moment - prev) (is_blank old.bytes) payload) n start (length payload)) (sym page.counted)
           (put_number old.bytes old.time prev moment payload start ends page.reads small slot (end_is ∙ ap length bytes_is)));
       places_stay = λ number at size there. subst (λ (b : List ℕ). IsPlaceOf b number at size) (sym bytes_is) (put_places_stay old.bytes prev moment payload ends small slot number at size there);
+      last = λ page. subst (λ (o : Option ℕ). IfSome o (λ last. last ≡ moment)) (sym (ap moment_of_last (now page) ∙ moment_of_last-push (records_of_page old) r)) refl;
     }
+
+-- data of some length isn't blank
+pub not_blank : (bytes : List ℕ) → 4 ≤ length bytes → is_blank bytes ≡ false
+not_blank [] some = absurd (omega arith)
+not_blank (byte ∷ bytes) some = refl
+
+-- a payload's place has a number
+pub place_of : (bytes : List ℕ) (start len : ℕ) → (place : IsPlaceIn bytes start len) → IsPlaceOf bytes (length (records_of 0 place.front)) start len
+place_of bytes start len place = record { place = place; number_is = refl }

@@ -1,10 +1,11 @@
 -- A payload that a page lends out to be written.
-use Rattle.std.specs.Prelude.{◌≡◌, ℕ, ◌+◌, List, [], ◌∷◌, ◌++◌, length, take}
+use Rattle.std.specs.Prelude.{◌≡◌, ℕ, ◌+◌, List, [], ◌∷◌, ◌++◌, length, take, IfSome}
 use Rattle.std.specs.Borrow.{Lends, MutBor, Fml, Array, u8}
 use Rattle.trace_model.specs.Record.{Record}
-use Rattle.trace_model.specs.Reading.{EndsInRecord}
+use Rattle.trace_model.specs.Reading.{EndsInRecord, IsPlaceIn}
+use Rattle.trace_model.specs.Order.{moment_of_last}
 use Rattle.trace_model.specs.Overwriting.{overwritten, bytes_at, IsReplacedAt, IsPlaceOf}
-use Rattle.page_image.specs.Contents.{Contents, IsPage, records_of_page}
+use Rattle.page_image.specs.Contents.{Contents, IsPage, is_blank, records_of_page}
 use Rattle.page_image.specs.contracts.page.Page.{the_row}
 
 -- the page whose bytes from start on are these, as far as the data reaches
@@ -19,12 +20,21 @@ LendsPayload page start result = Lends the_row (Array u8 0) page result (with_pa
 -- others are as they were, in their places.
 pub record PayloadWritten (page : Contents) (start : ℕ) (part : List ℕ) : Type 0 where
   pub bytes : (with_payload page start part).bytes ≡ overwritten page.bytes start part
+  pub length_stays : length (with_payload page start part).bytes ≡ length page.bytes
+  pub blank_stays : is_blank (with_payload page start part).bytes ≡ is_blank page.bytes
   pub page_reads : IsPage page → IsPage (with_payload page start part)
   pub open_stays : EndsInRecord page.bytes → EndsInRecord (with_payload page start part).bytes
   pub places_stay :
       (number at len : ℕ)
       → IsPlaceOf page.bytes number at len
       → IsPlaceOf (with_payload page start part).bytes number at len
+  pub payloads_stay :
+      (at len : ℕ) → IsPlaceIn page.bytes at len → IsPlaceIn (with_payload page start part).bytes at len
+  pub last_stays :
+      IsPage page
+      → (prev : ℕ)
+      → IfSome (moment_of_last (records_of_page page)) (λ last. last ≡ prev)
+      → IfSome (moment_of_last (records_of_page (with_payload page start part))) (λ last. last ≡ prev)
   pub one_record :
       IsPage page
       → (number : ℕ)

@@ -101,6 +101,11 @@ impl Page {
         ensures first { self.new.first ≡ self.old.first }
         ensures fill { self.new.fill ≡ self.old.fill }
         ensures size { self.new.size ≡ self.old.size }
+        ensures longer { length self.new.bytes
+            ≡ length self.old.bytes + encoded_len len (moment - prev) (is_blank self.old.bytes) }
+        ensures filled { is_blank self.new.bytes ≡ false }
+        ensures last { IsPage self.old
+            → IfSome (moment_of_last (records_of_page self.new)) (λ last. last ≡ moment) }
         ensures open { EndsInRecord self.new.bytes }
         ensures place { IsPlaceIn self.new.bytes result.start result.len }
         ensures number { IsPage self.old
@@ -108,6 +113,9 @@ impl Page {
         ensures places_stay { (number start len : ℕ)
             → IsPlaceOf self.old.bytes number start len
             → IsPlaceOf self.new.bytes number start len }
+        ensures payloads_stay { (start len : ℕ)
+            → IsPlaceIn self.old.bytes start len
+            → IsPlaceIn self.new.bytes start len }
         ensures end { result.start + result.len ≡ length self.new.bytes }
         ensures len { result.len ≡ slot_len len }
     {
@@ -138,6 +146,11 @@ impl Page {
         ensures first { self.new.first ≡ self.old.first }
         ensures fill { self.new.fill ≡ self.old.fill }
         ensures size { self.new.size ≡ self.old.size }
+        ensures longer { length self.new.bytes
+            ≡ length self.old.bytes + encoded_len len (moment - prev) (is_blank self.old.bytes) }
+        ensures filled { is_blank self.new.bytes ≡ false }
+        ensures last { IsPage self.old
+            → IfSome (moment_of_last (records_of_page self.new)) (λ last. last ≡ moment) }
         ensures open { EndsInRecord self.new.bytes }
         ensures place { IsPlaceIn self.new.bytes result.start result.len }
         ensures number { IsPage self.old
@@ -145,6 +158,9 @@ impl Page {
         ensures places_stay { (number start len : ℕ)
             → IsPlaceOf self.old.bytes number start len
             → IsPlaceOf self.new.bytes number start len }
+        ensures payloads_stay { (start len : ℕ)
+            → IsPlaceIn self.old.bytes start len
+            → IsPlaceIn self.new.bytes start len }
         ensures end { result.start + result.len ≡ length self.new.bytes }
         ensures len { result.len ≡ slot_len len }
     {
@@ -185,6 +201,11 @@ impl Page {
         ensures first { self.new.first ≡ self.old.first }
         ensures fill { self.new.fill ≡ self.old.fill }
         ensures size { self.new.size ≡ self.old.size }
+        ensures longer { length self.new.bytes
+            ≡ length self.old.bytes + encoded_len len (moment - prev) (is_blank self.old.bytes) }
+        ensures filled { is_blank self.new.bytes ≡ false }
+        ensures last { IsPage self.old
+            → IfSome (moment_of_last (records_of_page self.new)) (λ last. last ≡ moment) }
         ensures open { EndsInRecord self.new.bytes }
         ensures place { IsPlaceIn self.new.bytes result.start result.len }
         ensures number { IsPage self.old
@@ -192,6 +213,9 @@ impl Page {
         ensures places_stay { (number start len : ℕ)
             → IsPlaceOf self.old.bytes number start len
             → IsPlaceOf self.new.bytes number start len }
+        ensures payloads_stay { (start len : ℕ)
+            → IsPlaceIn self.old.bytes start len
+            → IsPlaceIn self.new.bytes start len }
         ensures end { result.start + result.len ≡ length self.new.bytes }
         ensures len { result.len ≡ slot_len len }
     {
@@ -232,6 +256,11 @@ impl Page {
         ensures first { self.new.first ≡ self.old.first }
         ensures fill { self.new.fill ≡ self.old.fill }
         ensures size { self.new.size ≡ self.old.size }
+        ensures longer { length self.new.bytes
+            ≡ length self.old.bytes + encoded_len (length payload.now) (moment - prev) (is_blank self.old.bytes) }
+        ensures filled { is_blank self.new.bytes ≡ false }
+        ensures last { IsPage self.old
+            → IfSome (moment_of_last (records_of_page self.new)) (λ last. last ≡ moment) }
         ensures open { EndsInRecord self.new.bytes }
         ensures place { IsPlaceIn self.new.bytes result.start result.len }
         ensures number { IsPage self.old
@@ -239,6 +268,9 @@ impl Page {
         ensures places_stay { (number start len : ℕ)
             → IsPlaceOf self.old.bytes number start len
             → IsPlaceOf self.new.bytes number start len }
+        ensures payloads_stay { (start len : ℕ)
+            → IsPlaceIn self.old.bytes start len
+            → IsPlaceIn self.new.bytes start len }
         ensures end { result.start + result.len ≡ length self.new.bytes }
         ensures len { result.len ≡ slot_len (length payload.now) }
     {

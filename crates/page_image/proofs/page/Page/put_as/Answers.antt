@@ -9,7 +9,7 @@ use Rattle.trace_model.specs.Overwriting.{IsPlaceOf}
 use Rattle.trace_model.specs.Order.{moment_of_last}
 use Rattle.page_image.specs.Contents.{Contents, IsPage, is_blank, records_of_page}
 use Rattle.trace_model.specs.declared.limits.TheConstants.{MAX_SIZE}
-use Rattle.page_image.proofs.Putting.{PutPage, IsSlot-of, put_page, encoded_len_ge}
+use Rattle.page_image.proofs.Putting.{PutPage, IsSlot-of, put_page, encoded_len_ge, not_blank, place_of}
 use Rattle.page_image.proofs.page.Page.put_as.Goals as goal
 use Rattle.page_image.proofs.page.Page.put_as.Goals.{then-is_first, else-is_first, After-self-4-1}
 
@@ -107,3 +107,22 @@ returns-clause-number c = λ page. subst (IsPlaceOf (now c).bytes c.args.self.no
 
 pub returns-clause-places_stay : goal.returns-clause-places_stay
 returns-clause-places_stay c = λ number start len there. (whole c).places_stay number start len (subst (λ (p : Contents). IsPlaceOf p.bytes number start len) (sym c.self.view_is) there)
+
+long : (c : After-self-4-1) → length (now c).bytes ≡ length c.args.self.now.bytes + encoded_len c.args.len (c.args.moment - c.args.prev) (is_blank c.args.self.now.bytes)
+long c =
+    let w = wrote c in
+    length-take-le _ (with_items c.self.inside.body c.put_behind_as-place.new.body).items (omega (arith, w.room, w.items)) ∙ w.end ∙ ap (λ (p : Contents). length p.bytes + encoded_len c.args.len (c.args.moment - c.args.prev) (is_blank p.bytes)) c.self.view_is
+
+pub returns-clause-longer : goal.returns-clause-longer
+returns-clause-longer c = long c
+
+pub returns-clause-filled : goal.returns-clause-filled
+returns-clause-filled c = not_blank (now c).bytes (omega (arith, long c, encoded_len_ge c.args.len (c.args.moment - c.args.prev) (is_blank c.args.self.now.bytes)))
+
+pub returns-clause-last : goal.returns-clause-last
+returns-clause-last c = λ page. (whole c).last (subst IsPage (sym c.self.view_is) page)
+
+pub returns-clause-payloads_stay : goal.returns-clause-payloads_stay
+returns-clause-payloads_stay c = λ start len there.
+    let before : IsPlaceIn (was c).bytes start len = subst (λ (p : Contents). IsPlaceIn p.bytes start len) (sym c.self.view_is) there in
+    ((whole c).places_stay _ start len (place_of (was c).bytes start len before)).place
