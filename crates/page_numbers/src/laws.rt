@@ -1,0 +1,9 @@
+//! The numbers of a parcel's bytes, each by its value.
+ghost use Rattle.std.specs.Prelude.{◌≡◌};
+ghost use Rattle.page_numbers.specs.declared.numbers.TheConstants.{MIN_PARCEL, NUMBERS};
+
+/// The numbers have these values. The contracts name them, so that one that is changed is refused here.
+pub fn constants_are()
+    ensures numbers { NUMBERS ≡ 32 }
+    ensures min_parcel { MIN_PARCEL ≡ 48 }
+{}
