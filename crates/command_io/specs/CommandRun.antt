@@ -1,8 +1,9 @@
 -- What a run of a command does with its two ends, and which exit status it gives.
-use Rattle.std.specs.Prelude.{◌≡◌, ℕ, ◌<◌, ◌≤◌, ◌⊎◌, Bool, true, false, List, length, take, Option}
+use Rattle.std.specs.Prelude.{◌≡◌, ℕ, ◌+◌, ◌<◌, ◌≤◌, ◌⊎◌, Bool, true, false, List, length, take, Option}
 use Rattle.std.specs.Io.KnownBytes.{Appends, Consumes, IsAtEnd, Keeps}
 use Rattle.trace_model.specs.declared.limits.TheConstants.{MAX_INPUT}
 use Rattle.command_io.specs.declared.command.TheConstants.{MEMORY_LINE}
+use Rattle.command_io.specs.declared.input.TheConstants.{READ_CHUNK}
 use Rattle.command_io.specs.declared.status.TheConstants.{DONE, REFUSED, NO_MEMORY, END_FAILED}
 
 -- In what follows the source has `unread` before the run and `left` after it, and the sink `contents` before it
@@ -82,6 +83,8 @@ pub record IsCommandRun (gives : List ℕ → List ℕ → ℕ → Type 0)
     (unread left contents contents_after : Option (List ℕ)) (count count_after : ℕ) (read_failed write_failed : Bool)
     (status : ℕ)
     : Type 0 where
+  -- of the source at most the limit and one chunk are read
+  pub bounded : count_after ≤ count + MAX_INPUT + READ_CHUNK
   -- no other exit status comes
   pub one_of : (status ≡ DONE) ⊎ (status ≡ REFUSED) ⊎ (status ≡ NO_MEMORY) ⊎ (status ≡ END_FAILED)
   -- 0 and 1: all of the source was read and all of an output for it was written, which has this status

@@ -1,12 +1,12 @@
 //! What every command does with its two ends: it reads all of its source, makes its output of that text
 //! as a whole, and writes it to the sink. Nothing is written before the output stands.
-ghost use Rattle.std.specs.Prelude.{◌≡◌, ℕ, ◌<◌, ◌↔◌, ⊤, false, true, List, Err, IfOk};
+ghost use Rattle.std.specs.Prelude.{◌≡◌, ℕ, ◌+◌, ◌<◌, ◌≤◌, ◌↔◌, ⊤, false, true, List, Err, IfOk};
 ghost use Rattle.std.specs.Io.KnownBytes.{Appends};
 ghost use Rattle.command_io.specs.CommandRun.{AppendsPrefix, IsCommandRun, IsOutput, TakesAtMost, TakesMoreThan};
 ghost use Rattle.command_io.specs.Output.{bytes_of, status_of};
 
 use crate::ends::{Sink, Source};
-use crate::input::{InputFault, read_all};
+use crate::input::{InputFault, READ_CHUNK, read_all};
 use crate::output::{Output, write_all};
 use crate::status::{END_FAILED, NO_MEMORY};
 use std::alloc::Global;
@@ -45,6 +45,7 @@ fn output_for<C: Command, R: Source>(
     ensures counted { R.count reader.old ≡ 0 → MAX_INPUT < R.count reader.new → result ≡ Err InputFault.TooLong }
     ensures no_memory { result ≡ Err InputFault.NoMemory
         → TakesAtMost MAX_INPUT (R.remaining reader.old) (R.remaining reader.new) }
+    ensures bounded { R.count reader.new ≤ R.count reader.old + MAX_INPUT + READ_CHUNK }
 {
     let text = read_all(alloc, reader)?;
     match command.output(alloc, text) {

@@ -6,8 +6,8 @@ use crate::ends::Source;
 use std::alloc::Global;
 use trace_model::MAX_INPUT;
 
-/// How many bytes are asked for at a time.
-const CHUNK: usize = 65536;
+/// How many bytes are asked for at a time, and so how many may be read past the limit.
+pub const READ_CHUNK: usize = 65536;
 
 /// Why there is no input.
 #[derive(Clone, Copy, Debug, PartialEq, Eq)]
@@ -22,10 +22,10 @@ pub enum InputFault {
 
 // Room for one chunk.
 fn new_chunk(alloc: Global) -> Result<Vec<u8>, InputFault>
-    ensures room { IfOk result (λ chunk. vec_len chunk ≡ CHUNK) }
+    ensures room { IfOk result (λ chunk. vec_len chunk ≡ READ_CHUNK) }
     ensures refused { IfErr result (λ fault. fault ≡ InputFault.NoMemory) }
 {
-    match vec![in alloc; 0u8; CHUNK] {
+    match vec![in alloc; 0u8; READ_CHUNK] {
         Ok(chunk) => Ok(chunk),
         Err(_) => Err(InputFault::NoMemory),
     }
@@ -50,7 +50,8 @@ fn add_chunk(text: &mut Vec<u8>, chunk: &[u8]) -> Result<(), InputFault>
     }
 }
 
-/// All that the reader gives, at most [`MAX_INPUT`] bytes. Nothing more is read behind the first fault.
+/// All that the reader gives, at most [`MAX_INPUT`] bytes. Nothing more is read after the first fault; of an input that is
+/// too long at most [`READ_CHUNK`] bytes are read past the limit.
 pub fn read_all<R: Source>(alloc: Global, reader: &mut R) -> Result<Vec<u8>, InputFault>
     requires { R.failed reader.old ≡ false }
     ensures whole { IfOk result (λ text.
@@ -62,6 +63,7 @@ pub fn read_all<R: Source>(alloc: Global, reader: &mut R) -> Result<Vec<u8>, Inp
     ensures counted { R.count reader.old ≡ 0 → MAX_INPUT < R.count reader.new → result ≡ Err InputFault.TooLong }
     ensures no_memory { result ≡ Err InputFault.NoMemory
         → TakesAtMost MAX_INPUT (R.remaining reader.old) (R.remaining reader.new) }
+    ensures bounded { R.count reader.new ≤ R.count reader.old + MAX_INPUT + READ_CHUNK }
 {
     let mut chunk = new_chunk(alloc)?;
     let mut text = Vec::new(alloc);

@@ -11,6 +11,6 @@ mod status;
 
 pub use command::{Command, MEMORY_LINE, print_memory_line, run_command};
 pub use ends::{Sink, Source, Std};
-pub use input::{InputFault, read_all};
+pub use input::{InputFault, READ_CHUNK, read_all};
 pub use output::{Output, OutputFault, THREAD_LINE, write_all};
 pub use status::{DONE, END_FAILED, NO_MEMORY, REFUSED, USAGE};

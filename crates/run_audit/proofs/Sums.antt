@@ -71,7 +71,7 @@ module _ (n size start : ℕ) (cores : ℕ → Core) (ledgers : List Ledger) (ri
       of_cpu : (parcel : Parcel) → Contains taken parcel → parcel.cpu ≡ cpu
       of_cpu parcel has = let (k, there) = element_at taken parcel has in own cpu ledger at k parcel there
 
-      pub is_kept : IsKept n size start cpu (cores cpu).history kept taken
+      pub is_kept : IsKept n size start cpu (cores cpu) kept taken
       is_kept = record {
         cut = is_cut n size start (cores cpu) reached cpu taken (rings cpu ledger at).1;
         exact = record {

@@ -36,10 +36,11 @@ pub record KeepsExactly (history : List Action) (start : ℕ) (deeds : List Deed
       × Contains taken parcel
       × IsOverwrittenBefore history start deeds parcel.fill number)
 
--- The history of a CPU's ring is cut into the parcels that were taken from it, and of that CPU exactly this is kept.
-pub record IsKept (n size start cpu : ℕ) (history : List Action) (kept taken : List Parcel) : Type 0 where
-  pub cut : IsCut n size start history taken
-  pub exact : KeepsExactly history start cut.deeds cpu kept taken
+-- The history of a CPU's ring is cut into the parcels that were taken from it, by what happened in a run of that ring,
+-- and of that CPU exactly this is kept.
+pub record IsKept (n size start cpu : ℕ) (c : Core) (kept taken : List Parcel) : Type 0 where
+  pub cut : IsCut n size start c taken
+  pub exact : KeepsExactly c.history start cut.deeds cpu kept taken
 
 -- nothing of this CPU is kept
 pub record IsUnknown (cpu : ℕ) (kept : List Parcel) : Type 0 where
@@ -51,5 +52,5 @@ pub record IsUnknown (cpu : ℕ) (kept : List Parcel) : Type 0 where
 pub record IsHeadline (n size start : ℕ) (cores : ℕ → Core) (kept : List Parcel) (ledgers : List Ledger) : Type 0 where
   pub each : (cpu : ℕ) (ledger : Ledger)
       → slice_get ledgers cpu ≡ Some ledger
-      → IsKept n size start cpu (cores cpu).history kept ledger.taken.items
+      → IsKept n size start cpu (cores cpu) kept ledger.taken.items
   pub no_others : (cpu : ℕ) → length ledgers ≤ cpu → IsUnknown cpu kept

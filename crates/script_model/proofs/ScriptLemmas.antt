@@ -148,11 +148,11 @@ faulty_command_read cpus collectors lines e f =
 
 -- ---- the start line
 -- what stands in front of the commands, and the lines behind it: where nothing does, none of them is a start line
-record StartRead (pages : ℕ) (lines : List NumberedLine) (x : Start) : Type 0 where
-  start_line : List NumberedLine
-  cut : lines ≡ start_line ++ x.1
-  gives : GivesStart pages start_line x.0
-  no_start : length start_line ≡ 0 → BeginsNoStart x.1
+pub record StartRead (pages : ℕ) (lines : List NumberedLine) (x : Start) : Type 0 where
+  pub start_line : List NumberedLine
+  pub cut : lines ≡ start_line ++ x.1
+  pub gives : GivesStart pages start_line x.0
+  pub no_start : length start_line ≡ 0 → BeginsNoStart x.1
 
 -- the first line is a start line whose value is at fault
 record StartFault (pages : ℕ) (lines : List NumberedLine) (e : ℕ × LineFault) : Type 0 where
@@ -197,7 +197,7 @@ start_ok_at pages line lines x false r is given h =
     }
 
 -- what the reader takes for the first fill is given by a start line, or meant without one
-start_ok : (pages : ℕ) (lines : List NumberedLine) (x : Start) → start_from pages lines ≡ Ok x → StartRead pages lines x
+pub start_ok : (pages : ℕ) (lines : List NumberedLine) (x : Start) → start_from pages lines ≡ Ok x → StartRead pages lines x
 unfolding start_from
 start_ok pages [] x h =
     let none : List NumberedLine = [] in

@@ -1,8 +1,9 @@
 //! The lines that the program writes to standard error.
-ghost use Rattle.std.specs.Prelude.{◌≡◌, ◌<◌, ◌≤◌, true, false};
+ghost use Rattle.std.specs.Prelude.{◌≡◌, ◌≢◌, ◌<◌, ◌≤◌, true, false, MatchOption};
 ghost use Rattle.command_io.specs.Ends.{count_of, has_failed};
 
-use command_io::Std;
+use command_io::{END_FAILED, Std, USAGE};
+use std::io::{Read, Write};
 use trace_model::MAX_INPUT;
 
 /// How the program is called.
@@ -31,7 +32,7 @@ pub enum EndFault {
 impl EndFault {
     /// The fault of a command over these two ends, which gave the exit status 4. There is none if neither end failed and
     /// no more was read than may be: then the command printed the line of its fault.
-    pub fn of_ends<R, W>(input: &Std<R>, output: &Std<W>) -> Option<EndFault>
+    pub fn of_ends<R: Read, W: Write>(input: &Std<R>, output: &Std<W>) -> Option<EndFault>
         ensures read { has_failed input.now ≡ true → result ≡ Some EndFault.Read }
         ensures write { has_failed input.now ≡ false → has_failed output.now ≡ true
             → result ≡ Some EndFault.Write }
@@ -62,5 +63,30 @@ impl EndFault {
             EndFault::Write => WRITE_FAILED,
             EndFault::TooLong => INPUT_TOO_LONG,
         }
+    }
+}
+
+/// The line of standard error for an exit status and the ends of the command that gave it. There is none if the work is
+/// done, or if what is wrong was printed.
+pub fn message_for<R: Read, W: Write>(
+    status: u8,
+    input: &Std<R>,
+    output: &Std<W>,
+) -> Option<&'static str>
+    ensures usage { status ≡ USAGE → MatchOption result ⊥ (λ line. line.now ≡ USAGE_LINE.now) }
+    ensures read { status ≡ END_FAILED → has_failed input.now ≡ true
+        → MatchOption result ⊥ (λ line. line.now ≡ READ_FAILED.now) }
+    ensures write { status ≡ END_FAILED → has_failed input.now ≡ false → has_failed output.now ≡ true
+        → MatchOption result ⊥ (λ line. line.now ≡ WRITE_FAILED.now) }
+    ensures too_long { status ≡ END_FAILED → has_failed input.now ≡ false → has_failed output.now ≡ false
+        → MAX_INPUT < count_of input.now → MatchOption result ⊥ (λ line. line.now ≡ INPUT_TOO_LONG.now) }
+    ensures printed { status ≡ END_FAILED → has_failed input.now ≡ false → has_failed output.now ≡ false
+        → count_of input.now ≤ MAX_INPUT → result ≡ None }
+    ensures none { status ≢ USAGE → status ≢ END_FAILED → result ≡ None }
+{
+    match status {
+        USAGE => Some(USAGE_LINE),
+        END_FAILED => EndFault::of_ends(input, output).map(|fault| fault.message()),
+        _ => None,
     }
 }

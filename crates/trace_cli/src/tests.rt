@@ -4,42 +4,42 @@ ghost use Rattle.command_io.specs.declared.status.TheConstants.{END_FAILED as EN
 
 use crate::commands::replay_to;
 use crate::messages::EndFault;
-use command_io::{Command, END_FAILED, NO_MEMORY, Output, REFUSED, Std, run_command};
+use command_io::{Command, END_FAILED, NO_MEMORY, Output, READ_CHUNK, REFUSED, Std, run_command};
 use std::alloc::Global;
 use std::io;
 use std::io::{ErrorKind, Read, Write};
 use std::process::Abort;
-use trace_model::NoMemory;
+use trace_model::{MAX_INPUT, NoMemory};
 
-// An end that moves one byte a call and fails at the call with this number, from 0, and at each behind.
+// An end that moves one byte a call. It fails at the call with this number, from 0, and works before and after.
 #[derive(Drop)]
-struct FailsAt<T> {
+struct FailsOnce<T> {
     inner: T,
-    calls_left: usize,
-    failures: usize,
+    failing: usize,
+    calls: usize,
 }
 
-impl<T> FailsAt<T> {
-    fn new(inner: T, call: usize) -> FailsAt<T> {
-        FailsAt {
+impl<T> FailsOnce<T> {
+    fn new(inner: T, call: usize) -> FailsOnce<T> {
+        FailsOnce {
             inner,
-            calls_left: call,
-            failures: 0,
+            failing: call,
+            calls: 0,
         }
     }
 
-    // Counts this call, and fails if none was left.
+    // Counts this call, and fails if it is the one.
     fn count_call(&mut self) -> io::Result<()> {
-        if self.calls_left == 0 {
-            self.failures = self.failures.saturating_add(1);
+        let call = self.calls;
+        self.calls = call.saturating_add(1);
+        if call == self.failing {
             return Err(io::Error::from(ErrorKind::Other));
         }
-        self.calls_left -= 1;
         Ok(())
     }
 }
 
-impl<T: Read> Read for FailsAt<T> {
+impl<T: Read> Read for FailsOnce<T> {
     fn read(&mut self, buf: &mut [u8]) -> io::Result<usize> {
         self.count_call()?;
         let room = buf.len().min(1);
@@ -47,7 +47,7 @@ impl<T: Read> Read for FailsAt<T> {
     }
 }
 
-impl<T: Write> Write for FailsAt<T> {
+impl<T: Write> Write for FailsOnce<T> {
     fn write(&mut self, buf: &[u8]) -> io::Result<usize> {
         self.count_call()?;
         let room = buf.len().min(1);
@@ -59,23 +59,33 @@ impl<T: Write> Write for FailsAt<T> {
     }
 }
 
-// A reader that never ends.
+// A reader that never ends, and how many bytes it has given.
 #[derive(Drop)]
-struct Endless;
+struct Endless {
+    given: usize,
+}
 
 impl Read for Endless {
     fn read(&mut self, buf: &mut [u8]) -> io::Result<usize> {
+        self.given = self.given.saturating_add(buf.len());
         Ok(buf.len())
     }
 }
 
-// A writer that takes nothing.
+// A writer that takes nothing at its first call, and all after it.
 #[derive(Drop)]
-struct Closed;
+struct BalksOnce {
+    calls: usize,
+}
 
-impl Write for Closed {
-    fn write(&mut self, _buf: &[u8]) -> io::Result<usize> {
-        Ok(0)
+impl Write for BalksOnce {
+    fn write(&mut self, buf: &[u8]) -> io::Result<usize> {
+        let call = self.calls;
+        self.calls = call.saturating_add(1);
+        if call == 0 {
+            return Ok(0);
+        }
+        Ok(buf.len())
     }
 
     fn flush(&mut self) -> io::Result<()> {
@@ -109,43 +119,43 @@ const FAULTY_SCRIPT: &str = "nothing\n";
 
 const FAULT_LINE: &str = "line 1: BadLine\n";
 
-// A read of the script fails: nothing is read behind it, and nothing written.
+// A read of the script fails, and would work if it were tried again: nothing is read after it, and nothing written.
 fn compare_failing_reader(rt: &(impl Abort + AllocGlobal), call: usize) {
     let alloc = rt.alloc();
     let mut text = Vec::new(alloc);
-    let mut failing = FailsAt::new(FAULTY_SCRIPT.as_bytes(), call);
+    let mut failing = FailsOnce::new(FAULTY_SCRIPT.as_bytes(), call);
     let mut reader = Std::new(&mut failing);
     let mut writer = Std::new(&mut text);
     let status = replay_to(alloc, &mut reader, &mut writer, false);
     // Eight bytes and the end take nine reads.
-    let (want, wanted, failures) = if call < 9 {
+    let (want, wanted, calls) = if call < 9 {
         assert_eq!(rt; EndFault::of_ends(&reader, &writer), Some(EndFault::Read));
-        (END_FAILED, "", 1)
+        (END_FAILED, "", call + 1)
     } else {
-        (REFUSED, FAULT_LINE, 0)
+        (REFUSED, FAULT_LINE, 9)
     };
     assert_eq!(rt; status, want, "read {call}");
     assert_eq!(rt; text.as_slice(), wanted.as_bytes(), "read {call}");
-    assert_eq!(rt; failing.failures, failures, "read {call}");
+    assert_eq!(rt; failing.calls, calls, "read {call}");
 }
 
-// A write of the fault's line fails: nothing is written behind it.
+// A write of the fault's line fails, and would work if it were tried again: nothing is written after it.
 fn compare_failing_writer(rt: &(impl Abort + AllocGlobal), call: usize) {
     let alloc = rt.alloc();
     let mut text = Vec::new(alloc);
-    let mut failing = FailsAt::new(&mut text, call);
+    let mut failing = FailsOnce::new(&mut text, call);
     let mut reader = Std::new(FAULTY_SCRIPT.as_bytes());
     let mut writer = Std::new(&mut failing);
     let status = replay_to(alloc, &mut reader, &mut writer, true);
     // The line's sixteen bytes take sixteen writes.
-    let (want, written, failures) = if call < 16 {
+    let (want, written, calls) = if call < 16 {
         assert_eq!(rt; EndFault::of_ends(&reader, &writer), Some(EndFault::Write));
-        (END_FAILED, call, 1)
+        (END_FAILED, call, call + 1)
     } else {
-        (REFUSED, 16, 0)
+        (REFUSED, 16, 16)
     };
     assert_eq!(rt; status, want, "write {call}");
-    assert_eq!(rt; failing.failures, failures, "write {call}");
+    assert_eq!(rt; failing.calls, calls, "write {call}");
     assert_eq!(rt;
         text.as_slice(),
         &FAULT_LINE.as_bytes()[..written],
@@ -163,17 +173,20 @@ fn failing_ends(rt: HostRuntime) {
         compare_failing_writer(&rt, call);
     }
     let mut reader = Std::new(FAULTY_SCRIPT.as_bytes());
-    let mut writer = Std::new(Closed);
-    let closed = replay_to(alloc, &mut reader, &mut writer, false);
-    assert_eq!(rt; closed, END_FAILED);
+    let mut balking = BalksOnce { calls: 0 };
+    let mut writer = Std::new(&mut balking);
+    let status = replay_to(alloc, &mut reader, &mut writer, false);
+    assert_eq!(rt; status, END_FAILED);
     assert_eq!(rt; EndFault::of_ends(&reader, &writer), Some(EndFault::Write));
+    assert_eq!(rt; balking.calls, 1);
 }
 
 #[test]
 fn an_endless_input_is_too_long(rt: HostRuntime) {
     let alloc = rt.alloc();
     let mut text = Vec::new(alloc);
-    let mut reader = Std::new(Endless);
+    let mut endless = Endless { given: 0 };
+    let mut reader = Std::new(&mut endless);
     let mut writer = Std::new(&mut text);
     let status = replay_to(alloc, &mut reader, &mut writer, true);
     assert_eq!(rt; status, END_FAILED);
@@ -182,6 +195,8 @@ fn an_endless_input_is_too_long(rt: HostRuntime) {
         Some(EndFault::TooLong)
     );
     assert_eq!(rt; text.len(), 0);
+    let within = endless.given <= MAX_INPUT + READ_CHUNK;
+    assert!(rt; within);
 }
 
 #[test]

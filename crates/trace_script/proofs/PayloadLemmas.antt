@@ -1,5 +1,5 @@
 -- What pairs of hexadecimal digits spell, digit by digit.
-use Rattle.std.proofs.Common.{◌≡◌, ◌≢◌, ℕ, suc, zero, ◌+◌, ◌-◌, ◌*◌, ◌%◌, ◌<◌, ◌≤◌, ◌⊎◌, true, false, ◌==◌, List, [], ◌∷◌, ◌++◌, length, get_or, take, drop, codes, Ok, Err, refl, sym, ◌∙◌, ap, inl, inr, subst, arith, append_assoc, length-append, length-drop, Fits, w8, w16}
+use Rattle.std.proofs.Common.{◌≡◌, ◌≢◌, ℕ, suc, zero, ◌+◌, ◌-◌, ◌*◌, ◌%◌, ◌<◌, ◌≤◌, ◌⊎◌, true, false, ◌==◌, ◌&&◌, List, [], ◌∷◌, ◌++◌, length, get_or, take, drop, codes, Bor, Result, Ok, Err, refl, sym, ◌∙◌, ap, inl, inr, subst, arith, append_assoc, length-append, length-drop, Fits, w8, w16}
 use Rattle.std.specs.Char.{digit_value, is_digit}
 use Rattle.std.specs.List.{list_all, enumerate_from}
 use Rattle.std.specs.Str.{bytes_eq}
@@ -7,10 +7,11 @@ use Rattle.std.proofs.lemmas.Bool.{ltb-true, lt-ltb, ne_eqb, eqb-true, eqb-false
 use Rattle.std.proofs.lemmas.List.{append-nil, take_rest, drop-drop, get_or-drop}
 use Rattle.std.proofs.lemmas.List.Folds.{list_all-append}
 use Rattle.std.proofs.lemmas.Slice.Eq.{bytes_eq-Decides}
+use Rattle.trace_model.specs.declared.numbers.NoMemory.{NoMemory}
 use Rattle.text_model.specs.Text.{is_hex, bytes_of_pairs}
 use Rattle.text_model.specs.Script.{bad_hex, payload_in}
 use Rattle.trace_script.specs.declared.payload.TheConstants.{HIGH_VALUES, LOW_VALUES}
-use Rattle.trace_script.specs.Decoding.{high_value, low_value, pair_value, ArePut}
+use Rattle.trace_script.specs.Decoding.{high_value, low_value, pair_value, ArePut, BeginsNoPair, PutsPairs}
 use Rattle.trace_script.specs.UsualLines.{IsPayloadCut}
 use Rattle.trace_script.proofs.ValueLemmas.{two_and_rest}
 
@@ -256,7 +257,25 @@ payload_there text left rest old new put feed more =
 pub dash_there : (text rest old : List ℕ) → text ≡ 45 ∷ 10 ∷ rest → IsPayloadCut text rest old old
 dash_there text rest old is = record { field = codes "-"; payload = []; are = is; spells = dash_payload (codes "-") refl; put = sym (append-nil old) }
 
+-- pairs are put, and then those at the front of what is left
+pub pairs_then : (r : Result (Bor (List ℕ)) NoMemory) (text left old between new : List ℕ) → ArePut text left old between → PutsPairs r left between new → PutsPairs r text old new
+pairs_then (Ok rest) text left old between new first (put, ends) = (put_then text left rest.now old between new first put, ends)
+pairs_then (Err e) text left old between new first (some, put) =
+    (bytes_of_pairs first.digits ++ some, put ∙ ap (λ (bs : List ℕ). bs ++ some) first.put ∙ append_assoc old (bytes_of_pairs first.digits) some)
+
 -- ---- a whole field
-pub all_put : (field left old new : List ℕ) → ArePut field left old new → (length left == 0) ≡ true → new ≡ old ++ bytes_of_pairs field
-all_put field [] old new put none = put.put ∙ ap (λ (ds : List ℕ). old ++ bytes_of_pairs ds) (sym (put.cut ∙ append-nil put.digits))
-all_put field (b ∷ left) old new put none = let no = eqb-true (length (b ∷ left)) 0 none in absurd (omega arith)
+-- of an even number of digits, nothing is left that begins with no pair
+pub none_left : (field left old new : List ℕ) → ArePut field left old new → BeginsNoPair left → length field % 2 ≡ 0 → list_all (λ c. is_digit c 16) field ≡ true → left ≡ []
+none_left field [] old new put ends even digits = refl
+none_left field (a ∷ []) old new put ends even digits =
+    let len = length-append put.digits (a ∷ []) in let whole = ap (λ (bs : List ℕ). length bs) put.cut in let front = put.even in absurd (omega (arith, len, whole, front, even))
+none_left field (a ∷ b ∷ left) old new put ends even digits =
+    let all = sym (list_all-append (λ c. is_digit c 16) put.digits (a ∷ b ∷ left)) ∙ ap (list_all (λ c. is_digit c 16)) (sym put.cut) ∙ digits in
+    let rest : list_all (λ c. is_digit c 16) (a ∷ b ∷ left) ≡ true = (and_parts (list_all (λ c. is_digit c 16) put.digits) (list_all (λ c. is_digit c 16) (a ∷ b ∷ left)) all).1 in
+    let one = and_parts (is_digit a 16) (is_digit b 16 && list_all (λ c. is_digit c 16) left) rest in
+    let two = and_parts (is_digit b 16) (list_all (λ c. is_digit c 16) left) one.1 in
+    absurd (both_ways (is_digit a 16 && is_digit b 16) ends (and_from (is_digit a 16) (is_digit b 16) one.0 two.0))
+
+pub all_put : (field left old new : List ℕ) → ArePut field left old new → left ≡ [] → new ≡ old ++ bytes_of_pairs field
+all_put field left old new put none =
+    put.put ∙ ap (λ (ds : List ℕ). old ++ bytes_of_pairs ds) (sym (put.cut ∙ ap (λ (l : List ℕ). put.digits ++ l) none ∙ append-nil put.digits))

@@ -1,5 +1,5 @@
 -- What the reader's functions answer, in the words of the plain reader.
-use Rattle.std.proofs.Common.{◌≡◌, ◌≢◌, ◌==◌, ℕ, true, false, List, [], ◌∷◌, ◌++◌, length, Bor, Result, Ok, Err, IfOk, IfErr, refl, sym, ◌∙◌, ap, subst, arith, append_assoc}
+use Rattle.std.proofs.Common.{◌≡◌, ◌≢◌, ◌==◌, ℕ, ◌<◌, true, false, List, [], ◌∷◌, ◌++◌, length, Bor, Result, Ok, Err, IfOk, IfErr, refl, sym, ◌∙◌, ap, subst, arith, append_assoc, length-append}
 use Rattle.std.proofs.lemmas.Bool.{cond-true, cond-false}
 use Rattle.std.proofs.lemmas.List.{append-nil}
 use Rattle.std.proofs.lemmas.List.Splits.{length-slice_split}
@@ -9,10 +9,12 @@ use Rattle.text_model.specs.Script.{LineFault, NumberedLine, Setting, bad_line, 
 use Rattle.text_model.specs.ScriptReading.{numbered_reading, significant_lines_after, end_line_after, setting_from, settings_from}
 use Rattle.text_model.proofs.ScriptLemmas.{settings_ok}
 use Rattle.script_model.specs.Script as model
-use Rattle.script_model.specs.Script.{Command, ParsesScript, command_in, start_setting, are_of_start, is_start_line}
+use Rattle.script_model.specs.Script.{Command, ParsesScript, SpellCommands, command_in, start_setting, are_of_start, is_start_line}
 use Rattle.script_model.specs.ScriptReading.{commands_from, start_given, start_from, script_from, script_in}
 use Rattle.script_model.specs.ScriptLimits.{IsWithinLimits}
 use Rattle.script_model.proofs.ParsedLimits.{ParsesScript-within}
+use Rattle.script_model.proofs.Readings.{ok_is_no_err}
+use Rattle.script_model.proofs.ScriptLemmas.{start_ok}
 use Rattle.script_model.proofs.ScriptReads.{script_reads, fault_reads}
 use Rattle.trace_script.specs.declared.fault.LineFault as line
 use Rattle.trace_script.specs.declared.fault.LineFault.TheVariants as faults
@@ -22,8 +24,8 @@ use Rattle.trace_script.specs.declared.fields.Fields.{Fields}
 use Rattle.trace_script.specs.declared.fields.Fields.TheVariants.{One, Two, Three, More}
 use Rattle.trace_script.specs.declared.header.Header.{Header}
 use Rattle.trace_script.specs.declared.order.Order.{Order}
-use Rattle.trace_script.specs.Kept.{PutsCommand, PutsCommandAt}
-use Rattle.trace_script.specs.ScriptFaults.{Fails, Gives, FailsAt, GivesAt, HasScriptHeader, TellsFirstFault, fault_at, reading_at}
+use Rattle.trace_script.specs.Kept.{PutsCommand, PutsCommandAt, ReadAs, BeginAsCommands}
+use Rattle.trace_script.specs.ScriptFaults.{Fails, Gives, FailsAt, FailsAtLine, GivesAt, BeginsAsScript, TellsFirstFault, fault_at, reading_at}
 use Rattle.trace_script.specs.ScriptFields.{AreFields}
 use Rattle.trace_script.specs.ScriptTypes.{values_of, script_of}
 
@@ -78,16 +80,23 @@ pub no_value_without_two : (s : Setting) (text : List ℕ) (f : Fields) → is_w
 no_value_without_two s text f spaced are h = value_in_spaced s text spaced ∙ value_of_other s (fields_of text) (not_two text f are h)
 
 -- ---- a line's reading, with its number
-fails_numbered : {X : Type 0} (number : ℕ) (fault : line.LineFault) (read : Result X LineFault) → Fails fault read → FailsAt (fault_at number fault) (numbered_reading number read)
+fails_numbered : {X : Type 0} (number : ℕ) (fault : line.LineFault) (read : Result X LineFault) → Fails fault read → FailsAtLine (fault_at number fault) (numbered_reading number read)
 fails_numbered number faults.BadLine read h = ap (numbered_reading number) h
 fails_numbered number faults.BadNumber read h = ap (numbered_reading number) h
 fails_numbered number faults.BadHex read h = ap (numbered_reading number) h
 fails_numbered number faults.OutOfRange read h = ap (numbered_reading number) h
-fails_numbered number faults.NoMemory read h = tt
+fails_numbered number faults.NoMemory read h = (h.0, ap (numbered_reading number) h.1)
+
+line_fails : {X : Type 0} (fault : script.ScriptFault) (read : Read X) → FailsAtLine fault read → FailsAt fault read
+line_fails (scripts.BadLine n) read h = h
+line_fails (scripts.BadNumber n) read h = h
+line_fails (scripts.BadHex n) read h = h
+line_fails (scripts.OutOfRange n) read h = h
+line_fails scripts.NoMemory read h = tt
 
 gives_numbered : {X Y : Type 0} (view : X → Y) (number : ℕ) (r : Result X line.LineFault) (read : Result Y LineFault) → Gives view r read → GivesAt view (reading_at number r) (numbered_reading number read)
 gives_numbered view number (Ok x) read h = ap (numbered_reading number) h
-gives_numbered view number (Err fault) read h = fails_numbered number fault read h
+gives_numbered view number (Err fault) read h = line_fails (fault_at number fault) (numbered_reading number read) (fails_numbered number fault read h)
 
 -- ---- one setting
 setting_from_line : (end : ℕ) (s : Setting) (left : List NumberedLine) (number : ℕ) (text : List ℕ) (rest : List NumberedLine) → left ≡ (number, text) ∷ rest
@@ -160,9 +169,10 @@ commands_from_line cpus collectors left number text rest h = ap (commands_from c
 
 pub commands_fail : (cpus collectors : ℕ) (all left : List NumberedLine) (number : ℕ) (text : List ℕ) (rest : List NumberedLine) (front : Commands) (fault : script.ScriptFault)
     → commands_from cpus collectors all ≡ (commands_from cpus collectors left >>= commands_onto front) → left ≡ (number, text) ∷ rest
-    → FailsAt fault (numbered_reading number (command_in cpus collectors text)) → FailsAt fault (commands_from cpus collectors all)
+    → FailsAtLine fault (numbered_reading number (command_in cpus collectors text)) → FailsAt fault (commands_from cpus collectors all)
 commands_fail cpus collectors all left number text rest front fault so_far h fails =
-    let here = fails_then fault (numbered_reading number (command_in cpus collectors text)) (rest_then cpus collectors number rest) fails in
+    let line = line_fails fault (numbered_reading number (command_in cpus collectors text)) fails in
+    let here = fails_then fault (numbered_reading number (command_in cpus collectors text)) (rest_then cpus collectors number rest) line in
     let there = subst (λ (read : Read Commands). FailsAt fault read) (sym (commands_from_line cpus collectors left number text rest h)) here in
     subst (λ (read : Read Commands). FailsAt fault read) (sym so_far) (fails_then fault (commands_from cpus collectors left) (commands_onto front) there)
 
@@ -190,20 +200,78 @@ commands_end cpus collectors all left front so_far h =
     ∙ ap (λ (ls : List NumberedLine). commands_from cpus collectors ls >>= commands_onto front) h
     ∙ ap (λ (cs : Commands). let r : Read Commands = Ok cs in r) (append-nil front)
 
+-- a fault that is handed on is the same one
+pub same_fault : {X Y : Type 0} (r : Result X script.ScriptFault) (handed own fault : script.ScriptFault) → r ≡ Err handed → handed ≡ own → r ≡ Err fault
+    → (let other : Result Y script.ScriptFault = Err own in other) ≡ Err fault
+same_fault r handed own fault is same refused = cc
+
+-- ---- the commands up to a line
+spell_push : (cpus collectors : ℕ) (front : List NumberedLine) (commands : Commands) (number : ℕ) (text : List ℕ) (command : Command) → SpellCommands cpus collectors front commands
+    → command_in cpus collectors text ≡ Ok command → SpellCommands cpus collectors (front ++ (number, text) ∷ []) (commands ++ (number, command) ∷ [])
+spell_push cpus collectors [] [] number text command h is = (is, refl, tt)
+spell_push cpus collectors (line ∷ front) (c ∷ commands) number text command h is = (h.0, h.1, spell_push cpus collectors front commands number text command h.2 is)
+spell_push cpus collectors [] (c ∷ commands) number text command h is = absurd h
+spell_push cpus collectors (line ∷ front) [] number text command h is = absurd h
+
+number_away : (number : ℕ) (read : Result Command LineFault) (command : Command) → numbered_reading number read ≡ Ok command → read ≡ Ok command
+number_away number (Ok other) command h = cc
+number_away number (Err fault) command h = absurd (ok_is_no_err command (number, fault) (sym h))
+
+pub none_read : (cpus collectors : ℕ) (all : List NumberedLine) → ReadAs cpus collectors all [] all
+none_read cpus collectors all = record { front = []; cut = refl; spelled = tt }
+
+pub read_turn : (cpus collectors : ℕ) (all left : List NumberedLine) (number : ℕ) (text : List ℕ) (rest : List NumberedLine) (front after : Commands) (command : Command)
+    → ReadAs cpus collectors all front left → left ≡ (number, text) ∷ rest → numbered_reading number (command_in cpus collectors text) ≡ Ok command → after ≡ front ++ (number, command) ∷ []
+    → ReadAs cpus collectors all after rest
+read_turn cpus collectors all left number text rest front after command r h is more = record {
+  front = r.front ++ (number, text) ∷ [];
+  cut = r.cut ∙ ap (λ (ls : List NumberedLine). r.front ++ ls) h ∙ sym (append_assoc r.front ((number, text) ∷ []) rest);
+  spelled = subst (λ (cs : Commands). SpellCommands cpus collectors (r.front ++ (number, text) ∷ []) cs) (sym more)
+      (spell_push cpus collectors r.front front number text command r.spelled (number_away number (command_in cpus collectors text) command is));
+}
+
+-- a line more was read, and so there is some
+pub line_read : (cpus collectors : ℕ) (all left : List NumberedLine) (number : ℕ) (text : List ℕ) (rest : List NumberedLine) (front : Commands) (command : Command)
+    → ReadAs cpus collectors all front left → left ≡ (number, text) ∷ rest → numbered_reading number (command_in cpus collectors text) ≡ Ok command → BeginAsCommands cpus collectors all
+line_read cpus collectors all left number text rest front command r h is =
+    (front ++ (number, command) ∷ [], rest, read_turn cpus collectors all left number text rest front (front ++ (number, command) ∷ []) command r h is refl, let len = length-append front ((number, command) ∷ []) in omega arith)
+
+-- and memory ran out there
+pub line_refused : (cpus collectors : ℕ) (all left : List NumberedLine) (number : ℕ) (text : List ℕ) (rest : List NumberedLine) (front : Commands) (fault : script.ScriptFault)
+    → ReadAs cpus collectors all front left → left ≡ (number, text) ∷ rest → FailsAtLine fault (numbered_reading number (command_in cpus collectors text)) → fault ≡ scripts.NoMemory
+    → BeginAsCommands cpus collectors all
+line_refused cpus collectors all left number text rest front fault r h fails is =
+    let (command, reads) = subst (λ (f : script.ScriptFault). FailsAtLine f (numbered_reading number (command_in cpus collectors text))) is fails in
+    line_read cpus collectors all left number text rest front command r h reads
+
 -- ---- the whole script
--- the settings that are read stand in the first lines
-header_of : (text : List ℕ) (end : ℕ) (x : List ℕ × List NumberedLine) → settings_from end model.header_settings (significant_lines_after 0 text) ≡ Ok x → HasScriptHeader text
+-- a header, perhaps a start line, and then lines that spell commands
+begins_as : (text : List ℕ) (end : ℕ) (header : Header) (behind : List NumberedLine) (start : ℕ) (left rest : List NumberedLine) (commands : Commands)
+    → settings_from end model.header_settings (significant_lines_after 0 text) ≡ Ok (values_of header, behind)
+    → start_from header.pages behind ≡ Ok (start, left) → ReadAs header.cpus header.collectors left commands rest → 0 < length commands → BeginsAsScript text
 unfolding significant_lines_after
-header_of text end x h =
-    let there = settings_ok end model.header_settings (significant_lines_after 0 text) x h in
-    record { header = there.0; behind = x.1; cut = there.1; values = x.0; settings = there.2 }
+begins_as text end header behind start left rest commands settings first each some =
+    let h = settings_ok end model.header_settings (significant_lines_after 0 text) (values_of header, behind) settings in
+    let s = start_ok header.pages behind (start, left) first in
+    record {
+      front = h.0 ++ (s.start_line ++ each.front);
+      behind = rest;
+      cut = h.1
+          ∙ ap (λ (ls : List NumberedLine). h.0 ++ ls)
+          (s.cut ∙ ap (λ (ls : List NumberedLine). s.start_line ++ ls) each.cut ∙ sym (append_assoc s.start_line each.front rest))
+          ∙ sym (append_assoc h.0 (s.start_line ++ each.front) rest);
+      script = script_of header start commands;
+      spelled = record { header = h.0; start_line = s.start_line; behind = each.front; cut = refl; settings = h.2; start = s.gives; commands = each.spelled };
+      some = some;
+    }
 
 -- the same of the reader's lines, of which none is passed
-pub header_there : (text : List ℕ) (end passed : ℕ) (rest : List ℕ) (x : List ℕ × List NumberedLine) → passed ≡ 0 → rest ≡ text
-    → settings_from end model.header_settings (significant_lines_after passed rest) ≡ Ok x → HasScriptHeader text
-header_there text end passed rest x none whole h =
-    header_of text end x (subst (λ (t : List ℕ). settings_from end model.header_settings (significant_lines_after 0 t) ≡ Ok x) whole
-    (subst (λ (n : ℕ). settings_from end model.header_settings (significant_lines_after n rest) ≡ Ok x) none h))
+pub begins_there : (text : List ℕ) (end passed : ℕ) (rest : List ℕ) (header : Header) (behind : List NumberedLine) (start : ℕ) (left : List NumberedLine) → passed ≡ 0 → rest ≡ text
+    → settings_from end model.header_settings (significant_lines_after passed rest) ≡ Ok (values_of header, behind)
+    → start_from header.pages behind ≡ Ok (start, left) → BeginAsCommands header.cpus header.collectors left → BeginsAsScript text
+begins_there text end passed rest header behind start left none whole h first (commands, others, each, some) =
+    begins_as text end header behind start left others commands (subst (λ (t : List ℕ). settings_from end model.header_settings (significant_lines_after 0 t) ≡ Ok (values_of header, behind)) whole
+    (subst (λ (n : ℕ). settings_from end model.header_settings (significant_lines_after n rest) ≡ Ok (values_of header, behind)) none h)) first each some
 
 -- pieces that are read one behind the other make a script
 script_made : (end : ℕ) (lines : List NumberedLine) (header : Header) (behind : List NumberedLine) (start : ℕ) (left : List NumberedLine) (commands : Commands)
@@ -225,17 +293,17 @@ read_within text passed rest header behind start left commands none whole settin
     (subst (λ (n : ℕ). script_from (end_line_after n rest) (significant_lines_after n rest) ≡ Ok (script_of header start commands)) none made) in
     ParsesScript-within text (script_of header start commands) ((script_reads text (script_of header start commands)).1 here)
 
-fault_of_reading : (text : List ℕ) (fault : script.ScriptFault) → FailsAt fault (script_in text) → TellsFirstFault text fault
-fault_of_reading text (scripts.BadLine n) h = (fault_reads text n bad_line).1 h
-fault_of_reading text (scripts.BadNumber n) h = (fault_reads text n bad_number).1 h
-fault_of_reading text (scripts.BadHex n) h = (fault_reads text n bad_hex).1 h
-fault_of_reading text (scripts.OutOfRange n) h = (fault_reads text n out_of_range).1 h
-fault_of_reading text scripts.NoMemory h = tt
+fault_of_reading : (text : List ℕ) (fault : script.ScriptFault) → FailsAt fault (script_in text) → (fault ≡ scripts.NoMemory → BeginsAsScript text) → TellsFirstFault text fault
+fault_of_reading text (scripts.BadLine n) h memory = (fault_reads text n bad_line).1 h
+fault_of_reading text (scripts.BadNumber n) h memory = (fault_reads text n bad_number).1 h
+fault_of_reading text (scripts.BadHex n) h memory = (fault_reads text n bad_hex).1 h
+fault_of_reading text (scripts.OutOfRange n) h memory = (fault_reads text n out_of_range).1 h
+fault_of_reading text scripts.NoMemory h memory = memory refl
 
 pub script_found : (text : List ℕ) (r : Result model.Script script.ScriptFault) → GivesAt (λ s. s) r (script_in text) → IfOk r (λ s. ParsesScript text s)
 script_found text (Ok s) h = (script_reads text s).1 h
 script_found text (Err fault) h = tt
 
-pub fault_found : (text : List ℕ) (r : Result model.Script script.ScriptFault) → GivesAt (λ s. s) r (script_in text) → IfErr r (λ fault. TellsFirstFault text fault)
-fault_found text (Ok s) h = tt
-fault_found text (Err fault) h = fault_of_reading text fault h
+pub fault_found : (text : List ℕ) (r : Result model.Script script.ScriptFault) → GivesAt (λ s. s) r (script_in text) → (r ≡ Err scripts.NoMemory → BeginsAsScript text) → IfErr r (λ fault. TellsFirstFault text fault)
+fault_found text (Ok s) h memory = tt
+fault_found text (Err fault) h memory = fault_of_reading text fault h (λ is. memory (ap (λ (f : script.ScriptFault). let r : Result model.Script script.ScriptFault = Err f in r) is))

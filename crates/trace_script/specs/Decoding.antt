@@ -1,7 +1,10 @@
 -- Hexadecimal digits, pair by pair.
-use Rattle.std.specs.Prelude.{◌≡◌, ℕ, ◌+◌, ◌*◌, ◌%◌, true, if◌then◌else◌, List, ◌++◌, length}
+use Rattle.std.specs.Prelude.{◌≡◌, ℕ, ◌+◌, ◌*◌, ◌%◌, true, false, ◌&&◌, if◌then◌else◌, ⊤, List, ◌∷◌, ◌++◌, length, Result, Ok, Err}
+use Rattle.std.specs.Borrow.{Bor}
 use Rattle.std.specs.Char.{digit_value, is_digit}
 use Rattle.std.specs.List.{list_all}
+use Rattle.trace_model.specs.declared.numbers.NoMemory.{NoMemory}
+use Rattle.trace_model.specs.Sublist.{IsPrefix}
 use Rattle.text_model.specs.Text.{bytes_of_pairs}
 
 -- what a byte is worth as the first digit of a pair, and more than eight digits are together where it is no digit
@@ -24,3 +27,14 @@ pub record ArePut (text left old new : List ℕ) : Type 0 where
   pub even : length digits % 2 ≡ 0
   pub are_digits : list_all (λ c. is_digit c 16) digits ≡ true
   pub put : new ≡ old ++ bytes_of_pairs digits
+
+-- no pair of hexadecimal digits stands at the front of this text
+abbrev pub BeginsNoPair : List ℕ → Type 0
+BeginsNoPair (high ∷ low ∷ rest) = (is_digit high 16 && is_digit low 16) ≡ false
+BeginsNoPair _ = ⊤
+
+-- the bytes of all pairs at the front of the text were put, and this stands behind them; or memory ran out, and only
+-- something was put behind the bytes that were there
+abbrev pub PutsPairs : Result (Bor (List ℕ)) NoMemory → (text old new : List ℕ) → Type 0
+PutsPairs (Ok left) text old new = ArePut text left.now old new × BeginsNoPair left.now
+PutsPairs (Err _) text old new = IsPrefix old new

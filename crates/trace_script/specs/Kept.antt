@@ -1,16 +1,16 @@
 -- The commands of a script as they are kept: an order each, and the payloads one behind the other.
-use Rattle.std.specs.Prelude.{◌≡◌, ℕ, zero, suc, ◌-◌, ◌<◌, ◌≤◌, ⊤, List, [], ◌∷◌, ◌++◌, take, drop, Option, Some, None, Result, Ok, Err}
+use Rattle.std.specs.Prelude.{◌≡◌, ℕ, zero, suc, ◌-◌, ◌<◌, ◌≤◌, ⊤, List, [], ◌∷◌, ◌++◌, length, take, drop, Option, Some, None, Result, Ok, Err}
 use Rattle.text_model.specs.Script as text
 use Rattle.text_model.specs.Script.{NumberedLine}
 use Rattle.text_model.specs.ScriptReading.{numbered_reading}
 use Rattle.script_model.specs.Script as model
-use Rattle.script_model.specs.Script.{command_in, begin_frame, step_frame, finish_frame, write, close, step_reader, take_page, wish, deliver}
+use Rattle.script_model.specs.Script.{command_in, SpellCommands, begin_frame, step_frame, finish_frame, write, close, step_reader, take_page, wish, deliver}
 use Rattle.trace_script.specs.declared.fault.LineFault.{LineFault}
 use Rattle.trace_script.specs.declared.order.Order.{Order}
 use Rattle.trace_script.specs.declared.order.Order.TheVariants.{Begin, Step, Finish, Write, Close, StepReader, Take, Wish, Deliver}
 use Rattle.trace_script.specs.declared.kept.KeptLine.{KeptLine}
 use Rattle.trace_script.specs.declared.fault.ScriptFault.{ScriptFault}
-use Rattle.trace_script.specs.ScriptFaults.{Fails, FailsAt}
+use Rattle.trace_script.specs.ScriptFaults.{Fails, FailsAtLine}
 
 -- the command of an order, with these bytes as its payload, if it has one
 abbrev pub shown_order : List ℕ → Order → model.Command
@@ -45,7 +45,7 @@ start_of start lines zero = start
 start_of start [] (suc i) = start
 start_of start (line ∷ lines) (suc i) = start_of line.end lines i
 
--- what a function put behind these bytes, and whether, is the reading of a payload, unless memory ran out
+-- what a function put behind these bytes, and whether, is the reading of a payload; if memory ran out, it has no fault
 abbrev pub PutsPayload : Result (Unit {0}) LineFault → List ℕ → List ℕ → Result (List ℕ) text.LineFault → Type 0
 PutsPayload (Ok _) old new read = (payload : List ℕ) × (new ≡ old ++ payload) × (read ≡ Ok payload)
 PutsPayload (Err fault) old new read = Fails fault read
@@ -61,7 +61,7 @@ abbrev pub PutsCommandAt : Result Order ScriptFault → List ℕ → List ℕ
     → Result model.Command (ℕ × text.LineFault) → Type 0
 PutsCommandAt (Ok order) old new read =
     (payload : List ℕ) × (new ≡ old ++ payload) × (read ≡ Ok (shown_order payload order))
-PutsCommandAt (Err fault) old new read = FailsAt fault read
+PutsCommandAt (Err fault) old new read = FailsAtLine fault read
 
 -- the same of the first of these lines, if there is one, with its number and the lines behind it
 abbrev pub PutsNext : ℕ → ℕ → Result (Option Order) ScriptFault → List ℕ → List ℕ
@@ -73,6 +73,20 @@ PutsNext cpus collectors (Ok (Some order)) old new lines number behind = (line :
 PutsNext cpus collectors (Err fault) old new lines number behind = (line : List ℕ)
     × (lines ≡ (number, line) ∷ behind)
     × PutsCommandAt (Err fault) old new (numbered_reading number (command_in cpus collectors line))
+
+-- the lines in front of the ones behind spell these commands
+pub record ReadAs (cpus collectors : ℕ) (lines : List NumberedLine) (commands : List (ℕ × model.Command))
+    (behind : List NumberedLine)
+    : Type 0 where
+  pub front : List NumberedLine
+  pub cut : lines ≡ front ++ behind
+  pub spelled : SpellCommands cpus collectors front commands
+
+-- the first of these lines, one at least, spell commands
+abbrev pub BeginAsCommands : ℕ → ℕ → List NumberedLine → Type 0
+BeginAsCommands cpus collectors lines = (commands : List (ℕ × model.Command)) × (behind : List NumberedLine)
+    × ReadAs cpus collectors lines commands behind
+    × (0 < length commands)
 
 -- a command that was read leaves less than there was
 abbrev pub GoesOn : Result (Option Order) ScriptFault → ℕ → ℕ → Type 0

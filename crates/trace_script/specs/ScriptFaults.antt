@@ -1,8 +1,8 @@
 -- What the script's reader says of a fault, in the words of text_model.
-use Rattle.std.specs.Prelude.{◌≡◌, ℕ, ⊤, List, ◌++◌, codes, Result, Ok, Err}
+use Rattle.std.specs.Prelude.{◌≡◌, ℕ, ◌<◌, ⊤, List, ◌++◌, length, codes, Result, Ok, Err}
 use Rattle.text_model.specs.Script as model
-use Rattle.text_model.specs.Script.{NumberedLine, GiveSettings, significant_lines, bad_line, bad_number, bad_hex, out_of_range, fault_text}
-use Rattle.script_model.specs.Script.{FirstScriptFault, header_settings}
+use Rattle.text_model.specs.Script.{NumberedLine, significant_lines, bad_line, bad_number, bad_hex, out_of_range, fault_text}
+use Rattle.script_model.specs.Script.{Script, SpellScript, FirstScriptFault}
 use Rattle.trace_script.specs.declared.fault.LineFault.{LineFault}
 use Rattle.trace_script.specs.declared.fault.LineFault.TheVariants as line
 use Rattle.trace_script.specs.declared.fault.ScriptFault.{ScriptFault}
@@ -21,15 +21,15 @@ abbrev pub reading_at : {X : Type 0} → ℕ → Result X LineFault → Result X
 reading_at number (Ok x) = Ok x
 reading_at number (Err fault) = Err (fault_at number fault)
 
--- the reading of a line has this fault, unless memory ran out
+-- the reading of a line has this fault; or memory ran out, and the line has none
 abbrev pub Fails : {X : Type 0} → LineFault → Result X model.LineFault → Type 0
 Fails line.BadLine read = read ≡ Err bad_line
 Fails line.BadNumber read = read ≡ Err bad_number
 Fails line.BadHex read = read ≡ Err bad_hex
 Fails line.OutOfRange read = read ≡ Err out_of_range
-Fails line.NoMemory read = ⊤
+Fails {X} line.NoMemory read = (x : X) × (read ≡ Ok x)
 
--- what a function returned, seen by view, is the reading of a line, unless memory ran out
+-- what a function returned, seen by view, is the reading of a line; if memory ran out, the line has no fault
 abbrev pub Gives : {X Y : Type 0} → (X → Y) → Result X LineFault → Result Y model.LineFault → Type 0
 Gives view (Ok x) read = read ≡ Ok (view x)
 Gives view (Err fault) read = Fails fault read
@@ -42,26 +42,35 @@ FailsAt (script.BadHex number) read = read ≡ Err (number, bad_hex)
 FailsAt (script.OutOfRange number) read = read ≡ Err (number, out_of_range)
 FailsAt script.NoMemory read = ⊤
 
+-- the reading of one line, with its number, has this fault; or memory ran out, and the line has none
+abbrev pub FailsAtLine : {X : Type 0} → ScriptFault → Result X (ℕ × model.LineFault) → Type 0
+FailsAtLine {X} script.NoMemory read = (x : X) × (read ≡ Ok x)
+FailsAtLine (script.BadLine number) read = FailsAt (script.BadLine number) read
+FailsAtLine (script.BadNumber number) read = FailsAt (script.BadNumber number) read
+FailsAtLine (script.BadHex number) read = FailsAt (script.BadHex number) read
+FailsAtLine (script.OutOfRange number) read = FailsAt (script.OutOfRange number) read
+
 -- what a function returned, seen by view, is the reading of lines, unless memory ran out
 abbrev pub GivesAt : {X Y : Type 0} → (X → Y) → Result X ScriptFault → Result Y (ℕ × model.LineFault) → Type 0
 GivesAt view (Ok x) read = read ≡ Ok (view x)
 GivesAt view (Err fault) read = FailsAt fault read
 
--- this is the first fault of the text, or memory ran out
+-- The first significant lines of the text spell a script that has a command: none of these lines has a fault.
+pub record BeginsAsScript (text : List ℕ) : Type 0 where
+  pub front : List NumberedLine
+  pub behind : List NumberedLine
+  pub cut : significant_lines text ≡ front ++ behind
+  pub script : Script
+  pub spelled : SpellScript front script
+  pub some : 0 < length script.commands
+
+-- this is the first fault of the text; or memory ran out, at a line up to which the text has none
 abbrev pub TellsFirstFault : List ℕ → ScriptFault → Type 0
 TellsFirstFault text (script.BadLine number) = FirstScriptFault text number bad_line
 TellsFirstFault text (script.BadNumber number) = FirstScriptFault text number bad_number
 TellsFirstFault text (script.BadHex number) = FirstScriptFault text number bad_hex
 TellsFirstFault text (script.OutOfRange number) = FirstScriptFault text number out_of_range
-TellsFirstFault text script.NoMemory = ⊤
-
--- the first significant lines of the text are the header of a script
-pub record HasScriptHeader (text : List ℕ) : Type 0 where
-  pub header : List NumberedLine
-  pub behind : List NumberedLine
-  pub cut : significant_lines text ≡ header ++ behind
-  pub values : List ℕ
-  pub settings : GiveSettings header header_settings values
+TellsFirstFault text script.NoMemory = BeginsAsScript text
 
 -- how a fault is told, the end of the line aside
 abbrev pub script_fault_text : ScriptFault → List ℕ

@@ -1,10 +1,12 @@
 //! What is wrong with a script.
 ghost use Rattle.std.specs.Prelude.{◌≡◌};
+ghost use Rattle.trace_script.specs.declared.fault.LineFault.TheVariants.{NoMemory as line_no_memory};
 ghost use Rattle.trace_script.specs.declared.fault.ScriptFault.TheVariants.{NoMemory as no_memory};
 ghost use Rattle.trace_script.specs.ScriptFaults.{fault_at, reading_at};
 
 use std::alloc::AllocFailed;
 use thiserror::Error;
+use trace_model::NoMemory;
 
 /// Why a text is no script. The number is that of the first line at fault, from 1.
 #[derive(Clone, Copy, Debug, PartialEq, Eq, Error)]
@@ -44,6 +46,14 @@ pub enum LineFault {
     BadHex,
     OutOfRange,
     NoMemory,
+}
+
+impl From<NoMemory> for LineFault {
+    ghost from_gives = { λ _ fault. fault ≡ line_no_memory };
+
+    fn from(_refused: NoMemory) -> LineFault {
+        LineFault::NoMemory
+    }
 }
 
 impl LineFault {

@@ -1,17 +1,17 @@
 //! The printing of a script's fault.
-ghost use Rattle.std.specs.Prelude.{◌≡◌, ◌∷◌, [], ◌++◌, OnOk, codes};
+ghost use Rattle.std.specs.Prelude.{◌≡◌, ◌∷◌, [], ◌++◌, OnOk, OnErr, codes};
 ghost use Rattle.std.specs.Fmt.{decimal};
+ghost use Rattle.trace_model.specs.Sublist.{IsPrefix};
 ghost use Rattle.trace_script.specs.ScriptFaults.{script_fault_text};
 
 use crate::fault::ScriptFault;
 use itoa::Buffer;
 use trace_model::NoMemory;
 
-// On an error these may leave a part of what they put, in a text that the caller drops.
-
-/// Puts the number of a line and the name of its fault.
+/// Puts the number of a line and the name of its fault. On an error a part of that may be put.
 fn put_line_fault(out: &mut Vec<u8>, line: u64, name: &[u8]) -> Result<(), NoMemory>
-    ensures { OnOk result (out.new.items ≡ out.old.items ++ (codes "line " ++ decimal line ++ codes ": " ++ name.now)) }
+    ensures text { OnOk result (out.new.items ≡ out.old.items ++ (codes "line " ++ decimal line ++ codes ": " ++ name.now)) }
+    ensures behind { IsPrefix out.old.items out.new.items }
 {
     let mut buffer = Buffer::new();
     out.extend_from_slice(b"line ")?;
@@ -21,9 +21,10 @@ fn put_line_fault(out: &mut Vec<u8>, line: u64, name: &[u8]) -> Result<(), NoMem
     Ok(())
 }
 
-/// Puts the line that tells the fault, as `docs/FORMATS.md`, "Printed text", has it.
-pub fn put_fault(out: &mut Vec<u8>, fault: ScriptFault) -> Result<(), NoMemory>
-    ensures { OnOk result (out.new.items ≡ out.old.items ++ (script_fault_text fault ++ 10 ∷ [])) }
+/// Puts the line that tells the fault. On an error a part of that may be put.
+fn put_line(out: &mut Vec<u8>, fault: ScriptFault) -> Result<(), NoMemory>
+    ensures text { OnOk result (out.new.items ≡ out.old.items ++ (script_fault_text fault ++ 10 ∷ [])) }
+    ensures behind { IsPrefix out.old.items out.new.items }
 {
     match fault {
         ScriptFault::BadLine(line) => put_line_fault(out, line, b"BadLine")?,
@@ -34,4 +35,18 @@ pub fn put_fault(out: &mut Vec<u8>, fault: ScriptFault) -> Result<(), NoMemory>
     }
     out.push(b'\n')?;
     Ok(())
+}
+
+/// Puts the line that tells the fault, as `docs/FORMATS.md`, "Printed text", has it. If memory is refused, the text is as
+/// before.
+pub fn put_fault(out: &mut Vec<u8>, fault: ScriptFault) -> Result<(), NoMemory>
+    ensures text { OnOk result (out.new.items ≡ out.old.items ++ (script_fault_text fault ++ 10 ∷ [])) }
+    ensures kept { OnErr result (out.new.items ≡ out.old.items) }
+{
+    let start = out.len();
+    let put = put_line(out, fault);
+    if put.is_err() {
+        out.truncate(start);
+    }
+    put
 }

@@ -3,12 +3,13 @@ ghost use Rattle.std.specs.Prelude.{◌≡◌, ◌<◌, ◌≤◌, MatchOption};
 ghost use Rattle.std.specs.Char.{is_digit};
 ghost use Rattle.std.specs.List.{list_all};
 ghost use Rattle.text_model.specs.Script.{payload_in};
-ghost use Rattle.trace_script.specs.Decoding.{high_value, low_value, pair_value, ArePut};
+ghost use Rattle.trace_script.specs.Decoding.{high_value, low_value, pair_value, ArePut, PutsPairs};
 ghost use Rattle.trace_script.specs.Kept.{PutsPayload};
 ghost use Rattle.trace_script.specs.UsualLines.{IsPayloadCut};
 
 use crate::fault::LineFault;
 use crate::fields::is_letter;
+use trace_model::NoMemory;
 
 /// More than eight digits are worth together, and so more than any byte: what is no digit is worth so much.
 const NO_DIGIT: u16 = 4096;
@@ -148,10 +149,10 @@ fn put_fours<'a>(payloads: &mut Vec<u8>, text: &'a [u8]) -> &'a [u8]
     left
 }
 
-/// The same, one by one.
+/// The same, one by one, up to what is no pair, or until memory is refused.
 #[inline(always)]
-fn put_each<'a>(payloads: &mut Vec<u8>, text: &'a [u8]) -> &'a [u8]
-    ensures { ArePut text.now result.now payloads.old.items payloads.new.items }
+fn put_each<'a>(payloads: &mut Vec<u8>, text: &'a [u8]) -> Result<&'a [u8], NoMemory>
+    ensures { PutsPairs result text.now payloads.old.items payloads.new.items }
 {
     let mut left = text;
     while let [high, low, rest @ ..] = left {
@@ -162,19 +163,17 @@ fn put_each<'a>(payloads: &mut Vec<u8>, text: &'a [u8]) -> &'a [u8]
         if byte >= NO_DIGIT {
             break;
         }
-        let Ok(()) = payloads.push(byte as u8) else {
-            break;
-        };
+        payloads.push(byte as u8)?;
         left = rest;
     }
-    left
+    Ok(left)
 }
 
 /// Puts the bytes that the pairs of hexadecimal digits at the front of a text spell behind those that are there, and
-/// answers what stands behind these pairs, or behind those for whose bytes there is memory.
+/// answers what stands behind all these pairs. If memory is refused, some of the bytes may be put.
 #[inline(never)]
-fn put_pairs<'a>(payloads: &mut Vec<u8>, text: &'a [u8]) -> &'a [u8]
-    ensures { ArePut text.now result.now payloads.old.items payloads.new.items }
+fn put_pairs<'a>(payloads: &mut Vec<u8>, text: &'a [u8]) -> Result<&'a [u8], NoMemory>
+    ensures { PutsPairs result text.now payloads.old.items payloads.new.items }
 {
     let behind_eights = put_eights(payloads, text);
     let behind_fours = put_fours(payloads, behind_eights);
@@ -195,7 +194,10 @@ pub fn payload_cut<'a>(payloads: &mut Vec<u8>, text: &'a [u8]) -> Option<&'a [u8
         }
     }
     let start = payloads.len();
-    let left = put_pairs(payloads, text);
+    let Ok(left) = put_pairs(payloads, text) else {
+        payloads.truncate(start);
+        return None;
+    };
     if let [end, rest @ ..] = left {
         if *end == b'\n' && payloads.len() > start {
             return Some(rest);
@@ -212,7 +214,7 @@ fn are_hex_digits(bytes: &[u8]) -> bool
     bytes.iter().all(|b| char::from(*b).is_digit(16))
 }
 
-/// Puts the bytes that a field spells behind those that are there.
+/// Puts the bytes that a field spells behind those that are there. Memory is refused only to a field that spells some.
 pub fn put_payload(payloads: &mut Vec<u8>, field: &[u8]) -> Result<(), LineFault>
     ensures { PutsPayload result payloads.old.items payloads.new.items (payload_in field.now) }
 {
@@ -222,8 +224,6 @@ pub fn put_payload(payloads: &mut Vec<u8>, field: &[u8]) -> Result<(), LineFault
     if field.is_empty() || field.len() % 2 != 0 || !are_hex_digits(field) {
         return Err(LineFault::BadHex);
     }
-    if !put_pairs(payloads, field).is_empty() {
-        return Err(LineFault::NoMemory);
-    }
+    put_pairs(payloads, field)?;
     Ok(())
 }

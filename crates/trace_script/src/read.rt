@@ -3,8 +3,8 @@ ghost use Rattle.std.specs.Prelude.{◌≡◌, length, IfOk, IfErr};
 ghost use Rattle.text_model.specs.ScriptReading.{numbered_reading, significant_lines_after};
 ghost use Rattle.script_model.specs.Script.{ParsesScript, command_in};
 ghost use Rattle.script_model.specs.ScriptReading.{commands_from, script_in};
-ghost use Rattle.trace_script.specs.Kept.{PutsCommandAt, PutsNext, GoesOn};
-ghost use Rattle.trace_script.specs.ScriptFaults.{GivesAt, HasScriptHeader, TellsFirstFault};
+ghost use Rattle.trace_script.specs.Kept.{PutsCommandAt, PutsNext, BeginAsCommands, GoesOn};
+ghost use Rattle.trace_script.specs.ScriptFaults.{GivesAt, BeginsAsScript, TellsFirstFault};
 
 use crate::commands::Commands;
 use crate::fault::{ScriptFault, reading_at};
@@ -79,8 +79,10 @@ fn read_commands(
     collectors: u16,
     lines: &mut Lines,
 ) -> Result<Commands, ScriptFault>
-    ensures { GivesAt (λ commands. commands) result
+    ensures gives { GivesAt (λ commands. commands) result
         (commands_from cpus collectors (significant_lines_after lines.old.passed lines.old.rest.now)) }
+    ensures memory { result ≡ Err ScriptFault.NoMemory
+        → BeginAsCommands cpus collectors (significant_lines_after lines.old.passed lines.old.rest.now) }
 {
     let mut kept = Vec::new(alloc);
     let mut payloads = Vec::new(alloc);
@@ -98,7 +100,7 @@ fn read_commands(
 #[tactic(auto, unfolding(script_model::specs::ScriptReading::script_from))]
 fn script_in(alloc: Global, text: &[u8]) -> Result<Script, ScriptFault>
     ensures gives { GivesAt (λ script. script) result (script_in text.now) }
-    ensures memory { result ≡ Err ScriptFault.NoMemory → HasScriptHeader text.now }
+    ensures memory { result ≡ Err ScriptFault.NoMemory → BeginsAsScript text.now }
 {
     let mut lines = Lines::of(text);
     let header = read_header(&mut lines)?;
@@ -111,10 +113,8 @@ fn script_in(alloc: Global, text: &[u8]) -> Result<Script, ScriptFault>
 pub fn read_script(alloc: Global, text: &[u8]) -> Result<Script, ScriptFault>
     // What is read is what the text spells, which is one script.
     ensures script { IfOk result (λ script. ParsesScript text.now script) }
-    // A fault is the text's first one, unless memory ran out.
+    // A fault is the text's first one; or memory ran out, and all lines up to a command's have none.
     ensures fault { IfErr result (λ fault. TellsFirstFault text.now fault) }
-    // A fault of the header is told whatever memory there is.
-    ensures memory { result ≡ Err ScriptFault.NoMemory → HasScriptHeader text.now }
 {
     script_in(alloc, text)
 }

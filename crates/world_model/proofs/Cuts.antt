@@ -13,8 +13,8 @@ use Rattle.trace_model.specs.Packing.{opens_of, cut_from}
 use Rattle.trace_model.specs.Fitting.{IsRising}
 use Rattle.trace_model.specs.Partition.{Piece, IsPartition, covered_count, first_from, first_of}
 use Rattle.trace_model.specs.Parcel.{Parcel, IsMissingOf}
-use Rattle.trace_model.specs.Collection.{Has, Misses}
-use Rattle.trace_model.specs.Ring.{Held, Taken, Core, IsFillOf, first_of_fill, window_of}
+use Rattle.trace_model.specs.Collection.{Has}
+use Rattle.trace_model.specs.Ring.{Held, Taken, Core, first_of_fill, window_of}
 use Rattle.trace_model.specs.Window.{Deed, first_window}
 use Rattle.trace_model.proofs.Elements.{some_is}
 use Rattle.trace_model.proofs.FillFirsts.{first_below, first_rises_to}
@@ -24,13 +24,14 @@ use Rattle.link_marks.specs.KeptPartition.{piece_of, pieces_of}
 use Rattle.link_marks.specs.Reached.{IsReached}
 use Rattle.link_marks.specs.RingKept.{IsRingKept}
 use Rattle.link_marks.specs.ToldRuns.{fills_taken, fills_lost, numbers_of, IsToldBy}
-use Rattle.link_marks.proofs.RingsKept.{reached_kept, taken_partition}
+use Rattle.link_marks.proofs.RingsKept.{ring_start, reached_kept, taken_partition}
 use Rattle.link_marks.proofs.PackedRuns.{runs_packed}
 use Rattle.link_marks.proofs.TakenHoldRecords.{taken_hold}
-use Rattle.link_marks.proofs.ToldSteps.{run_told}
 use Rattle.link_marks.proofs.WindowRuns.{passed_by, lost_closed}
 use Rattle.world_model.specs.World.{parcel_of}
 use Rattle.world_model.specs.Headline.{pieces_in, IsWhole, StandsIn, IsOverwrittenBefore, IsCut, IsOneOf, IsExact}
+use Rattle.world_model.specs.RunDeeds.{IsRunToldBy}
+use Rattle.world_model.proofs.RunDeeds.{run_deeds, run_tells}
 use Rattle.world_model.proofs.Lookups.{element_at, contains_at, get_map, get_from_map}
 
 -- ---- first numbers
@@ -111,11 +112,14 @@ module _ (n size start : ℕ) (c : Core) (r : IsReached n size start c) where
       own_or_skipped 0 (pieces_of taken) j k (piece_of u) (piece_of t) u.held.first t.held.first number a.piece_at b.piece_at a.first_at b.first_at low high least below
 
   pub deeds : List Deed
-  deeds = (run_told n size start c r).0
+  deeds = (run_deeds n size start r.from c r.exchanges (ring_start n size start r.from r.may_start r.is_new) r.run).0
+
+  pub run_of : IsRunToldBy n size r.from r.exchanges deeds c
+  unfolding deeds
+  run_of = (run_deeds n size start r.from c r.exchanges (ring_start n size start r.from r.may_start r.is_new) r.run).1
 
   pub told : IsToldBy n start c deeds
-  unfolding deeds
-  told = (run_told n size start c r).1
+  told = run_tells n size start r.from c r.exchanges deeds r.is_new run_of
 
   -- a fill that was taken has its page
   page_of : (f : ℕ) → Contains (fills_taken start deeds) f → (k : ℕ) × (t : Taken) × (slice_get taken k ≡ Some t) × (t.fill ≡ f)
@@ -263,14 +267,16 @@ module _ (n size start : ℕ) (c : Core) (r : IsReached n size start c) where
       pub page_of_one : (parcel : Parcel) → Contains parcels parcel → IsPageOf parcel
       page_of_one parcel has = let (k, at) = element_at parcels parcel has in page_of_parcel k parcel at
 
-      abbrev pub is_cut : IsCut n size start c.history parcels
+      abbrev pub is_cut : IsCut n size start c parcels
       is_cut = record {
         is_history = kept.history.allowed;
         packed = runs_packed n size start c kept;
+        from = r.from;
+        is_new = r.is_new;
+        exchanges = r.exchanges;
         deeds = deeds;
-        window = window_of c;
-        actions = told.actions;
-        run = told.window;
+        run = run_of;
+        told = told;
         took = told.took ∙ fills_same taken ∙ ap (map (λ (parcel : Parcel). parcel.fill)) (sym same);
         whole = λ parcel has. let p = page_of_one parcel has in subst (IsWhole c.history start) p.parcel_is (is_whole p.index p.taken_page p.page_at);
         rest = (taken_partition n size start c kept).0;

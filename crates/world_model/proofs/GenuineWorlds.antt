@@ -1,11 +1,10 @@
 -- A world that its lines made is genuine.
-use Rattle.std.proofs.Common.{◌≡◌, ℕ, ◌+◌, List, [], ◌∷◌, ◌++◌, length, map, replicate, Some, refl, sym, ap, ◌∙◌, subst, ⊎_elim}
+use Rattle.std.proofs.Common.{◌≡◌, ℕ, List, [], ◌∷◌, ◌++◌, replicate, Some, refl, sym, ap, ◌∙◌, ⊎_elim}
 use Rattle.std.specs.Prelude.{Contains}
 use Rattle.std.specs.List.{slice_get}
 use Rattle.std.proofs.lemmas.List.Elements.{Contains-append_cases}
 use Rattle.std.proofs.lemmas.List.{length-replicate}
 use Rattle.trace_model.specs.Record.{Record}
-use Rattle.trace_model.specs.Ring.{Taken}
 use Rattle.trace_model.specs.Partition.{Piece, IsPartition, first_of}
 use Rattle.trace_model.specs.Parcel.{Parcel, IsGenuine, AreGenuine}
 use Rattle.trace_model.specs.Collection.{Agree, IsLeastUpperBound}
@@ -16,11 +15,11 @@ use Rattle.script_model.specs.Script.{Command, Script}
 use Rattle.script_model.specs.ScriptLimits.{IsWithinLimits}
 use Rattle.link_marks.specs.KeptPartition.{pieces_of}
 use Rattle.link_marks.proofs.RingsKept.{reached_kept}
-use Rattle.world_model.specs.World.{World, WorldBehind, parcel_of}
+use Rattle.world_model.specs.World.{World, WorldBehind}
 use Rattle.world_model.specs.Headline.{parcels_from, piece_in, pieces_in, IsGenuineWorld}
 use Rattle.world_model.proofs.Lookups.{contains_at, get_map}
 use Rattle.world_model.proofs.WorldsKept.{IsWorldKept, world_kept}
-use Rattle.world_model.proofs.OneWorld.{IsTakenBy, taken_by_reader, lane_of}
+use Rattle.world_model.proofs.OneWorld.{taken_by_reader, lane_of}
 use Rattle.world_model.proofs.Cuts.{pieces_same, is_cut, is_exact}
 
 -- some records that pieces part

@@ -9,6 +9,7 @@ pub mod LanePayloads
 pub mod Lookups
 pub mod WorldsKept
 pub mod OneWorld
+pub mod RunDeeds
 pub mod Cuts
 pub mod GenuineWorlds
 -- frames and takes come to their ends

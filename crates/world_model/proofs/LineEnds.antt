@@ -1,9 +1,9 @@
 -- A frame and a take that a line steps come to their ends: each step lowers a rank.
-use Rattle.std.proofs.Common.{◌≡◌, ◌≢◌, ℕ, suc, ◌+◌, ◌<◌, ◌≤◌, List, [], ◌∷◌, length, None, refl, sym, ap, ◌∙◌, subst, arith}
+use Rattle.std.proofs.Common.{◌≡◌, ◌≢◌, ℕ, ◌+◌, ◌<◌, ◌≤◌, List, [], ◌∷◌, length, refl, sym, ap, ◌∙◌, subst, arith}
 use Rattle.trace_model.specs.Words.{padded}
 use Rattle.trace_model.specs.Frames.{FrameState, waiting, reserved, left, number_of, Frame}
 use Rattle.trace_model.specs.Ring.{Core}
-use Rattle.trace_model.specs.Steps.{Event, steps, ends, reads, Answer, pushed, going, reserved_as, pending, full, gone, refused, reading, empty, moving, swapped, wished_for, Step, Exchange}
+use Rattle.trace_model.specs.Steps.{Event, reads, Answer, pushed, going, reserved_as, pending, full, gone, refused, reading, empty, moving, swapped, wished_for, Step, Exchange}
 use Rattle.link_marks.specs.Reached.{IsReached}
 use Rattle.link_marks.specs.RingKept.{IsRingKept}
 use Rattle.link_marks.specs.Ranks.{frame_rank, reader_rank}

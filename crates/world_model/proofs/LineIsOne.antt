@@ -1,13 +1,13 @@
 -- A line has one list of exchanges with a ring, and leads to one state: its events follow from the states, each event
 -- has one answer, and where the list stops is said.
-use Rattle.std.proofs.Common.{◌≡◌, ◌≢◌, ℕ, suc, ◌<◌, ◌≤◌, ◌⊎◌, ⊎_elim, List, [], ◌∷◌, length, refl, sym, ap, ◌∙◌, subst, arith}
+use Rattle.std.proofs.Common.{◌≡◌, ℕ, suc, ◌<◌, ⊎_elim, List, [], ◌∷◌, length, refl, sym, ap, ◌∙◌, subst, arith}
 use native.Mathlib.Decide.{dec_le}
 use mathlib.Core.Logic.{dite}
 use Rattle.trace_model.specs.Ring.{Core}
 use Rattle.trace_model.specs.Steps.{Event, reads, wishes, Answer, pushed, going, reserved_as, pending, full, gone, refused, reading, empty, moving, swapped, wished_for, Step, Exchange}
 use Rattle.script_model.specs.Script.{Command, begin_frame, step_frame, finish_frame, write, close, step_reader, take_page, wish, deliver}
 use Rattle.link_marks.proofs.StepsDetermined.{steps_are_determined}
-use Rattle.world_model.specs.Lanes.{Lane, lane_behind, lane_with, event_on_top, FrameRun, IsGone, IsStepped, LacksFrame, StepsFrame, lacks_to_step, steps_on, FinishesFrame, lacks_to_finish, finishes, PushesFrame, FinishesPushed, WritesFrame, ReaderRun, IsAnswered, IsRead, Wishes, LineRun}
+use Rattle.world_model.specs.Lanes.{Lane, lane_behind, lane_with, FrameRun, IsStepped, LacksFrame, StepsFrame, lacks_to_step, steps_on, FinishesFrame, lacks_to_finish, finishes, PushesFrame, FinishesPushed, WritesFrame, ReaderRun, IsAnswered, IsRead, Wishes, LineRun}
 
 -- both the exchanges and the state behind them are the same
 abbrev pub SameLine : (xs ys : List Exchange) (one other : Lane) → Type 0

@@ -1,6 +1,6 @@
 -- A script has one world at most.
-use Rattle.std.proofs.Common.{◌≡◌, ◌≢◌, ℕ, zero, suc, ◌+◌, ◌<◌, ◌≤◌, true, List, [], ◌∷◌, ◌++◌, length, get_or, map, Some, refl, sym, ap, ◌∙◌, subst, ⊎_elim, arith}
-use Rattle.std.specs.Prelude.{Contains, slice_set, All, ◌==◌}
+use Rattle.std.proofs.Common.{◌≡◌, ℕ, suc, ◌<◌, ◌≤◌, List, [], ◌∷◌, ◌++◌, get_or, Some, refl, sym, ap, ◌∙◌, subst, ⊎_elim, arith}
+use Rattle.std.specs.Prelude.{Contains, slice_set, ◌==◌}
 use Rattle.std.specs.List.{slice_get}
 use Rattle.std.proofs.lemmas.Bool.{eq-eqb}
 use Rattle.std.proofs.lemmas.Option.{slice_get_cases}
@@ -8,16 +8,12 @@ use Rattle.std.proofs.lemmas.List.{same_lists}
 use Rattle.std.proofs.lemmas.List.Elements.{All-contains}
 use mathlib.Core.Logic.{dite}
 use native.Mathlib.Decide.{dec_le}
-use Rattle.trace_model.specs.declared.limits.TheConstants.{MIN_PAGES}
 use Rattle.trace_model.specs.Ring.{Taken, Core, IsStart, AreFillsOf}
-use Rattle.trace_model.specs.Steps.{Exchange}
 use Rattle.trace_model.specs.Parcel.{Parcel}
-use Rattle.trace_model.specs.Collection.{IsBelow}
 use Rattle.trace_model.proofs.Elements.{some_is}
-use Rattle.text_model.specs.Log.{LogLine, Delivery, new_page, known_page, no_page, delivery_line}
+use Rattle.text_model.specs.Log.{Delivery, new_page, known_page, no_page, delivery_line}
 use Rattle.script_model.specs.Script.{Command, begin_frame, step_frame, finish_frame, write, close, step_reader, take_page, wish, deliver, Script}
 use Rattle.script_model.specs.ScriptLimits.{IsWithinLimits}
-use Rattle.link_marks.specs.Reached.{IsReached}
 use Rattle.link_marks.proofs.OneNewRing.{new_ring_is_one}
 use Rattle.link_marks.proofs.RingsKept.{reached_kept}
 use Rattle.world_model.specs.Lanes.{Lane, IsNewLane, LineRun}

@@ -1,14 +1,13 @@
 -- The pages that a line's exchanges bring are those that the reader took meanwhile.
-use Rattle.std.proofs.Common.{◌≡◌, ◌≢◌, ℕ, ◌+◌, List, [], ◌∷◌, ◌++◌, length, map, flat_map, refl, sym, ap, ◌∙◌, subst, ⊎_elim, arith, append_assoc, append-nil, length-append}
-use Rattle.std.specs.Prelude.{filter, ◌==◌}
+use Rattle.std.proofs.Common.{◌≡◌, ◌≢◌, ℕ, List, [], ◌∷◌, ◌++◌, map, flat_map, refl, sym, ap, ◌∙◌, ⊎_elim, arith, append_assoc, append-nil}
 use Rattle.std.proofs.lemmas.Bool.{eq-eqb, ne_eqb}
 use Rattle.std.proofs.lemmas.List.{map-append}
 use Rattle.trace_model.specs.Window.{Window, Happening, opened_one, released_one, took_one, lost_one}
-use Rattle.trace_model.specs.Ring.{Taken, Reader, Core, window_of}
+use Rattle.trace_model.specs.Ring.{Taken, Reader, Core}
 use Rattle.trace_model.specs.Steps.{Event, Answer, pushed, going, reserved_as, pending, full, gone, refused, reading, empty, moving, swapped, wished_for, Step, Exchange, Run}
 use Rattle.trace_model.specs.Parcel.{Parcel}
 use Rattle.link_marks.specs.RingKept.{IsRingKept}
-use Rattle.link_marks.specs.WindowLaws.{Happened, HeadIsTaken, HeadIsLost}
+use Rattle.link_marks.specs.WindowLaws.{Happened}
 use Rattle.link_marks.proofs.AnswersRight.{swapped_right}
 use Rattle.link_marks.proofs.CountMoves.{losses_need_a_full_ring}
 use Rattle.link_marks.proofs.HistorySteps.{step_owed}

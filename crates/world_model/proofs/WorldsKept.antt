@@ -1,20 +1,20 @@
 -- What every line of a script keeps of a world: its rings are rings that steps reach, and what was taken from each is
 -- what its reader took.
-use Rattle.std.proofs.Common.{◌≡◌, ◌≢◌, ℕ, ◌+◌, ◌<◌, ◌≤◌, List, [], ◌∷◌, ◌++◌, length, map, Some, refl, sym, ap, ◌∙◌, subst, ⊎_elim, arith, append_assoc, append-nil}
-use Rattle.std.specs.Prelude.{Contains, slice_set, All}
+use Rattle.std.proofs.Common.{◌≡◌, ◌≢◌, ℕ, ◌<◌, List, [], ◌∷◌, ◌++◌, length, map, Some, refl, sym, ap, ◌∙◌, subst, ⊎_elim, arith, append-nil}
+use Rattle.std.specs.Prelude.{Contains, slice_set}
 use Rattle.std.specs.List.{slice_get}
-use Rattle.std.proofs.lemmas.Option.{slice_get_within, get_or_from_slice_get, none-some}
+use Rattle.std.proofs.lemmas.Option.{slice_get_within, get_or_from_slice_get}
 use Rattle.std.proofs.lemmas.List.{map-append, length-set}
 use Rattle.std.proofs.lemmas.List.Elements.{filter-append, All-contains, All-map, Contains-append_left, Contains-append_cases, Contains-push_cases}
 use mathlib.Core.Logic.{dite}
 use native.Mathlib.Decide.{ℕ_discrete}
-use Rattle.trace_model.specs.Ring.{Taken, Reader, Core}
+use Rattle.trace_model.specs.Ring.{Reader, Core}
 use Rattle.trace_model.specs.Steps.{Exchange, Run}
 use Rattle.trace_model.specs.Parcel.{Parcel}
 use Rattle.trace_model.proofs.Elements.{some_is}
 use Rattle.script_model.specs.Script.{Command, begin_frame, step_frame, finish_frame, write, close, step_reader, take_page, wish, deliver, Script}
 use Rattle.script_model.specs.ScriptLimits.{IsWithinLimits}
-use Rattle.link_marks.specs.Reached.{MayStart, IsReached}
+use Rattle.link_marks.specs.Reached.{IsReached}
 use Rattle.link_marks.proofs.RingsKept.{reached_kept}
 use Rattle.world_model.specs.Lanes.{Lane, IsNewLane}
 use Rattle.world_model.specs.World.{World, IsNewWorld, parcel_of, parcels_of, RunsLine, DeliversTaken, DeliversNothing, DeliversFill, delivers, lacks, Obeys, ObeysAll, WorldBehind}

@@ -8,12 +8,14 @@ use Rattle.trace_model.specs.Packing.{IsPacked}
 use Rattle.trace_model.specs.Partition.{Piece, IsPartition}
 use Rattle.trace_model.specs.Parcel.{Parcel, IsMissingOf, AreGenuine}
 use Rattle.trace_model.specs.Collection.{Has, Misses, Agree}
-use Rattle.trace_model.specs.Ring.{first_of_fill, fill_of}
-use Rattle.trace_model.specs.Window.{Deed, actions_of, Window, WindowRun}
-use Rattle.link_marks.specs.ToldRuns.{fills_taken, fills_lost}
+use Rattle.trace_model.specs.Ring.{Core, IsStart, first_of_fill, fill_of}
+use Rattle.trace_model.specs.Steps.{Exchange}
+use Rattle.trace_model.specs.Window.{Deed}
+use Rattle.link_marks.specs.ToldRuns.{fills_taken, fills_lost, IsToldBy}
 use Rattle.script_model.specs.Script.{Script}
 use Rattle.world_model.specs.Lanes.{Lane}
 use Rattle.world_model.specs.World.{World}
+use Rattle.world_model.specs.RunDeeds.{IsRunToldBy}
 
 -- the parcels of a CPU, in their order
 abbrev pub parcels_from : ℕ → List Parcel → List Parcel
@@ -45,25 +47,28 @@ pub record IsOverwrittenBefore (history : List Action) (start : ℕ) (deeds : Li
   pub before : lost < fill
   pub behind : (taken : ℕ) → Contains (fills_taken start deeds) taken → taken < fill → taken < lost
 
--- What a CPU's ring of n positions did, and the parcels that were taken from it. Its frames made a packed history. In
--- one order with that its fills were closed, taken and lost as a window of n positions allows, so a fill was lost only
--- where it was closed and the ring was full. The parcels are the fills that were taken, in order, each whole; they
--- part the committed records; and the numbers that are missing in front of one are just those of the records that
+-- What the ring of a CPU, of n positions, did up to this state, and the parcels that were taken from it. Its frames made
+-- a packed history. Steps lead to this state from a new ring, and the deeds are those of these steps, one step after the
+-- other: so a fill was lost only if the step that lost it found it closed and the ring full. Together the deeds are the
+-- history, the window and the takes of this state. The parcels are the fills that were taken, in order, each whole;
+-- they part the committed records; and the numbers that are missing before one are just those of the records that
 -- were overwritten unread between it and the one that was taken before it, or the start.
-pub record IsCut (n size start : ℕ) (history : List Action) (parcels : List Parcel) : Type 0 where
-  pub is_history : IsHistory history
-  pub packed : IsPacked history size
+pub record IsCut (n size start : ℕ) (c : Core) (parcels : List Parcel) : Type 0 where
+  pub is_history : IsHistory c.history
+  pub packed : IsPacked c.history size
+  pub from : Core
+  pub is_new : IsStart n start from
+  pub exchanges : List Exchange
   pub deeds : List Deed
-  pub window : Window
-  pub actions : actions_of deeds ≡ history
-  pub run : WindowRun n start deeds window
+  pub run : IsRunToldBy n size from exchanges deeds c
+  pub told : IsToldBy n start c deeds
   pub took : fills_taken start deeds ≡ map (λ parcel. parcel.fill) parcels
-  pub whole : (parcel : Parcel) → Contains parcels parcel → IsWhole history start parcel
+  pub whole : (parcel : Parcel) → Contains parcels parcel → IsWhole c.history start parcel
   pub rest : List Record
-  pub partition : IsPartition (committed_records history) (pieces_in parcels) rest
+  pub partition : IsPartition (committed_records c.history) (pieces_in parcels) rest
   pub missing : (parcel : Parcel) (number : ℕ)
       → Contains parcels parcel
-      → IsMissingOf parcel parcel.cpu number ↔ IsOverwrittenBefore history start deeds parcel.fill number
+      → IsMissingOf parcel parcel.cpu number ↔ IsOverwrittenBefore c.history start deeds parcel.fill number
 
 -- of these parcels, this one is of the CPU
 abbrev pub IsOneOf : List Parcel → (cpu : ℕ) → Parcel → Type 0
@@ -94,7 +99,7 @@ pub record IsGenuineWorld (script : Script) (w : World) : Type 0 where
   pub collectors : length w.delivered ≡ script.collectors
   pub cut : (cpu : ℕ) (lane : Lane)
       → slice_get w.lanes cpu ≡ Some lane
-      → IsCut script.pages script.size script.start lane.core.history (parcels_from cpu w.taken)
+      → IsCut script.pages script.size script.start lane.core (parcels_from cpu w.taken)
   pub of_a_cpu : (parcel : Parcel) → Contains w.taken parcel → parcel.cpu < script.cpus
   pub genuine : AreGenuine w.taken (λ cpu. pieces_in (parcels_from cpu w.taken))
   pub agree : Agree w.taken

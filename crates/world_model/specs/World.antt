@@ -1,6 +1,6 @@
 -- The world of a script: what its lines make of the rings and of the collectors, one behind the other.
 -- docs/FORMATS.md, "Script" and "Log".
-use Rattle.std.specs.Prelude.{◌≡◌, ◌≢◌, ℕ, List, [], ◌∷◌, ◌++◌, length, map, flat_map, All, Contains, slice_set, Some}
+use Rattle.std.specs.Prelude.{◌≡◌, ℕ, List, [], ◌∷◌, ◌++◌, length, map, flat_map, All, Contains, slice_set, Some}
 use Rattle.std.specs.List.{slice_get}
 use Rattle.trace_model.specs.History.{as_record}
 use Rattle.trace_model.specs.Ring.{Taken}

@@ -1,11 +1,16 @@
 //! Laws over the worlds of scripts.
-ghost use Rattle.std.specs.Prelude.{◌≡◌, ℕ, ◌↔◌, List, [], ◌∷◌, ◌++◌, Contains, Some};
+ghost use Rattle.std.specs.Prelude.{◌≡◌, ℕ, ◌+◌, ◌<◌, ◌≤◌, ◌↔◌, List, [], ◌∷◌, ◌++◌, Contains, Some};
 ghost use Rattle.std.specs.List.{slice_get};
+ghost use Rattle.trace_model.specs.Window.{Deed};
+ghost use Rattle.trace_model.specs.Ring.{Core, IsStart};
+ghost use Rattle.trace_model.specs.Steps.{Exchange};
 ghost use Rattle.trace_model.specs.Parcel.{Parcel};
 ghost use Rattle.trace_model.specs.Collection.{Agree, IsSame, IsLeastUpperBound};
+ghost use Rattle.link_marks.specs.ToldRuns.{IsToldBy};
 ghost use Rattle.script_model.specs.Script.{Script, Command};
 ghost use Rattle.script_model.specs.ScriptLimits.{IsWithinLimits};
 ghost use Rattle.world_model.specs.World.{World, Obeys, WorldBehind, WorldOf};
+ghost use Rattle.world_model.specs.RunDeeds.{AreDeedsOf, IsRunToldBy};
 ghost use Rattle.world_model.specs.Headline.{IsGenuineWorld};
 
 /// A script has one world at most, behind any of its lines and behind all of them; and a line that is obeyed leads
@@ -18,6 +23,17 @@ pub fn one_world()
     ensures next { (script : Script) (lines : List (ℕ × Command)) (line : ℕ) (command : Command) (w after : World) →
         WorldBehind script lines w → Obeys script line command w after →
         WorldBehind script (lines ++ (line, command) ∷ []) after }
+{}
+
+/// The deeds of a run of a new ring, step by step, tell the state that it leads to: its history, its window and its
+/// takes. And in each step, a fill that the head passed without being taken was closed, and a whole round of fills is
+/// begun from it on: none is lost early.
+pub fn runs_have_deeds()
+    ensures told { (n size start : ℕ) (from c : Core) (exchanges : List Exchange) (deeds : List Deed) →
+        IsStart n start from → IsRunToldBy n size from exchanges deeds c → IsToldBy n start c deeds }
+    ensures full { (n : ℕ) (before after : Core) (deeds : List Deed) → AreDeedsOf n before deeds after →
+        after.reader.taken ≡ before.reader.taken → before.head < after.head →
+        (before.head < after.done) × (before.head + n ≤ after.opened) }
 {}
 
 /// In the world of a script, behind any of its lines, the parcels of each CPU part its committed records, each under

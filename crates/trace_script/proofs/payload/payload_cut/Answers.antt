@@ -8,5 +8,5 @@ returns-then-end-eq10 c = dash_there c.args.text.now _ c.args.payloads.now.items
 
 pub returns-then-len-start : goal.returns-then-len-start
 returns-then-len-start c =
-    payload_there c.args.text.now c.put_pairs-left.result.now _ c.args.payloads.now.items c.put_pairs-left.new.payloads.items c.put_pairs-left.ensures (first_and_rest c.put_pairs-left.result.now 10 c.in-len1-up.len_at_least c.if-end-eq10-2.true)
-    (omega (arith, c.len.ensures, c.len-start.ensures, c.args.payloads.now.ok.0, c.put_pairs-left.new.payloads.ok.0))
+    payload_there c.args.text.now c.in-Ok.left.now _ c.args.payloads.now.items c.put_pairs.new.payloads.items c.in-Ok.ensures.0 (first_and_rest c.in-Ok.left.now 10 c.in-len1-up.len_at_least c.if-end-eq10-2.true)
+    (omega (arith, c.len.ensures, c.len-start.ensures, c.args.payloads.now.ok.0, c.put_pairs.new.payloads.ok.0))

@@ -2,11 +2,11 @@ use Rattle.std.proofs.Common.{ℕ, List, Ok, length, sym, ◌∙◌, ap, subst}
 use Rattle.std.proofs.lemmas.Result.{err_from_is_err_and}
 use Rattle.trace_script.specs.Kept.{shown_order, commands_kept, AreKept}
 use Rattle.trace_script.proofs.KeptLemmas.{line_kept}
-use Rattle.trace_script.proofs.ScriptLemmas.{Commands, Read, commands_fail, commands_turn, commands_end}
+use Rattle.trace_script.proofs.ScriptLemmas.{Commands, Read, commands_fail, commands_turn, commands_end, read_turn, line_read, line_refused}
 use Rattle.trace_script.proofs.read.read_commands.Goals as goal
 
-pub returns-in_err-order : goal.returns-in_err-order
-returns-in_err-order c =
+pub returns-in_err-order-clause-gives : goal.returns-in_err-order-clause-gives
+returns-in_err-order-clause-gives c =
     let next = c.in_err-order.ensures.next in
     let fails = commands_fail c.args.cpus c.args.collectors _ _ _ _ _ _ c.in_err-order.field-0.0 c.loop-payloads.invariant.so_far next.1 next.2 in
     let p = err_from_is_err_and c.from_residual.result c.from_residual.ensures.1 in
@@ -19,6 +19,7 @@ loop-payloads-preserved c =
     let more = line_kept c.loop-payloads.payloads.items _ puts.0 c.loop-payloads.kept.items _ _ puts.1 c.in_ok-push.ensures.items (c.len.ensures ∙ c.next_order.new.payloads.ok.0) c.loop-payloads.invariant.kept in
     record {
       so_far = commands_turn c.args.cpus c.args.collectors _ _ _ _ _ _ _ (shown_order puts.0 c.in-Some.order) c.loop-payloads.invariant.so_far next.1 puts.2 more.0;
+      read = read_turn c.args.cpus c.args.collectors _ _ _ _ _ _ _ (shown_order puts.0 c.in-Some.order) c.loop-payloads.invariant.read next.1 puts.2 more.0;
       kept = more.1;
     }
 
@@ -27,8 +28,20 @@ of-requires c =
     let next = rw c.in_default.is at c.in_ok-order.ensures.next in
     subst (λ (bs : List ℕ). AreKept 0 (length bs) c.loop-payloads.kept.items) (sym next.1) c.loop-payloads.invariant.kept
 
-pub returns : goal.returns
-returns c =
+pub returns-in_err-order-clause-memory : goal.returns-in_err-order-clause-memory
+returns-in_err-order-clause-memory c = λ refused.
+    let next = c.in_err-order.ensures.next in
+    let p = err_from_is_err_and c.from_residual.result c.from_residual.ensures.1 in
+    line_refused c.args.cpus c.args.collectors _ _ _ _ _ _ c.in_err-order.field-0.0 c.loop-payloads.invariant.read next.1 next.2 (cc)
+
+pub returns-in_err-push-clause-memory : goal.returns-in_err-push-clause-memory
+returns-in_err-push-clause-memory c = λ refused.
+    let next = rw c.in-Some.is at c.in_ok-order.ensures.next in
+    let puts = next.2 in
+    line_read c.args.cpus c.args.collectors _ _ _ _ _ _ (shown_order puts.0 c.in-Some.order) c.loop-payloads.invariant.read next.1 puts.2
+
+pub returns-clause-gives : goal.returns-clause-gives
+returns-clause-gives c =
     let next = rw c.in_default.is at c.in_ok-order.ensures.next in
     commands_end c.args.cpus c.args.collectors _ _ _ c.loop-payloads.invariant.so_far next.0
     ∙ ap (λ (bs : List ℕ). let r : Read Commands = Ok (commands_kept bs 0 c.loop-payloads.kept.items) in r) (sym next.1)

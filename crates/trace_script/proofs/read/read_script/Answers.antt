@@ -5,4 +5,4 @@ pub returns-clause-script : goal.returns-clause-script
 returns-clause-script c = script_found c.args.text.now c.script_in.result c.script_in.ensures.gives
 
 pub returns-clause-fault : goal.returns-clause-fault
-returns-clause-fault c = fault_found c.args.text.now c.script_in.result c.script_in.ensures.gives
+returns-clause-fault c = fault_found c.args.text.now c.script_in.result c.script_in.ensures.gives c.script_in.ensures.memory
