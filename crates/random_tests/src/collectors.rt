@@ -237,7 +237,7 @@ impl Tally {
             self.not_same,
         ];
         for count in counts {
-            assert!(rt; count >= OFTEN, "{self:?}");
+            assert!(rt; count >= OFTEN);
         }
     }
 }
@@ -272,7 +272,7 @@ impl<'a> Side<'a> {
             answer = self.collector.add(again);
         }
         let expected = self.plain.add(draft)?;
-        assert!(rt; answer == expected, "{draft:?}");
+        assert!(rt; answer == expected);
         Ok(expected)
     }
 
@@ -305,18 +305,13 @@ impl<'a> Side<'a> {
     /// Compares what is known of a number.
     fn compare_number(&self, rt: &impl Abort, cpu: CpuId, number: u64) {
         let is_missing = self.collector.is_missing(cpu, RecordNo(number));
-        assert!(rt;
-            is_missing == self.plain.misses(cpu, number),
-            "{cpu:?} {number}"
-        );
+        assert!(rt; is_missing == self.plain.misses(cpu, number));
         match (
             self.collector.get(cpu, RecordNo(number)),
             self.plain.record(cpu, number),
         ) {
             (Some(entry), Some(expected)) => compare_entry(rt, entry, number, expected),
-            (entry, expected) => {
-                assert!(rt; entry.is_none() && expected.is_none(), "{cpu:?} {number}")
-            }
+            (entry, expected) => { assert!(rt; entry.is_none() && expected.is_none()) }
         }
     }
 
@@ -326,7 +321,7 @@ impl<'a> Side<'a> {
         for entry in self.collector.records(cpu) {
             match self.plain.next_record(cpu, from) {
                 Some(expected) => compare_entry(rt, entry, expected.number, expected.written),
-                None => assert!(rt; false, "one more: {entry:?}"),
+                None => assert!(rt; false),
             }
             from = entry.number.0.wrapping_add(1);
         }

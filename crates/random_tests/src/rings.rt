@@ -1,8 +1,3 @@
-//! Rings: as a value, with two ends, and plain.
-mod ends;
-mod plain;
-mod running;
+//! Running rings: their seats, and their ends in threads.
 mod seats;
-mod stepwise;
 mod threads;
-mod value;

@@ -1,10 +1,9 @@
 //! The two ends of a ring in two threads.
-ghost use Rattle.std.specs.Prelude.{◌≡◌, ◌≤◌};
+ghost use Rattle.std.specs.Prelude.{◌≡◌, ◌≤◌, length};
 ghost use Rattle.ring_shared.specs.Value.{WriterValue, ReaderValue};
 ghost use Rattle.ring_shared.specs.Calls.{IsWriter};
 ghost use Rattle.ring_shared.specs.Takes.{IsReader};
 
-use super::ends::{SIZE, fill};
 use nested_writer::Ended;
 use page_borrow::records;
 use page_image::{Body, Page};
@@ -20,6 +19,9 @@ use std::thread::Threads;
 use trace_model::NoMemory;
 
 const PAGES: usize = 4;
+
+/// The data size of the pages, in bytes.
+const SIZE: usize = 32;
 
 /// How often a new ring is run.
 const RUNS: usize = 2;
@@ -50,6 +52,14 @@ fn len_of(number: u64) -> usize
         1 => 8,
         _ => 12,
     }
+}
+
+/// Copies the front of a payload that has room in a slot.
+fn fill(slot: &mut [u8], payload: &[u8])
+    ensures { length slot.new ≡ length slot.old }
+{
+    let len = payload.len().min(slot.len());
+    slot[..len].copy_from_slice(&payload[..len]);
 }
 
 // ---- the writer's side
