@@ -5,7 +5,9 @@ use Rattle.trace_model.specs.Steps as model
 use Rattle.link_marks.specs.FrameOutcomes.{IsReserving, IsLeaving}
 use Rattle.nested_writer.specs.declared.frame.Frame as stack
 use Rattle.nested_writer.specs.Stack.{kind_of, state_of}
-use Rattle.nested_writer.specs.Calls.{top_of}
+use Rattle.nested_writer.specs.declared.frame.Progress.{Progress}
+use Rattle.nested_writer.specs.declared.frame.Progress.TheVariants.{Waiting, Through, Reserved, Left}
+use Rattle.nested_writer.specs.Calls.{top_of, HasNoSlot, LacksSlot}
 use Rattle.ring_frames.specs.declared.answer.Answer.{Answer}
 use Rattle.ring_frames.specs.declared.phase.Phase.{Phase}
 use Rattle.ring_frames.specs.AreFrames.{ring_frames}
@@ -75,3 +77,32 @@ module _ (shape : Shape) (before : Writing) (result : Answer) (after : Writing) 
 
 pub finishes_step : (v : WriterValue) (w : IsWriter v) (result : Answer) (after : Writing) → IsAim (top_of v.frames.stack.frames) aim.Step → IsCall v.shape v.part model.steps result after → Finishes v.shape v.part result after
 finishes_step v w result after is call = finishes_in v.shape v.part result after v.frames.stack.frames v.frames.phase v.frames.below (frames_of v w) is call
+
+-- ---- slots
+
+abbrev first_of : Frame → List Frame → Frame
+first_of frame [] = frame
+first_of frame (first ∷ others) = first
+
+not_reserved : (kind : Kind) (number : ℕ) → IsReserving kind (reserved number) → ⊥
+not_reserved (for_record moment len) number is = is
+not_reserved for_close number is = is
+
+progress_lacks : (progress : Progress) (kind : Kind) → IsReserving kind (state_of progress) → HasNoSlot progress
+progress_lacks (Waiting noted) kind is = tt
+progress_lacks (Through noted) kind is = tt
+progress_lacks (Reserved slot) kind is = absurd (not_reserved kind slot.number is)
+progress_lacks (Left noted) kind is = tt
+
+-- a frame whose record is to be reserved has no slot
+state_lacks : (f : stack.Frame) (kind : Kind) → IsReserving kind (state_of f.progress) → HasNoSlot f.progress
+state_lacks f kind is = progress_lacks f.progress kind is
+
+lacks_in : (frames : List stack.Frame) (phase : Phase) (phases : List Phase) (shown : List Frame) (frame : Frame) (below : List Frame) → shown ≡ ring_frames frames (phase ∷ phases) → shown ≡ frame ∷ below → IsReserving frame.kind frame.state → LacksSlot frames
+lacks_in [] phase phases shown frame below same top is = let both : [] ≡ frame ∷ below = sym same ∙ top in absurd (cc)
+lacks_in (f ∷ frames) phase phases shown frame below same top is =
+    let both : frame ∷ below ≡ ring_frames (f ∷ frames) (phase ∷ phases) = sym top ∙ same in
+    state_lacks f _ (subst (λ (x : Frame). IsReserving x.kind x.state) (ap (first_of frame) both) is)
+
+pub lacks_slot : (v : WriterValue) → IsWriter v → (frame : Frame) (below : List Frame) → v.part.frames ≡ frame ∷ below → IsReserving frame.kind frame.state → LacksSlot v.frames.stack.frames
+lacks_slot v w frame below top is = lacks_in v.frames.stack.frames v.frames.phase v.frames.below v.part.frames frame below (frames_of v w) top is

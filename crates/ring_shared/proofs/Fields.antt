@@ -3,6 +3,7 @@ use Rattle.std.proofs.Common.{◌≡◌, ◌≢◌, ℕ, ◌+◌, ◌-◌, ◌�
 use Rattle.atomic_table.specs.Seated.{TableId}
 use Rattle.trace_model.specs.Links.{normal_link}
 use Rattle.trace_model.specs.Ring as ring
+use Rattle.trace_model.specs.Steps as model
 use Rattle.link_marks.specs.ModelLinks.{link_of}
 use Rattle.link_marks.specs.declared.link.Link.{Link}
 use Rattle.link_marks.specs.declared.link.Mark.{Mark}
@@ -14,8 +15,8 @@ use Rattle.ring_steps.specs.declared.rule.Shape.{Shape}
 use Rattle.ring_steps.specs.Views.{Reading}
 use Rattle.ring_steps.specs.Taking.{IsRead}
 use Rattle.ring_shared.specs.Value.{ReaderValue}
-use Rattle.ring_shared.specs.Takes.{IsReaderPart, KeepsSlot, SawPage, FoundEmpty, IsReader}
-use Rattle.ring_shared.proofs.TakeSteps.{Stays, sees_header, sees_update, sees_owed, sees_passed}
+use Rattle.ring_shared.specs.Takes.{IsReaderPart, KeepsSlot, SawPage, FoundEmpty, IsReader, ReadsSo}
+use Rattle.ring_shared.proofs.TakeSteps.{Stays, sees_header, sees_update, sees_owed, sees_passed, header_answers, update_answers, owed_answers, passed_answers}
 
 -- the reader as the model has it
 abbrev pub AreFields : ring.Reader → Reader → Type 0
@@ -79,3 +80,15 @@ module _ (v : ReaderValue) (l : Link) (after : Reading) (read : IsRead v.shape v
   pub at_passed : l.mark ≡ Normal → l.fill ≢ v.part.reader.hint
       → Stays v.shape v.part after (record v.part.reader { phase = ring.loading_link; hint = l.fill + 1 - v.shape.pages }) × (v.part.reader.hint + v.shape.pages ≤ l.fill + 1)
   at_passed is other = sees_passed v.shape v.part after (SeesLink v l) read.0 read.1 at l.page l.fill (link_is Normal is) other
+
+  pub header_answers_so : l.mark ≡ Header → ReadsSo v.shape v.part model.reading after
+  header_answers_so is = header_answers v.shape v.part after (SeesLink v l) read.0 read.1 at l.page l.fill (link_is Header is)
+
+  pub update_answers_so : l.mark ≡ Update → ReadsSo v.shape v.part (model.moving (l.fill + 1)) after
+  update_answers_so is = update_answers v.shape v.part after (SeesLink v l) read.0 read.1 at l.page l.fill (link_is Update is)
+
+  pub owed_answers_so : l.mark ≡ Normal → l.fill ≡ v.part.reader.hint → ReadsSo v.shape v.part (model.moving v.part.reader.hint) after
+  owed_answers_so is here = owed_answers v.shape v.part after (SeesLink v l) read.0 read.1 at l.page (link_is Normal is ∙ ap (normal_link l.page) here)
+
+  pub passed_answers_so : l.mark ≡ Normal → l.fill ≢ v.part.reader.hint → ReadsSo v.shape v.part model.reading after
+  passed_answers_so is other = passed_answers v.shape v.part after (SeesLink v l) read.0 read.1 at l.page l.fill (link_is Normal is) other

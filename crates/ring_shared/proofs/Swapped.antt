@@ -1,5 +1,5 @@
 -- What the reader's swap tells of its part.
-use Rattle.std.proofs.Common.{◌≡◌, ◌≢◌, ℕ, ◌+◌, ◌-◌, ◌≤◌, List, [], take, map, sym, ap, ◌∙◌, subst, arith}
+use Rattle.std.proofs.Common.{◌≡◌, ◌≢◌, ℕ, ◌+◌, ◌-◌, ◌≤◌, List, [], take, map, refl, sym, ap, ◌∙◌, subst, arith}
 use Rattle.trace_model.specs.declared.limits.TheConstants.{MAX_SIZE}
 use Rattle.trace_model.specs.Record.{Record}
 use Rattle.trace_model.specs.History.{as_record, reserved_records}
@@ -14,8 +14,10 @@ use Rattle.nested_writer.specs.Released.{IsWrittenPage}
 use Rattle.ring_steps.specs.declared.rule.Shape.{Shape}
 use Rattle.ring_steps.specs.Views.{Reading}
 use Rattle.ring_steps.specs.Swapping.{HeadTaken, HeadMissed}
-use Rattle.ring_shared.specs.Takes.{IsReaderPart, IsPageTaken}
-use Rattle.ring_shared.proofs.TakeSteps.{Stays, known_after, facts, hint_is}
+use Rattle.ring_shared.specs.declared.take.Take.TheVariants.{Page}
+use Rattle.ring_shared.specs.declared.take.Turn.TheVariants.{Done}
+use Rattle.ring_shared.specs.Takes.{IsReaderPart, IsPageTaken, ReadsSo, IsAnswered}
+use Rattle.ring_shared.proofs.TakeSteps.{Stays, known_after, facts, hint_is, so}
 
 -- the records that a reader heard of are parted into what it took and what was lost between
 pub parted : (shape : Shape) (part : Reading) → IsReaderPart shape part → IsPartition part.heard (pieces_of part.reader.taken) []
@@ -69,3 +71,15 @@ module _ (shape : Shape) (before : Reading) (page fill : ℕ) (after : Reading) 
         },
         omega arith,
       )
+
+-- ---- what the model answers
+
+pub swap_answers : (shape : Shape) (before : Reading) (page fill : ℕ) (after : Reading) (taken : Contents) → HeadTaken shape before page fill taken after → IsAnswered shape before (Done (Page taken (taken.first - before.reader.expected))) after
+swap_answers shape before page fill after taken h = record {
+  told = model.swapped h.told;
+  step = so shape before after (λ core. ring.link_into shape.pages core.links fill ≡ header_link page fill) (model.swapped h.told) h.step (model.swapped h.told) refl;
+  tells = (h.told, refl, record { written = subst (λ (f : ℕ). IsWrittenPage shape.size f h.told.held taken) (sym h.fill_is) h.written; missed_is = sym h.skipped_is });
+}
+
+pub miss_answers : (shape : Shape) (before : Reading) (page fill : ℕ) (after : Reading) → HeadMissed shape before page fill after → ReadsSo shape before model.reading after
+miss_answers shape before page fill after h = so shape before after (λ core. ring.link_into shape.pages core.links fill ≢ header_link page fill) model.reading h.step model.reading refl

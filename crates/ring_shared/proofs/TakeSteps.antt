@@ -18,7 +18,7 @@ use Rattle.ring_steps.specs.declared.rule.Shape.{Shape}
 use Rattle.ring_steps.specs.Views.{Reading}
 use Rattle.ring_steps.specs.Seats.{IsReaderStep}
 use Rattle.ring_steps.proofs.Taking.{gone_on}
-use Rattle.ring_shared.specs.Takes.{IsReaderPart, ArePassedBelow, TakesNothing, IsEmptyFound}
+use Rattle.ring_shared.specs.Takes.{IsReaderPart, ArePassedBelow, TakesNothing, IsEmptyFound, ReadsSo}
 
 -- each fill below the reader's hint is passed
 pub passed_below_hint : (shape : Shape) (part : Reading) (fill : ℕ) → part.reader.hint ≡ fill → ArePassedBelow shape part fill
@@ -82,6 +82,22 @@ module _ (shape : Shape) (before after : Reading) (sees : Core → Type 0) (answ
   is_step phase told next at step = steps_are_determined shape.pages shape.size r.core model.reads answer told r.next next r.step
       (model.read_step refl (subst (λ (p : ReaderPhase). model.ReadStep shape.pages r.core p told next) (phase_in phase at) step))
 
+  -- the model answers the step so
+  pub so : (told : model.Answer) → answer ≡ told → ReadsSo shape before told after
+  so told e = record {
+    core = r.core;
+    next = r.next;
+    reached = r.reached;
+    before_is = r.before_is;
+    seen = tt;
+    of_reader = r.of_reader;
+    step = subst (λ (a : model.Answer). model.Step shape.pages shape.size r.core model.reads a r.next) e r.step;
+    after_is = r.after_is;
+  }
+
+  reads_so : (phase : ReaderPhase) (told : model.Answer) (next : Core) → before.reader.phase ≡ phase → model.ReadStep shape.pages r.core phase told next → ReadsSo shape before told after
+  reads_so phase told next at step = so told (is_step phase told next at step).0
+
   stays : (reader : Reader) (link : Link) → r.next ≡ gone_on r.core reader link → reader.expected ≡ r.core.reader.expected → Stays shape before after reader
   stays reader link is expected = record {
     known = known_after;
@@ -105,6 +121,18 @@ module _ (shape : Shape) (before after : Reading) (sees : Core → Type 0) (answ
     here : (l : Link) → link_into shape.pages r.core.links before.reader.hint ≡ l → link_into shape.pages r.core.links r.core.reader.hint ≡ l
     here l e = ap (link_into shape.pages r.core.links) (sym hint_is) ∙ e
 
+    pub header_answers : (page fill : ℕ) → link_into shape.pages r.core.links before.reader.hint ≡ header_link page fill → ReadsSo shape before model.reading after
+    header_answers page fill e = reads_so loading_link model.reading (model.reader_at r.core (loading_done page fill) fill) at (model.loads_header page fill (here (header_link page fill) e) refl refl)
+
+    pub update_answers : (page lost : ℕ) → link_into shape.pages r.core.links before.reader.hint ≡ update_link page lost → ReadsSo shape before (model.moving (lost + 1)) after
+    update_answers page lost e = subst (λ (fill : ℕ). ReadsSo shape before (model.moving fill) after) (let next : suc lost ≡ lost + 1 = omega arith in next)
+        (reads_so loading_link (model.moving (suc lost)) (model.reader_at r.core loading_link (suc lost)) at (model.loads_update page lost (here (update_link page lost) e) refl refl))
+
+    pub owed_answers : (page : ℕ) → link_into shape.pages r.core.links before.reader.hint ≡ normal_link page before.reader.hint → ReadsSo shape before (model.moving before.reader.hint) after
+    owed_answers page e = subst (λ (fill : ℕ). ReadsSo shape before (model.moving fill) after) (sym hint_is)
+        (reads_so loading_link (model.moving r.core.reader.hint) (model.reader_at r.core loading_link r.core.reader.hint) at
+        (model.loads_owed page (here (normal_link page before.reader.hint) e ∙ ap (normal_link page) hint_is) refl refl))
+
     pub sees_header : (page fill : ℕ) → link_into shape.pages r.core.links before.reader.hint ≡ header_link page fill → Stays shape before after (record before.reader { phase = loading_done page fill; hint = fill }) × (before.reader.hint ≤ fill)
     sees_header page fill e =
         let (g, low, high, same, link) = fill_at shape.pages r.core kept.links before.reader.hint in
@@ -127,17 +155,32 @@ module _ (shape : Shape) (before after : Reading) (sees : Core → Type 0) (answ
         let hint = loads loading_link r.core.reader.hint (model.moving r.core.reader.hint) (model.loads_owed page owed refl refl) in
         subst (Stays shape before after) (λ i. record before.reader { phase = sym at i; hint = sym hint_is i }) hint
 
-    pub sees_passed : (page fill : ℕ) → link_into shape.pages r.core.links before.reader.hint ≡ normal_link page fill → fill ≢ before.reader.hint
-        → Stays shape before after (record before.reader { phase = loading_link; hint = fill + 1 - shape.pages }) × (before.reader.hint + shape.pages ≤ fill + 1)
-    sees_passed page fill e other =
+    -- the position has a fill from the head on, a whole turn behind the hint at least
+    far : (page fill : ℕ) → link_into shape.pages r.core.links before.reader.hint ≡ normal_link page fill → fill ≢ before.reader.hint → (before.reader.hint + shape.pages ≤ fill) × (1 ≤ shape.pages)
+    far page fill e other =
         let some_pages = kept.links.some_pages in let behind = kept.links.hint_le in let same = hint_is in
         let hint : ℕ = before.reader.hint in
         let (g, low, high, position) = at_position r.core.head shape.pages (hint % shape.pages) (mod-lt hint (omega arith)) in
-        let told : fill ≡ g = (normal_tells shape.pages r.core.links r.core.order r.core.head r.core.frames g page fill (kept.links.each g low high) (ap (λ (i : ℕ). get_or r.core.links i (normal_link 0 0)) position ∙ e)).0 in
-        let far : hint + shape.pages ≤ fill = dite (dec_le (hint + shape.pages) fill) (λ yes. yes)
-        (λ no. let one = one_position hint shape.pages g hint (omega arith) (omega arith) (omega arith) (omega arith) position in absurd (other (told ∙ one))) in
-        let least : ℕ = fill + 1 - shape.pages in
-        (loads loading_link least model.reading (model.loads_passed page fill least (here (normal_link page fill) e) (omega arith) (omega arith) refl refl), omega arith)
+        let told : fill ≡ g = (normal_tells shape.pages r.core.links r.core.order r.core.head r.core.frames g page fill (kept.links.each g low high) (ap (λ (i : ℕ). get_or r.core.links i (normal_link 0 0)) position ∙ e)).0 in (
+          dite (dec_le (hint + shape.pages) fill) (λ yes. yes)
+              (λ no. let one = one_position hint shape.pages g hint (omega arith) (omega arith) (omega arith) (omega arith) position in absurd (other (told ∙ one))),
+          omega arith,
+        )
+
+    passed_step : (page fill : ℕ) → link_into shape.pages r.core.links before.reader.hint ≡ normal_link page fill → fill ≢ before.reader.hint
+        → model.LoadStep shape.pages r.core model.reading (model.reader_at r.core loading_link (fill + 1 - shape.pages))
+    passed_step page fill e other =
+        let (behind, some_pages) = far page fill e other in let same = hint_is in
+        model.loads_passed page fill (fill + 1 - shape.pages) (here (normal_link page fill) e) (omega arith) (omega arith) refl refl
+
+    pub passed_answers : (page fill : ℕ) → link_into shape.pages r.core.links before.reader.hint ≡ normal_link page fill → fill ≢ before.reader.hint → ReadsSo shape before model.reading after
+    passed_answers page fill e other = reads_so loading_link model.reading (model.reader_at r.core loading_link (fill + 1 - shape.pages)) at (passed_step page fill e other)
+
+    pub sees_passed : (page fill : ℕ) → link_into shape.pages r.core.links before.reader.hint ≡ normal_link page fill → fill ≢ before.reader.hint
+        → Stays shape before after (record before.reader { phase = loading_link; hint = fill + 1 - shape.pages }) × (before.reader.hint + shape.pages ≤ fill + 1)
+    sees_passed page fill e other =
+        let (behind, some_pages) = far page fill e other in
+        (loads loading_link (fill + 1 - shape.pages) model.reading (passed_step page fill e other), omega arith)
 
   -- ---- a load of the number of closed fills
 
@@ -145,6 +188,13 @@ module _ (shape : Shape) (before after : Reading) (sees : Core → Type 0) (answ
     saw : (phase : ReaderPhase) (told : model.Answer) → model.LoadDoneStep r.core page fill told (model.reader_saw r.core phase) → Stays shape before after (record before.reader { phase = phase; seen = r.core.done })
     saw phase told step = subst (λ (x : Reader). Stays shape before after (record x { phase = phase; seen = r.core.done })) (sym reader_is)
         (stays (record r.core.reader { phase = phase; seen = r.core.done }) r.core.spare_link (is_step (loading_done page fill) told (model.reader_saw r.core phase) at step).1 refl)
+
+    pub closed_answers : (done : ℕ) → r.core.done ≡ done → fill < done → ReadsSo shape before model.reading after
+    closed_answers done is below = reads_so (loading_done page fill) model.reading (model.reader_saw r.core (storing_link page fill)) at (model.finds_closed (omega arith) refl refl)
+
+    pub none_answers : (done : ℕ) → r.core.done ≡ done → done ≤ fill → ReadsSo shape before (model.empty done) after
+    none_answers done is le = subst (λ (d : ℕ). ReadsSo shape before (model.empty d) after) is
+        (reads_so (loading_done page fill) (model.empty r.core.done) (model.reader_saw r.core loading_link) at (model.finds_none (omega arith) refl refl))
 
     pub finds_closed : (done : ℕ) → r.core.done ≡ done → fill < done → Stays shape before after (record before.reader { phase = storing_link page fill; seen = done }) × (before.reader.seen ≤ done)
     finds_closed done is below = let low = seen_low in
@@ -173,6 +223,10 @@ module _ (shape : Shape) (before after : Reading) (sees : Core → Type 0) (answ
         )
 
   -- ---- a store of the link of the reader's page
+
+  pub store_answers : (page fill : ℕ) → before.reader.phase ≡ storing_link page fill → ReadsSo shape before model.reading after
+  store_answers page fill at =
+      reads_so (storing_link page fill) model.reading (gone_on r.core (record r.core.reader { phase = swapping page fill; hint = r.core.reader.hint }) (model.next_header shape.pages r.core fill)) at record { answer_is = refl; after_is = refl }
 
   pub stores : (page fill : ℕ) → before.reader.phase ≡ storing_link page fill → Stays shape before after (record before.reader { phase = swapping page fill })
   stores page fill at =

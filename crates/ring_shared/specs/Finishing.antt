@@ -1,5 +1,5 @@
 -- What it means that the frame on top is stepped as far as it comes by itself.
-use Rattle.std.specs.Prelude.{◌≡◌, ◌⊎◌, ℕ, List, [], ◌∷◌, Option, Some, None}
+use Rattle.std.specs.Prelude.{◌≡◌, ◌⊎◌, ℕ, List, [], ◌∷◌, Option, Some, None, replicate}
 use Rattle.trace_model.specs.declared.numbers.RecordNo.{RecordNo}
 use Rattle.trace_model.specs.Frames.{Kind, for_record, for_close, FrameState, waiting, reserved, left, Frame}
 use Rattle.trace_model.specs.Steps as model
@@ -7,12 +7,13 @@ use Rattle.link_marks.specs.FrameOutcomes.{IsReserving, IsLeaving}
 use Rattle.nested_writer.specs.declared.fault.WriteFault.{WriteFault}
 use Rattle.nested_writer.specs.declared.frame.Frame as stack
 use Rattle.nested_writer.specs.declared.frame.Slot.{Slot}
-use Rattle.nested_writer.specs.Stack.{kind_of, state_of}
-use Rattle.nested_writer.specs.Calls.{IsTopSlot}
+use Rattle.nested_writer.specs.Stack.{Stack, kind_of, state_of}
+use Rattle.nested_writer.specs.Calls.{LacksSlot, IsTopSlot}
 use Rattle.ring_frames.specs.declared.answer.Answer.{Answer}
 use Rattle.ring_frames.specs.declared.answer.Answer.TheVariants.{Pushed, Going, Reserved, Ended, Gone, Refused, Looking, Empty, Moving, Taken, Wished}
 use Rattle.ring_frames.specs.declared.phase.Turned.{Turned}
 use Rattle.ring_frames.specs.declared.phase.Turned.TheVariants as turned
+use Rattle.ring_frames.specs.Answers.{bytes_in}
 use Rattle.ring_steps.specs.declared.rule.Shape.{Shape}
 use Rattle.ring_steps.specs.Views.{Writing}
 use Rattle.ring_shared.specs.declared.writer.finish.Aim.{Aim}
@@ -120,6 +121,14 @@ IsFinished old finished.Reserved new =
     × Finishes old.shape old.part (Reserved record { 0 = slot.number }) new.part
 IsFinished old finished.Gone new = Finishes old.shape old.part Gone new.part
 IsFinished old (finished.Refused fault) new = Finishes old.shape old.part (Refused fault) new.part
+
+-- a slot that is reserved by what comes of the frame on top holds only zeros
+abbrev pub ZerosFinished : Stack → Finished → Stack → Type 0
+ZerosFinished old result new = (slot : Slot)
+    → result ≡ finished.Reserved
+    → LacksSlot old.frames
+    → IsTopSlot new.frames slot
+    → bytes_in new slot ≡ replicate slot.place.len 0
 
 -- ---- what it is stepped to
 

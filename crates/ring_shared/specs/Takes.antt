@@ -1,8 +1,10 @@
 -- What a reader's take answers, and what it knows by it.
-use Rattle.std.specs.Prelude.{◌≡◌, ℕ, ◌+◌, ◌^◌, ◌<◌, ◌≤◌, Bool, true, false, List, [], ◌∷◌, ◌++◌, length, Option, Some, None}
+use Rattle.std.specs.Prelude.{◌≡◌, ⊤, ℕ, ◌+◌, ◌*◌, ◌^◌, ◌<◌, ◌≤◌, Bool, true, false, List, [], ◌∷◌, ◌++◌, length, Option, Some, None}
 use Rattle.trace_model.specs.declared.limits.TheConstants.{LINK_PAGES}
+use Rattle.trace_model.specs.declared.numbers.FillNo.{FillNo}
 use Rattle.trace_model.specs.Record.{Record}
 use Rattle.trace_model.specs.Ring.{Taken, Core}
+use Rattle.trace_model.specs.Steps as model
 use Rattle.trace_model.specs.Partition.{IsPartition}
 use Rattle.link_marks.specs.Reached.{IsReached}
 use Rattle.link_marks.specs.AnswerLaws.{ArePassed}
@@ -15,6 +17,7 @@ use Rattle.ring_frames.specs.declared.reader.ReaderPhase.TheVariants.{LoadingLin
 use Rattle.ring_steps.specs.declared.rule.Shape.{Shape}
 use Rattle.ring_steps.specs.Views.{Reading}
 use Rattle.ring_steps.specs.Shown.{IsReading}
+use Rattle.ring_steps.specs.Seats.{IsReaderStep}
 use Rattle.ring_shared.specs.declared.take.Take.{Take}
 use Rattle.ring_shared.specs.declared.take.Take.TheVariants.{Page, Empty, Moving}
 use Rattle.ring_shared.specs.declared.take.Turn.{Turn}
@@ -137,6 +140,52 @@ empty_of (Moving fill back) = None
 abbrev pub IsTurn : Shape → Reading → List ℕ → Turn → Reading → Type 0
 IsTurn shape before body (Looking back) after = (length back ≡ length body) × TakesNothing before after
 IsTurn shape before body (Done took) after = IsTake shape before body took after
+
+-- The model's reader makes a step with this answer: from a state in which its part is the first to one in which it is
+-- the second.
+abbrev pub ReadsSo : Shape → Reading → model.Answer → Reading → Type 0
+ReadsSo shape before told after = IsReaderStep shape before (λ _. ⊤) model.reads told after
+
+-- the step's answer tells the model's
+abbrev pub TurnTells : ℕ → Turn → model.Answer → Type 0
+TurnTells size (Looking back) told = told ≡ model.reading
+TurnTells size (Done (Page page missed)) told = (t : Taken) × (told ≡ model.swapped t) × IsTakenPage size page missed t
+TurnTells size (Done (Empty done back)) told = told ≡ model.empty done
+TurnTells size (Done (Moving fill back)) told = told ≡ model.moving fill.0
+
+-- so a take answers at once where the model does, and goes on where the model does
+pub record IsAnswered (shape : Shape) (before : Reading) (turn : Turn) (after : Reading) : Type 0 where
+  pub told : model.Answer
+  pub step : ReadsSo shape before told after
+  pub tells : TurnTells shape.size turn told
+
+-- ---- how many steps a take makes
+
+-- a take makes so many steps at most
+abbrev pub most_steps : Shape → ℕ
+most_steps shape = 2 * shape.pages + 8
+
+-- so many steps, one after the other, each of which the model answers by going on
+pub data ReadsOn (shape : Shape) (before : Reading) : ℕ → Reading → Type 0 where
+  no_step : ReadsOn shape before 0 before
+  one_more : (steps : ℕ) (between after : Reading)
+      → ReadsOn shape before steps between
+      → ReadsSo shape between model.reading after
+      → ReadsOn shape before (steps + 1) after
+
+-- A take goes on until a step of it has the answer, which is the take's; or it has made as many steps as it may, and
+-- answers by its hint.
+pub data TakesSteps (shape : Shape) (before : Reading) (result : Take) (after : Reading) : Type 0 where
+  has_answer : (steps : ℕ) (between : Reading)
+      → steps < most_steps shape
+      → ReadsOn shape before steps between
+      → IsAnswered shape between (Done result) after
+      → TakesSteps shape before result after
+  has_none : (fill : FillNo) (back : List ℕ)
+      → ReadsOn shape before (most_steps shape) after
+      → fill.0 ≡ after.reader.hint
+      → result ≡ Moving fill back
+      → TakesSteps shape before result after
 
 -- the end of a ring stays the same one
 abbrev pub SameRing : ReaderValue → ReaderValue → Type 0

@@ -11,7 +11,7 @@ use std::marker::Model;
 #[derive(Drop)]
 pub struct Reader {
     pub(crate) seat: ReaderSeat,
-    /// The page at each position.
+    /// The page at each position. It has room for the ring's pages, and never takes more.
     pub(crate) order: Vec<u16>,
     /// The reader's page.
     pub(crate) spare: u16,
@@ -22,6 +22,7 @@ pub struct Reader {
 }
 
 impl Model for Reader {
+    ghost use Rattle.std.specs.Prelude.{◌≡◌, vec_capacity};
     ghost use Rattle.ring_steps.specs.Ends.{reading_in, reader_table};
     ghost use Rattle.ring_shared.specs.Value.{ReaderValue};
 
@@ -36,4 +37,6 @@ impl Model for Reader {
       at = r.at;
       empty_at = r.empty_at;
     } };
+
+    ghost invariant = { λ r. r.seat.shape.pages ≡ vec_capacity r.order };
 }

@@ -20,12 +20,12 @@ pub struct Writer {
     pub(crate) seat: WriterSeat,
     /// The frames of the writers that stand, and the pages that they write.
     pub(crate) frames: Frames,
-    /// The numbers of these pages, the oldest first.
+    /// The numbers of these pages, the oldest first. It has room for the ring's pages, and never takes more.
     pub(crate) pages: VecDeque<u16>,
 }
 
 impl Model for Writer {
-    ghost use Rattle.std.specs.Prelude.{◌≤◌};
+    ghost use Rattle.std.specs.Prelude.{◌≡◌};
     ghost use Rattle.std.specs.VecDeque.{deque_capacity};
     ghost use Rattle.ring_steps.specs.Ends.{writing_in, passed_in, writer_table};
     ghost use Rattle.ring_shared.specs.Value.{WriterValue};
@@ -41,7 +41,7 @@ impl Model for Writer {
       pages = w.pages.items;
     } };
 
-    ghost invariant = { λ w. w.seat.shape.pages ≤ deque_capacity w.pages };
+    ghost invariant = { λ w. w.seat.shape.pages ≡ deque_capacity w.pages };
 }
 
 impl Writer {

@@ -1,20 +1,21 @@
 -- What the writer knows of the numbers in front of its steps on links, and what such a step tells behind.
 use Rattle.std.specs.Prelude.{slice_index_or, true, ◌==◌, ◌↔◌}
-use Rattle.std.proofs.Common.{◌≡◌, ℕ, ◌+◌, ◌-◌, ◌<◌, ◌≤◌, length, Some, refl, sym, ap, ◌∙◌, subst, eq-eqb, arith}
+use Rattle.std.proofs.Common.{◌≡◌, ℕ, ◌+◌, ◌-◌, ◌<◌, ◌≤◌, List, length, Some, refl, sym, ap, ◌∙◌, subst, eq-eqb, arith}
 use Rattle.std.proofs.lemmas.Bool.{eqb-true}
 use Rattle.std.proofs.Math.Logic.{∥∥₁_elim}
 use Rattle.std.proofs.Props.{props}
 use Rattle.trace_model.specs.declared.limits.TheConstants.{MAX_PAGES, LINK_FILLS}
-use Rattle.trace_model.specs.Links.{Link, word_of, FitsWord}
-use Rattle.trace_model.specs.Frames.{Phase, marking, noted_fill}
+use Rattle.trace_model.specs.Links.{Link, word_of, update_link, FitsWord}
+use Rattle.trace_model.specs.Frames.{Phase, marking, clearing, Frame, noted_fill, owned_update}
 use Rattle.trace_model.specs.Ring.{Core, link_into}
-use Rattle.trace_model.specs.Steps.{Answer}
+use Rattle.trace_model.specs.Steps.{Answer, ClearStep, clears}
 use Rattle.trace_model.proofs.LinkWords.{word_tells}
 use Rattle.link_marks.specs.KeptLinks.{spot, passed_spot}
 use Rattle.link_marks.specs.RingKept.{IsRingKept}
 use Rattle.link_marks.specs.Reached.{IsReached}
 use Rattle.link_marks.proofs.FrameChanges.{top_kept}
 use Rattle.link_marks.proofs.PageChanges.{page_below}
+use Rattle.link_marks.proofs.TopSteps.{top_stepped}
 use Rattle.link_marks.proofs.RingsKept.{reached_kept}
 use Rattle.ring_steps.specs.declared.rule.Shape.{Shape}
 use Rattle.ring_steps.specs.Views.{Writing, writing_of}
@@ -78,7 +79,31 @@ module _ (shape : Shape) (before now : Writing) (known : ∥ IsWriterReached sha
   behind_fits page next behind due =
       let (low, numbers, front, some) = passed_bounds (marking due.role due.noted page next) due.noted page due.phase refl refl in let sum = due.behind_is in omega arith
 
+  -- a frame that clears noted a fill whose position had one before
+  lost_of_state : (page noted : ℕ) → IsTopIn now.frames (clearing noted page) → StateNow shape now → shape.pages ≤ noted
+  lost_of_state page noted on st =
+      let c = st.core in
+      let top = top_of c.frames (clearing noted page) (subst (λ (w : Writing). IsTopIn w.frames (clearing noted page)) (sym st.is) on) in
+      let (lost, sum, below, closed, there) = (top_kept shape.pages c top.frame top.below st.kept.links top.is).moves noted (ap owned_update top.phase_is) in omega arith
+
+  pub lost_bounds : (page noted : ℕ) → IsTopIn now.frames (clearing noted page) → shape.pages ≤ noted
+  lost_bounds page noted on = ∥∥₁_elim known (Prim.hlevel props) (λ w. lost_of_state page noted on (state_now shape before now w leads))
+
 -- ---- behind
+
+-- a frame that clears finds its UPDATE
+update_there : (n : ℕ) (c : Core) (frame : Frame) (below : List Frame) (noted page lost : ℕ) (answer : Answer) (after : Core) → lost + n ≡ noted → ClearStep n c frame below noted page answer after
+    → link_into n c.links noted ≡ update_link page lost
+update_there n c frame below noted page lost answer after sum (clears u u_sum at a after_is) = let same : u ≡ lost = omega arith in at ∙ ap (update_link page) same
+
+pub cleared_update : (shape : Shape) (now : Writing) (page noted lost : ℕ) (sees : Core → Type 0) (answer : Answer) (after : Writing) → IsTopIn now.frames (clearing noted page) → lost + shape.pages ≡ noted
+    → (s : IsWriterStep shape now sees answer after)
+    → link_into shape.pages s.core.links noted ≡ update_link page lost
+cleared_update shape now page noted lost sees answer after on sum s =
+    let c = s.core in
+    let top = top_of c.frames (clearing noted page) (subst (λ (w : Writing). IsTopIn w.frames (clearing noted page)) (sym s.before_is) on) in
+    update_there shape.pages c top.frame top.below noted page lost answer s.next sum
+    (top_stepped shape.pages shape.size c top.frame top.below (clearing noted page) answer s.next top.is top.phase_is s.step)
 
 pub seen_as : (shape : Shape) (before : Writing) (sees other : Core → Type 0) (answer : Answer) (after : Writing)
     → ((core : Core) → IsReached shape.pages shape.size shape.start core → sees core → other core)

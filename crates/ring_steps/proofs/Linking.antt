@@ -1,5 +1,5 @@
 -- The writer's steps that load and set links, and load the reader's wish.
-use Rattle.std.specs.Prelude.{⊤, slice_index_or, slice_set, Some, ◌==◌}
+use Rattle.std.specs.Prelude.{slice_index_or, slice_set, Some, ◌==◌}
 use Rattle.std.specs.List.{slice_index}
 use Rattle.std.proofs.Common.{◌≡◌, ◌≢◌, ℕ, suc, ◌+◌, ◌-◌, ◌%◌, ◌<◌, ◌≤◌, Bool, List, [], ◌∷◌, length, refl, sym, ap, ◌∙◌, subst, mod-lt, eq-eqb, ne_eqb, arith}
 use Rattle.std.proofs.lemmas.List.{set-get_or}
@@ -12,7 +12,7 @@ use Rattle.trace_model.specs.declared.limits.TheConstants.{MAX_PAGES, LINK_PAGES
 use Rattle.trace_model.specs.Links.{Link, word_of, normal_link, header_link, update_link, FitsWord}
 use Rattle.trace_model.specs.Frames.{Role, owner, helper, Phase, looking, claiming, looking_next, marking, clearing, opening, wishing, Frame, noted_fill}
 use Rattle.trace_model.specs.Ring.{Core, link_into, links_with, page_at}
-use Rattle.trace_model.specs.Steps.{Event, pushes, pushes_close, steps, ends, reads, wishes, going, Answer, GoesOn, after_next, in_phase, with_head_claimed, with_link, contents_of, LookStep, look_late, sees_free, sees_header, sees_update, ClaimStep, claim_late, claims, claim_fails, NextStep, next_late, sees_normal, sees_other, MarkStep, mark_late, marks, mark_fails, ClearStep, clears, WishStep, grants, closes_more, goes_away, FrameStep, Step, push_step, push_refused, close_step, close_refused, frame_step, frame_lacks, end_step, end_lacks, end_early, read_step, wish_step}
+use Rattle.trace_model.specs.Steps.{steps, going, Answer, GoesOn, after_next, in_phase, with_head_claimed, with_link, contents_of, LookStep, look_late, sees_free, sees_header, sees_update, ClaimStep, claim_late, claims, claim_fails, NextStep, next_late, sees_normal, sees_other, MarkStep, mark_late, marks, mark_fails, ClearStep, clears, WishStep, grants, closes_more, goes_away, Step}
 use Rattle.trace_model.proofs.LinkWords.{word_tells}
 use Rattle.link_marks.specs.KeptLinks.{passed_spot}
 use Rattle.link_marks.specs.RingKept.{IsRingKept}
@@ -42,7 +42,7 @@ use Rattle.ring_steps.proofs.Paging.{top_of}
 known_with : (known least head : ℕ) → known ≤ head → least ≤ head → (knows : ℕ) × (known ≤ knows) × (least ≤ knows) × (knows ≤ head)
 known_with known least head low high = dite (dec_le known least) (λ le. (least, le, omega arith, high)) (λ not. (known, omega arith, omega arith, low))
 
--- ---- the fill behind the lost one
+-- ---- the fill that is noted, and the one behind the lost one
 
 noted_top : (frames : List Frame) (phase : Phase) (noted : ℕ) → IsTopIn frames phase → noted_fill phase ≡ Some noted → noted_on_top frames ≡ noted
 noted_top [] phase noted top e = absurd top
@@ -55,6 +55,9 @@ looks_behind n w page behind due =
 pub marks_behind : (n : ℕ) (w : Writing) (page next behind : ℕ) → MarksBehind n w page next behind → behind ≡ behind_in n w
 marks_behind n w page next behind due =
     let at = noted_top w.frames (marking due.role due.noted page next) due.noted due.phase refl in let sum = due.behind_is in omega arith
+
+pub clears_noted : (w : Writing) (page noted : ℕ) → IsTopIn w.frames (clearing noted page) → noted ≡ noted_on_top w.frames
+clears_noted w page noted phase = sym (noted_top w.frames (clearing noted page) noted phase refl)
 
 -- ---- words
 
@@ -354,25 +357,23 @@ module _ (shape : Shape) (me : Sat) (is : IsWriting me) (now : Writing) (c : Cor
       record { page_fits = fits; fill_fits = omega arith } from_is to_is (passed_front page due.noted behind passed.2 due.behind_is) step
       (top_stepped shape.pages shape.size c top.frame top.below (marking due.role due.noted page next) answer after top.is top.phase_is step))
 
-  -- ---- the store of a link
+  clears_at : (before page lost noted from to : ℕ) (frame : Frame) (below : List Frame) (answer : Answer) (after : Core) → lost + shape.pages ≡ noted → from ≡ word_of (update_link page lost) → to ≡ word_of (normal_link page noted)
+      → before ≡ page_before shape.pages c.order noted
+      → Step shape.pages shape.size c steps answer after → ClearStep shape.pages c frame below noted page answer after → ExchangeMoves before noted from to
+  clears_at before page lost noted from to frame below answer after sum from_is to_is e step (clears u u_sum at a after_is) =
+      let same : u ≡ lost = omega arith in
+      done_on before noted from to (update_link page lost) (normal_link page noted) (record frame { phase = opening noted page } ∷ below) c.head e from_is to_is
+      (at ∙ ap (update_link page) same) (omega arith)
+      (goes answer after (in_phase (with_link shape.pages c noted (normal_link page noted)) frame below (opening noted page)) step a after_is)
 
-  abbrev ClearMoves : (page to : ℕ) → Type 0
-  ClearMoves page to = WriterMoves shape r me ws homes (page_word page) (λ _. to) (λ _ after. WriterTold shape now (passed me.0) (λ _. ⊤) going after)
-
-  clears_at : (before page noted to : ℕ) (frame : Frame) (below : List Frame) (answer : Answer) (after : Core) → to ≡ word_of (normal_link page noted) → before ≡ page_before shape.pages c.order noted
-      → Step shape.pages shape.size c steps answer after → ClearStep shape.pages c frame below noted page answer after → ClearMoves before to
-  clears_at before page noted to frame below answer after to_is e step (clears lost sum at a after_is) =
-      moves_on (page_word before) (λ _. to) (λ _ _. ⊤) (record frame { phase = opening noted page } ∷ below) (links_with shape.pages c.links noted (normal_link page noted)) c.head
-      (goes answer after (in_phase (with_link shape.pages c noted (normal_link page noted)) frame below (opening noted page)) step a after_is) (omega arith) tt
-      (subst (λ (word : ℕ). AreWords shape.pages (moved c (record frame { phase = opening noted page } ∷ below) (links_with shape.pages c.links noted (normal_link page noted)) c.head) (slice_set ws (page_word before) word))
-      (sym to_is) (words_with before noted (normal_link page noted) (record frame { phase = opening noted page } ∷ below) c.head e))
-
-  pub clear_moves : (before page noted to : ℕ) → before ≡ slice_index_or now.open_pages (noted - 1 - now.done) 0 → IsTopIn now.frames (clearing noted page) → to ≡ word_of (normal_link page noted) → ClearMoves before to
-  clear_moves before page noted to before_is phase to_is =
+  pub clear_moves : (before page lost noted from to : ℕ) → before ≡ slice_index_or now.open_pages (noted - 1 - now.done) 0 → IsTopIn now.frames (clearing noted page) → lost + shape.pages ≡ noted
+      → from ≡ word_of (update_link page lost) → to ≡ word_of (normal_link page noted) → ExchangeMoves before (noted_on_top now.frames) from to
+  clear_moves before page lost noted from to before_is phase sum from_is to_is =
       let top = top_of c.frames (clearing noted page) (top_now (clearing noted page) phase) in
       let (answer, after, step) = each_event_is_a_step shape.pages shape.size shape.start c steps kept tt in
       let known = top_kept shape.pages c top.frame top.below kept.links top.is in
       let (low, high, room, numbers) = known.noted noted (ap noted_fill top.phase_is) in
-      clears_at before page noted to top.frame top.below answer after to_is
+      subst (λ (fill : ℕ). ExchangeMoves before fill from to) (clears_noted now page noted phase)
+      (clears_at before page lost noted from to top.frame top.below answer after sum from_is to_is
       (before_is ∙ (ap (λ (w : Writing). slice_index_or w.open_pages (noted - 1 - w.done) 0) (sym now_is) ∙ front noted low high)) step
-      (top_stepped shape.pages shape.size c top.frame top.below (clearing noted page) answer after top.is top.phase_is step)
+      (top_stepped shape.pages shape.size c top.frame top.below (clearing noted page) answer after top.is top.phase_is step))

@@ -1,5 +1,5 @@
 //! The reader's swap of its spare for the head.
-ghost use Rattle.std.specs.Prelude.{◌≡◌, ◌<◌, true, ◌∷◌, Some, None, IfOk, IfErr};
+ghost use Rattle.std.specs.Prelude.{◌≡◌, ◌<◌, true, ◌∷◌, length, Some, None, IfOk, IfErr};
 ghost use Rattle.trace_model.specs.declared.limits.TheConstants.{LINK_PAGES};
 ghost use Rattle.trace_model.specs.Ring.{swapping};
 ghost use Rattle.atomic_table.specs.Table.{rest};
@@ -12,38 +12,39 @@ use crate::ends::ReaderSeat;
 use crate::links::{header_word, normal_word};
 use crate::plays::{Place, exchange};
 use crate::rule::{Board, LINKS};
-use page_image::Page;
+use page_image::{Body, Page};
 use std::marker::Brand;
-use trace_model::FillNo;
+use trace_model::{FillNo, RecordNo};
 
 impl ReaderSeat {
     /// A compare and exchange of the link to the head, this page as this fill, in the word of the page in front: it is
-    /// made the link to the reader's spare. Where it was there, the page `blank` lies at the spare's number, and the
-    /// head's page is answered, whose number is the spare's from now on; else `blank` comes back. In both cases the
-    /// reader keeps the spare's slot until its next load of a link.
+    /// made the link to the reader's spare. If it was there, `body` is in the ring at the spare's number, and the head's
+    /// page is answered, whose number is the spare's from now on; else a body of the same size comes back. In both cases
+    /// the reader keeps the spare's slot until its next load of a link.
     pub fn swap(
         &mut self,
         front: u16,
         page: u16,
         fill: FillNo,
         spare: u16,
-        blank: Page,
-    ) -> Result<Page, Page>
+        body: Body,
+    ) -> Result<Page, Body>
         requires due { (reading_in self.old).reader.phase ≡ swapping page fill.0 }
         requires kept { (reading_in self.old).keeps_spare ≡ true }
         requires front { front ≡ page_before self.old.shape.pages (reading_in self.old).order fill.0 }
         requires fits { page < LINK_PAGES }
         requires spare { spare ≡ (reading_in self.old).spare }
-        requires size { blank.size ≡ self.old.shape.size }
+        requires size { length body ≡ self.old.shape.size }
         ensures shape { self.new.shape ≡ self.old.shape }
         ensures table { reader_table self.new ≡ reader_table self.old }
         ensures taken { IfOk result (λ taken. HeadTaken self.old.shape (reading_in self.old) page fill.0 taken
             (reading_in self.new)) }
         ensures missed { IfErr result (λ _. HeadMissed self.old.shape (reading_in self.old) page fill.0
             (reading_in self.new)) }
-        ensures given_back { IfErr result (λ back. back ≡ blank) }
+        ensures given_back { IfErr result (λ back. length back ≡ length body) }
         ensures spare { (reading_in self.new).keeps_spare ≡ true }
     {
+        let blank = Page::fresh(body, RecordNo(0), FillNo(0));
         self.board
             .shared
             .exchange(&mut self.seat, spare as usize, Some(blank));
@@ -53,7 +54,7 @@ impl ReaderSeat {
         if exchange::<Brand>(&self.board, self.shape, &mut self.seat, word, from, to) == from {
             Ok(lift(&self.board, &mut self.seat, page))
         } else {
-            Err(lift(&self.board, &mut self.seat, spare))
+            Err(lift(&self.board, &mut self.seat, spare).into_body())
         }
     }
 }

@@ -1,7 +1,7 @@
 //! The writer's steps.
 ghost use Rattle.std.specs.Prelude.{◌≡◌, ◌↔◌, ◌+◌, ◌-◌, ◌<◌, ◌≤◌, ⊤, true, length, slice_index_or};
 ghost use Rattle.trace_model.specs.declared.limits.TheConstants.{LINK_PAGES};
-ghost use Rattle.trace_model.specs.Links.{FitsWord, normal_link, header_link};
+ghost use Rattle.trace_model.specs.Links.{FitsWord, normal_link, header_link, update_link};
 ghost use Rattle.trace_model.specs.Frames.{looking, claiming, clearing, opening, releasing, wishing};
 ghost use Rattle.trace_model.specs.Ring.{link_into, fill_of};
 ghost use Rattle.trace_model.specs.Steps.{going, Answer};
@@ -152,22 +152,27 @@ impl WriterSeat {
         found == from
     }
 
-    /// A store of the link in the word of the page in front, from the frame's own UPDATE to NORMAL. It need not be
-    /// compared: nobody but the frame that set an UPDATE replaces it.
-    pub fn clear<J: Present>(&mut self, front: u16, page: u16, noted: FillNo)
+    /// A compare and exchange of the link in the word of the page in front from the frame's own UPDATE to NORMAL with
+    /// the fill that it noted; whether it was done. It always is: nobody but the frame that set an UPDATE replaces it.
+    pub fn clear<J: Present>(&mut self, front: u16, page: u16, noted: FillNo) -> bool
         requires due { Leads self.old.shape (writing_in self.old) J.now }
         requires phase { IsTopIn J.now.frames (clearing noted.0 page) }
         requires front { front ≡ slice_index_or J.now.open_pages (noted.0 - 1 - J.now.done) 0 }
         ensures shape { self.new.shape ≡ self.old.shape }
         ensures table { writer_table self.new ≡ writer_table self.old }
         ensures knows { passed_in self.old ≤ passed_in self.new }
-        ensures step { IsWriterStep self.old.shape J.now (λ _. ⊤) going (writing_in self.new) }
+        ensures done { result ≡ true }
+        ensures step { IsWriterStep self.old.shape J.now
+            (λ core. result ≡ true ↔ link_into self.old.shape.pages core.links noted.0
+            ≡ update_link page (noted.0 - self.old.shape.pages)) going (writing_in self.new) }
     {
         self.recall();
         let word = front as usize + LINKS;
+        let from = update_word(page, FillNo(noted.0 - self.shape.pages as u64));
         let to = normal_word(page, noted);
-        store::<Brand>(&self.board, self.shape, &mut self.seat, word, to);
+        let found = exchange::<Brand>(&self.board, self.shape, &mut self.seat, word, from, to);
         self.memo = memo_at_rest(&self.seat);
+        found == from
     }
 
     /// A store of the number of begun fills: the next fill, which the frame on top noted, is begun on the page of this

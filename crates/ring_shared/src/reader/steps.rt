@@ -2,15 +2,15 @@
 use crate::reader::Reader;
 use crate::take::{Take, Turn};
 use link_marks::{Link, Mark, header};
-use page_image::{Body, Page};
+use page_image::Body;
 use ring_frames::ReaderPhase;
-use trace_model::{FillNo, RecordNo};
+use trace_model::FillNo;
 
 impl Reader {
     ghost use Rattle.std.specs.Prelude.{◌≡◌, ℕ, length, None};
     ghost use Rattle.trace_model.specs.Ring.{page_at};
     ghost use Rattle.ring_frames.specs.declared.reader.ReaderPhase.TheVariants.{LoadingLink, LoadingDone, StoringLink, Swapping};
-    ghost use Rattle.ring_shared.specs.Takes.{IsReader, IsTurn, EmptyAfter, SameRing};
+    ghost use Rattle.ring_shared.specs.Takes.{IsReader, IsTurn, IsAnswered, EmptyAfter, SameRing};
 
     /// One step of a take.
     pub(crate) fn step(&mut self, body: Body) -> Turn
@@ -18,6 +18,7 @@ impl Reader {
         requires size { length body ≡ self.old.shape.size }
         requires anew { self.old.empty_at ≡ None }
         ensures turn { IsTurn self.old.shape self.old.part body result self.new.part }
+        ensures answered { IsAnswered self.old.shape self.old.part result self.new.part }
         ensures empty { EmptyAfter self.new result }
         ensures empty_at { self.new.empty_at ≡ None }
         ensures ring { SameRing self.old self.new }
@@ -45,6 +46,7 @@ impl Reader {
         requires anew { self.old.empty_at ≡ None }
         requires phase { self.old.at.phase ≡ LoadingLink }
         ensures turn { IsTurn self.old.shape self.old.part body result self.new.part }
+        ensures answered { IsAnswered self.old.shape self.old.part result self.new.part }
         ensures empty { EmptyAfter self.new result }
         ensures empty_at { self.new.empty_at ≡ None }
         ensures ring { SameRing self.old self.new }
@@ -78,6 +80,7 @@ impl Reader {
         requires anew { self.old.empty_at ≡ None }
         requires phase { self.old.at.phase ≡ LoadingDone page fill }
         ensures turn { IsTurn self.old.shape self.old.part body result self.new.part }
+        ensures answered { IsAnswered self.old.shape self.old.part result self.new.part }
         ensures empty { EmptyAfter self.new result }
         ensures empty_at { self.new.empty_at ≡ None }
         ensures ring { SameRing self.old self.new }
@@ -99,6 +102,7 @@ impl Reader {
         requires anew { self.old.empty_at ≡ None }
         requires phase { self.old.at.phase ≡ StoringLink page fill }
         ensures turn { IsTurn self.old.shape self.old.part body result self.new.part }
+        ensures answered { IsAnswered self.old.shape self.old.part result self.new.part }
         ensures empty { EmptyAfter self.new result }
         ensures empty_at { self.new.empty_at ≡ None }
         ensures ring { SameRing self.old self.new }
@@ -117,6 +121,7 @@ impl Reader {
         requires anew { self.old.empty_at ≡ None }
         requires phase { self.old.at.phase ≡ Swapping page fill }
         ensures turn { IsTurn self.old.shape self.old.part body result self.new.part }
+        ensures answered { IsAnswered self.old.shape self.old.part result self.new.part }
         ensures empty { EmptyAfter self.new result }
         ensures empty_at { self.new.empty_at ≡ None }
         ensures ring { SameRing self.old self.new }
@@ -124,8 +129,7 @@ impl Reader {
     {
         let pages = self.order.len() as u64;
         let front = self.page_at(fill + pages - 1);
-        let blank = Page::fresh(body, RecordNo(0), FillNo(0));
-        let swapped = self.seat.swap(front, page, FillNo(fill), self.spare, blank);
+        let swapped = self.seat.swap(front, page, FillNo(fill), self.spare, body);
         self.at.phase = ReaderPhase::LoadingLink;
         self.at.hint = fill + 1;
         match swapped {
@@ -137,7 +141,7 @@ impl Reader {
                 self.at.expected = first + taken.count();
                 Turn::Done(Take::Page(taken, missed))
             }
-            Err(blank) => Turn::Looking(blank.into_body()),
+            Err(back) => Turn::Looking(back),
         }
     }
 }

@@ -9,15 +9,17 @@ impl Reader {
     ghost use Rattle.trace_model.specs.Steps.{wishes, wished_for};
     ghost use Rattle.ring_steps.specs.Seats.{IsReaderStep};
     ghost use Rattle.ring_shared.specs.declared.take.Turn.TheVariants.{Done};
-    ghost use Rattle.ring_shared.specs.Takes.{IsReader, IsTake, EmptyAfter, SameRing, empty_of};
+    ghost use Rattle.ring_shared.specs.Takes.{IsReader, IsTake, TakesSteps, EmptyAfter, SameRing, empty_of};
 
     /// Takes the oldest page that is closed and unread, for which `body`, of the ring's data size in bytes, goes into
-    /// the ring; with any other answer a body of that size comes back. It makes at most two steps for each page of the
-    /// ring and eight; where that is not enough, it answers `Moving`, and the next take goes on where this one came to.
+    /// the ring; with any other answer a body of that size comes back. It answers as soon as one of its steps does. It
+    /// makes at most two steps for each page of the ring and eight; if none of these has an answer, it answers `Moving`,
+    /// and the next take goes on where this one came to.
     pub fn take(&mut self, body: Body) -> Take
         requires reader { IsReader self.old }
         requires size { length body ≡ self.old.shape.size }
         ensures took { IsTake self.old.shape self.old.part body result self.new.part }
+        ensures steps { TakesSteps self.old.shape self.old.part result self.new.part }
         ensures empty_at { self.new.empty_at ≡ empty_of result }
         ensures ring { SameRing self.old self.new }
         ensures reader { IsReader self.new }
@@ -36,13 +38,15 @@ impl Reader {
         requires size { length body ≡ self.old.shape.size }
         requires anew { self.old.empty_at ≡ None }
         ensures took { IsTake self.old.shape self.old.part body result self.new.part }
+        ensures steps { TakesSteps self.old.shape self.old.part result self.new.part }
         ensures empty { EmptyAfter self.new (Done result) }
         ensures empty_at { self.new.empty_at ≡ None }
         ensures ring { SameRing self.old self.new }
         ensures reader { IsReader self.new }
     {
         let mut body = body;
-        for _ in 0..2 * self.order.len() + 8 {
+        for made in 0..2 * self.order.len() + 8 {
+            let _made = made;
             match self.step(body) {
                 Turn::Looking(back) => body = back,
                 Turn::Done(took) => return took,

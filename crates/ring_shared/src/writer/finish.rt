@@ -32,17 +32,18 @@ impl Writer {
     ghost use Rattle.ring_shared.specs.Value.{SameWriter};
     ghost use Rattle.ring_shared.specs.Calls.{IsWriter};
     ghost use Rattle.ring_frames.specs.declared.phase.Phase.TheVariants.{Wishing};
-    ghost use Rattle.ring_frames.specs.Answers.{KeepsPayloads};
-    ghost use Rattle.ring_shared.specs.Finishing.{Finishes, IsFinished, Reserves, Leaves, Closes, IsGoneOrRefused, met_behind};
+    ghost use Rattle.ring_frames.specs.Answers.{KeepsPayloads, ZerosSlot};
+    ghost use Rattle.ring_shared.specs.Finishing.{Finishes, IsFinished, ZerosFinished, Reserves, Leaves, Closes, IsGoneOrRefused, met_behind};
 
     /// Steps a close frame, or one that was ended or refused, until it is gone, and any other record frame until its
-    /// record is reserved, or it is refused. It answers the refusal that it met, if any, else as its last step does.
-    /// Each of its steps is one of `step`; where no frame stands, it is refused with `NoFrame`.
+    /// record is reserved, in a slot that holds only zeros, or it is refused. It answers the refusal that it met, if
+    /// any, else as its last step does. Each of its steps is one of `step`; where no frame stands, it is refused with `NoFrame`.
     #[inline(always)]
     pub fn finish_top(&mut self) -> Answer
         requires writer { IsWriter self.old }
         ensures finished { Finishes self.old.shape self.old.part result self.new.part }
         ensures payloads { KeepsPayloads self.old.frames.stack self.new.frames.stack }
+        ensures zeros { ZerosSlot self.old.frames.stack result self.new.frames.stack }
         ensures ring { SameWriter self.old self.new }
         ensures writer { IsWriter self.new }
     {
@@ -68,6 +69,7 @@ impl Writer {
         requires writer { IsWriter self.old }
         ensures finished { IsFinished self.old result self.new }
         ensures payloads { KeepsPayloads self.old.frames.stack self.new.frames.stack }
+        ensures zeros { ZerosFinished self.old.frames.stack result self.new.frames.stack }
         ensures ring { SameWriter self.old self.new }
         ensures writer { IsWriter self.new }
     {
@@ -90,6 +92,7 @@ impl Writer {
             × IsLeaving frame.kind frame.state }
         ensures leaves { (frame : ModelFrame) (below : List ModelFrame) → self.old.part.frames ≡ frame ∷ below
             → Leaves self.old.shape below self.old.part result self.new.part }
+        ensures gone { IsGoneOrRefused result }
         ensures payloads { KeepsPayloads self.old.frames.stack self.new.frames.stack }
         ensures ring { SameWriter self.old self.new }
         ensures writer { IsWriter self.new }
@@ -108,6 +111,7 @@ impl Writer {
             × IsLeaving frame.kind frame.state }
         ensures leaves { (frame : ModelFrame) (below : List ModelFrame) → self.old.part.frames ≡ frame ∷ below
             → Leaves self.old.shape below self.old.part result self.new.part }
+        ensures gone { IsGoneOrRefused result }
         ensures payloads { KeepsPayloads self.old.frames.stack self.new.frames.stack }
         ensures ring { SameWriter self.old self.new }
         ensures writer { IsWriter self.new }
@@ -169,6 +173,7 @@ impl Writer {
         ensures reserves { (frame : ModelFrame) (below : List ModelFrame) → self.old.part.frames ≡ frame ∷ below
             → Reserves self.old.shape frame.kind below self.old.part result self.new.part }
         ensures payloads { KeepsPayloads self.old.frames.stack self.new.frames.stack }
+        ensures zeros { ZerosSlot self.old.frames.stack result self.new.frames.stack }
         ensures ring { SameWriter self.old self.new }
         ensures writer { IsWriter self.new }
     {

@@ -14,7 +14,7 @@ impl Writer {
     ghost use Rattle.nested_writer.specs.PlainTop.{IsPlainTop};
     ghost use Rattle.ring_frames.specs.declared.phase.Phase.TheVariants.{Idle};
     ghost use Rattle.ring_frames.specs.Value.{phase_of};
-    ghost use Rattle.ring_frames.specs.Answers.{top_bytes, EndsPayload, KeepsPayloads};
+    ghost use Rattle.ring_frames.specs.Answers.{top_bytes, EndsPayload, KeepsPayloads, ZerosSlot};
     ghost use Rattle.ring_frames.specs.Phases.{told};
     ghost use Rattle.ring_shared.specs.Calls.{IsWriter, MakesSome};
     ghost use Rattle.ring_shared.specs.Nearer.{IsNearer};
@@ -64,6 +64,7 @@ impl Writer {
         ensures makes { MakesSome self.old model.steps result self.new }
         ensures nearer { IsNearer self.old self.new }
         ensures payloads { KeepsPayloads self.old.frames.stack self.new.frames.stack }
+        ensures zeros { ZerosSlot self.old.frames.stack result self.new.frames.stack }
     {
         self.seat.note::<Brand, _>(&());
         self.frames.reserve()
@@ -76,6 +77,7 @@ impl Writer {
         requires plain { IsPlainTop self.old.frames.stack pushed }
         ensures makes { MakesSome self.old model.steps (Answer.Reserved result) self.new }
         ensures payloads { KeepsPayloads self.old.frames.stack self.new.frames.stack }
+        ensures zeros { ZerosSlot self.old.frames.stack (Answer.Reserved result) self.new.frames.stack }
     {
         self.seat.note::<Brand, _>(&pushed);
         self.frames.reserve_plain(pushed)

@@ -128,7 +128,7 @@ impl Writer {
         self.frames.go_on(role.after_next(noted, page))
     }
 
-    /// A store of the link of the claim, from the frame's own UPDATE to NORMAL.
+    /// A compare and exchange of the link of the claim from the frame's own UPDATE to NORMAL, which is always done.
     #[inline(always)]
     pub(crate) fn clear(&mut self, noted: u64, page: u16) -> Turned
         requires writer { IsWriter self.old }
@@ -139,7 +139,7 @@ impl Writer {
         ensures payloads { KeepsPayloads self.old.frames.stack self.new.frames.stack }
     {
         let front = self.pages[(noted - 1 - self.frames.done()) as usize];
-        self.seat.clear::<Brand>(front, page, FillNo(noted));
+        let _cleared = self.seat.clear::<Brand>(front, page, FillNo(noted));
         self.frames.go_on(Phase::Opening { noted, page })
     }
 }

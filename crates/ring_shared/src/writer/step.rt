@@ -7,14 +7,14 @@ impl Writer {
     ghost use Rattle.std.specs.Prelude.{◌≢◌, []};
     ghost use Rattle.trace_model.specs.Steps as model;
     ghost use Rattle.ring_frames.specs.declared.phase.Phase.TheVariants.{Idle};
-    ghost use Rattle.ring_frames.specs.Answers.{KeepsPayloads};
+    ghost use Rattle.ring_frames.specs.Answers.{KeepsPayloads, ZerosSlot};
     ghost use Rattle.ring_frames.specs.Phases.{told};
     ghost use Rattle.ring_shared.specs.Calls.{IsWriter, MakesSome};
     ghost use Rattle.ring_shared.specs.Nearer.{IsNearer};
 
     /// One step of the frame on top, in its phase: a step on one word, or one that touches none. `Going` while it
-    /// stands and has reserved nothing or has left; `Reserved` with its record's number; `Gone` once it has left the
-    /// stack. Refused with `NoFrame` where no frame stands; and a frame that needs a page is refused, and leaves, as
+    /// stands and has reserved nothing or has left; `Reserved` with its record's number, whose slot holds only zeros when
+    /// it is reserved; `Gone` once it has left the stack. Refused with `NoFrame` where no frame stands; and a frame that needs a page is refused, and leaves, as
     /// `Crowded` where no page is released, as `Worn` behind the last fill.
     #[inline(always)]
     pub fn step(&mut self) -> Answer
@@ -22,6 +22,7 @@ impl Writer {
         ensures makes { MakesSome self.old model.steps result self.new }
         ensures nearer { IsNearer self.old self.new }
         ensures payloads { KeepsPayloads self.old.frames.stack self.new.frames.stack }
+        ensures zeros { ZerosSlot self.old.frames.stack result self.new.frames.stack }
     {
         if self.frames.is_empty() {
             return Answer::Refused(WriteFault::NoFrame);

@@ -76,7 +76,7 @@ impl Writer {
         }
     }
 
-    /// `clear`, where that is due: the link of the claim is stored back.
+    /// `clear`, where that is due: the UPDATE of the claim is replaced.
     #[inline(always)]
     fn clear_if_due(&mut self)
         requires writer { IsWriter self.old }

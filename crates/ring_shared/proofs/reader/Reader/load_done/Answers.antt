@@ -1,5 +1,6 @@
 use Rattle.std.proofs.Common.{◌≡◌, refl, ap, ◌∙◌, subst, arith}
 use Rattle.trace_model.specs.Ring as ring
+use Rattle.trace_model.specs.Steps as model
 use Rattle.ring_frames.specs.ReaderPhases.{reader_phase_of}
 use Rattle.ring_frames.specs.declared.reader.ReaderPhase.{ReaderPhase}
 use Rattle.ring_steps.specs.Views.{Reading}
@@ -7,7 +8,7 @@ use Rattle.ring_steps.specs.Ends.{reading_in, reader_table}
 use Rattle.ring_steps.specs.Taking.{IsRead}
 use Rattle.ring_shared.specs.Value.{ReaderValue}
 use Rattle.ring_shared.specs.Takes.{KeepsSlot, SawPage}
-use Rattle.ring_shared.proofs.TakeSteps.{nothing, finds_none, finds_closed}
+use Rattle.ring_shared.proofs.TakeSteps.{nothing, finds_none, finds_closed, none_answers, closed_answers}
 use Rattle.ring_shared.proofs.Fields.{fields, shown}
 use Rattle.ring_shared.proofs.reader.Reader.load_done.Goals as goal
 
@@ -64,3 +65,20 @@ returns-clause-reader c =
     let no_slot = c.load_done-done.ensures.spare ∙ (ap (λ (w : ReaderValue). w.part.keeps_spare) c.self.view_is ∙ subst (λ (p : ReaderPhase). KeepsSlot p v.part.keeps_spare) c.requires.phase c.requires.reader.keeps) in
     shown _ v c.self.view_is c.requires.reader new.shape (reader_table new) after (record v.part.reader { phase = ring.storing_link c.args.page c.args.fill; seen = done }) _ c.requires.anew c.load_done-done.ensures.shape
     (finds_closed v.shape v.part after (λ core. core.done ≡ done) read.0 read.1 c.args.page c.args.fill at done read.1.seen (omega arith)).0 (refl, old.1, refl, old.3) no_slot (subst SawPage c.requires.phase c.requires.reader.saw)
+
+-- ---- what the model answers
+
+pub returns-then-done-fill-clause-answered : goal.returns-then-done-fill-clause-answered
+returns-then-done-fill-clause-answered c =
+    let v : ReaderValue = c.args.self.now in let done = c.load_done-done.result in let after : Reading = reading_in c.load_done-done.new.self in
+    let read = subst (λ (w : ReaderValue). IsRead w.shape w.part (λ core. core.done ≡ done) after) c.self.view_is c.load_done-done.ensures.step in
+    let at = c.requires.reader.phase_is ∙ ap reader_phase_of c.requires.phase in
+    record { told = model.empty done; step = none_answers v.shape v.part after (λ core. core.done ≡ done) read.0 read.1 c.args.page c.args.fill at done read.1.seen c.if-done-fill.true; tells = refl }
+
+pub returns-clause-answered : goal.returns-clause-answered
+returns-clause-answered c =
+    let v : ReaderValue = c.args.self.now in let done = c.load_done-done.result in let after : Reading = reading_in c.load_done-done.new.self in
+    let read = subst (λ (w : ReaderValue). IsRead w.shape w.part (λ core. core.done ≡ done) after) c.self.view_is c.load_done-done.ensures.step in
+    let at = c.requires.reader.phase_is ∙ ap reader_phase_of c.requires.phase in
+    let more = c.if-done-fill.false in
+    record { told = model.reading; step = closed_answers v.shape v.part after (λ core. core.done ≡ done) read.0 read.1 c.args.page c.args.fill at done read.1.seen (omega arith); tells = refl }

@@ -1,5 +1,6 @@
 use Rattle.std.proofs.Common.{◌≡◌, ℕ, ◌+◌, ◌-◌, ◌≤◌, length, refl, sym, ap, ◌∙◌, subst, arith}
 use Rattle.trace_model.specs.Ring as ring
+use Rattle.trace_model.specs.Steps as model
 use Rattle.link_marks.specs.declared.link.Link.{Link}
 use Rattle.ring_frames.specs.ReaderPhases.{reader_phase_of}
 use Rattle.ring_frames.specs.declared.reader.ReaderPhase.{ReaderPhase}
@@ -10,7 +11,7 @@ use Rattle.ring_steps.specs.Taking.{IsRead}
 use Rattle.ring_shared.specs.Value.{ReaderValue}
 use Rattle.ring_shared.specs.Takes.{KeepsSlot, SawPage, IsSentAway}
 use Rattle.ring_shared.proofs.TakeSteps.{Stays, nothing, passed_below_hint}
-use Rattle.ring_shared.proofs.Fields.{SeesLink, fields, positions, shown, at_header, at_update, at_owed, at_passed}
+use Rattle.ring_shared.proofs.Fields.{SeesLink, fields, positions, shown, at_header, at_update, at_owed, at_passed, header_answers_so, update_answers_so, owed_answers_so, passed_answers_so}
 use Rattle.ring_shared.proofs.reader.Reader.load_link.Goals as goal
 
 -- sent away by a move of the head, where the reader's hint is this fill
@@ -88,3 +89,35 @@ returns-in-Normal-2-clause-reader c =
     shown _ v c.self.view_is c.requires.reader new.shape (reader_table new) after (record v.part.reader { phase = ring.loading_link; hint = l.fill + 1 - v.shape.pages }) _ c.requires.anew c.load_link-mark.ensures.shape
     (at_passed v l after read at c.in-Normal-2.is (λ e. c.if-fill-hint.false (e ∙ old.1))).0
     (ap reader_phase_of (sym link), ap (λ (n : ℕ). l.fill + 1 - n) (sym pages), old.2, old.3) (subst (λ (p : ReaderPhase). KeepsSlot p after.keeps_spare) (sym link) tt) (subst SawPage (sym link) tt)
+
+-- ---- what the model answers
+
+pub returns-in-Header-clause-answered : goal.returns-in-Header-clause-answered
+returns-in-Header-clause-answered c =
+    let v : ReaderValue = c.args.self.now in let l : Link = c.load_link-mark.result in let after : Reading = reading_in c.load_link-mark.new.self in
+    let read = subst (λ (w : ReaderValue). IsRead w.shape w.part (SeesLink w l) after) c.self.view_is c.load_link-mark.ensures.step in
+    let at = c.requires.reader.phase_is ∙ ap reader_phase_of c.requires.phase in
+    record { told = model.reading; step = header_answers_so v l after read at c.in-Header.is; tells = refl }
+
+pub returns-in-Update-clause-answered : goal.returns-in-Update-clause-answered
+returns-in-Update-clause-answered c =
+    let v : ReaderValue = c.args.self.now in let l : Link = c.load_link-mark.result in let after : Reading = reading_in c.load_link-mark.new.self in
+    let read = subst (λ (w : ReaderValue). IsRead w.shape w.part (SeesLink w l) after) c.self.view_is c.load_link-mark.ensures.step in
+    let at = c.requires.reader.phase_is ∙ ap reader_phase_of c.requires.phase in
+    record { told = model.moving (l.fill + 1); step = update_answers_so v l after read at c.in-Update.is; tells = refl }
+
+pub returns-in-Normal-clause-answered : goal.returns-in-Normal-clause-answered
+returns-in-Normal-clause-answered c =
+    let v : ReaderValue = c.args.self.now in let l : Link = c.load_link-mark.result in let after : Reading = reading_in c.load_link-mark.new.self in
+    let read = subst (λ (w : ReaderValue). IsRead w.shape w.part (SeesLink w l) after) c.self.view_is c.load_link-mark.ensures.step in
+    let at = c.requires.reader.phase_is ∙ ap reader_phase_of c.requires.phase in
+    let hint = (fields _ v c.self.view_is c.requires.reader).1 in
+    record { told = model.moving v.part.reader.hint; step = owed_answers_so v l after read at c.in-Normal.is (c.if-fill-hint.true ∙ sym hint); tells = ap model.moving hint }
+
+pub returns-in-Normal-2-clause-answered : goal.returns-in-Normal-2-clause-answered
+returns-in-Normal-2-clause-answered c =
+    let v : ReaderValue = c.args.self.now in let l : Link = c.load_link-mark.result in let after : Reading = reading_in c.load_link-mark.new.self in
+    let read = subst (λ (w : ReaderValue). IsRead w.shape w.part (SeesLink w l) after) c.self.view_is c.load_link-mark.ensures.step in
+    let at = c.requires.reader.phase_is ∙ ap reader_phase_of c.requires.phase in
+    let hint = (fields _ v c.self.view_is c.requires.reader).1 in
+    record { told = model.reading; step = passed_answers_so v l after read at c.in-Normal-2.is (λ e. c.if-fill-hint.false (e ∙ hint)); tells = refl }

@@ -11,7 +11,7 @@ returns c = let first = c.requires.anew in record {
   empty_at = refl;
   is = record {
     part = first_part c.args.seat.shape _ c.requires.shape first;
-    order_is = ap (λ (r : Reading). r.order) first ∙ sym c.in_ok-order.ensures;
+    order_is = ap (λ (r : Reading). r.order) first ∙ sym c.in_ok-order.ensures.pages;
     spare_is = ap (λ (r : Reading). r.spare) first;
     phase_is = ap (λ (r : Reading). r.reader.phase) first;
     hint_is = ap (λ (r : Reading). r.reader.hint) first;

@@ -1,16 +1,19 @@
 use Rattle.std.proofs.Common.{◌≡◌, ℕ, ◌+◌, ◌-◌, ◌%◌, length, slice_set, None, refl, sym, ap, ◌∙◌, subst, arith, rules}
 use Rattle.trace_model.specs.Ring as ring
+use Rattle.trace_model.specs.Steps as model
 use Rattle.page_image.specs.Contents.{Contents}
 use Rattle.ring_frames.specs.ReaderPhases.{reader_phase_of}
 use Rattle.ring_steps.specs.declared.rule.Shape.{Shape}
 use Rattle.ring_steps.specs.Views.{Reading}
 use Rattle.ring_steps.specs.Ends.{reading_in, reader_table}
 use Rattle.ring_steps.specs.Swapping.{HeadTaken, HeadMissed}
+use Rattle.ring_shared.specs.declared.take.Take.TheVariants.{Page}
+use Rattle.ring_shared.specs.declared.take.Turn.TheVariants.{Done}
 use Rattle.ring_shared.specs.Value.{ReaderValue}
-use Rattle.ring_shared.specs.Takes.{IsReaderPart, SawPage, IsPageTaken}
+use Rattle.ring_shared.specs.Takes.{IsReaderPart, SawPage, IsPageTaken, IsAnswered}
 use Rattle.ring_shared.proofs.TakeSteps.{nothing}
 use Rattle.ring_shared.proofs.Fields.{fields, positions, shown}
-use Rattle.ring_shared.proofs.Swapped.{takes, misses}
+use Rattle.ring_shared.proofs.Swapped.{takes, misses, swap_answers, miss_answers}
 use Rattle.ring_shared.proofs.reader.Reader.swap.Goals as goal
 
 pub swap-swapped-requires-clause-fits : goal.swap-swapped-requires-clause-fits
@@ -53,7 +56,7 @@ returns-in-Err-clause-turn c =
     let h = subst (λ (w : ReaderValue). HeadMissed w.shape w.part c.args.page c.args.fill after) c.self.view_is c.in-Err.ensures.missed in
     let at = c.requires.reader.phase_is ∙ ap reader_phase_of c.requires.phase in
     let (s, low) = misses v.shape v.part c.args.page c.args.fill after at h in (
-      c.into_body.ensures ∙ (ap (λ (p : Contents). p.size) (c.in-Err.ensures.given_back ∙ c.fresh-blank.ensures.blank)),
+      c.in-Err.ensures.given_back,
       nothing v.shape v.part after (record v.part.reader { phase = ring.loading_link; hint = c.args.fill + 1 }) s refl refl low (omega arith),
     )
 
@@ -65,3 +68,18 @@ returns-in-Err-clause-reader c =
     let old = fields _ v c.self.view_is c.requires.reader in
     shown _ v c.self.view_is c.requires.reader new.shape (reader_table new) after (record v.part.reader { phase = ring.loading_link; hint = c.args.fill + 1 }) _ c.requires.anew c.swap-swapped.ensures.shape
     (misses v.shape v.part c.args.page c.args.fill after at h).0 (refl, refl, old.2, old.3) tt tt
+
+-- ---- what the model answers
+
+pub returns-in-Ok-clause-answered : goal.returns-in-Ok-clause-answered
+returns-in-Ok-clause-answered c =
+    let v : ReaderValue = c.args.self.now in let after : Reading = reading_in c.swap-swapped.new.self in let taken : Contents = c.in-Ok.taken in
+    let h = subst (λ (w : ReaderValue). HeadTaken w.shape w.part c.args.page c.args.fill taken after) c.self.view_is c.in-Ok.ensures.taken in
+    let old = fields _ v c.self.view_is c.requires.reader in
+    subst (λ (missed : ℕ). IsAnswered v.shape v.part (Done (Page taken missed)) after) (λ i. sym c.first-first.ensures i - old.3 i) (swap_answers v.shape v.part c.args.page c.args.fill after taken h)
+
+pub returns-in-Err-clause-answered : goal.returns-in-Err-clause-answered
+returns-in-Err-clause-answered c =
+    let v : ReaderValue = c.args.self.now in let after : Reading = reading_in c.swap-swapped.new.self in
+    let h = subst (λ (w : ReaderValue). HeadMissed w.shape w.part c.args.page c.args.fill after) c.self.view_is c.in-Err.ensures.missed in
+    record { told = model.reading; step = miss_answers v.shape v.part c.args.page c.args.fill after h; tells = refl }

@@ -43,17 +43,17 @@ index-front-requires c =
     (phase_seen c.self.view_is c.requires.phase) c.args.noted refl in
     let done = c.done.ensures ∙ done_now v w in let count = count_now v w in let wide = c.self.inside.pages.ok.0 in omega arith
 
-pub clear-requires-clause-due : goal.clear-requires-clause-due
-clear-requires-clause-due c = let v : WriterValue = the_view c.self.inside in leads_nowhere v.shape v.part
+pub clear-cleared-requires-clause-due : goal.clear-cleared-requires-clause-due
+clear-cleared-requires-clause-due c = let v : WriterValue = the_view c.self.inside in leads_nowhere v.shape v.part
 
-pub clear-requires-clause-phase : goal.clear-requires-clause-phase
-clear-requires-clause-phase c =
+pub clear-cleared-requires-clause-phase : goal.clear-cleared-requires-clause-phase
+clear-cleared-requires-clause-phase c =
     let v : WriterValue = the_view c.self.inside in
     phase_shown v (writer_seen c.self.view_is c.requires.writer) (clearing c.args.noted c.args.page) (top_seen c.self.view_is c.requires.top)
     (phase_seen c.self.view_is c.requires.phase)
 
-pub clear-requires-clause-front : goal.clear-requires-clause-front
-clear-requires-clause-front c =
+pub clear-cleared-requires-clause-front : goal.clear-cleared-requires-clause-front
+clear-cleared-requires-clause-front c =
     let v : WriterValue = the_view c.self.inside in
     let w : IsWriter v = writer_seen c.self.view_is c.requires.writer in
     let (low, high, room, numbers) = noted_bounds v w (clearing c.args.noted c.args.page)
@@ -69,15 +69,15 @@ returns-clause-makes c =
     let w : IsWriter v = writer_seen c.self.view_is c.requires.writer in
     let some = top_seen c.self.view_is c.requires.top in
     let at : phase_of v.frames.phase ≡ clearing c.args.noted c.args.page = phase_seen c.self.view_is c.requires.phase in
-    let new : WriterValue = the_view record { seat = c.clear.new.self; frames = c.go_on.new.self; pages = c.self.inside.pages } in
-    let s = c.clear.ensures.step in
+    let new : WriterValue = the_view record { seat = c.clear-cleared.new.self; frames = c.go_on.new.self; pages = c.self.inside.pages } in
+    let s = c.clear-cleared.ensures.step in
     as_called v c.args.self.now new (told c.go_on.result) c.self.view_is (ap told c.go_on.ensures.answer)
-    (goes_on v new w some (clearing c.args.noted c.args.page) c.args.noted (Opening c.args.noted c.args.page) (Opening c.args.noted c.args.page) _ at refl refl refl c.clear.ensures.shape c.clear.ensures.table refl c.go_on.ensures.goes_on s
+    (goes_on v new w some (clearing c.args.noted c.args.page) c.args.noted (Opening c.args.noted c.args.page) (Opening c.args.noted c.args.page) _ at refl refl refl c.clear-cleared.ensures.shape c.clear-cleared.ensures.table refl c.go_on.ensures.goes_on s
     (λ frame below step. cleared v.shape.pages s.core frame below model.going s.next c.args.noted c.args.page step))
 
 pub returns-clause-nearer : goal.returns-clause-nearer
 returns-clause-nearer c =
     let x : WriterValue = c.args.self.now in
     let m = returns-clause-makes c in
-    nearer_quietly x _ m.shape_is (subst (λ (y : WriterValue). y.passed ≤ passed_in c.clear.new.self) c.self.view_is c.clear.ensures.knows) _
+    nearer_quietly x _ m.shape_is (subst (λ (y : WriterValue). y.passed ≤ passed_in c.clear-cleared.new.self) c.self.view_is c.clear-cleared.ensures.knows) _
     (clearing c.args.noted c.args.page) m (phase_shown x c.requires.writer (clearing c.args.noted c.args.page) c.requires.top (ap phase_of c.requires.phase)) tt

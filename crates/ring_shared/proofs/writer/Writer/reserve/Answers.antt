@@ -4,6 +4,7 @@ use Rattle.link_marks.specs.Seats.{PhaseIsPrivate}
 use Rattle.nested_writer.specs.Stack.{opened}
 use Rattle.ring_frames.specs.declared.phase.Phase.{Phase}
 use Rattle.ring_frames.specs.Value.{phase_of}
+use Rattle.ring_frames.specs.Answers.{ZerosSlot}
 use Rattle.ring_shared.specs.Value.{WriterValue}
 use Rattle.ring_shared.specs.Calls.{IsWriter}
 use Rattle.ring_shared.proofs.Privately.{step_leads, seen_call}
@@ -31,3 +32,6 @@ returns-clause-nearer c =
     let m = returns-clause-makes c in
     nearer_quietly x _ m.shape_is (subst (λ (y : WriterValue). y.passed ≤ passed_in c.note.new.self) c.self.view_is c.note.ensures.knows) _
     (idle) m (phase_shown x c.requires.writer (idle) c.requires.top (ap phase_of c.requires.phase)) tt
+
+pub returns-clause-zeros : goal.returns-clause-zeros
+returns-clause-zeros c = subst (λ (x : WriterValue). ZerosSlot x.frames.stack c.reserve.result c.reserve.new.self.stack) c.self.view_is c.reserve.ensures.zeros

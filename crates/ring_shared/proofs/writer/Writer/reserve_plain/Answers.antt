@@ -6,6 +6,7 @@ use Rattle.nested_writer.specs.PlainTop.{IsPlainTop}
 use Rattle.ring_frames.specs.declared.phase.Phase.{Phase}
 use Rattle.ring_frames.specs.declared.answer.Answer.TheVariants.{Reserved}
 use Rattle.ring_frames.specs.Value.{phase_of}
+use Rattle.ring_frames.specs.Answers.{ZerosSlot}
 use Rattle.ring_frames.proofs.Plain.{plain_rests}
 use Rattle.ring_shared.specs.Value.{WriterValue}
 use Rattle.ring_shared.specs.Calls.{IsWriter}
@@ -25,3 +26,6 @@ note-requires c =
 pub returns-clause-makes : goal.returns-clause-makes
 returns-clause-makes c =
     seen_call _ _ (λ _. steps) (Reserved c.reserve_plain.result) _ c.self.view_is c.requires.writer c.note.ensures.shape c.note.ensures.table c.note.ensures.noted refl c.reserve_plain.ensures.step
+
+pub returns-clause-zeros : goal.returns-clause-zeros
+returns-clause-zeros c = subst (λ (x : WriterValue). ZerosSlot x.frames.stack (Reserved c.reserve_plain.result) c.reserve_plain.new.self.stack) c.self.view_is c.reserve_plain.ensures.zeros

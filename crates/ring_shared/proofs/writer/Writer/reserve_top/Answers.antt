@@ -1,9 +1,10 @@
-use Rattle.std.proofs.Common.{◌<◌, refl, sym, subst, arith}
+use Rattle.std.proofs.Common.{◌<◌, refl, sym, ◌∙◌, subst, arith}
 use Rattle.ring_frames.specs.declared.answer.Answer.{Answer}
 use Rattle.ring_steps.specs.declared.rule.Shape.{Shape}
 use Rattle.ring_shared.specs.Value.{WriterValue}
 use Rattle.ring_shared.specs.Nearer.{rank_of}
 use Rattle.ring_shared.specs.Finishing.{Reserves}
+use Rattle.ring_shared.proofs.Aims.{lacks_slot}
 use Rattle.ring_shared.proofs.Depths.{reserving_top}
 use Rattle.ring_shared.proofs.Finishes.{IsAmidReserving, reserving_unnumbered, reserving_first, reserving_on, reserving_stands, reserving_ends, call_in, same_writer}
 use Rattle.ring_shared.proofs.Turning.{amid_turned, same_turned}
@@ -78,3 +79,11 @@ loop-last-preserved c =
 pub returns-in-Some-clause-payloads : goal.returns-in-Some-clause-payloads
 returns-in-Some-clause-payloads c =
     kept_then c.args.self.now.frames.stack c.loop-last.self.frames.stack c.step.new.self.frames.stack c.loop-last.invariant.payloads c.step.ensures.payloads
+
+pub returns-in-Some-clause-zeros : goal.returns-in-Some-clause-zeros
+returns-in-Some-clause-zeros c = λ number slot e lacks at.
+    let h = c.loop-last.invariant in
+    let (frame, below, top) = h.some in
+    let a = h.amid frame below top in
+    let (same, other) = c.unless_going.ensures.other c.in-Some.last c.in-Some.is in
+    c.step.ensures.zeros number slot (sym same ∙ e) (lacks_slot c.loop-last.self h.writer a.frame below a.top a.reserves) at

@@ -1,8 +1,6 @@
-use Rattle.std.specs.Prelude.{⊤}
-use Rattle.trace_model.specs.Steps.{going}
 use Rattle.ring_steps.specs.Views.{passed}
-use Rattle.ring_steps.specs.Seats.{WriterTold}
+use Rattle.ring_steps.specs.Linking.{LinkTold, noted_on_top}
 use Rattle.ring_steps.proofs.ends.WriterSeat.clear.Given as goal
 
-abbrev pub ghosts-store : goal.ghosts-store
-ghosts-store g a = record { tells = λ before _ after. WriterTold a.shape g.J.Present.now (passed before.0) (λ _. ⊤) going after }
+abbrev pub ghosts-exchange : goal.ghosts-exchange
+ghosts-exchange g a = record { tells = λ before found after. LinkTold a.shape g.J.Present.now (passed before.0) (noted_on_top g.J.Present.now.frames) found after }
