@@ -17,7 +17,8 @@ impl Collector {
 
     /// Adds a parcel: the collector then has and misses what it and the parcel did. It keeps the parcel, unless all
     /// that the parcel has and misses is there already. What is at odds with the kept parcels is refused under its
-    /// least number, and the collector stays as it was; the parcel is dropped.
+    /// least number, and the collector stays as it was; the parcel is dropped. Memory is asked for only where the parcel
+    /// is kept.
     pub fn add(&mut self, parcel: Parcel) -> Result<Added, AddFault>
         ensures new { result ≡ Ok New → self.new ≡ self.old ++ parcel ∷ [] }
         ensures known { result ≡ Ok Known → self.new ≡ self.old }
@@ -25,6 +26,7 @@ impl Collector {
         ensures union { OnOk result (IsSame self.new (self.old ++ parcel ∷ [])) }
         ensures agree { OnOk result (Agree (self.old ++ parcel ∷ [])) }
         ensures fault { IfErr result (λ fault. IsAddFault (self.old ++ parcel ∷ []) fault) }
+        ensures no_memory { result ≡ Err NoMemory → IsBelow (parcel ∷ []) self.old → ⊥ }
         ensures refused { OnErr result (self.new ≡ self.old) }
     {
         if !self.would_grow(&parcel)? {
