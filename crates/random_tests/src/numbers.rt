@@ -33,20 +33,4 @@ impl Numbers {
         assert!(rt; index < list.len());
         list[index]
     }
-
-    /// The index of one of these, each as often as its weight says.
-    pub fn weighted(&mut self, weights: &[u64]) -> usize {
-        let mut sum: u64 = 0;
-        for weight in weights {
-            sum = sum.wrapping_add(*weight);
-        }
-        let mut left = self.below(sum);
-        for (index, weight) in weights.iter().enumerate() {
-            if left < *weight {
-                return index;
-            }
-            left -= *weight;
-        }
-        weights.len()
-    }
 }

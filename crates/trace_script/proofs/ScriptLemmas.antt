@@ -217,9 +217,6 @@ number_away : (number : ℕ) (read : Result Command LineFault) (command : Comman
 number_away number (Ok other) command h = cc
 number_away number (Err fault) command h = absurd (ok_is_no_err command (number, fault) (sym h))
 
-pub none_read : (cpus collectors : ℕ) (all : List NumberedLine) → ReadAs cpus collectors all [] all
-none_read cpus collectors all = record { front = []; cut = refl; spelled = tt }
-
 pub read_turn : (cpus collectors : ℕ) (all left : List NumberedLine) (number : ℕ) (text : List ℕ) (rest : List NumberedLine) (front after : Commands) (command : Command)
     → ReadAs cpus collectors all front left → left ≡ (number, text) ∷ rest → numbered_reading number (command_in cpus collectors text) ≡ Ok command → after ≡ front ++ (number, command) ∷ []
     → ReadAs cpus collectors all after rest
