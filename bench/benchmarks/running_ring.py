@@ -19,17 +19,22 @@ TIMED = (("alone", "mixed", "alone, mixed lengths"), ("alone", "turn", "alone, l
 TIMED += (("beside", "mixed", "beside a reader, mixed lengths"),)
 
 
+def instructions(folder, program, reader, way, function):
+    """How many instructions a record takes that is written this way."""
+
+    def profile(rounds):
+        profile = folder / "profile"
+        count.callgrind([program, reader, way, "mixed", str(rounds), "1"], profile=profile)
+        return max(taken for name, taken in count.functions(profile).items() if function in name)
+
+    return (profile(22) - profile(2)) / (20 * ROUND)
+
+
 def run(folder):
     program = staged("running_ring")
 
     def record(reader, way, function):
-        few, many = (profile(reader, way, function, rounds) for rounds in (2, 22))
-        return (many - few) / (20 * ROUND)
-
-    def profile(reader, way, function, rounds):
-        profile = folder / "profile"
-        count.callgrind([program, reader, way, "mixed", str(rounds), "1"], profile=profile)
-        return max(taken for name, taken in count.functions(profile).items() if function in name)
+        return instructions(folder, program, reader, way, function)
 
     yield "Instructions a record; the rival only copies the same bytes, by the same `memmove`."
     yield ""

@@ -15,6 +15,8 @@ TOOLS = {
     "cc": ("the package gcc", ["cc", "--version"]),
     "valgrind": ("the package valgrind", ["valgrind", "--version"]),
     "/usr/bin/time": ("the package time", None),
+    "apt-get": ("Debian's own", None),
+    "dpkg-deb": ("Debian's own", None),
 }
 
 
