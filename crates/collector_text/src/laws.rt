@@ -1,5 +1,5 @@
-//! What is printed of collectors is decided by what they have and miss, and stays where it is: the contracts of functions
-//! with an empty body.
+//! What is printed of collectors is decided by what they have and miss, and stays where it is: the contracts of
+//! functions with an empty body.
 ghost use Rattle.std.specs.Prelude.{◌≡◌, ℕ, ◌++◌, Bool, List};
 ghost use Rattle.std.specs.List.{AllZip};
 ghost use Rattle.trace_model.specs.Parcel.{Parcel};

@@ -50,8 +50,8 @@ fn add_chunk(text: &mut Vec<u8>, chunk: &[u8]) -> Result<(), InputFault>
     }
 }
 
-/// All that the reader gives, at most [`MAX_INPUT`] bytes. Nothing more is read after the first fault; of an input that is
-/// too long at most [`READ_CHUNK`] bytes are read past the limit.
+/// All that the reader gives, at most [`MAX_INPUT`] bytes. Nothing more is read after the first fault; of an input that
+/// is too long at most [`READ_CHUNK`] bytes are read past the limit.
 pub fn read_all<R: Source>(alloc: Global, reader: &mut R) -> Result<Vec<u8>, InputFault>
     requires { R.failed reader.old ≡ false }
     ensures whole { IfOk result (λ text.

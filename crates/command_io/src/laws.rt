@@ -6,7 +6,8 @@ use crate::input::READ_CHUNK;
 use crate::output::THREAD_LINE;
 use crate::status::{DONE, END_FAILED, NO_MEMORY, REFUSED, USAGE};
 
-/// The exit statuses, how many bytes are read at a time, and the lines of a command that ran out of memory, or could not start a thread.
+/// The exit statuses, how many bytes are read at a time, and the lines of a command that ran out of memory, or could
+/// not start a thread.
 pub fn constants_are()
     ensures done { DONE ≡ 0 }
     ensures refused { REFUSED ≡ 1 }

@@ -88,8 +88,8 @@ impl<'a> LineWriter<'a> {
         true
     }
 
-    /// A record of this moment and payload is written whole, above the frames that stand; or it is refused, and no frame
-    /// of it is left.
+    /// A record of this moment and payload is written whole, above the frames that stand; or it is refused, and no
+    /// frame of it is left.
     #[inline(always)]
     pub(crate) fn write_whole(&mut self, moment: u64, payload: &[u8])
         requires { IsLineWriter self.old }

@@ -11,13 +11,13 @@ pub enum Who {
     Reader,
 }
 
-/// What the two ends of a ring pass in a run: a writer after each fill that it has closed, a reader after each page that
-/// it has taken.
+/// What the two ends of a ring pass in a run: a writer after each fill that it has closed, a reader after each page
+/// that it has taken.
 pub trait Gate: Sync {
     ghost answers: { Self → WhoSeen → (cpu fill : ℕ) → Bool → Type 0 };
 
-    /// Whether this end of the CPU's ring may go on. On false the run ends. A writer's `fill` is one more than the number
-    /// of the fill that it has closed; a reader's is that of the page.
+    /// Whether this end of the CPU's ring may go on. On false the run ends. A writer's `fill` is one more than the
+    /// number of the fill that it has closed; a reader's is that of the page.
     fn pass(&self, who: Who, cpu: CpuId, fill: FillNo) -> bool
         ensures { answers self.now who cpu.0 fill.0 result };
 }

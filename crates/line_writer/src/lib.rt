@@ -1,7 +1,8 @@
-//! The writer lines of a script, carried out by the writer of a running ring, while its reader may be in another thread.
+//! The writer lines of a script, carried out by the writer of a running ring, while its reader may be in another
+//! thread.
 //!
-//! Each CPU's writer makes the calls of its own lines, whatever the reader does between them, and asks a gate after each
-//! fill that it has closed.
+//! Each CPU's writer makes the calls of its own lines, whatever the reader does between them, and asks a gate after
+//! each fill that it has closed.
 #![tactic(auto)]
 
 mod end;

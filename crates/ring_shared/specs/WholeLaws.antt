@@ -84,8 +84,8 @@ FinishesLeft = (shape : Shape) (before : Writing) (frame : Frame) (below : List 
 
 -- ---- `write`
 
--- A record that is written whole is pushed, fills are begun, it is reserved once, and its frame leaves with the payload,
--- padded; then it acts for the reader.
+-- A record that is written whole is pushed, fills are begun, it is reserved once, and its frame leaves with the
+-- payload, padded; then it acts for the reader.
 abbrev pub WritesAppend : Type 0
 WritesAppend = (shape : Shape) (before : Writing) (moment : ℕ) (payload : List ℕ) (after : Writing)
     → IsWritten shape before moment payload after

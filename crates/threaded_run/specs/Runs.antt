@@ -25,8 +25,8 @@ abbrev pub lines_of : Script → (cpu : ℕ) → List Command
 lines_of script cpu = writer_lines cpu (commands_of script.commands)
 
 -- The history keeps the discipline of the stack, is packed in pages of the ring's size, and is made by the lines of the
--- CPU's writer. With `w` and `c` lines alone, at most as many as there are numbers left for fills, the committed records
--- are exactly those of the `w` lines that are neither too long nor too late, in order, moments raised.
+-- CPU's writer. With `w` and `c` lines alone, at most as many as there are numbers left for fills, the committed
+-- records are exactly those of the `w` lines that are neither too long nor too late, in order, moments raised.
 pub record IsRunHistory (script : Script) (cpu : ℕ) (history : List Action) : Type 0 where
   pub allowed : IsHistory history
   pub packed : IsPacked history script.size
@@ -35,8 +35,9 @@ pub record IsRunHistory (script : Script) (cpu : ℕ) (history : List Action) : 
       → script.start + length (lines_of script cpu) + script.pages ≤ LINK_FILLS
       → committed_records history ≡ records_of_lines script.size 0 (lines_of script cpu)
 
--- The ledger of a CPU: its ring has a history of that CPU's lines, the parcels are what the ring's reader took, all of it
--- and in order, and the ring is settled. So they and then the page that is left cut the committed records of the history.
+-- The ledger of a CPU: its ring has a history of that CPU's lines, the parcels are what the ring's reader took, all of
+-- it and in order, and the ring is settled. So they and then the page that is left cut the committed records of the
+-- history.
 pub record IsRunLedger (script : Script) (cpu : ℕ) (ledger : Ledger) : Type 0 where
   pub writing : Writing
   pub history : IsRunHistory script cpu writing.history
@@ -46,8 +47,8 @@ pub record IsRunLedger (script : Script) (cpu : ℕ) (ledger : Ledger) : Type 0 
 abbrev pub ring_of : {script : Script} {cpu : ℕ} {ledger : Ledger} → IsRunLedger script cpu ledger → Core
 ring_of run = run.is_ledger.settled.parts.core
 
--- A run leaves as many collectors as its script has, and a ledger for each CPU, in their order. The ledgers are those of
--- rings, whose last states are these: so the headline holds of each collector that is audited against them.
+-- A run leaves as many collectors as its script has, and a ledger for each CPU, in their order. The ledgers are those
+-- of rings, whose last states are these: so the headline holds of each collector that is audited against them.
 pub record IsRan (script : Script) (ran : Ran) : Type 0 where
   pub collectors : vec_len ran.collectors ≡ script.collectors
   pub cpus : vec_len ran.ledgers ≡ script.cpus

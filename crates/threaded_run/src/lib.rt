@@ -1,8 +1,9 @@
-//! The threaded run of a script: a writer's and a reader's thread for each CPU, and one for each collector, all at once.
+//! The threaded run of a script: a writer's and a reader's thread for each CPU, and one for each collector, all at
+//! once.
 //!
-//! Each CPU's writer obeys its lines, and its reader takes pages meanwhile and shares each one to every collector. After
-//! both threads the two ends of the ring are joined: the run leaves a ledger for each CPU, against which a collector can
-//! be audited, since no channel promises what it delivers.
+//! Each CPU's writer obeys its lines, and its reader takes pages meanwhile and shares each one to every collector.
+//! After both threads the two ends of the ring are joined: the run leaves a ledger for each CPU, against which a
+//! collector can be audited, since no channel promises what it delivers.
 #![tactic(auto)]
 
 mod collecting;

@@ -67,8 +67,8 @@ fn pass_on<R: Wait, G: Gate>(
     Err(Stop::Shut(fill))
 }
 
-/// Takes pages, and passes each one on, until the writer's thread was over before a take that found nothing. Where there
-/// is nothing to take, it gives way to other threads.
+/// Takes pages, and passes each one on, until the writer's thread was over before a take that found nothing. Where
+/// there is nothing to take, it gives way to other threads.
 pub(crate) fn take_pages<R: Wait, G: Gate>(
     rt: &R,
     alloc: Global,

@@ -137,9 +137,9 @@ fn run_with<R: Threads + Wait + Sync, G: Gate>(
 /// of readers and deliveries are not obeyed: each page is shared to every collector.
 ///
 /// A writer's thread asks the gate after each fill that it closes, a reader's after each page that it takes and shares.
-/// If the gate doesn't let one pass, that thread ends, and the answer is `GateShut`; if a thread can't be started, it is
-/// `NoThread`. In each case the other threads run to their ends, and all are joined. The call waits for its threads: what
-/// it promises holds if it returns.
+/// If the gate doesn't let one pass, that thread ends, and the answer is `GateShut`; if a thread can't be started, it
+/// is `NoThread`. In each case the other threads run to their ends, and all are joined. The call waits for its threads:
+/// what it promises holds if it returns.
 pub fn run<R: Threads + Wait + Sync, G: Gate>(
     rt: &R,
     alloc: Global,

@@ -34,8 +34,8 @@ fn given_call<R: Env + AllocGlobal>(rt: &R) -> Result<Call, CallFault> {
     call_of(rt.alloc(), words.as_slice())
 }
 
-// What is chosen here, `answer_to` and `message_for` say. The rest has no contract: that the line goes to standard error,
-// and that the process ends with the status.
+// What is chosen here, `answer_to` and `message_for` say. The rest has no contract: that the line goes to standard
+// error, and that the process ends with the status.
 fn main(rt: HostRuntime) -> ExitCode {
     let mut input = Std::new(rt.stdin());
     let mut output = Std::new(rt.stdout());

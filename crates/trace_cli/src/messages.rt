@@ -30,8 +30,8 @@ pub enum EndFault {
 }
 
 impl EndFault {
-    /// The fault of a command over these two ends, which gave the exit status 4. There is none if neither end failed and
-    /// no more was read than may be: then the command printed the line of its fault.
+    /// The fault of a command over these two ends, which gave the exit status 4. There is none if neither end failed
+    /// and no more was read than may be: then the command printed the line of its fault.
     pub fn of_ends<R: Read, W: Write>(input: &Std<R>, output: &Std<W>) -> Option<EndFault>
         ensures read { has_failed input.now ≡ true → result ≡ Some EndFault.Read }
         ensures write { has_failed input.now ≡ false → has_failed output.now ≡ true

@@ -100,9 +100,9 @@ impl<'a, R: Threads + Wait + Sync> Command for RunCommand<'a, R> {
 }
 
 /// Reads a script from the reader to its end, runs it by threads, and writes what the collectors have, each with what
-/// its audit answers, or the fault's line. Gives the exit status: 0 done, 1 the script is refused, 3 memory was refused,
-/// 4 a read or a write failed, a thread could not be started, or the script is longer than 2^28 bytes. It waits for its
-/// threads: what it promises holds if it returns.
+/// its audit answers, or the fault's line. Gives the exit status: 0 done, 1 the script is refused, 3 memory was
+/// refused, 4 a read or a write failed, a thread could not be started, or the script is longer than 2^28 bytes. It
+/// waits for its threads: what it promises holds if it returns.
 pub fn run_to<Rt: Threads + Wait + Sync, R: Source, W: Sink>(
     rt: &Rt,
     alloc: Global,

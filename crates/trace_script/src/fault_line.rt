@@ -37,8 +37,8 @@ fn put_line(out: &mut Vec<u8>, fault: ScriptFault) -> Result<(), NoMemory>
     Ok(())
 }
 
-/// Puts the line that tells the fault, as `docs/FORMATS.md`, "Printed text", has it. If memory is refused, the text is as
-/// before.
+/// Puts the line that tells the fault, as `docs/FORMATS.md`, "Printed text", has it. If memory is refused, the text is
+/// as before.
 pub fn put_fault(out: &mut Vec<u8>, fault: ScriptFault) -> Result<(), NoMemory>
     ensures text { OnOk result (out.new.items ≡ out.old.items ++ (script_fault_text fault ++ 10 ∷ [])) }
     ensures kept { OnErr result (out.new.items ≡ out.old.items) }

@@ -47,12 +47,12 @@ pub record IsOverwrittenBefore (history : List Action) (start : ℕ) (deeds : Li
   pub before : lost < fill
   pub behind : (taken : ℕ) → Contains (fills_taken start deeds) taken → taken < fill → taken < lost
 
--- What the ring of a CPU, of n positions, did up to this state, and the parcels that were taken from it. Its frames made
--- a packed history. Steps lead to this state from a new ring, and the deeds are those of these steps, one step after the
--- other: so a fill was lost only if the step that lost it found it closed and the ring full. Together the deeds are the
--- history, the window and the takes of this state. The parcels are the fills that were taken, in order, each whole;
--- they part the committed records; and the numbers that are missing before one are just those of the records that
--- were overwritten unread between it and the one that was taken before it, or the start.
+-- What the ring of a CPU, of n positions, did up to this state, and the parcels that were taken from it. Its frames
+-- made a packed history. Steps lead to this state from a new ring, and the deeds are those of these steps, one step
+-- after the other: so a fill was lost only if the step that lost it found it closed and the ring full. Together the
+-- deeds are the history, the window and the takes of this state. The parcels are the fills that were taken, in order,
+-- each whole; they part the committed records; and the numbers that are missing before one are just those of the
+-- records that were overwritten unread between it and the one that was taken before it, or the start.
 pub record IsCut (n size start : ℕ) (c : Core) (parcels : List Parcel) : Type 0 where
   pub is_history : IsHistory c.history
   pub packed : IsPacked c.history size

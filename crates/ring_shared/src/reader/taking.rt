@@ -13,8 +13,8 @@ impl Reader {
 
     /// Takes the oldest page that is closed and unread, for which `body`, of the ring's data size in bytes, goes into
     /// the ring; with any other answer a body of that size comes back. It answers as soon as one of its steps does. It
-    /// makes at most two steps for each page of the ring and eight; if none of these has an answer, it answers `Moving`,
-    /// and the next take goes on where this one came to.
+    /// makes at most two steps for each page of the ring and eight; if none of these has an answer, it answers
+    /// `Moving`, and the next take goes on where this one came to.
     pub fn take(&mut self, body: Body) -> Take
         requires reader { IsReader self.old }
         requires size { length body ≡ self.old.shape.size }

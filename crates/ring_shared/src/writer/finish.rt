@@ -37,7 +37,8 @@ impl Writer {
 
     /// Steps a close frame, or one that was ended or refused, until it is gone, and any other record frame until its
     /// record is reserved, in a slot that holds only zeros, or it is refused. It answers the refusal that it met, if
-    /// any, else as its last step does. Each of its steps is one of `step`; where no frame stands, it is refused with `NoFrame`.
+    /// any, else as its last step does. Each of its steps is one of `step`; where no frame stands, it is refused with
+    /// `NoFrame`.
     #[inline(always)]
     pub fn finish_top(&mut self) -> Answer
         requires writer { IsWriter self.old }

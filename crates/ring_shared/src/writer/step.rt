@@ -13,9 +13,10 @@ impl Writer {
     ghost use Rattle.ring_shared.specs.Nearer.{IsNearer};
 
     /// One step of the frame on top, in its phase: a step on one word, or one that touches none. `Going` while it
-    /// stands and has reserved nothing or has left; `Reserved` with its record's number, whose slot holds only zeros when
-    /// it is reserved; `Gone` once it has left the stack. Refused with `NoFrame` where no frame stands; and a frame that needs a page is refused, and leaves, as
-    /// `Crowded` where no page is released, as `Worn` behind the last fill.
+    /// stands and has reserved nothing or has left; `Reserved` with its record's number, whose slot holds only zeros
+    /// when it is reserved; `Gone` once it has left the stack. Refused with `NoFrame` where no frame stands; and a
+    /// frame that needs a page is refused, and leaves, as `Crowded` where no page is released, as `Worn` behind the
+    /// last fill.
     #[inline(always)]
     pub fn step(&mut self) -> Answer
         requires writer { IsWriter self.old }
