@@ -1,4 +1,4 @@
-"""Threaded runs from seeds for so many minutes, each audited: `bench/run soak MINUTES`
+"""Threaded runs from seeds, each audited: `bench/run soak MINUTES`, or `bench/run soak COUNT short` for short ones
 
 Scripts have 1 to 8 CPUs, 1 to 3 collectors, rings of 2 to 5 small pages, and nested writers. Each audit has to be yes,
 all collectors have to be the same, and each CPU's records and missing numbers together the numbers from 0 on.
@@ -7,25 +7,30 @@ all collectors have to be the same, and each CPU's records and missing numbers t
 import random
 import subprocess
 import time
+from concurrent.futures import ThreadPoolExecutor
 
 from lib import tables
 from lib.programs import Failure, tracering
 
 NEEDS = ("rt",)
 SECONDS = 120
+# How many lines of writers a script has.
+LONG, SHORT = (20, 200, 2_000, 10_000), (5, 10, 20, 40)
+# How many runs there are at a time, in long ones each with many threads.
+AT_A_TIME = 4
 
 
 def payload(rng):
     return rng.randbytes(rng.choice([0, 1, 4, 8, 12, 20])).hex() or "-"
 
 
-def made_script(rng):
-    """A script, and how many records each CPU may write at most."""
+def made_script(rng, lengths):
+    """A script, how many records each CPU may write at most, and how many collectors there are."""
     cpus, collectors = rng.randint(1, 8), rng.randint(1, 3)
     lines = [f"pages {rng.randint(2, 5)}", f"size {rng.choice([32, 36, 64, 128])}", f"cpus {cpus}"]
     lines.append(f"collectors {collectors}")
     written, depth = [0] * cpus, [0] * cpus
-    for moment in range(rng.choice([20, 200, 2_000, 10_000])):
+    for moment in range(rng.choice(lengths)):
         cpu, what = rng.randrange(cpus), rng.random()
         if what < 0.6:
             lines.append(f"c{cpu} w {moment} {payload(rng)}")
@@ -63,20 +68,34 @@ def fault_of(output, written, collectors):
     return None
 
 
-def run(folder, minutes="1"):
-    program, runs, records, missing = tracering(), 0, 0, 0
-    end = time.monotonic() + 60 * float(minutes)
+def audited_run(program, seed, lengths):
+    """How many records were delivered, and how many runs of numbers are missing."""
+    script, written, collectors = made_script(random.Random(seed), lengths)
+    done = subprocess.run([program, "run"], input=script, stdout=subprocess.PIPE, timeout=SECONDS, check=False)
+    wrong = f"status {done.returncode}" if done.returncode else fault_of(done.stdout.decode(), written, collectors)
+    if wrong:
+        raise Failure(f"seed {seed}: {wrong}")
+    part = done.stdout.split(b"collector ")[1].splitlines()
+    return sum(line[:1].isdigit() for line in part[1:]), sum(line.startswith(b"missing") for line in part)
+
+
+def batches(number, is_short):
+    """The seeds of the runs, those together that are begun at a time."""
+    if is_short:
+        yield range(int(number))
+        return
+    seed, end = 0, time.monotonic() + 60 * float(number)
     while time.monotonic() < end:
-        script, written, collectors = made_script(random.Random(runs))
-        given = {"input": script, "stdout": subprocess.PIPE, "timeout": SECONDS, "check": False}
-        done = subprocess.run([program, "run"], **given)
-        wrong = f"status {done.returncode}" if done.returncode else None
-        wrong = wrong or fault_of(done.stdout.decode(), written, collectors)
-        if wrong:
-            raise Failure(f"seed {runs}: {wrong}")
-        runs += 1
-        part = done.stdout.split(b"collector ")[1].splitlines()
-        records += sum(line[:1].isdigit() for line in part[1:])
-        missing += sum(line.startswith(b"missing") for line in part)
+        yield range(seed, seed + AT_A_TIME)
+        seed += AT_A_TIME
+
+
+def run(folder, number="1", short=None):
+    program, began, found = tracering(), time.monotonic(), []
+    with ThreadPoolExecutor(AT_A_TIME) as pool:
+        for seeds in batches(number, short == "short"):
+            found += pool.map(lambda seed: audited_run(program, seed, SHORT if short else LONG), seeds)
+    records, missing = map(sum, zip(*found))
+    minutes = (time.monotonic() - began) / 60
     yield from tables.head("Minutes", "Runs", "Records delivered", "Runs of missing records", "Audits that aren't yes")
-    yield tables.line([minutes, f"{runs:,}", f"{records:,}", f"{missing:,}", 0])
+    yield tables.line([f"{minutes:.1f}", f"{len(found):,}", f"{records:,}", f"{missing:,}", 0])

@@ -1,25 +1,28 @@
 /*
  * Preloaded by bench/refuse: the growth with the number in REFUSED, from 1, is refused, and all that come after it if
- * REFUSED_ON is there; the file REFUSED_TOLD is made then. A growth is a call of malloc, realloc, posix_memalign or aligned_alloc that the program makes
- * itself, not the C library for it.
+ * REFUSED_ON is there. A growth is a call of malloc, realloc, posix_memalign or aligned_alloc that the program makes
+ * itself, not the C library for it. The file REFUSED_SEEN, of two 8-byte numbers, gets how many growths were refused, and
+ * how many blocks the program has and has not freed.
  */
 #define _GNU_SOURCE
-#include <dlfcn.h>
 #include <errno.h>
 #include <fcntl.h>
 #include <link.h>
 #include <stdbool.h>
 #include <stdint.h>
 #include <stdlib.h>
+#include <sys/mman.h>
 #include <unistd.h>
 
 void *__libc_malloc(size_t);
 void *__libc_realloc(void *, size_t);
 void *__libc_memalign(size_t, size_t);
+void __libc_free(void *);
 
 static uintptr_t low, high;     /* where the program's own code is */
 static long refused, growths;
 static bool and_on;
+static long unseen[2], *seen = unseen;
 
 static int find_program(struct dl_phdr_info *info, size_t size, void *none)
 {
@@ -38,39 +41,90 @@ static int find_program(struct dl_phdr_info *info, size_t size, void *none)
 
 __attribute__((constructor)) static void begin(void)
 {
-	const char *number = getenv("REFUSED");
+	const char *number = getenv("REFUSED"), *name = getenv("REFUSED_SEEN");
+	int file = name ? open(name, O_RDWR) : -1;
+	void *shared = MAP_FAILED;
 
+	if (file >= 0)
+		shared = mmap(NULL, sizeof unseen, PROT_READ | PROT_WRITE, MAP_SHARED, file, 0);
+	if (shared != MAP_FAILED)
+		seen = shared;
 	dl_iterate_phdr(find_program, NULL);
 	and_on = getenv("REFUSED_ON");
 	refused = number ? atol(number) : 0;
 }
 
-static bool refuse(void *caller)
+static bool is_own(void *caller)
 {
 	uintptr_t at = (uintptr_t)caller;
+
+	return low <= at && at < high;
+}
+
+static bool refuse(void *caller)
+{
 	long growth;
 
-	if (!refused || at < low || at >= high)
+	if (!refused || !is_own(caller))
 		return false;
 	growth = __atomic_add_fetch(&growths, 1, __ATOMIC_SEQ_CST);
 	if (growth != refused && !(and_on && growth > refused))
 		return false;
-	if (getenv("REFUSED_TOLD"))
-		close(open(getenv("REFUSED_TOLD"), O_CREAT | O_WRONLY, 0600));
+	__atomic_add_fetch(&seen[0], 1, __ATOMIC_SEQ_CST);
 	errno = ENOMEM;
 	return true;
 }
 
+/* Counts one more or one fewer of the program's blocks. */
+static void count(void *caller, bool counts, long change)
+{
+	if (counts && is_own(caller))
+		__atomic_add_fetch(&seen[1], change, __ATOMIC_SEQ_CST);
+}
+
 #define CALLER __builtin_return_address(0)
 
-void *malloc(size_t size) { return refuse(CALLER) ? NULL : __libc_malloc(size); }
-void *realloc(void *old, size_t size) { return refuse(CALLER) ? NULL : __libc_realloc(old, size); }
-void *aligned_alloc(size_t align, size_t size) { return refuse(CALLER) ? NULL : __libc_memalign(align, size); }
+static void *aligned(void *caller, size_t align, size_t size)
+{
+	void *new = refuse(caller) ? NULL : __libc_memalign(align, size);
+
+	count(caller, new, 1);
+	return new;
+}
+
+void *malloc(size_t size)
+{
+	void *new = refuse(CALLER) ? NULL : __libc_malloc(size);
+
+	count(CALLER, new, 1);
+	return new;
+}
+
+void *realloc(void *old, size_t size)
+{
+	void *new = refuse(CALLER) ? NULL : __libc_realloc(old, size);
+
+	count(CALLER, new && !old, 1);
+	return new;
+}
+
+void free(void *old)
+{
+	count(CALLER, old, -1);
+	__libc_free(old);
+}
+
+void *aligned_alloc(size_t align, size_t size)
+{
+	return aligned(CALLER, align, size);
+}
 
 int posix_memalign(void **out, size_t align, size_t size)
 {
-	if (refuse(CALLER))
+	void *new = aligned(CALLER, align, size);
+
+	if (!new)
 		return ENOMEM;
-	*out = __libc_memalign(align, size);
-	return *out ? 0 : ENOMEM;
+	*out = new;
+	return 0;
 }
