@@ -295,6 +295,19 @@ impl Page {
         body.slice_mut(place.start..place.start + place.len)
     }
 
+    /// The bytes at this place, which lies within the data, to be written. All other bytes of the page stay as they
+    /// are.
+    #[inline(always)]
+    pub fn part_mut(&mut self, place: Place) -> &mut [u8]
+        requires { place.start + place.len ≤ length self.old.bytes }
+        ensures* lends { sem 𝓛 (LendsPayload self.entry place.start result) }
+        ensures part { result.now ≡ slice_range self.old.bytes place.start (place.start + place.len) }
+        ensures len { length result.now ≡ place.len }
+    {
+        let body = &mut self.body;
+        body.slice_mut(place.start..place.start + place.len)
+    }
+
     /// The same page under another first number and fill.
     pub fn numbered(self, first: RecordNo, fill: FillNo) -> Page
         ensures { result ≡ record self { first = first.0; fill = fill.0 } }
