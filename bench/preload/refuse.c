@@ -1,8 +1,8 @@
 /*
  * Preloaded by bench/refuse: the growth with the number in REFUSED, from 1, is refused, and all that come after it if
  * REFUSED_ON is there. A growth is a call of malloc, realloc, posix_memalign or aligned_alloc that the program makes
- * itself, not the C library for it. The file REFUSED_SEEN, of two 8-byte numbers, gets how many growths were refused, and
- * how many blocks the program has and has not freed.
+ * itself, not the C library for it. The file REFUSED_SEEN, of three 8-byte numbers, gets how many growths there were, how
+ * many of them were refused, and how many blocks the program has and has not freed.
  */
 #define _GNU_SOURCE
 #include <errno.h>
@@ -20,9 +20,9 @@ void *__libc_memalign(size_t, size_t);
 void __libc_free(void *);
 
 static uintptr_t low, high;     /* where the program's own code is */
-static long refused, growths;
+static long refused;
 static bool and_on;
-static long unseen[2], *seen = unseen;
+static long unseen[3], *seen = unseen;
 
 static int find_program(struct dl_phdr_info *info, size_t size, void *none)
 {
@@ -67,10 +67,10 @@ static bool refuse(void *caller)
 
 	if (!refused || !is_own(caller))
 		return false;
-	growth = __atomic_add_fetch(&growths, 1, __ATOMIC_SEQ_CST);
+	growth = __atomic_add_fetch(&seen[0], 1, __ATOMIC_SEQ_CST);
 	if (growth != refused && !(and_on && growth > refused))
 		return false;
-	__atomic_add_fetch(&seen[0], 1, __ATOMIC_SEQ_CST);
+	__atomic_add_fetch(&seen[1], 1, __ATOMIC_SEQ_CST);
 	errno = ENOMEM;
 	return true;
 }
@@ -79,7 +79,7 @@ static bool refuse(void *caller)
 static void count(void *caller, bool counts, long change)
 {
 	if (counts && is_own(caller))
-		__atomic_add_fetch(&seen[1], change, __ATOMIC_SEQ_CST);
+		__atomic_add_fetch(&seen[2], change, __ATOMIC_SEQ_CST);
 }
 
 #define CALLER __builtin_return_address(0)
