@@ -108,7 +108,7 @@ impl Rings {
 
     /// What is unread of both at the end.
     fn settled(self, alloc: Global) -> Result<String, NoMemory> {
-        let Rings { value, ends } = self;
+        let Rings { mut value, ends } = self;
         agreed(alloc, value.settled(alloc)?, ends.settled(alloc)?)
     }
 }

@@ -78,14 +78,13 @@ impl Value {
     }
 
     /// What is unread, if there is no frame and no closed fill is unread: the tail, which is closed and taken for it.
-    pub fn settled(self, alloc: Global) -> Result<String, NoMemory> {
-        let mut ring = self;
-        if ring.depth() != 0 || !matches!(ring.take(alloc)?, Answer::Empty(_, _)) {
+    pub fn settled(&mut self, alloc: Global) -> Result<String, NoMemory> {
+        if self.depth() != 0 || !matches!(self.take(alloc)?, Answer::Empty(_, _)) {
             return Ok(String::from_str(alloc, "refused")?);
         }
-        ring.push_close();
-        ring.finish();
-        match ring.take(alloc)? {
+        self.push_close();
+        self.finish();
+        match self.take(alloc)? {
             Answer::Taken(page, _) => unread_text(alloc, Some(&page)),
             _ => unread_text(alloc, None),
         }
