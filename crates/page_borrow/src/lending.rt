@@ -1,9 +1,10 @@
 //! The calls by which a page lends its records and its payloads.
-ghost use Rattle.std.specs.Prelude.{◌≡◌, ℕ, ◌+◌, ◌<◌, ◌^◌, List, length, slice_range};
+ghost use Rattle.std.specs.Prelude.{◌≡◌, ℕ, ◌+◌, ◌<◌, ◌^◌, List, length, slice_range, IfSome};
 ghost use Rattle.std.specs.Borrow.{sem};
-ghost use Rattle.trace_model.specs.Reading.{IsPlaceIn};
-ghost use Rattle.page_image.specs.Contents.{IsPage};
-ghost use Rattle.page_image.specs.Lending.{LendsPayload, PayloadWritten};
+ghost use Rattle.trace_model.specs.Reading.{EndsInRecord, IsPlaceIn};
+ghost use Rattle.trace_model.specs.Order.{moment_of_last};
+ghost use Rattle.page_image.specs.Contents.{IsPage, is_blank, records_of_page};
+ghost use Rattle.page_image.specs.Lending.{LendsPayload, PayloadWritten, with_payload};
 ghost use Rattle.page_borrow.specs.Entries.{entries_of, AllStandInPage};
 
 use crate::entries::Records;
@@ -26,7 +27,22 @@ pub fn slot_mut(page: &mut Page, place: Place) -> &mut [u8]
     requires { IsPlaceIn page.old.bytes place.start place.len }
     ensures* lends { sem 𝓛 (LendsPayload page.entry place.start result) }
     ensures payload { result.now ≡ slice_range page.old.bytes place.start (place.start + place.len) }
+    ensures len { length result.now ≡ place.len }
     ensures written { (part : List ℕ) → length part ≡ place.len → PayloadWritten page.old place.start part }
+    ensures length_stays { (part : List ℕ) → length part ≡ place.len
+        → length (with_payload page.old place.start part).bytes ≡ length page.old.bytes }
+    ensures blank_stays { (part : List ℕ) → length part ≡ place.len
+        → is_blank (with_payload page.old place.start part).bytes ≡ is_blank page.old.bytes }
+    ensures page_reads { (part : List ℕ) → length part ≡ place.len
+        → IsPage page.old → IsPage (with_payload page.old place.start part) }
+    ensures open_stays { (part : List ℕ) → length part ≡ place.len
+        → EndsInRecord page.old.bytes → EndsInRecord (with_payload page.old place.start part).bytes }
+    ensures last_stays { (part : List ℕ) → length part ≡ place.len
+        → IsPage page.old → (prev : ℕ)
+        → IfSome (moment_of_last (records_of_page page.old)) (λ last. last ≡ prev)
+        → IfSome (moment_of_last (records_of_page (with_payload page.old place.start part))) (λ last. last ≡ prev) }
+    ensures payloads_stay { (part : List ℕ) → length part ≡ place.len
+        → (at len : ℕ) → IsPlaceIn page.old.bytes at len → IsPlaceIn (with_payload page.old place.start part).bytes at len }
 {
     page.payload_mut(place)
 }

@@ -167,42 +167,6 @@ put_number [] time prev moment payload start ends reads small slot end_is =
 put_number (byte ∷ bytes) time prev moment payload start ends reads small slot end_is =
     IsPlaceOf-new (byte ∷ bytes) time (records_in time (byte ∷ bytes)) (moment - prev) payload start ends reads (omega arith) slot.whole slot.some slot.fits end_is
 
--- The page after a record was put, whatever else of it has changed.
-pub record PutPage (old new : Contents) (prev moment : ℕ) (payload : List ℕ) (start : ℕ) : Type 0 where
-  pub page : IsPage old → IsPage new
-  pub records : IsPage old → records_of_page new ≡ records_of_page old ++ record { moment = moment; bytes = payload } ∷ []
-  pub ends : EndsInRecord new.bytes
-  pub place : IsPlaceIn new.bytes start (length payload)
-  pub number : IsPage old → IsPlaceOf new.bytes old.count start (length payload)
-  pub places_stay : (number at size : ℕ) → IsPlaceOf old.bytes number at size → IsPlaceOf new.bytes number at size
-  pub last : IsPage old → IfSome (moment_of_last (records_of_page new)) (λ last. last ≡ moment)
-
-pub put_page : (old new : Contents) (prev moment : ℕ) (payload : List ℕ) (start : ℕ) → EndsInRecord old.bytes → IfSome (moment_of_last (records_of_page old)) (λ last. last ≡ prev) → prev ≤ moment → moment < MOMENT_LIMIT → IsSlot payload
-    → new.bytes ≡ old.bytes ++ encoding (moment - prev) (is_blank old.bytes) payload → new.time ≡ cond (is_blank old.bytes) moment old.time → new.count ≡ old.count + 1 → start + length payload ≡ length new.bytes
-    → PutPage old new prev moment payload start
-put_page old new prev moment payload start ends last order small slot bytes_is time_is count_is end_is =
-    let r : Record = record { moment = moment; bytes = payload } in
-    let end = put_end old.bytes prev moment payload ends small slot in
-    let reads : IsPage old → Decodes new.bytes new.time (records_of_page old ++ r ∷ []) = λ page.
-    subst (λ (t : ℕ). Decodes new.bytes t (records_of_page old ++ r ∷ [])) (sym time_is)
-    (subst (λ (b : List ℕ). Decodes b (cond (is_blank old.bytes) moment old.time) (records_of_page old ++ r ∷ [])) (sym bytes_is) (put_data old.bytes old.time prev moment payload ends page.reads last order small slot)) in
-    let now : IsPage old → records_of_page new ≡ records_of_page old ++ r ∷ [] = λ page. records_in-Decodes new.bytes new.time (records_of_page old ++ r ∷ []) (reads page) in
-    record {
-      page = λ page. record {
-        reads = subst (Decodes new.bytes new.time) (sym (now page)) (reads page);
-        counted = let one : length (records_of_page new) ≡ length (records_of_page old) + 1 = ap length (now page) ∙ length-append (records_of_page old) (r ∷ []) in omega (arith, page.counted);
-        in_time = fits_either (is_blank old.bytes) new.time moment old.time time_is (omega arith) page.in_time;
-      };
-      records = now;
-      ends = subst EndsInRecord (sym bytes_is) end.ends;
-      place = subst (λ (b : List ℕ). IsPlaceIn b start (length payload)) (sym bytes_is) (end.place start (end_is ∙ ap length bytes_is));
-      number = λ page. subst (λ (b : List ℕ). IsPlaceOf b old.count start (length payload)) (sym bytes_is)
-          (subst (λ (n : ℕ). IsPlaceOf (old.bytes ++ encoding (moment - prev) (is_blank old.bytes) payload) n start (length payload)) (sym page.counted)
-          (put_number old.bytes old.time prev moment payload start ends page.reads small slot (end_is ∙ ap length bytes_is)));
-      places_stay = λ number at size there. subst (λ (b : List ℕ). IsPlaceOf b number at size) (sym bytes_is) (put_places_stay old.bytes prev moment payload ends small slot number at size there);
-      last = λ page. subst (λ (o : Option ℕ). IfSome o (λ last. last ≡ moment)) (sym (ap moment_of_last (now page) ∙ moment_of_last-push (records_of_page old) r)) refl;
-    }
-
 -- data of some length isn't blank
 pub not_blank : (bytes : List ℕ) → 4 ≤ length bytes → is_blank bytes ≡ false
 not_blank [] some = absurd (omega arith)
@@ -211,3 +175,48 @@ not_blank (byte ∷ bytes) some = refl
 -- a payload's place has a number
 pub place_of : (bytes : List ℕ) (start len : ℕ) → (place : IsPlaceIn bytes start len) → IsPlaceOf bytes (length (records_of 0 place.front)) start len
 place_of bytes start len place = record { place = place; number_is = refl }
+
+-- The page after a record was put, whatever else of it has changed.
+pub record PutPage (old new : Contents) (prev moment : ℕ) (payload : List ℕ) (start len : ℕ) : Type 0 where
+  pub page : IsPage old → IsPage new
+  pub records : IsPage old → records_of_page new ≡ records_of_page old ++ record { moment = moment; bytes = payload } ∷ []
+  pub longer : length new.bytes ≡ length old.bytes + encoded_len len (moment - prev) (is_blank old.bytes)
+  pub filled : is_blank new.bytes ≡ false
+  pub ends : EndsInRecord new.bytes
+  pub place : IsPlaceIn new.bytes start (slot_len len)
+  pub number : IsPage old → IsPlaceOf new.bytes old.count start (slot_len len)
+  pub places_stay : (number at size : ℕ) → IsPlaceOf old.bytes number at size → IsPlaceOf new.bytes number at size
+  pub payloads_stay : (at size : ℕ) → IsPlaceIn old.bytes at size → IsPlaceIn new.bytes at size
+  pub last : IsPage old → IfSome (moment_of_last (records_of_page new)) (λ last. last ≡ moment)
+
+pub put_page : (old new : Contents) (prev moment : ℕ) (payload : List ℕ) (start len : ℕ) → EndsInRecord old.bytes → IfSome (moment_of_last (records_of_page old)) (λ last. last ≡ prev) → prev ≤ moment → moment < MOMENT_LIMIT → len ≤ 2 ^ 30 → length payload ≡ slot_len len
+    → new.bytes ≡ old.bytes ++ encoding (moment - prev) (is_blank old.bytes) payload → length new.bytes ≡ length old.bytes + encoded_len len (moment - prev) (is_blank old.bytes) → new.time ≡ cond (is_blank old.bytes) moment old.time → new.count ≡ old.count + 1 → start + slot_len len ≡ length new.bytes
+    → PutPage old new prev moment payload start len
+put_page old new prev moment payload start len ends last order small limit size bytes_is longer time_is count_is end_is =
+    let r : Record = record { moment = moment; bytes = payload } in
+    let slot : IsSlot payload = IsSlot-of payload len size limit in
+    let end = put_end old.bytes prev moment payload ends small slot in
+    let there : start + length payload ≡ length (old.bytes ++ encoding (moment - prev) (is_blank old.bytes) payload) = ap (λ (n : ℕ). start + n) size ∙ end_is ∙ ap length bytes_is in
+    let reads : IsPage old → Decodes new.bytes new.time (records_of_page old ++ r ∷ []) = λ page.
+    subst (λ (t : ℕ). Decodes new.bytes t (records_of_page old ++ r ∷ [])) (sym time_is)
+    (subst (λ (b : List ℕ). Decodes b (cond (is_blank old.bytes) moment old.time) (records_of_page old ++ r ∷ [])) (sym bytes_is) (put_data old.bytes old.time prev moment payload ends page.reads last order small slot)) in
+    let now : IsPage old → records_of_page new ≡ records_of_page old ++ r ∷ [] = λ page. records_in-Decodes new.bytes new.time (records_of_page old ++ r ∷ []) (reads page) in
+    let stay : (number at size : ℕ) → IsPlaceOf old.bytes number at size → IsPlaceOf new.bytes number at size = λ number at size was. subst (λ (b : List ℕ). IsPlaceOf b number at size) (sym bytes_is) (put_places_stay old.bytes prev moment payload ends small slot number at size was) in
+    record {
+      page = λ page. record {
+        reads = subst (Decodes new.bytes new.time) (sym (now page)) (reads page);
+        counted = let one : length (records_of_page new) ≡ length (records_of_page old) + 1 = ap length (now page) ∙ length-append (records_of_page old) (r ∷ []) in omega (arith, page.counted);
+        in_time = fits_either (is_blank old.bytes) new.time moment old.time time_is (omega arith) page.in_time;
+      };
+      records = now;
+      longer = longer;
+      filled = not_blank new.bytes (omega (arith, longer, encoded_len_ge len (moment - prev) (is_blank old.bytes)));
+      ends = subst EndsInRecord (sym bytes_is) end.ends;
+      place = subst (λ (n : ℕ). IsPlaceIn new.bytes start n) size (subst (λ (b : List ℕ). IsPlaceIn b start (length payload)) (sym bytes_is) (end.place start there));
+      number = λ page. subst (λ (n : ℕ). IsPlaceOf new.bytes old.count start n) size (subst (λ (b : List ℕ). IsPlaceOf b old.count start (length payload)) (sym bytes_is)
+          (subst (λ (n : ℕ). IsPlaceOf (old.bytes ++ encoding (moment - prev) (is_blank old.bytes) payload) n start (length payload)) (sym page.counted)
+          (put_number old.bytes old.time prev moment payload start ends page.reads small slot there)));
+      places_stay = stay;
+      payloads_stay = λ at size was. (stay _ at size (place_of old.bytes at size was)).place;
+      last = λ page. subst (λ (o : Option ℕ). IfSome o (λ last. last ≡ moment)) (sym (ap moment_of_last (now page) ∙ moment_of_last-push (records_of_page old) r)) refl;
+    }

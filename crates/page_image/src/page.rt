@@ -49,7 +49,7 @@ impl Page {
     ghost use Rattle.page_image.specs.declared.put.Records.TheVariants.{Plain};
     ghost use Rattle.page_image.specs.Plain.{IsPlainIn};
     ghost use Rattle.std.specs.Borrow.{sem};
-    ghost use Rattle.page_image.specs.Lending.{LendsPayload, PayloadWritten};
+    ghost use Rattle.page_image.specs.Lending.{LendsPayload, PayloadWritten, with_payload};
     ghost use Rattle.trace_model.specs.Words.{encoded_len, encoding, padded, slot_len};
     ghost use Rattle.trace_model.specs.Reading.{EndsInRecord, IsPlaceIn};
     ghost use Rattle.trace_model.specs.Order.{moment_of_last};
@@ -289,7 +289,22 @@ impl Page {
         requires { IsPlaceIn self.old.bytes place.start place.len }
         ensures* lends { sem 𝓛 (LendsPayload self.entry place.start result) }
         ensures payload { result.now ≡ slice_range self.old.bytes place.start (place.start + place.len) }
+        ensures len { length result.now ≡ place.len }
         ensures written { (part : List ℕ) → length part ≡ place.len → PayloadWritten self.old place.start part }
+        ensures length_stays { (part : List ℕ) → length part ≡ place.len
+            → length (with_payload self.old place.start part).bytes ≡ length self.old.bytes }
+        ensures blank_stays { (part : List ℕ) → length part ≡ place.len
+            → is_blank (with_payload self.old place.start part).bytes ≡ is_blank self.old.bytes }
+        ensures page_reads { (part : List ℕ) → length part ≡ place.len
+            → IsPage self.old → IsPage (with_payload self.old place.start part) }
+        ensures open_stays { (part : List ℕ) → length part ≡ place.len
+            → EndsInRecord self.old.bytes → EndsInRecord (with_payload self.old place.start part).bytes }
+        ensures last_stays { (part : List ℕ) → length part ≡ place.len
+            → IsPage self.old → (prev : ℕ)
+            → IfSome (moment_of_last (records_of_page self.old)) (λ last. last ≡ prev)
+            → IfSome (moment_of_last (records_of_page (with_payload self.old place.start part))) (λ last. last ≡ prev) }
+        ensures payloads_stay { (part : List ℕ) → length part ≡ place.len
+            → (at len : ℕ) → IsPlaceIn self.old.bytes at len → IsPlaceIn (with_payload self.old place.start part).bytes at len }
     {
         let body = &mut self.body;
         body.slice_mut(place.start..place.start + place.len)

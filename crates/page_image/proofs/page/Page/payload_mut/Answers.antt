@@ -1,9 +1,10 @@
-use Rattle.std.proofs.Common.{◌++◌, length, take, drop, refl, sym, ap, ◌∙◌, subst, arith, length-take-le}
+use Rattle.std.proofs.Common.{◌≡◌, ℕ, List, ◌++◌, length, take, drop, refl, sym, ap, ◌∙◌, subst, arith, length-take-le}
 use Rattle.std.specs.List.{length_refill}
 use Rattle.trace_model.specs.Reading.{IsPlaceIn}
 use Rattle.trace_model.proofs.Overwritten.{place-within}
 use Rattle.page_image.specs.Contents.{Contents}
-use Rattle.page_image.proofs.Overwriting.{written_within, range_within, payload_written}
+use Rattle.page_image.specs.Lending.{PayloadWritten}
+use Rattle.page_image.proofs.Overwriting.{written_within, range_within, range_len, payload_written}
 use Rattle.page_image.proofs.page.Page.payload_mut.Goals as goal
 
 pub overflow_add-place : goal.overflow_add-place
@@ -28,6 +29,8 @@ returns c =
     let within = place-within c.args.self.now.bytes c.args.place.start c.args.place.len c.requires in
     let bytes_is = ap (λ (p : Contents). length p.bytes) c.self.view_is in
     let end_len = length-take-le v.end v.body.items c.self.invariant.0 in
+    let here : (part : List ℕ) → length part ≡ c.args.place.len → PayloadWritten (record { time = v.time; first = v.first.0; count = v.count; fill = v.fill.0; size = length v.body.items; bytes = take v.end v.body.items }) c.args.place.start part
+        = λ part fills. payload_written _ c.args.place.start c.args.place.len part (subst (λ (p : Contents). IsPlaceIn p.bytes c.args.place.start c.args.place.len) (sym c.self.view_is) c.requires) fills in
     rw (← c.self.view_is) (
       (
         refl,
@@ -43,6 +46,13 @@ returns c =
       record {
         lends = tt;
         payload = c.slice_mut.ensures.value ∙ range_within v.body.items v.end c.args.place.start c.args.place.len (omega arith);
-        written = λ part fills. payload_written _ c.args.place.start c.args.place.len part (subst (λ (p : Contents). IsPlaceIn p.bytes c.args.place.start c.args.place.len) (sym c.self.view_is) c.requires) fills;
+        len = ap length c.slice_mut.ensures.value ∙ range_len v.body.items c.args.place.start c.args.place.len (omega arith);
+        written = here;
+        length_stays = λ part fills. (here part fills).length_stays;
+        blank_stays = λ part fills. (here part fills).blank_stays;
+        page_reads = λ part fills. (here part fills).page_reads;
+        open_stays = λ part fills. (here part fills).open_stays;
+        last_stays = λ part fills. (here part fills).last_stays;
+        payloads_stay = λ part fills. (here part fills).payloads_stay;
       },
     )

@@ -1,4 +1,4 @@
-use Rattle.std.proofs.Common.{◌≡◌, ℕ, ◌+◌, ◌-◌, ◌≤◌, ◌^◌, Bool, cond, List, [], ◌∷◌, ◌++◌, length, take, nat_eq, refl, sym, ap, ◌∙◌, subst, arith, rules, length-take-le, IfSome}
+use Rattle.std.proofs.Common.{◌≡◌, ℕ, ◌+◌, ◌-◌, ◌≤◌, ◌^◌, Bool, cond, List, ◌++◌, length, take, nat_eq, refl, sym, ap, ◌∙◌, subst, arith, rules, length-take-le, IfSome}
 use Rattle.std.proofs.lemmas.List.{with_items_is}
 use Rattle.std.proofs.lemmas.Bool.{cond-true, cond-false}
 use Rattle.std.specs.Vec.{with_items}
@@ -7,8 +7,8 @@ use Rattle.trace_model.proofs.Lengths.{slot_len_ge, length-padded}
 use Rattle.trace_model.specs.Reading.{EndsInRecord, IsPlaceIn}
 use Rattle.trace_model.specs.Overwriting.{IsPlaceOf}
 use Rattle.trace_model.specs.Order.{moment_of_last}
-use Rattle.page_image.specs.Contents.{Contents, IsPage, is_blank, records_of_page}
-use Rattle.page_image.proofs.Putting.{PutPage, IsSlot-of, put_page, blank_is, encoded_len_ge, not_blank, place_of}
+use Rattle.page_image.specs.Contents.{Contents, is_blank, records_of_page}
+use Rattle.page_image.proofs.Putting.{PutPage, put_page, blank_is}
 use Rattle.page_image.proofs.page.Page.put_payload.Goals as goal
 use Rattle.page_image.proofs.page.Page.put_payload.Goals.{then-is_first, else-is_first, After-self-4-1}
 
@@ -71,51 +71,44 @@ put c = padded c.args.payload.now
 put_len : (c : After-self-4-1) → length (put c) ≡ slot_len (length c.args.payload.now)
 put_len c = length-padded c.args.payload.now
 
-whole : (c : After-self-4-1) → PutPage (was c) (now c) c.args.prev c.args.moment (put c) c.put_payload_behind.result.start
+whole : (c : After-self-4-1) → PutPage c.args.self.now (now c) c.args.prev c.args.moment (put c) c.put_payload_behind.result.start (length c.args.payload.now)
 whole c =
     let w = wrote c in
     let ends : EndsInRecord (was c).bytes = subst (λ (p : Contents). EndsInRecord p.bytes) (sym w.same) c.requires.open in
     let last : IfSome (moment_of_last (records_of_page (was c))) (λ m. m ≡ c.args.prev) = subst (λ (p : Contents). IfSome (moment_of_last (records_of_page p)) (λ m. m ≡ c.args.prev)) (sym w.same) c.requires.last in
     let limit = c.self.invariant.1 in
     let short : (length c.args.payload.now) ≤ 2 ^ 30 = omega (arith, slot_len_ge (length c.args.payload.now), w.end, w.room) in
-    let end_is : c.put_payload_behind.result.start + length (put c) ≡ length (now c).bytes =
-    ap (λ (n : ℕ). c.put_payload_behind.result.start + n) (put_len c ∙ sym c.put_payload_behind.ensures.len) ∙ sym (ap (λ (n : ℕ). length (take n (with_items c.self.inside.body c.put_payload_behind.new.body).items)) w.at ∙ length-take-le (c.put_payload_behind.result.start + c.put_payload_behind.result.len) (with_items c.self.inside.body c.put_payload_behind.new.body).items (omega (arith, w.room, w.items))) in
-    put_page (was c) (now c) c.args.prev c.args.moment (put c) c.put_payload_behind.result.start ends last c.requires.order c.requires.moment (IsSlot-of (put c) (length c.args.payload.now) (put_len c) short) w.bytes w.time refl end_is
+    let long : length (now c).bytes ≡ c.put_payload_behind.result.start + c.put_payload_behind.result.len = ap (λ (n : ℕ). length (take n (with_items c.self.inside.body c.put_payload_behind.new.body).items)) w.at ∙ length-take-le (c.put_payload_behind.result.start + c.put_payload_behind.result.len) (with_items c.self.inside.body c.put_payload_behind.new.body).items (omega (arith, w.room, w.items)) in
+    let end_is : c.put_payload_behind.result.start + slot_len (length c.args.payload.now) ≡ length (now c).bytes = ap (λ (n : ℕ). c.put_payload_behind.result.start + n) (sym c.put_payload_behind.ensures.len) ∙ sym long in
+    subst (λ (p : Contents). PutPage p (now c) c.args.prev c.args.moment (put c) c.put_payload_behind.result.start (length c.args.payload.now)) w.same
+    (put_page (was c) (now c) c.args.prev c.args.moment (put c) c.put_payload_behind.result.start (length c.args.payload.now) ends last c.requires.order c.requires.moment short (put_len c) w.bytes (long ∙ w.end) w.time refl end_is)
 
 pub returns-clause-page : goal.returns-clause-page
-returns-clause-page c = λ page. (whole c).page (subst IsPage (sym c.self.view_is) page)
+returns-clause-page c = (whole c).page
 
 pub returns-clause-records : goal.returns-clause-records
-returns-clause-records c = λ page. (whole c).records (subst IsPage (sym c.self.view_is) page) ∙ ap (λ (p : Contents). records_of_page p ++ record { moment = c.args.moment; bytes = put c } ∷ []) c.self.view_is
+returns-clause-records c = (whole c).records
+
+pub returns-clause-longer : goal.returns-clause-longer
+returns-clause-longer c = (whole c).longer
+
+pub returns-clause-filled : goal.returns-clause-filled
+returns-clause-filled c = (whole c).filled
+
+pub returns-clause-last : goal.returns-clause-last
+returns-clause-last c = (whole c).last
 
 pub returns-clause-open : goal.returns-clause-open
 returns-clause-open c = (whole c).ends
 
-pub returns-clause-place : goal.returns-clause-place
-returns-clause-place c = subst (λ (n : ℕ). IsPlaceIn (now c).bytes c.put_payload_behind.result.start n) (put_len c ∙ sym c.put_payload_behind.ensures.len) (whole c).place
-
-pub returns-clause-number : goal.returns-clause-number
-returns-clause-number c = λ page. subst (IsPlaceOf (now c).bytes c.args.self.now.count c.put_payload_behind.result.start) (put_len c ∙ sym c.put_payload_behind.ensures.len)
-    (subst (λ (n : ℕ). IsPlaceOf (now c).bytes n c.put_payload_behind.result.start (length (put c))) (ap (λ (p : Contents). p.count) c.self.view_is) ((whole c).number (subst IsPage (sym c.self.view_is) page)))
-
 pub returns-clause-places_stay : goal.returns-clause-places_stay
-returns-clause-places_stay c = λ number start len there. (whole c).places_stay number start len (subst (λ (p : Contents). IsPlaceOf p.bytes number start len) (sym c.self.view_is) there)
-
-long : (c : After-self-4-1) → length (now c).bytes ≡ length c.args.self.now.bytes + encoded_len (length c.args.payload.now) (c.args.moment - c.args.prev) (is_blank c.args.self.now.bytes)
-long c =
-    let w = wrote c in
-    (ap (λ (n : ℕ). length (take n (with_items c.self.inside.body c.put_payload_behind.new.body).items)) w.at ∙ length-take-le (c.put_payload_behind.result.start + c.put_payload_behind.result.len) (with_items c.self.inside.body c.put_payload_behind.new.body).items (omega (arith, w.room, w.items))) ∙ w.end ∙ ap (λ (p : Contents). length p.bytes + encoded_len (length c.args.payload.now) (c.args.moment - c.args.prev) (is_blank p.bytes)) c.self.view_is
-
-pub returns-clause-longer : goal.returns-clause-longer
-returns-clause-longer c = long c
-
-pub returns-clause-filled : goal.returns-clause-filled
-returns-clause-filled c = not_blank (now c).bytes (omega (arith, long c, encoded_len_ge (length c.args.payload.now) (c.args.moment - c.args.prev) (is_blank c.args.self.now.bytes)))
-
-pub returns-clause-last : goal.returns-clause-last
-returns-clause-last c = λ page. (whole c).last (subst IsPage (sym c.self.view_is) page)
+returns-clause-places_stay c = (whole c).places_stay
 
 pub returns-clause-payloads_stay : goal.returns-clause-payloads_stay
-returns-clause-payloads_stay c = λ start len there.
-    let before : IsPlaceIn (was c).bytes start len = subst (λ (p : Contents). IsPlaceIn p.bytes start len) (sym c.self.view_is) there in
-    ((whole c).places_stay _ start len (place_of (was c).bytes start len before)).place
+returns-clause-payloads_stay c = (whole c).payloads_stay
+
+pub returns-clause-place : goal.returns-clause-place
+returns-clause-place c = subst (λ (n : ℕ). IsPlaceIn (now c).bytes c.put_payload_behind.result.start n) (sym c.put_payload_behind.ensures.len) (whole c).place
+
+pub returns-clause-number : goal.returns-clause-number
+returns-clause-number c = λ page. subst (λ (n : ℕ). IsPlaceOf (now c).bytes c.args.self.now.count c.put_payload_behind.result.start n) (sym c.put_payload_behind.ensures.len) ((whole c).number page)
