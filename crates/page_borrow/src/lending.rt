@@ -29,20 +29,20 @@ pub fn slot_mut(page: &mut Page, place: Place) -> &mut [u8]
     ensures payload { result.now ≡ slice_range page.old.bytes place.start (place.start + place.len) }
     ensures len { length result.now ≡ place.len }
     ensures written { (part : List ℕ) → length part ≡ place.len → PayloadWritten page.old place.start part }
-    ensures length_stays { (part : List ℕ) → length part ≡ place.len
+    ensures length_stays { (part : List ℕ) → length part ≡ length result.now
         → length (with_payload page.old place.start part).bytes ≡ length page.old.bytes }
-    ensures blank_stays { (part : List ℕ) → length part ≡ place.len
+    ensures blank_stays { (part : List ℕ) → length part ≡ length result.now
         → is_blank (with_payload page.old place.start part).bytes ≡ is_blank page.old.bytes }
-    ensures page_reads { (part : List ℕ) → length part ≡ place.len
+    ensures page_reads { (part : List ℕ) → length part ≡ length result.now
         → IsPage page.old → IsPage (with_payload page.old place.start part) }
-    ensures open_stays { (part : List ℕ) → length part ≡ place.len
+    ensures open_stays { (part : List ℕ) → length part ≡ length result.now
         → EndsInRecord page.old.bytes → EndsInRecord (with_payload page.old place.start part).bytes }
-    ensures last_stays { (part : List ℕ) → length part ≡ place.len
-        → IsPage page.old → (prev : ℕ)
-        → IfSome (moment_of_last (records_of_page page.old)) (λ last. last ≡ prev)
-        → IfSome (moment_of_last (records_of_page (with_payload page.old place.start part))) (λ last. last ≡ prev) }
-    ensures payloads_stay { (part : List ℕ) → length part ≡ place.len
-        → (at len : ℕ) → IsPlaceIn page.old.bytes at len → IsPlaceIn (with_payload page.old place.start part).bytes at len }
+    ensures last_stays { (part : List ℕ) → length part ≡ length result.now
+        → moment_of_last (records_of_page (with_payload page.old place.start part))
+        ≡ moment_of_last (records_of_page page.old) }
+    ensures payloads_stay { (part : List ℕ) → length part ≡ length result.now
+        → (at len : ℕ) → IsPlaceIn page.old.bytes at len
+        → IsPlaceIn (with_payload page.old place.start part).bytes at len }
 {
     page.payload_mut(place)
 }

@@ -1,14 +1,14 @@
 -- A part of a body written anew, as a page's data sees it.
-use Rattle.std.proofs.Common.{◌≡◌, ℕ, ◌+◌, ◌-◌, ◌≤◌, List, [], ◌∷◌, ◌++◌, length, take, drop, Option, IfSome, refl, sym, ap, ◌∙◌, subst, arith, rules}
+use Rattle.std.proofs.Common.{◌≡◌, ℕ, ◌+◌, ◌-◌, ◌≤◌, List, [], ◌∷◌, ◌++◌, length, take, drop, refl, sym, ap, ◌∙◌, subst, arith, rules}
 use Rattle.std.proofs.lemmas.List.{same_lists, places, take_all}
 use Rattle.trace_model.specs.Record.{Record}
-use Rattle.trace_model.specs.Words.{Decodes, records_of}
+use Rattle.trace_model.specs.Words.{Word, Decodes, records_of, records_behind, moment_after}
 use Rattle.trace_model.specs.Order.{moment_of_last}
-use Rattle.trace_model.specs.Reading.{IsPlaceIn, EndsInRecord, records_in}
+use Rattle.trace_model.specs.Reading.{IsPlaceIn, EndsInRecord, records_in, payload_of}
 use Rattle.trace_model.specs.Overwriting.{overwritten, bytes_at, IsReplacedAt, IsPlaceOf}
-use Rattle.trace_model.proofs.Unique.{records_in-Decodes}
-use Rattle.trace_model.proofs.Overwritten.{length-overwritten}
-use Rattle.trace_model.proofs.Places.{overwritten-reads, EndsInRecord-overwritten, IsPlaceOf-overwritten, Decodes-overwritten, records_in-overwritten_end}
+use Rattle.trace_model.proofs.Unique.{records_in-Decodes, words_in-IsJoined}
+use Rattle.trace_model.proofs.Overwritten.{length-overwritten, overwritten-IsJoined, records_of-around, records_of-replaced, with_payload}
+use Rattle.trace_model.proofs.Places.{words_in-IsPlaceIn, overwritten-reads, EndsInRecord-overwritten, IsPlaceOf-overwritten, Decodes-overwritten, records_in-overwritten_end}
 use Rattle.page_image.specs.Contents.{Contents, IsPage, is_blank, records_of_page}
 use Rattle.page_image.specs.Lending.{PayloadWritten}
 use Rattle.page_image.proofs.Putting.{place_of}
@@ -34,10 +34,14 @@ moment_of_last-replaced [] (r ∷ behind) m old new = refl
 moment_of_last-replaced (r ∷ []) behind m old new = moment_of_last-replaced [] behind m old new
 moment_of_last-replaced (r ∷ (s ∷ front)) behind m old new = moment_of_last-replaced (s ∷ front) behind m old new
 
--- the last record has its moment still
-last_replaced : (number : ℕ) (records others : List Record) (old new : List ℕ) → IsReplacedAt number records others old new → moment_of_last records ≡ moment_of_last others
-last_replaced number records others old new is =
-    ap moment_of_last is.was ∙ moment_of_last-replaced is.front is.behind is.moment old new ∙ sym (ap moment_of_last is.is)
+-- the moment of the last record is the same if a payload is written anew
+pub last_stays : (bytes : List ℕ) (time start len : ℕ) (new : List ℕ) → IsPlaceIn bytes start len → length new ≡ len → moment_of_last (records_in time bytes) ≡ moment_of_last (records_in time (overwritten bytes start new))
+last_stays bytes time start len new p fills =
+    ap (λ (ws : List Word). moment_of_last (records_of time ws)) (words_in-IsPlaceIn bytes start len p)
+    ∙ ap moment_of_last (records_of-around time p.front p.word p.behind p.holds)
+    ∙ moment_of_last-replaced (records_of time p.front) (records_behind time (p.front ++ p.word ∷ []) p.behind) (moment_after time (p.front ++ p.word ∷ [])) (payload_of p.word) new
+    ∙ sym (ap moment_of_last (records_of-replaced time p.front p.word p.behind new p.holds))
+    ∙ sym (ap (λ (ws : List Word). moment_of_last (records_of time ws)) (words_in-IsJoined (overwritten bytes start new) (p.front ++ with_payload p.word new ∷ p.behind) p.rest (overwritten-IsJoined bytes start len p new fills)))
 
 -- bytes as many as others are blank if those are
 is_blank-as_long : (bytes others : List ℕ) → length bytes ≡ length others → is_blank bytes ≡ is_blank others
@@ -76,9 +80,7 @@ payload_written page start len part p fills =
       payloads_stay = λ at size there.
           (subst (λ (b : List ℕ). IsPlaceOf b (length (records_of 0 there.front)) at size) (sym same)
           (IsPlaceOf-overwritten bytes _ at size start len part (place_of bytes at size there) p fills)).place;
-      last_stays = λ is prev last.
-          let own : IsPlaceOf bytes (length (records_of 0 p.front)) start (length part) = subst (IsPlaceOf bytes (length (records_of 0 p.front)) start) (sym fills) (place_of bytes start len p) in
-          subst (λ (o : Option ℕ). IfSome o (λ m. m ≡ prev)) (last_replaced _ _ _ _ _ (one is _ own)) last;
+      last_stays = ap (λ (b : List ℕ). moment_of_last (records_in page.time b)) same ∙ sym (last_stays bytes page.time start len part p fills);
       one_record = one;
       last_record = λ is ends front r was.
           ap (records_in page.time) same

@@ -9,8 +9,8 @@ use Rattle.trace_model.specs.Words.{Word, short_data, long_data, time_extend, by
 use Rattle.trace_model.specs.Reading.{IsData, payload_of, records_in, EndsInRecord, IsPlaceIn}
 use Rattle.trace_model.specs.Order.{moment_of_last, EndsAt}
 use Rattle.trace_model.proofs.Lengths.{slot_len_ge_four, slot_len-mod, bytes_of_word_ge}
-use Rattle.trace_model.proofs.Unique.{records_in-Decodes}
-use Rattle.trace_model.proofs.Appended.{Decodes-first, Decodes-appended, EndsInRecord-first, EndsInRecord-appended, moment_of_last-push, IsJoined-whole, ReadsAs-Decodes, records_of-push_data, each-append, written-each, data_word-IsWord}
+use Rattle.trace_model.proofs.Unique.{records_in-Decodes, words_in-IsJoined}
+use Rattle.trace_model.proofs.Appended.{data_word-delta, moment_after-push, moment_after-last, Decodes-first, Decodes-appended, EndsInRecord-first, EndsInRecord-appended, moment_of_last-push, IsJoined-whole, records_of-push_data, each-append, written-each, data_word-IsWord}
 use Rattle.trace_model.specs.Overwriting.{IsPlaceOf}
 use Rattle.trace_model.proofs.Places.{IsPlaceOf-appended, IsPlaceOf-first, IsPlaceOf-new}
 use Rattle.page_image.specs.Contents.{Contents, IsPage, records_of_page, is_blank}
@@ -81,18 +81,44 @@ has_last records r prev behind =
     let same : r.moment ≡ prev = subst P there behind in
     there ∙ ap (λ (m : ℕ). Some m) same
 
+-- data that is whole words reads as their records
+reads_words : (bytes : List ℕ) (time : ℕ) (words : List Word) → bytes ≡ joined words → AllByRecursion IsWord words → records_in time bytes ≡ records_of time words
+reads_words bytes time words whole each = ap (records_of time) (words_in-IsJoined bytes words [] (IsJoined-whole bytes words whole each))
+
 -- data that isn't empty and ends in a record has a last record
-ends_at : (byte : ℕ) (bytes : List ℕ) (time prev : ℕ) → (ends : EndsInRecord (byte ∷ bytes)) → Decodes (byte ∷ bytes) time (records_in time (byte ∷ bytes)) → IfSome (moment_of_last (records_in time (byte ∷ bytes))) (λ last. last ≡ prev) → EndsAt (records_in time (byte ∷ bytes)) prev
-ends_at byte bytes time prev ends reads behind = ⊎_elim
+ends_at : (byte : ℕ) (bytes : List ℕ) (time prev : ℕ) → EndsInRecord (byte ∷ bytes) → IfSome (moment_of_last (records_in time (byte ∷ bytes))) (λ last. last ≡ prev) → EndsAt (records_in time (byte ∷ bytes)) prev
+ends_at byte bytes time prev ends behind = ⊎_elim
     (λ none. absurd (let no_bytes : byte ∷ bytes ≡ [] = ends.whole ∙ ap joined none in cc))
     (λ last.
-    let whole = ReadsAs-Decodes (byte ∷ bytes) time (records_in time (byte ∷ bytes)) ends.words ends.whole ends.each reads in
     let push : records_in time (byte ∷ bytes) ≡ records_of time last.0 ++ record { moment = moment_after time last.0 + delta_of last.1; bytes = payload_of last.1 } ∷ [] =
-    whole.read ∙ ap (records_of time) last.2 ∙ records_of-push_data time last.0 last.1 last.3 in
+    reads_words (byte ∷ bytes) time ends.words ends.whole ends.each ∙ ap (records_of time) last.2 ∙ records_of-push_data time last.0 last.1 last.3 in
     let P : List Record → Type 0 = λ rs. IfSome (moment_of_last rs) (λ (m : ℕ). m ≡ prev) in
     let Q : List Record → Type 0 = λ rs. EndsAt rs prev in
     subst Q (sym push) (has_last (records_of time last.0) _ prev (subst P push behind)))
     ends.last
+
+-- the moment of the record that is written behind words
+moment_there : (time delta : ℕ) (words : List Word) → moment_after time (words ++ written_front delta false) + written_delta delta false ≡ moment_after time words + delta
+unfolding written_front written_delta
+moment_there time delta words = by_test (ltb delta (2 ^ 27))
+  where
+    by_test : (short : Bool) → moment_after time (words ++ cond short [] (time_extend delta ∷ [])) + cond short delta 0 ≡ moment_after time words + delta
+    by_test true = ap (λ (ws : List Word). moment_after time ws + delta) (append-nil words)
+    by_test false = let h = moment_after-push time words (time_extend delta) refl in omega arith
+
+-- it is the moment of the last record
+newest_behind : (bytes : List ℕ) (words : List Word) (time delta moment : ℕ) (first : Bool) (payload : List ℕ) → bytes ≡ joined words → AllByRecursion IsWord (words ++ written_words delta first payload)
+    → moment_after time (words ++ written_front delta first) + written_delta delta first ≡ moment → EndsAt (records_in time (bytes ++ encoding delta first payload)) moment
+newest_behind bytes words time delta moment first payload whole each there =
+    let d : ℕ = written_delta delta first in
+    let front : List Word = words ++ written_front delta first in
+    let split : words ++ written_words delta first payload ≡ front ++ data_word d payload ∷ [] =
+    ap (λ (ws : List Word). words ++ ws) (written_words-split delta first payload) ∙ sym (append_assoc words (written_front delta first) (data_word d payload ∷ [])) in
+    let all : bytes ++ encoding delta first payload ≡ joined (words ++ written_words delta first payload) =
+    ap (λ (b : List ℕ). b ++ encoding delta first payload) whole ∙ sym (flat_map-append bytes_of_word words (written_words delta first payload)) in
+    ap moment_of_last (reads_words (bytes ++ encoding delta first payload) time (words ++ written_words delta first payload) all each ∙ ap (records_of time) split ∙ records_of-push_data time front (data_word d payload) (data_word-holds d payload).0)
+    ∙ moment_of_last-push (records_of time front) record { moment = moment_after time front + delta_of (data_word d payload); bytes = payload_of (data_word d payload) }
+    ∙ ap (λ (m : ℕ). Some m) (ap (λ (n : ℕ). moment_after time front + n) (data_word-delta d payload) ∙ there)
 
 -- What the data becomes when a record with this payload is put behind it: where it ends, and where the payload lies.
 pub record PutEnd (bytes : List ℕ) (prev moment : ℕ) (payload : List ℕ) : Type 0 where
@@ -128,7 +154,23 @@ put_data [] time prev moment payload ends reads behind order small slot =
 put_data (byte ∷ bytes) time prev moment payload ends reads behind order small slot =
     let there : prev + (moment - prev) ≡ moment = omega arith in
     subst (λ (m : ℕ). Decodes ((byte ∷ bytes) ++ encoding (moment - prev) false payload) time (records_in time (byte ∷ bytes) ++ record { moment = m; bytes = payload } ∷ [])) there
-    (Decodes-appended (byte ∷ bytes) time (records_in time (byte ∷ bytes)) prev (moment - prev) payload ends reads (ends_at byte bytes time prev ends reads behind) (omega arith) (omega arith) slot.whole slot.some slot.fits)
+    (Decodes-appended (byte ∷ bytes) time (records_in time (byte ∷ bytes)) prev (moment - prev) payload ends reads (ends_at byte bytes time prev ends behind) (omega arith) (omega arith) slot.whole slot.some slot.fits)
+
+first_there : (moment delta : ℕ) → moment_after moment ([] ++ written_front delta true) + written_delta delta true ≡ moment
+unfolding written_front written_delta
+first_there moment delta = omega arith
+
+-- a record that is put is the last one
+newest : (bytes : List ℕ) (time prev moment : ℕ) (payload : List ℕ) → EndsInRecord bytes → IfSome (moment_of_last (records_in time bytes)) (λ last. last ≡ prev) → prev ≤ moment → moment < MOMENT_LIMIT → IsSlot payload
+    → EndsAt (records_in (cond (is_blank bytes) moment time) (bytes ++ encoding (moment - prev) (is_blank bytes) payload)) moment
+newest [] time prev moment payload ends behind order small slot =
+    newest_behind [] [] moment (moment - prev) moment true payload refl (data_word-IsWord 0 payload (omega arith) slot.whole slot.some slot.fits, tt) (first_there moment (moment - prev))
+newest (byte ∷ bytes) time prev moment payload ends behind order small slot =
+    let read = reads_words (byte ∷ bytes) time ends.words ends.whole ends.each in
+    let last : moment_after time ends.words ≡ prev = moment_after-last (byte ∷ bytes) time (records_in time (byte ∷ bytes)) prev ends read (ends_at byte bytes time prev ends behind) in
+    newest_behind (byte ∷ bytes) ends.words time (moment - prev) moment false payload ends.whole
+    (each-append ends.words _ ends.each (written-each (moment - prev) payload (omega arith) slot.whole slot.some slot.fits))
+    (moment_there time (moment - prev) ends.words ∙ (omega arith))
 
 pub blank_is : (bytes : List ℕ) → nat_eq (length bytes) 0 ≡ is_blank bytes
 blank_is [] = refl
@@ -187,7 +229,7 @@ pub record PutPage (old new : Contents) (prev moment : ℕ) (payload : List ℕ)
   pub number : IsPage old → IsPlaceOf new.bytes old.count start (slot_len len)
   pub places_stay : (number at size : ℕ) → IsPlaceOf old.bytes number at size → IsPlaceOf new.bytes number at size
   pub payloads_stay : (at size : ℕ) → IsPlaceIn old.bytes at size → IsPlaceIn new.bytes at size
-  pub last : IsPage old → IfSome (moment_of_last (records_of_page new)) (λ last. last ≡ moment)
+  pub last : IfSome (moment_of_last (records_of_page new)) (λ last. last ≡ moment)
 
 pub put_page : (old new : Contents) (prev moment : ℕ) (payload : List ℕ) (start len : ℕ) → EndsInRecord old.bytes → IfSome (moment_of_last (records_of_page old)) (λ last. last ≡ prev) → prev ≤ moment → moment < MOMENT_LIMIT → len ≤ 2 ^ 30 → length payload ≡ slot_len len
     → new.bytes ≡ old.bytes ++ encoding (moment - prev) (is_blank old.bytes) payload → length new.bytes ≡ length old.bytes + encoded_len len (moment - prev) (is_blank old.bytes) → new.time ≡ cond (is_blank old.bytes) moment old.time → new.count ≡ old.count + 1 → start + slot_len len ≡ length new.bytes
@@ -218,5 +260,6 @@ put_page old new prev moment payload start len ends last order small limit size 
           (put_number old.bytes old.time prev moment payload start ends page.reads small slot there)));
       places_stay = stay;
       payloads_stay = λ at size was. (stay _ at size (place_of old.bytes at size was)).place;
-      last = λ page. subst (λ (o : Option ℕ). IfSome o (λ last. last ≡ moment)) (sym (ap moment_of_last (now page) ∙ moment_of_last-push (records_of_page old) r)) refl;
+      last = subst (λ (o : Option ℕ). IfSome o (λ last. last ≡ moment))
+          (sym (ap (λ (b : List ℕ). moment_of_last (records_in new.time b)) bytes_is ∙ ap (λ (t : ℕ). moment_of_last (records_in t (old.bytes ++ encoding (moment - prev) (is_blank old.bytes) payload))) time_is ∙ newest old.bytes old.time prev moment payload ends last order small slot)) refl;
     }

@@ -1,5 +1,5 @@
 -- A payload that a page lends out to be written.
-use Rattle.std.specs.Prelude.{◌≡◌, ℕ, ◌+◌, List, [], ◌∷◌, ◌++◌, length, take, IfSome}
+use Rattle.std.specs.Prelude.{◌≡◌, ℕ, ◌+◌, List, [], ◌∷◌, ◌++◌, length, take}
 use Rattle.std.specs.Borrow.{Lends, MutBor, Fml, Array, u8}
 use Rattle.trace_model.specs.Record.{Record}
 use Rattle.trace_model.specs.Reading.{EndsInRecord, IsPlaceIn}
@@ -31,10 +31,7 @@ pub record PayloadWritten (page : Contents) (start : ℕ) (part : List ℕ) : Ty
   pub payloads_stay :
       (at len : ℕ) → IsPlaceIn page.bytes at len → IsPlaceIn (with_payload page start part).bytes at len
   pub last_stays :
-      IsPage page
-      → (prev : ℕ)
-      → IfSome (moment_of_last (records_of_page page)) (λ last. last ≡ prev)
-      → IfSome (moment_of_last (records_of_page (with_payload page start part))) (λ last. last ≡ prev)
+      moment_of_last (records_of_page (with_payload page start part)) ≡ moment_of_last (records_of_page page)
   pub one_record :
       IsPage page
       → (number : ℕ)

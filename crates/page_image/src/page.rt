@@ -104,8 +104,7 @@ impl Page {
         ensures longer { length self.new.bytes
             ≡ length self.old.bytes + encoded_len len (moment - prev) (is_blank self.old.bytes) }
         ensures filled { is_blank self.new.bytes ≡ false }
-        ensures last { IsPage self.old
-            → IfSome (moment_of_last (records_of_page self.new)) (λ last. last ≡ moment) }
+        ensures last { IfSome (moment_of_last (records_of_page self.new)) (λ last. last ≡ moment) }
         ensures open { EndsInRecord self.new.bytes }
         ensures place { IsPlaceIn self.new.bytes result.start result.len }
         ensures number { IsPage self.old
@@ -149,8 +148,7 @@ impl Page {
         ensures longer { length self.new.bytes
             ≡ length self.old.bytes + encoded_len len (moment - prev) (is_blank self.old.bytes) }
         ensures filled { is_blank self.new.bytes ≡ false }
-        ensures last { IsPage self.old
-            → IfSome (moment_of_last (records_of_page self.new)) (λ last. last ≡ moment) }
+        ensures last { IfSome (moment_of_last (records_of_page self.new)) (λ last. last ≡ moment) }
         ensures open { EndsInRecord self.new.bytes }
         ensures place { IsPlaceIn self.new.bytes result.start result.len }
         ensures number { IsPage self.old
@@ -204,8 +202,7 @@ impl Page {
         ensures longer { length self.new.bytes
             ≡ length self.old.bytes + encoded_len len (moment - prev) (is_blank self.old.bytes) }
         ensures filled { is_blank self.new.bytes ≡ false }
-        ensures last { IsPage self.old
-            → IfSome (moment_of_last (records_of_page self.new)) (λ last. last ≡ moment) }
+        ensures last { IfSome (moment_of_last (records_of_page self.new)) (λ last. last ≡ moment) }
         ensures open { EndsInRecord self.new.bytes }
         ensures place { IsPlaceIn self.new.bytes result.start result.len }
         ensures number { IsPage self.old
@@ -259,8 +256,7 @@ impl Page {
         ensures longer { length self.new.bytes
             ≡ length self.old.bytes + encoded_len (length payload.now) (moment - prev) (is_blank self.old.bytes) }
         ensures filled { is_blank self.new.bytes ≡ false }
-        ensures last { IsPage self.old
-            → IfSome (moment_of_last (records_of_page self.new)) (λ last. last ≡ moment) }
+        ensures last { IfSome (moment_of_last (records_of_page self.new)) (λ last. last ≡ moment) }
         ensures open { EndsInRecord self.new.bytes }
         ensures place { IsPlaceIn self.new.bytes result.start result.len }
         ensures number { IsPage self.old
@@ -291,20 +287,20 @@ impl Page {
         ensures payload { result.now ≡ slice_range self.old.bytes place.start (place.start + place.len) }
         ensures len { length result.now ≡ place.len }
         ensures written { (part : List ℕ) → length part ≡ place.len → PayloadWritten self.old place.start part }
-        ensures length_stays { (part : List ℕ) → length part ≡ place.len
+        ensures length_stays { (part : List ℕ) → length part ≡ length result.now
             → length (with_payload self.old place.start part).bytes ≡ length self.old.bytes }
-        ensures blank_stays { (part : List ℕ) → length part ≡ place.len
+        ensures blank_stays { (part : List ℕ) → length part ≡ length result.now
             → is_blank (with_payload self.old place.start part).bytes ≡ is_blank self.old.bytes }
-        ensures page_reads { (part : List ℕ) → length part ≡ place.len
+        ensures page_reads { (part : List ℕ) → length part ≡ length result.now
             → IsPage self.old → IsPage (with_payload self.old place.start part) }
-        ensures open_stays { (part : List ℕ) → length part ≡ place.len
+        ensures open_stays { (part : List ℕ) → length part ≡ length result.now
             → EndsInRecord self.old.bytes → EndsInRecord (with_payload self.old place.start part).bytes }
-        ensures last_stays { (part : List ℕ) → length part ≡ place.len
-            → IsPage self.old → (prev : ℕ)
-            → IfSome (moment_of_last (records_of_page self.old)) (λ last. last ≡ prev)
-            → IfSome (moment_of_last (records_of_page (with_payload self.old place.start part))) (λ last. last ≡ prev) }
-        ensures payloads_stay { (part : List ℕ) → length part ≡ place.len
-            → (at len : ℕ) → IsPlaceIn self.old.bytes at len → IsPlaceIn (with_payload self.old place.start part).bytes at len }
+        ensures last_stays { (part : List ℕ) → length part ≡ length result.now
+            → moment_of_last (records_of_page (with_payload self.old place.start part))
+            ≡ moment_of_last (records_of_page self.old) }
+        ensures payloads_stay { (part : List ℕ) → length part ≡ length result.now
+            → (at len : ℕ) → IsPlaceIn self.old.bytes at len
+            → IsPlaceIn (with_payload self.old place.start part).bytes at len }
     {
         let body = &mut self.body;
         body.slice_mut(place.start..place.start + place.len)

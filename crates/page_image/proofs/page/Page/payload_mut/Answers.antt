@@ -30,7 +30,8 @@ returns c =
     let bytes_is = ap (λ (p : Contents). length p.bytes) c.self.view_is in
     let end_len = length-take-le v.end v.body.items c.self.invariant.0 in
     let here : (part : List ℕ) → length part ≡ c.args.place.len → PayloadWritten (record { time = v.time; first = v.first.0; count = v.count; fill = v.fill.0; size = length v.body.items; bytes = take v.end v.body.items }) c.args.place.start part
-        = λ part fills. payload_written _ c.args.place.start c.args.place.len part (subst (λ (p : Contents). IsPlaceIn p.bytes c.args.place.start c.args.place.len) (sym c.self.view_is) c.requires) fills in
+    = λ part fills. payload_written _ c.args.place.start c.args.place.len part (subst (λ (p : Contents). IsPlaceIn p.bytes c.args.place.start c.args.place.len) (sym c.self.view_is) c.requires) fills in
+    let len_is : length c.slice_mut.result.now ≡ c.args.place.len = ap length c.slice_mut.ensures.value ∙ range_len v.body.items c.args.place.start c.args.place.len (omega arith) in
     rw (← c.self.view_is) (
       (
         refl,
@@ -46,13 +47,13 @@ returns c =
       record {
         lends = tt;
         payload = c.slice_mut.ensures.value ∙ range_within v.body.items v.end c.args.place.start c.args.place.len (omega arith);
-        len = ap length c.slice_mut.ensures.value ∙ range_len v.body.items c.args.place.start c.args.place.len (omega arith);
+        len = len_is;
         written = here;
-        length_stays = λ part fills. (here part fills).length_stays;
-        blank_stays = λ part fills. (here part fills).blank_stays;
-        page_reads = λ part fills. (here part fills).page_reads;
-        open_stays = λ part fills. (here part fills).open_stays;
-        last_stays = λ part fills. (here part fills).last_stays;
-        payloads_stay = λ part fills. (here part fills).payloads_stay;
+        length_stays = λ part fills. (here part (fills ∙ len_is)).length_stays;
+        blank_stays = λ part fills. (here part (fills ∙ len_is)).blank_stays;
+        page_reads = λ part fills. (here part (fills ∙ len_is)).page_reads;
+        open_stays = λ part fills. (here part (fills ∙ len_is)).open_stays;
+        last_stays = λ part fills. (here part (fills ∙ len_is)).last_stays;
+        payloads_stay = λ part fills. (here part (fills ∙ len_is)).payloads_stay;
       },
     )
