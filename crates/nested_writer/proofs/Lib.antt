@@ -2,6 +2,7 @@ pub mod Standing
 pub mod Pushing
 pub mod NewStack
 pub mod Reserving
+pub mod Keeping
 pub mod Leaving
 pub mod Releasing
 pub mod Tops

@@ -23,7 +23,7 @@ shown w = record {
   last_moment = w.last_moment;
 }
 
--- There is room for all pages and frames; where no frame stands, all fills but the tail are released; the next fill
+-- There is room for all pages and frames, and no more is ever taken; where no frame stands, all fills but the tail are released; the next fill
 -- has a number; a payload of the plain length has room on an empty page; and up to the plain end the tail has room for
 -- any record in the short form.
 pub record IsWriterStack (w : Inside) : Type 0 where
@@ -31,9 +31,9 @@ pub record IsWriterStack (w : Inside) : Type 0 where
   pub most_pages : w.pages ≤ MAX_PAGES
   pub small : MIN_SIZE ≤ w.size
   pub large : w.size ≤ MAX_SIZE
-  pub room : w.pages ≤ deque_capacity w.older
+  pub room : w.pages ≡ deque_capacity w.older
   pub open_pages : length w.older.items < w.pages
-  pub frames_room : MAX_FRAMES ≤ deque_capacity w.below
+  pub frames_room : MAX_FRAMES ≡ deque_capacity w.below
   pub frames : length (frames_from w.top w.below.items) ≤ MAX_FRAMES
   pub top_first : w.top ≡ None → w.below.items ≡ []
   pub at_rest : w.top ≡ None → w.older.items ≡ []

@@ -11,3 +11,5 @@ pub mod OnTop
 pub mod AtOnce
 pub mod PlainTop
 pub mod Runs
+pub mod Kept
+pub mod Next

@@ -21,6 +21,9 @@ impl WriterStack {
     ghost use Rattle.page_image.specs.Contents.{Contents};
     ghost use Rattle.nested_writer.specs.Stack.{opened, tail_fill, next_number};
     ghost use Rattle.nested_writer.specs.Calls.{with_progress, after_leave, IsTop, HasLeft, IsUnchanged, WantsPage, NeedsPage, IsCrowded, IsWorn, IsReserved, HasRecordRoom, HasTopLeft, IsTopSlot};
+    ghost use Rattle.nested_writer.specs.Ends.{MayEndTop};
+    ghost use Rattle.nested_writer.specs.Kept.{SameFills, SamePages};
+    ghost use Rattle.nested_writer.specs.Next.{IsPlaced, IsReadyForPage};
     ghost use Rattle.nested_writer.specs.PlainTop.{IsPlainTop};
     ghost use Rattle.nested_writer.specs.IsStack.{IsStack, Stands};
     ghost use Rattle.nested_writer.specs.Allotted.{IsAllotted, HasActed};
@@ -43,8 +46,9 @@ impl WriterStack {
     /// The frame on top, which has one below it, leaves.
     #[inline(never)]
     fn pop(&mut self)
-        ensures { (top : Frame) (next : Frame) (below : List Frame) → IsTop self.old top (next ∷ below)
+        ensures after { (top : Frame) (next : Frame) (below : List Frame) → IsTop self.old top (next ∷ below)
             → self.new ≡ record self.old { frames = next ∷ below } }
+        ensures kept { SamePages self.old self.new }
     {
         if let Some(next) = self.below.pop_front() {
             self.top.put(next);
@@ -54,8 +58,9 @@ impl WriterStack {
     /// The frame on top leaves: the bottom one stays.
     #[inline(always)]
     pub(crate) fn leave(&mut self)
-        ensures { (top : Frame) (below : List Frame) → IsTop self.old top below
+        ensures after { (top : Frame) (below : List Frame) → IsTop self.old top below
             → self.new ≡ after_leave self.old top below }
+        ensures kept { SamePages self.old self.new }
     {
         if self.below.is_empty() {
             self.top.leave_on();
@@ -99,6 +104,8 @@ impl WriterStack {
         ensures answered { (start : ℕ) (history : List Action)
             → IsStack start history self.old
             → IsAnswered self.old history self.old.frames result }
+        ensures kept { SameFills self.old self.new }
+        ensures page { result ≡ Ok Allot.NeedsPage → IsReadyForPage self.old self.new }
     {
         if self.older.len() + 1 == self.pages {
             self.leave();
@@ -195,6 +202,8 @@ impl WriterStack {
         ensures answered { (start : ℕ) (history : List Action)
             → IsStack start history self.old
             → (place : Place) × IsAnswered self.old history self.old.frames (Ok (Allot.Fits place)) }
+        ensures kept { SameFills self.old self.new }
+        ensures may_end { MayEndTop self.new.frames }
     {
         self.hold_plain(pushed).number
     }
@@ -215,6 +224,9 @@ impl WriterStack {
         ensures answered { (start : ℕ) (history : List Action)
             → IsStack start history self.old
             → IsAnswered self.old history self.old.frames result }
+        ensures kept { SameFills self.old self.new }
+        ensures fits { (place : Place) → result ≡ Ok (Allot.Fits place) → IsPlaced self.old self.new place }
+        ensures page { result ≡ Ok Allot.NeedsPage → IsReadyForPage self.old self.new }
     {
         let Some((pushed, noted)) = self.top.trying() else {
             return self.allot_again();
@@ -247,6 +259,9 @@ impl WriterStack {
         ensures answered { (start : ℕ) (history : List Action)
             → IsStack start history self.old
             → IsAnswered self.old history self.old.frames result }
+        ensures kept { SameFills self.old self.new }
+        ensures fits { (place : Place) → result ≡ Ok (Allot.Fits place) → IsPlaced self.old self.new place }
+        ensures page { result ≡ Ok Allot.NeedsPage → IsReadyForPage self.old self.new }
     {
         let Some(top) = self.top.get() else {
             return Err(WriteFault::NoFrame);
@@ -292,6 +307,9 @@ impl WriterStack {
         ensures answered { (start : ℕ) (history : List Action)
             → IsStack start history self.old
             → IsAnswered self.old history self.old.frames result }
+        ensures kept { SameFills self.old self.new }
+        ensures fits { (place : Place) → result ≡ Ok (Allot.Fits place) → IsPlaced self.old self.new place }
+        ensures page { result ≡ Ok Allot.NeedsPage → IsReadyForPage self.old self.new }
     {
         let Some(pushed) = self.plain_top() else {
             return self.allot_any();

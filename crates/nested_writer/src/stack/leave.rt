@@ -17,9 +17,11 @@ impl WriterStack {
     ghost use Rattle.trace_model.specs.History.{Action, wished};
     ghost use Rattle.trace_model.specs.Packing.{tail_of};
     ghost use Rattle.nested_writer.specs.Stack.{opened};
-    ghost use Rattle.nested_writer.specs.Calls.{with_bottom, IsAtBottom};
+    ghost use Rattle.nested_writer.specs.Calls.{with_bottom, IsAtBottom, MayAddPage};
     ghost use Rattle.nested_writer.specs.Allotted.{HasActed};
     ghost use Rattle.nested_writer.specs.Ends.{MayEndTop, MayNotEndTop, IsEnd};
+    ghost use Rattle.nested_writer.specs.Kept.{SamePages};
+    ghost use Rattle.nested_writer.specs.Next.{below_top};
     ghost use Rattle.nested_writer.specs.IsStack.{IsStack, Stands};
 
     /// `end`, however far the frame on top has come.
@@ -33,6 +35,9 @@ impl WriterStack {
         ensures stays { Stands self.new }
         ensures ok { OnOk result (IsEnd self.old self.old.frames self.new) }
         ensures err { OnErr result (self.new ≡ self.old) }
+        ensures kept { SamePages self.old self.new }
+        ensures below { result ≡ Ok Ended.Pending → self.new.frames ≡ below_top self.old.frames }
+        ensures bottom { result ≡ Ok Ended.Full → IsAtBottom self.new.frames }
     {
         let Some(top) = self.top.get() else {
             return Err(WriteFault::NoFrame);
@@ -61,6 +66,9 @@ impl WriterStack {
         ensures stays { Stands self.new }
         ensures ok { OnOk result (IsEnd self.old self.old.frames self.new) }
         ensures err { OnErr result (self.new ≡ self.old) }
+        ensures kept { SamePages self.old self.new }
+        ensures below { result ≡ Ok Ended.Pending → self.new.frames ≡ below_top self.old.frames }
+        ensures bottom { result ≡ Ok Ended.Full → IsAtBottom self.new.frames }
     {
         if self.top.holds_record() && self.below.is_empty() {
             self.leave();
@@ -81,6 +89,9 @@ impl WriterStack {
         ensures wished { IsTrue result → HasActed self.old (wished ∷ []) self.new }
         ensures stays { Stands self.old → Stands self.new }
         ensures no { self.old.tail.bytes ≡ [] → self.new ≡ self.old }
+        ensures kept { SamePages self.old self.new }
+        ensures bottom { IsAtBottom self.new.frames }
+        ensures may_add { IsTrue result → MayAddPage self.new self.new.frames }
     {
         if self.tail.end() == 0 {
             return false;
@@ -103,6 +114,8 @@ impl WriterStack {
         ensures popped { self.new ≡ record self.old { frames = [] } }
         ensures stack { HasActed self.old [] self.new }
         ensures stays { Stands self.old → Stands self.new }
+        ensures kept { SamePages self.old self.new }
+        ensures none { self.new.frames ≡ [] }
     {
         self.top.clear();
     }

@@ -24,11 +24,13 @@ fn cover(top: &Top, below: &mut VecDeque<Frame>)
 }
 
 impl WriterStack {
-    ghost use Rattle.std.specs.Prelude.{◌≡◌, ℕ, ◌+◌, ◌≤◌, ◌<◌, ◌↔◌, [], ◌∷◌, ◌++◌, List, length, IsTrue, IsOk, OnOk, OnErr};
+    ghost use Rattle.std.specs.Prelude.{◌≡◌, ℕ, ◌+◌, ◌≤◌, ◌<◌, ◌↔◌, [], ◌∷◌, ◌++◌, List, Some, None, length, IsTrue, IsOk, OnOk, OnErr};
     ghost use Rattle.trace_model.specs.declared.limits.TheConstants.{MAX_FRAMES, MOMENT_LIMIT};
     ghost use Rattle.trace_model.specs.History.{Action, push, push_close};
     ghost use Rattle.trace_model.specs.Steps.{IsTooLong};
     ghost use Rattle.nested_writer.specs.Calls.{with_frame};
+    ghost use Rattle.nested_writer.specs.Kept.{SamePages};
+    ghost use Rattle.nested_writer.specs.Next.{IsPushedOn};
     ghost use Rattle.nested_writer.specs.IsStack.{IsStack, Stands};
     ghost use Rattle.nested_writer.specs.declared.frame.Purpose.TheVariants.{Record, Close};
     ghost use Rattle.nested_writer.specs.declared.frame.Progress.TheVariants.{Waiting};
@@ -90,6 +92,8 @@ impl WriterStack {
         ensures pushed { OnOk result ((start : ℕ) (history : List Action)
             → IsStack start history self.old
             → IsStack start (history ++ push moment len ∷ []) self.new) }
+        ensures kept { SamePages self.old self.new }
+        ensures top { OnOk result (IsPushedOn self.old self.new (Some len)) }
     {
         self.admit(moment, len)?;
         self.push(Purpose::Record { moment, len });
@@ -113,6 +117,8 @@ impl WriterStack {
         ensures pushed { OnOk result ((start : ℕ) (history : List Action)
             → IsStack start history self.old
             → IsStack start (history ++ push moment len ∷ []) self.new) }
+        ensures kept { SamePages self.old self.new }
+        ensures top { OnOk result (IsPushedOn self.old self.new (Some len)) }
     {
         if !self.top.is_none() {
             return self.begin_any(moment, len);
@@ -139,6 +145,8 @@ impl WriterStack {
         ensures pushed { OnOk result ((start : ℕ) (history : List Action)
             → IsStack start history self.old
             → IsStack start (history ++ push_close ∷ []) self.new) }
+        ensures kept { SamePages self.old self.new }
+        ensures top { OnOk result (IsPushedOn self.old self.new None) }
     {
         if self.depth() >= MAX_FRAMES {
             return Err(WriteFault::TooDeep);

@@ -21,6 +21,8 @@ impl WriterStack {
     ghost use Rattle.page_image.specs.Contents.{records_of_page};
     ghost use Rattle.nested_writer.specs.Allotted.{HasActed};
     ghost use Rattle.nested_writer.specs.AtOnce.{MayStand, FitsAtOnce, with_written, with_left, with_record, IsPlain};
+    ghost use Rattle.nested_writer.specs.Kept.{SameFills, SamePages};
+    ghost use Rattle.nested_writer.specs.Calls.{IsAtBottom};
     ghost use Rattle.nested_writer.specs.IsStack.{Stands};
 
     /// Writes a record whose moment is raised to `raised`.
@@ -54,6 +56,8 @@ impl WriterStack {
             → HasActed self.old (push moment (length payload.now) ∷ reserve ∷ leave (Some payload.now) ∷ []) self.new }
         ensures stays { Stands self.new }
         ensures nothing { result ≡ Wrote.Nothing → self.new ≡ self.old }
+        ensures kept { SameFills self.old self.new }
+        ensures frames { self.new.frames ≡ self.old.frames }
     {
         let len = payload.len();
         if !self.is_empty()
@@ -86,6 +90,8 @@ impl WriterStack {
             → HasActed self.old (push moment (length payload.now) ∷ reserve ∷ leave (Some payload.now) ∷ []) self.new }
         ensures stays { Stands self.new }
         ensures nothing { result ≡ Wrote.Nothing → self.new ≡ self.old }
+        ensures kept { SameFills self.old self.new }
+        ensures frames { self.new.frames ≡ self.old.frames }
     {
         let size = size_of(payload.len(), moment - self.last_moment, false);
         if self.size < self.tail.end() + size {
@@ -110,6 +116,8 @@ impl WriterStack {
             → HasActed self.old (push moment (length payload.now) ∷ reserve ∷ leave (Some payload.now) ∷ []) self.new }
         ensures stays { Stands self.new }
         ensures nothing { result ≡ Wrote.Nothing → self.new ≡ self.old }
+        ensures kept { SameFills self.old self.new }
+        ensures frames { self.new.frames ≡ self.old.frames }
     {
         if !self.is_empty() {
             return self.write_any(moment, payload);
@@ -138,6 +146,8 @@ impl WriterStack {
         ensures left { self.new ≡ with_left self.old moment len }
         ensures stack { HasActed self.old [] self.new }
         ensures stays { Stands self.old → Stands self.new }
+        ensures kept { SamePages self.old self.new }
+        ensures bottom { IsAtBottom self.new.frames }
     {
         self.top.leave(moment, len);
     }
@@ -151,6 +161,8 @@ impl WriterStack {
         ensures left { self.new ≡ with_left self.old moment len }
         ensures stack { HasActed self.old [] self.new }
         ensures stays { Stands self.old → Stands self.new }
+        ensures kept { SamePages self.old self.new }
+        ensures bottom { IsAtBottom self.new.frames }
     {
         self.put_left(moment, len);
     }
@@ -170,6 +182,8 @@ impl WriterStack {
             → HasActed self.old (push moment (length payload.now) ∷ reserve ∷ leave (Some payload.now) ∷ []) self.new }
         ensures stays { Stands self.new }
         ensures nothing { result ≡ Wrote.Nothing → self.new ≡ self.old }
+        ensures kept { SameFills self.old self.new }
+        ensures bottom { result ≡ Wrote.Record → IsAtBottom self.new.frames }
     {
         match self.write_alone(moment, payload) {
             Wrote::Record => {
