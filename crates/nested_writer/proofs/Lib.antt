@@ -14,6 +14,7 @@ pub mod Ending
 pub mod Dropping
 pub mod Lending
 pub mod Written
+pub mod Lent
 pub mod AtOnce
 pub mod Staying
 pub mod Runs

@@ -160,7 +160,7 @@ no_top None below e = refl
 no_top (Some f) below e = cc
 
 -- it is the only open page
-pub only_tail : (w : Inside) (s : Stack) → shown w ≡ s → (w.top ≡ None → w.older.items ≡ []) → s.frames ≡ [] → s.older ≡ []
+pub only_tail : (w : Inside) (s : Stack) → shown w ≡ s → (w.top ≡ None → w.older.pages ≡ []) → s.frames ≡ [] → s.older ≡ []
 only_tail w s is rest none = ap (λ (x : Stack). x.older) (sym is) ∙ rest (no_top w.top w.below.items (ap (λ (x : Stack). x.frames) is ∙ none))
 
 pub all_left : (start : ℕ) (h : List Action) (s : Stack) → s.frames ≡ [] → IsStack start h s → (writer_after h).stack ≡ []

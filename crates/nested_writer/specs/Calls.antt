@@ -154,3 +154,14 @@ LacksSlot (top ∷ below) = HasNoSlot top.progress
 abbrev pub IsTopSlot : List Frame → Slot → Type 0
 IsTopSlot [] slot = ⊥
 IsTopSlot (top ∷ below) slot = top.progress ≡ Reserved slot
+
+-- the slot of the frame on top, where its record is reserved
+abbrev pub slot_of : Progress → Option Slot
+slot_of (Waiting noted) = None
+slot_of (Through noted) = None
+slot_of (Reserved slot) = Some slot
+slot_of (Left noted) = None
+
+abbrev pub top_slot : List Frame → Option Slot
+top_slot [] = None
+top_slot (top ∷ below) = slot_of top.progress

@@ -17,8 +17,8 @@ shown w = record {
   pages = w.pages;
   size = w.size;
   done = w.done;
-  older = w.older.items;
-  tail = w.tail;
+  older = w.older.pages;
+  tail = w.tail.page;
   frames = frames_from w.top w.below.items;
   last_moment = w.last_moment;
 }
@@ -31,13 +31,13 @@ pub record IsWriterStack (w : Inside) : Type 0 where
   pub most_pages : w.pages ≤ MAX_PAGES
   pub small : MIN_SIZE ≤ w.size
   pub large : w.size ≤ MAX_SIZE
-  pub room : w.pages ≡ deque_capacity w.older
-  pub open_pages : length w.older.items < w.pages
+  pub room : w.pages ≡ w.older.room
+  pub open_pages : length w.older.pages < w.pages
   pub frames_room : MAX_FRAMES ≡ deque_capacity w.below
   pub frames : length (frames_from w.top w.below.items) ≤ MAX_FRAMES
   pub top_first : w.top ≡ None → w.below.items ≡ []
-  pub at_rest : w.top ≡ None → w.older.items ≡ []
-  pub fills : w.done + length w.older.items + 1 + w.pages ≤ LINK_FILLS
+  pub at_rest : w.top ≡ None → w.older.pages ≡ []
+  pub fills : w.done + length w.older.pages + 1 + w.pages ≤ LINK_FILLS
   pub plain_short : w.plain_len ≤ SHORT_LIMIT
   pub plain_room : w.plain_len + 12 ≤ w.size
   pub plain_end_is : w.plain_end ≡ w.size - (4 + SHORT_LIMIT)

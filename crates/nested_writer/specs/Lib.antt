@@ -1,5 +1,7 @@
 pub mod Stack
 pub mod Inside
+pub mod Lent
+pub mod Putting
 pub mod Calls
 pub mod IsStack
 pub mod Released

@@ -13,7 +13,7 @@ use Rattle.nested_writer.specs.Lending.{with_slot}
 use Rattle.nested_writer.specs.IsStack.{IsStack}
 
 -- What one call makes of a stack, by the clauses of the calls: begin, begin_close, allot and reserve_plain, a payload
--- of the slot's length written into the slot that payload_mut lends, end, add_page, drop_front, pop_bottom and
+-- of the slot's length written into the slot that top_mut lends, end, add_page, drop_front, pop_bottom and
 -- stand_again, ask_close, write and write_alone; or a call that is refused.
 pub data IsCall (s after : Stack) : Type 0 where
   begins : (moment len : ℕ) → HasActed s (push moment len ∷ []) after → IsCall s after

@@ -8,9 +8,12 @@
 mod fault;
 pub mod frame;
 pub mod laws;
+mod older;
+pub mod payload;
 pub mod stack;
 
 pub use fault::WriteFault;
+pub use payload::Payload;
 pub use stack::WriterStack;
 pub use stack::allot::Allot;
 pub use stack::leave::Ended;

@@ -9,11 +9,14 @@ mod top;
 pub mod write;
 
 use crate::frame::Frame;
+use crate::older::Older;
+use crate::payload::Payload;
 use crate::stack::top::Top;
 use page_image::{Body, Page};
 use record_words::SHORT_LIMIT;
 use std::alloc::Global;
 use std::collections::VecDeque;
+use std::fmt;
 use std::marker::Model;
 use trace_model::{FillNo, MAX_FRAMES, NoMemory, RecordNo, START_FILL};
 
@@ -26,8 +29,8 @@ pub struct WriterStack {
     pages: usize,
     size: usize,
     done: u64,
-    older: VecDeque<Page>,
-    tail: Page,
+    older: Older,
+    tail: Payload,
     top: Top,
     below: VecDeque<Frame>,
     last_moment: u64,
@@ -74,7 +77,7 @@ impl WriterStack {
         ensures stack { IfOk result (λ stack. IsStack start [] stack) }
         ensures stands { IfOk result (λ stack. Stands stack) }
     {
-        let older = VecDeque::with_capacity(alloc, pages)?;
+        let older = Older::new(alloc, pages)?;
         let below = VecDeque::with_capacity(alloc, MAX_FRAMES)?;
         let body = Body::new(alloc, size)?;
         Ok(WriterStack {
@@ -82,7 +85,7 @@ impl WriterStack {
             size,
             done: start,
             older,
-            tail: Page::fresh(body, RecordNo(0), FillNo(start)),
+            tail: Payload::of(Page::fresh(body, RecordNo(0), FillNo(start))),
             top: Top::none(),
             below,
             last_moment: 0,
@@ -103,5 +106,16 @@ impl WriterStack {
         ensures stands { IfOk result (λ stack. Stands stack) }
     {
         WriterStack::new_at(alloc, pages, size, START_FILL)
+    }
+}
+
+impl fmt::Debug for WriterStack {
+    fn fmt<F: fmt::Write>(&self, f: &mut fmt::Formatter<F>) -> fmt::Result {
+        f.debug_struct("WriterStack")
+            .field("pages", &self.pages)
+            .field("size", &self.size)
+            .field("done", &self.done)
+            .field("tail", &self.tail)
+            .finish_non_exhaustive()
     }
 }

@@ -1,17 +1,34 @@
 //! The payload of the frame on top, lent to be written.
 use crate::fault::WriteFault;
-use crate::frame::{Progress, Slot};
+use crate::frame::Slot;
+use crate::payload::Payload;
 use crate::stack::WriterStack;
 
 impl WriterStack {
-    ghost use Rattle.std.specs.Prelude.{◌≡◌, ℕ, ◌+◌, ◌≤◌, ◌<◌, ◌↔◌, [], ◌∷◌, List, length, IfOk, IfErr, OnOk, OnErr, slice_range};
+    ghost use Rattle.std.specs.Prelude.{◌≡◌, ℕ, ◌≤◌, ◌↔◌, ◌⊎◌, [], List, length, Some, IsOk, IfOk};
     ghost use Rattle.std.specs.Borrow.{sem};
     ghost use Rattle.trace_model.specs.History.{Action};
-    ghost use Rattle.page_image.specs.Contents.{Contents};
-    ghost use Rattle.nested_writer.specs.Lending.{LendsSlot, with_slot};
+    ghost use Rattle.trace_model.specs.Words.{slot_len};
+    ghost use Rattle.record_words.specs.declared.put.Place.{Place};
     ghost use Rattle.nested_writer.specs.declared.frame.Slot.{Slot};
-    ghost use Rattle.nested_writer.specs.Calls.{LacksSlot, IsTopSlot};
-    ghost use Rattle.nested_writer.specs.IsStack.{IsStack, Stands, IsOpenPage};
+    ghost use Rattle.nested_writer.specs.Calls.{IsTopSlot, LacksSlot};
+    ghost use Rattle.nested_writer.specs.Next.{pushed_len, top_place};
+    ghost use Rattle.nested_writer.specs.IsStack.{IsStack, Stands};
+    ghost use Rattle.nested_writer.specs.Lent.{lent_bytes, with_bytes};
+    ghost use Rattle.nested_writer.specs.Lending.{LendsTop, IsLent, with_top};
+
+    /// Why nothing is lent, if the frame on top has reserved nothing, or none stands.
+    #[inline(never)]
+    fn lends_none(&self) -> WriteFault
+        requires { self.now.frames ≡ [] ⊎ LacksSlot self.now.frames }
+        ensures no_frame { result ≡ WriteFault.NoFrame ↔ self.now.frames ≡ [] }
+        ensures not_reserved { result ≡ WriteFault.NotReserved ↔ LacksSlot self.now.frames }
+    {
+        if self.top.is_none() {
+            return WriteFault::NoFrame;
+        }
+        WriteFault::NotReserved
+    }
 
     /// Where the record of the frame on top stands.
     #[inline(always)]
@@ -20,38 +37,48 @@ impl WriterStack {
         ensures not_reserved { result ≡ Err WriteFault.NotReserved ↔ LacksSlot self.now.frames }
         ensures slot { IfOk result (λ slot. IsTopSlot self.now.frames slot) }
         ensures found { (slot : Slot) → IsTopSlot self.now.frames slot → result ≡ Ok slot }
+        ensures held { (place : Place) → top_place self.now.frames ≡ Some place → IsOk result }
     {
         match self.top.slot() {
             Some(slot) => Ok(slot),
-            None => {
-                if self.top.is_none() {
-                    return Err(WriteFault::NoFrame);
-                }
-                Err(WriteFault::NotReserved)
-            }
+            None => Err(self.lends_none()),
         }
     }
 
-    /// The payload in the slot of the frame on top, to be written. All else stays as it is, and what is written there
-    /// leaves the stack that of its history.
+    /// The payload in the slot of the frame on top, to be written: it acts as the slice of its bytes. All else stays as
+    /// it is, and what is written there leaves the stack that of its history.
     #[inline(always)]
-    pub fn payload_mut(&mut self, slot: Slot) -> &mut [u8]
+    pub fn top_mut(&mut self) -> Result<&mut Payload, WriteFault>
         requires stack { Stands self.old }
-        requires slot { IsTopSlot self.old.frames slot }
-        ensures* lends { sem 𝓛 (LendsSlot self.entry slot result) }
-        ensures payload { (page : Contents)
-            → IsOpenPage self.old.done self.old.older self.old.tail slot.fill page
-            → result.now ≡ slice_range page.bytes slot.place.start (slot.place.start + slot.place.len) }
-        ensures len { length result.now ≡ slot.place.len }
-        ensures written { (start : ℕ) (history : List Action) (part : List ℕ)
+        ensures* lends { sem 𝓛 (LendsTop self.entry result) }
+        ensures no_frame { result ≡ Err WriteFault.NoFrame ↔ self.old.frames ≡ [] }
+        ensures not_reserved { result ≡ Err WriteFault.NotReserved ↔ LacksSlot self.old.frames }
+        ensures lent { IfOk result (λ payload. IsLent self.old payload.now) }
+        ensures held { (place : Place) → top_place self.old.frames ≡ Some place → IsOk result }
+        ensures fits { (len : ℕ)
+            → pushed_len self.old.frames ≡ Some len
+            → IfOk result (λ payload. length (lent_bytes payload.now) ≡ slot_len len) }
+        ensures word { IfOk result (λ payload. 4 ≤ length (lent_bytes payload.now)) }
+        ensures holds { IfOk result (λ payload. (part : List ℕ)
+            → length part ≡ length (lent_bytes payload.now)
+            → lent_bytes (with_bytes payload.now part) ≡ part) }
+        ensures written { (start : ℕ) (history : List Action)
             → IsStack start history self.old
-            → length part ≡ slot.place.len
-            → IsStack start history (with_slot self.old slot part) }
-        ensures stays { (part : List ℕ) → length part ≡ slot.place.len → Stands (with_slot self.old slot part) }
+            → IfOk result (λ payload. (part : List ℕ)
+            → length part ≡ length (lent_bytes payload.now)
+            → IsStack start history (with_top self.old (with_bytes payload.now part))) }
+        ensures stays { IfOk result (λ payload. (part : List ℕ)
+            → length part ≡ length (lent_bytes payload.now)
+            → Stands (with_top self.old (with_bytes payload.now part))) }
     {
+        let slot = self.top_slot()?;
         if slot.fill == self.tail.fill().0 {
-            return self.tail.payload_mut(slot.place);
+            self.tail.lend(slot.place);
+            return Ok(&mut self.tail);
         }
-        self.older[(slot.fill - self.done) as usize].payload_mut(slot.place)
+        let payload = self
+            .older
+            .lend((slot.fill - self.done) as usize, slot.place);
+        Ok(payload)
     }
 }

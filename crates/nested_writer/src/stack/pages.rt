@@ -3,6 +3,7 @@
 //! A ring uses them so: as it begins a fill, it hands in the body of the page at that position; as it closes one, it
 //! lays the page handed out back there, with its number, its first record's number and all records written, for the
 //! reader to take; and where it comes to rest, the tail is the only page left, of which all records are committed too.
+use crate::payload::Payload;
 use crate::stack::WriterStack;
 use page_image::{Body, Page};
 use std::mem;
@@ -43,8 +44,8 @@ impl WriterStack {
         let first = self.tail.first().0 + self.tail.count();
         let fill = self.tail.fill().0 + 1;
         let page = Page::fresh(body, RecordNo(first), FillNo(fill));
-        let tail = mem::replace(&mut self.tail, page);
-        self.older.push_back_reserved(tail);
+        let tail = mem::replace(&mut self.tail, Payload::of(page));
+        self.older.push(tail);
     }
 
     /// Releases the oldest page, where it isn't the tail and only the bottom frame stands, which has left: the first
@@ -74,7 +75,7 @@ impl WriterStack {
         ensures done { self.new.done ≡ self.old.done + 1 }
         ensures fewer { length self.old.older ≡ length self.new.older + 1 }
     {
-        match self.older.pop_front() {
+        match self.older.pop() {
             Some(page) => {
                 self.done += 1;
                 page
@@ -99,6 +100,6 @@ impl WriterStack {
             → IsTrue (is_settled history) }
     {
         let WriterStack { tail, .. } = self;
-        tail
+        tail.into_page()
     }
 }

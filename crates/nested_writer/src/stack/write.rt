@@ -102,7 +102,7 @@ impl WriterStack {
     }
 
     /// Writes a record of this moment and payload in one call, where no frame stands and it fits in the tail: what
-    /// `begin`, `allot`, the payload's copy into what `payload_mut` lends, `end` and `pop_bottom` do. No frame stands
+    /// `begin`, `allot`, the payload's copy into what `top_mut` lends, `end` and `pop_bottom` do. No frame stands
     /// behind it. Anywhere else, and where `begin` would refuse it, nothing changes.
     #[inline(always)]
     pub fn write_alone(&mut self, moment: u64, payload: &[u8]) -> Wrote
@@ -168,7 +168,7 @@ impl WriterStack {
     }
 
     /// Writes a record of this moment and payload in one call, where no frame stands and it fits in the tail: what
-    /// `begin`, `allot`, the payload's copy into what `payload_mut` lends, and `end` do. Its frame stays at the bottom
+    /// `begin`, `allot`, the payload's copy into what `top_mut` lends, and `end` do. Its frame stays at the bottom
     /// for `pop_bottom`. Anywhere else, and where `begin` would refuse it, nothing changes.
     #[inline(always)]
     pub fn write(&mut self, moment: u64, payload: &[u8]) -> Wrote

@@ -30,7 +30,7 @@ returns-clause-stack c = λ start history old.
     let first : c.first.result.0 + c.count.result ≡ next_number s = (λ i. c.first.ensures i + c.count.ensures.count i) in
     let blank : c.fresh-page.result ≡ blank_page s.size (next_number s) (opened s) = c.fresh-page.ensures.blank ∙ (λ i. blank_page (size i) (first i) (fill i)) in
     let added = page_may_be_added start history s c.fresh-page.result needs blank c.fresh-page.ensures.page k in
-    rw (c.push_back_reserved.ensures.items, c.replace-tail.ensures.value, c.replace-tail.ensures.after) added
+    rw (c.push.ensures, c.replace-tail.ensures.value, c.replace-tail.ensures.after, c.of.ensures) added
 
 pub returns-clause-numbered : goal.returns-clause-numbered
 returns-clause-numbered c = λ start history k. number_counts start history c.args.self.now k

@@ -15,23 +15,23 @@ returns-clause-stack c = λ start h old.
     let s : Stack = shown c.self.inside in
     let k : IsStack start h s = subst (IsStack start h) (sym c.self.view_is) old in
     let bottom = subst (λ (x : Stack). IsAtBottom x.frames) (sym c.self.view_is) c.requires.bottom in
-    let older : s.older ≡ c.in-Some.page ∷ c.pop_front.new.self.items = c.pop_front.ensures.items ∙ ap (λ (o : Option Contents). option_to_list o ++ c.pop_front.new.self.items) c.in-Some.is in
-    released start h s c.in-Some.page c.pop_front.new.self.items _ older refl bottom k
+    let older : s.older ≡ c.in-Some.page ∷ c.pop.new.self.pages = c.pop.ensures.pages ∙ ap (λ (o : Option Contents). option_to_list o ++ c.pop.new.self.pages) c.in-Some.is in
+    released start h s c.in-Some.page c.pop.new.self.pages _ older refl bottom k
 
 pub returns-clause-written : goal.returns-clause-written
 returns-clause-written c = λ start h k.
-    let older = ap (λ (x : Stack). x.older) (sym c.self.view_is) ∙ c.in-Some.ensures.items in
-    front_written start h c.args.self.now c.in-Some.page c.pop_front.new.self.items c.requires.bottom older k
+    let older = ap (λ (x : Stack). x.older) (sym c.self.view_is) ∙ c.in-Some.ensures.pages in
+    front_written start h c.args.self.now c.in-Some.page c.pop.new.self.pages c.requires.bottom older k
 
 pub returns-clause-committed : goal.returns-clause-committed
 returns-clause-committed c = λ start h k.
-    let older = ap (λ (x : Stack). x.older) (sym c.self.view_is) ∙ c.in-Some.ensures.items in
-    front_committed start h c.args.self.now c.in-Some.page c.pop_front.new.self.items c.requires.bottom older k
+    let older = ap (λ (x : Stack). x.older) (sym c.self.view_is) ∙ c.in-Some.ensures.pages in
+    front_committed start h c.args.self.now c.in-Some.page c.pop.new.self.pages c.requires.bottom older k
 
 pub returns-clause-holds_some : goal.returns-clause-holds_some
 returns-clause-holds_some c = λ start h k.
-    let older = ap (λ (x : Stack). x.older) (sym c.self.view_is) ∙ c.in-Some.ensures.items in
-    front_some start h c.args.self.now c.in-Some.page c.pop_front.new.self.items c.requires.bottom older k
+    let older = ap (λ (x : Stack). x.older) (sym c.self.view_is) ∙ c.in-Some.ensures.pages in
+    front_some start h c.args.self.now c.in-Some.page c.pop.new.self.pages c.requires.bottom older k
 
 pub returns-clause-stays : goal.returns-clause-stays
 returns-clause-stays c = acted_stays c.args.self.now _ [] (returns-clause-stack c)

@@ -1,10 +1,6 @@
-use Rattle.std.proofs.Common.{◌≡◌, ℕ, ◌+◌, ◌-◌, Bool, [], ◌∷◌, List, Some, None, length, replicate, refl, sym, ap, ◌∙◌, subst, arith, length-append}
-use Rattle.std.proofs.lemmas.List.{length-replicate}
+use Rattle.std.proofs.Common.{◌≡◌, ◌+◌, [], ◌∷◌, Some, None, refl, sym, ap, ◌∙◌, subst, arith}
 use Rattle.trace_model.specs.History.{reserve, reserved_records}
 use Rattle.trace_model.specs.Packing.{opens_of, is_wished}
-use Rattle.trace_model.specs.Words.{encoding, encoded_len, slot_len}
-use Rattle.trace_model.proofs.Lengths.{length-encoding}
-use Rattle.page_image.specs.Contents.{is_blank}
 use Rattle.nested_writer.specs.declared.frame.Frame.{Frame}
 use Rattle.nested_writer.specs.declared.frame.Slot.{Slot}
 use Rattle.nested_writer.specs.declared.frame.Pushed.{Pushed}
@@ -46,17 +42,17 @@ abbrev slot_of : goal.After-hold → Slot
 slot_of c = record { number = c.first.result.0 + c.count.result; fill = c.fill-fill.result.0; place = c.put_plain-place.result }
 
 abbrev after : goal.After-hold → Stack
-after c = plain_put (shown c.self.inside) c.args.pushed (plain c) c.put_plain-place.new.self c.put_plain-place.result (slot_of c).number (slot_of c).fill
+after c = plain_put (shown c.self.inside) c.args.pushed (plain c) c.put_plain-place.new.self.page c.put_plain-place.result (slot_of c).number (slot_of c).fill
 
 found : (c : goal.After-hold) → (c.self.inside.top ≡ Some (waits_of c.args.pushed)) × (c.self.inside.below.items ≡ (plain c).below)
 found c = top_is c.self.inside.top c.self.inside.below.items (waits_of c.args.pushed) (plain c).below c.self.invariant.top_first (plain c).on_top
 
 -- the fields tell the stack with the record put
 abbrev shown_after : goal.After-hold → Stack
-shown_after c = record (shown c.self.inside) { tail = c.put_plain-place.new.self; frames = frames_from c.hold.new.self c.self.inside.below.items; last_moment = c.args.pushed.moment }
+shown_after c = record (shown c.self.inside) { tail = c.put_plain-place.new.self.page; frames = frames_from c.hold.new.self c.self.inside.below.items; last_moment = c.args.pushed.moment }
 
 told : (c : goal.After-hold) → shown_after c ≡ after c
-told c = let held = c.hold.ensures (waits_of c.args.pushed) (found c).0 in λ i. record (shown c.self.inside) { tail = c.put_plain-place.new.self; frames = frames_from (held i) ((found c).1 i); last_moment = c.args.pushed.moment }
+told c = let held = c.hold.ensures (waits_of c.args.pushed) (found c).0 in λ i. record (shown c.self.inside) { tail = c.put_plain-place.new.self.page; frames = frames_from (held i) ((found c).1 i); last_moment = c.args.pushed.moment }
 
 number_is : (c : goal.After-hold) → (slot_of c).number ≡ next_number (shown c.self.inside)
 number_is c = omega (arith, c.first.ensures, c.count.ensures.count)
@@ -70,31 +66,26 @@ acts : (c : goal.After-hold) → HasActed (shown c.self.inside) (reserve ∷ [])
 acts c =
     let s : Stack = shown c.self.inside in
     let put = c.put_plain-place.ensures in
-    let delta : ℕ = c.args.pushed.moment - s.last_moment in
-    let blank : Bool = is_blank s.tail.bytes in
-    let zeros : List ℕ = replicate (slot_len c.args.pushed.len) 0 in
-    let long : length c.put_plain-place.new.self.bytes ≡ length s.tail.bytes + encoded_len c.args.pushed.len delta blank =
-    ap length put.bytes ∙ length-append s.tail.bytes (encoding delta blank zeros) ∙ ap (λ (n : ℕ). length s.tail.bytes + n) (length-encoding c.args.pushed.len delta blank zeros (length-replicate (slot_len c.args.pushed.len) 0)) in
-    plain_acted s c.args.pushed (plain c) c.put_plain-place.new.self c.put_plain-place.result (slot_of c).number (slot_of c).fill (number_is c) (fill_is c) record {
+    plain_acted s c.args.pushed (plain c) c.put_plain-place.new.self.page c.put_plain-place.result (slot_of c).number (slot_of c).fill (number_is c) (fill_is c) record {
       page = put.page;
       records = put.records;
-      long = long;
+      long = put.longer;
       time = put.time;
       count = put.count;
       first = put.first;
       fill = put.fill;
       size = put.size;
-      ends = put.open;
+      ends = put.ends;
       number = put.number;
       places_stay = put.places_stay;
-      len_is = put.len;
+      len_is = put.len_is;
     }
 
 pub returns-clause-reserved : goal.returns-clause-reserved
 returns-clause-reserved c = λ top below on_top.
     let s : Stack = shown c.self.inside in
     let put = c.put_plain-place.ensures in
-    let reserved = plain_reserved s c.args.pushed (plain c) c.put_plain-place.new.self c.put_plain-place.result (slot_of c).number (slot_of c).fill (number_is c) (fill_is c) put.bytes put.end put.len in
+    let reserved = plain_reserved s c.args.pushed (plain c) c.put_plain-place.new.self.page c.put_plain-place.result (slot_of c).number (slot_of c).fill (number_is c) (fill_is c) put.bytes put.end put.len_is in
     subst (λ (x : Stack). IsReserved x top below c.args.pushed.moment c.args.pushed.len c.put_plain-place.result (shown_after c)) c.self.view_is
     (subst (IsReserved s top below c.args.pushed.moment c.args.pushed.len c.put_plain-place.result) (sym (told c)) (reserved top below (ap (λ (x : Stack). x.frames) c.self.view_is ∙ on_top)))
 

@@ -1,8 +1,8 @@
-use Rattle.std.proofs.Common.{◌≡◌, ℕ, ◌+◌, ◌-◌, ◌≤◌, max, Bool, true, List, [], ◌∷◌, ◌++◌, length, Some, sym, ap, ◌∙◌, subst, arith, length-append}
+use Rattle.std.proofs.Common.{◌≡◌, ℕ, ◌+◌, ◌-◌, ◌≤◌, max, Bool, true, List, [], ◌∷◌, ◌++◌, length, Some, sym, ap, ◌∙◌, subst, arith}
 use Rattle.trace_model.specs.History.{Action, push, reserve, leave, reserved_records}
 use Rattle.trace_model.specs.Packing.{opens_of, is_wished}
-use Rattle.trace_model.specs.Words.{padded, encoding, encoded_len}
-use Rattle.trace_model.proofs.Lengths.{length-padded, length-encoding}
+use Rattle.trace_model.specs.Words.{padded, encoded_len}
+use Rattle.trace_model.proofs.Lengths.{length-padded}
 use Rattle.record_words.specs.declared.put.Place.{Place}
 use Rattle.page_image.specs.Contents.{Contents, is_blank}
 use Rattle.nested_writer.specs.Stack.{Stack}
@@ -24,35 +24,33 @@ returns-clause-stack c = λ start history old.
     let k : IsStack start history s = subst (IsStack start history) (sym c.self.view_is) old in
     let payload : List ℕ = c.args.payload.now in
     let put = c.put_payload.ensures in
-    let tail' : Contents = c.put_payload.new.self in
+    let tail' : Contents = c.put_payload.new.self.page in
     let place : Place = c.put_payload.result in
     let blank : Bool = is_blank s.tail.bytes in
     let delta : ℕ = c.args.raised - s.last_moment in
     let raised : c.args.raised ≡ max c.args.moment s.last_moment = c.requires.raised ∙ ap (λ (x : Stack). max c.args.moment x.last_moment) (sym c.self.view_is) in
     let fits : FitsAtOnce s c.args.moment (length payload) = subst (λ (x : Stack). FitsAtOnce x c.args.moment (length payload)) (sym c.self.view_is) c.requires.fits in
-    let long : length tail'.bytes ≡ length s.tail.bytes + encoded_len (length payload) delta blank =
-    ap length put.bytes ∙ length-append s.tail.bytes (encoding delta blank (padded payload)) ∙ ap (λ (n : ℕ). length s.tail.bytes + n) (length-encoding (length payload) delta blank (padded payload) (length-padded payload)) in
     let room : length s.tail.bytes + encoded_len (length payload) delta blank ≤ s.size = subst (λ (m : ℕ). length s.tail.bytes + encoded_len (length payload) (m - s.last_moment) blank ≤ s.size) (sym raised) fits.3 in
     let is : IsPutWith s.tail tail' s.last_moment c.args.raised (length payload) (padded payload) place = record {
       page = put.page;
       records = put.records;
-      long = long;
+      long = put.longer;
       time = put.time;
       count = put.count;
       first = put.first;
       fill = put.fill;
       size = put.size;
-      ends = put.open;
+      ends = put.ends;
       lies = put.place;
       number = put.number;
       places_stay = put.places_stay;
       place_end = put.end;
-      len_is = put.len;
+      len_is = put.len_is;
       fills = length-padded payload;
     } in
     let none : s.frames ≡ [] = fits.0 in
     let short : encoded_len (length payload) 0 true ≤ s.size = fits_page s.size (length payload) fits.1 in
-    let done = written_at_once start history s c.args.moment payload tail' place none short fits.2 (omega (arith, long, room)) (subst (λ (m : ℕ). IsPutWith s.tail tail' s.last_moment m (length payload) (padded payload) place) raised is) k in
+    let done = written_at_once start history s c.args.moment payload tail' place none short fits.2 (omega (arith, put.longer, room)) (subst (λ (m : ℕ). IsPutWith s.tail tail' s.last_moment m (length payload) (padded payload) place) raised is) k in
     let actions : List Action = push c.args.moment (length payload) ∷ reserve ∷ leave (Some payload) ∷ [] in
     subst (λ (m : ℕ). IsStack start (history ++ actions) (record s { tail = tail'; last_moment = m })) (sym raised) done
 

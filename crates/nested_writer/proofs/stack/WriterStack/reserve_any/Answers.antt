@@ -1,9 +1,7 @@
-use Rattle.std.proofs.Common.{◌≡◌, ℕ, ◌+◌, ◌-◌, ◌≤◌, max, Bool, [], ◌∷◌, ◌++◌, List, length, replicate, sym, ap, ◌∙◌, subst, arith, length-append}
-use Rattle.std.proofs.lemmas.List.{length-replicate}
+use Rattle.std.proofs.Common.{◌≡◌, ℕ, ◌+◌, ◌-◌, ◌≤◌, max, Bool, [], ◌∷◌, ◌++◌, List, length, sym, ap, ◌∙◌, subst, arith}
 use Rattle.trace_model.specs.History.{reserve, reserved_records}
 use Rattle.trace_model.specs.Packing.{opens_of, is_wished}
-use Rattle.trace_model.specs.Words.{encoding, encoded_len, slot_len}
-use Rattle.trace_model.proofs.Lengths.{length-encoding}
+use Rattle.trace_model.specs.Words.{encoded_len}
 use Rattle.page_image.specs.Contents.{is_blank}
 use Rattle.nested_writer.specs.declared.frame.Frame.{Frame}
 use Rattle.nested_writer.specs.declared.frame.Slot.{Slot}
@@ -44,26 +42,23 @@ returns-clause-stack c = λ start history old.
     let fill_is : c.fill-fill.result.0 ≡ tail_fill s = c.fill-fill.ensures ∙ k.holds.tail_is.fill_is in
     let delta : ℕ = c.args.raised - s.last_moment in
     let blank : Bool = is_blank s.tail.bytes in
-    let zeros : List ℕ = replicate (slot_len c.args.len) 0 in
-    let long : length c.put-place.new.self.bytes ≡ length s.tail.bytes + encoded_len c.args.len delta blank =
-    ap length put.bytes ∙ length-append s.tail.bytes (encoding delta blank zeros) ∙ ap (λ (n : ℕ). length s.tail.bytes + n) (length-encoding c.args.len delta blank zeros (length-replicate (slot_len c.args.len) 0)) in
     let raised : c.args.raised ≡ max c.args.moment s.last_moment = c.requires.raised ∙ ap (λ (x : Stack). max c.args.moment x.last_moment) (sym c.self.view_is) in
     let room = subst (λ (x : Stack). HasRecordRoom x c.args.moment c.args.len) (sym c.self.view_is) c.requires.room in
     let room' : length s.tail.bytes + encoded_len c.args.len delta blank ≤ s.size = subst (λ (m : ℕ). length s.tail.bytes + encoded_len c.args.len (m - s.last_moment) blank ≤ s.size) (sym raised) room in
     let slot : Slot = record { number = c.first.result.0 + c.count.result; fill = c.fill-fill.result.0; place = c.put-place.result } in
-    rw c.hold_any.ensures (subst (λ (p : Purpose). IsStack start (history ++ reserve ∷ []) (record s { tail = c.put-place.new.self; last_moment = c.args.raised; frames = record { purpose = p; progress = Reserved slot } ∷ items })) purpose
-    (reserved_with start history s top items c.args.moment c.args.len noted c.put-place.new.self c.put-place.result c.args.raised (c.first.result.0 + c.count.result) c.fill-fill.result.0
-    raised (omega (arith, c.first.ensures, c.count.ensures.count)) fill_is (on_top' ∙ ap (λ (fs : List Frame). top ∷ fs) (sym found.1)) purpose waits (omega (arith, long, room')) record {
+    rw c.hold_any.ensures (subst (λ (p : Purpose). IsStack start (history ++ reserve ∷ []) (record s { tail = c.put-place.new.self.page; last_moment = c.args.raised; frames = record { purpose = p; progress = Reserved slot } ∷ items })) purpose
+    (reserved_with start history s top items c.args.moment c.args.len noted c.put-place.new.self.page c.put-place.result c.args.raised (c.first.result.0 + c.count.result) c.fill-fill.result.0
+    raised (omega (arith, c.first.ensures, c.count.ensures.count)) fill_is (on_top' ∙ ap (λ (fs : List Frame). top ∷ fs) (sym found.1)) purpose waits (omega (arith, put.longer, room')) record {
       page = put.page;
       records = put.records;
-      long = long;
+      long = put.longer;
       time = put.time;
       count = put.count;
       first = put.first;
       fill = put.fill;
       size = put.size;
-      ends = put.open;
+      ends = put.ends;
       number = put.number;
       places_stay = put.places_stay;
-      len_is = put.len;
+      len_is = put.len_is;
     } k))

@@ -1,0 +1,90 @@
+use Rattle.std.proofs.Common.{◌≡◌, ◌+◌, ◌≤◌, length, refl, sym, ap, ◌∙◌, subst, arith}
+use Rattle.record_words.specs.declared.put.Place.{Place}
+use Rattle.nested_writer.specs.declared.frame.Slot.{Slot}
+use Rattle.nested_writer.specs.Stack.{Stack}
+use Rattle.nested_writer.specs.Inside.{shown}
+use Rattle.nested_writer.specs.Calls.{IsTopSlot}
+use Rattle.nested_writer.specs.Lent.{Lent}
+use Rattle.nested_writer.specs.Lending.{IsLent}
+use Rattle.nested_writer.specs.IsStack.{Stands}
+use Rattle.nested_writer.proofs.Lent.{same_ends, top_in_tail, top_in_older, some_frame, has_slot, tail_within, tail_lent, other_page, older_within, older_lent, slot_fits, slot_word, lent_there, lent_written, lent_stays}
+use Rattle.nested_writer.proofs.stack.WriterStack.top_mut.Goals as goal
+
+pub lend-requires : goal.lend-requires
+lend-requires c =
+    let s : Stack = shown c.self.inside in
+    let slot : Slot = c.in_ok-slot.slot in
+    let is : IsTopSlot s.frames slot = c.in_ok-slot.ensures.slot in
+    let (start, h, k) = subst Stands (sym c.self.view_is) c.requires.stack in
+    record { within = tail_within start h s slot is k (c.if-slot-fill.true ∙ c.fill.ensures) }
+
+pub returns-then-slot-fill : goal.returns-then-slot-fill
+returns-then-slot-fill c =
+    let s : Stack = shown c.self.inside in
+    let slot : Slot = c.in_ok-slot.slot in
+    let is : IsTopSlot s.frames slot = c.in_ok-slot.ensures.slot in
+    let same : slot.fill ≡ s.tail.fill = c.if-slot-fill.true ∙ c.fill.ensures in
+    let stands : Stands s = subst Stands (sym c.self.view_is) c.requires.stack in
+    let payload : Lent = c.lend.new.self in
+    let lent : IsLent s payload = subst (IsLent s) (sym c.lend.ensures) (tail_lent stands.0 stands.1 s slot is stands.2 same) in
+    let place : payload.place ≡ slot.place = ap (λ (p : Lent). p.place) c.lend.ensures in
+    let within = subst (λ (p : Lent). p.place.start + p.place.len ≤ length p.page.bytes) (sym c.lend.ensures) (tail_within stands.0 stands.1 s slot is stands.2 same) in
+    rw (← c.self.view_is) (
+      same_ends _ _ _ (λ w. top_in_tail s slot w is same),
+      record {
+        lends = tt;
+        no_frame = (λ e. absurd cc, λ none. absurd (some_frame s.frames slot is none));
+        not_reserved = (λ e. absurd cc, λ lacks. absurd (has_slot s.frames slot is lacks));
+        lent = lent;
+        held = λ place' there. refl;
+        fits = λ len is'. lent.long ∙ ap (λ (p : Place). p.len) place ∙ slot_fits stands.0 stands.1 s slot is stands.2 len is';
+        word = let word = slot_word stands.0 stands.1 s slot is stands.2 in let long = lent.long in let same = ap (λ (p : Place). p.len) place in omega arith;
+        holds = λ part fills. lent_there payload part within (fills ∙ lent.long);
+        written = λ start history k part fills. lent_written start history s payload part lent fills k;
+        stays = λ part fills. lent_stays s payload part lent fills stands;
+      },
+    )
+
+pub lend-payload-requires-clause-inside : goal.lend-payload-requires-clause-inside
+lend-payload-requires-clause-inside c =
+    let s : Stack = shown c.self.inside in
+    let slot : Slot = c.in_ok-slot.slot in
+    let is : IsTopSlot s.frames slot = c.in_ok-slot.ensures.slot in
+    let (start, h, k) = subst Stands (sym c.self.view_is) c.requires.stack in
+    (other_page start h s slot is k (λ same. c.if-slot-fill.false (same ∙ sym c.fill.ensures))).inside
+
+pub lend-payload-requires-clause-within : goal.lend-payload-requires-clause-within
+lend-payload-requires-clause-within c =
+    let s : Stack = shown c.self.inside in
+    let slot : Slot = c.in_ok-slot.slot in
+    let is : IsTopSlot s.frames slot = c.in_ok-slot.ensures.slot in
+    let (start, h, k) = subst Stands (sym c.self.view_is) c.requires.stack in
+    older_within start h s slot is k (λ same. c.if-slot-fill.false (same ∙ sym c.fill.ensures))
+
+pub returns : goal.returns
+returns c =
+    let s : Stack = shown c.self.inside in
+    let slot : Slot = c.in_ok-slot.slot in
+    let is : IsTopSlot s.frames slot = c.in_ok-slot.ensures.slot in
+    let other : (slot.fill ≡ s.tail.fill → ⊥) = λ same. c.if-slot-fill.false (same ∙ sym c.fill.ensures) in
+    let stands : Stands s = subst Stands (sym c.self.view_is) c.requires.stack in
+    let payload : Lent = c.lend-payload.result.now in
+    let found = older_lent stands.0 stands.1 s slot is stands.2 other payload.page c.lend-payload.ensures.page in
+    let lent : IsLent s payload = subst (λ (p : Lent). IsLent s p) (λ i. record { page = payload.page; place = sym c.lend-payload.ensures.place i }) found in
+    let place : payload.place ≡ slot.place = c.lend-payload.ensures.place in
+    let within = subst (λ (p : Place). p.start + p.len ≤ length payload.page.bytes) (sym place) (older_within stands.0 stands.1 s slot is stands.2 other payload.page c.lend-payload.ensures.page) in
+    rw (← c.self.view_is) (
+      same_ends _ _ _ (λ w. top_in_older s slot w is other),
+      record {
+        lends = tt;
+        no_frame = (λ e. absurd cc, λ none. absurd (some_frame s.frames slot is none));
+        not_reserved = (λ e. absurd cc, λ lacks. absurd (has_slot s.frames slot is lacks));
+        lent = lent;
+        held = λ place' there. refl;
+        fits = λ len is'. lent.long ∙ ap (λ (p : Place). p.len) place ∙ slot_fits stands.0 stands.1 s slot is stands.2 len is';
+        word = let word = slot_word stands.0 stands.1 s slot is stands.2 in let long = lent.long in let same = ap (λ (p : Place). p.len) place in omega arith;
+        holds = λ part fills. lent_there payload part within (fills ∙ lent.long);
+        written = λ start history k part fills. lent_written start history s payload part lent fills k;
+        stays = λ part fills. lent_stays s payload part lent fills stands;
+      },
+    )

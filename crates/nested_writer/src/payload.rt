@@ -1,0 +1,184 @@
+//! An open page, and the payload in it that is lent to be written.
+ghost use Rattle.std.specs.Prelude.{◌≡◌, ◌+◌, ◌-◌, ◌*◌, ◌≤◌, ◌<◌, false, length, replicate, IfSome};
+ghost use Rattle.record_words.specs.declared.format.TheConstants.{EXTEND_FROM, SHORT_LIMIT};
+ghost use Rattle.trace_model.specs.declared.limits.TheConstants.{MOMENT_LIMIT, MAX_SIZE};
+ghost use Rattle.trace_model.specs.Words.{encoded_len, padded, slot_len};
+ghost use Rattle.trace_model.specs.Reading.{EndsInRecord};
+ghost use Rattle.trace_model.specs.Order.{moment_of_last};
+ghost use Rattle.page_image.specs.Contents.{records_of_page, is_blank};
+ghost use Rattle.nested_writer.specs.Lent.{lent_bytes};
+ghost use Rattle.nested_writer.specs.Putting.{HasPut};
+
+use page_image::Page;
+use record_words::Place;
+use std::marker::Model;
+use std::ops::{DerefSlice, DerefSliceMut};
+use trace_model::{FillNo, RecordNo};
+
+/// The payload of a reserved record, to be written in its page: it acts as the slice of its bytes.
+#[derive(Debug, Drop)]
+pub struct Payload {
+    page: Page,
+    /// Where it lies in the page; in a page that lends none, anywhere.
+    place: Place,
+}
+
+impl Model for Payload {
+    ghost use Rattle.std.specs.Prelude.{◌+◌, ◌≤◌, length};
+    ghost use Rattle.nested_writer.specs.Lent.{Lent};
+
+    ghost Value = { Lent };
+
+    ghost view = { λ p. record { page = p.page; place = p.place } };
+
+    ghost invariant = { λ p. p.place.start + p.place.len ≤ length p.page.bytes };
+}
+
+impl DerefSlice for Payload {
+    ghost use Rattle.std.specs.Prelude.{◌≡◌};
+    ghost use Rattle.nested_writer.specs.Lent.{lent_bytes};
+
+    type Elem = u8;
+
+    ghost deref_gives = { λ p xs. xs ≡ lent_bytes p };
+
+    #[inline(always)]
+    fn deref(&self) -> &[u8] {
+        &self.page.data()[self.place.start..self.place.start + self.place.len]
+    }
+}
+
+impl DerefSliceMut for Payload {
+    ghost use Rattle.std.specs.Prelude.{◌≡◌, length};
+    ghost use Rattle.std.specs.Borrow.{sem};
+    ghost use Rattle.nested_writer.specs.Lent.{lent_bytes};
+    ghost use Rattle.nested_writer.specs.Lending.{LendsBytes};
+
+    #[inline(always)]
+    fn deref_mut(&mut self) -> &mut [u8]
+        ensures* lends { sem 𝓛 (LendsBytes self.entry result) }
+        ensures value { result.now ≡ lent_bytes self.old }
+        ensures len { length result.now ≡ self.old.place.len }
+    {
+        self.page.part_mut(self.place)
+    }
+}
+
+impl Payload {
+    /// How many bytes it has: the record's payload, up to the end of its last word.
+    #[inline(always)]
+    pub fn len(&self) -> usize
+        ensures bytes { result ≡ length (lent_bytes self.now) }
+        ensures len { result ≡ self.now.place.len }
+    {
+        self.place.len
+    }
+
+    /// The page, of which nothing is lent.
+    #[inline(always)]
+    pub(crate) fn of(page: Page) -> Payload
+        ensures { result.page ≡ page }
+    {
+        Payload {
+            page,
+            place: Place { start: 0, len: 0 },
+        }
+    }
+
+    /// The page.
+    #[inline(always)]
+    pub(crate) fn into_page(self) -> Page
+        ensures { result ≡ self.page }
+    {
+        let Payload { page, .. } = self;
+        page
+    }
+
+    /// Lends the payload at this place.
+    #[inline(always)]
+    pub(crate) fn lend(&mut self, place: Place)
+        requires within { place.start + place.len ≤ length self.old.page.bytes }
+        ensures { self.new ≡ record self.old { place = place } }
+    {
+        self.place = place;
+    }
+
+    /// How many bytes the page's records take.
+    #[inline(always)]
+    pub(crate) fn end(&self) -> usize
+        ensures { result ≡ length self.now.page.bytes }
+    {
+        self.page.end()
+    }
+
+    /// The number of the page's first record.
+    #[inline(always)]
+    pub(crate) fn first(&self) -> RecordNo
+        ensures { result.0 ≡ self.now.page.first }
+    {
+        self.page.first()
+    }
+
+    /// How many records the page holds.
+    #[inline(always)]
+    pub(crate) fn count(&self) -> u64
+        ensures count { result ≡ self.now.page.count }
+        ensures few { 4 * result ≤ MAX_SIZE }
+    {
+        self.page.count()
+    }
+
+    /// Which fill of its ring the page is.
+    #[inline(always)]
+    pub(crate) fn fill(&self) -> FillNo
+        ensures { result.0 ≡ self.now.page.fill }
+    {
+        self.page.fill()
+    }
+
+    /// `Page::put`.
+    #[inline(always)]
+    pub(crate) fn put(&mut self, prev: u64, moment: u64, len: usize) -> Place
+        requires room { length self.old.page.bytes + encoded_len len (moment - prev) (is_blank self.old.page.bytes)
+            ≤ self.old.page.size }
+        requires order { prev ≤ moment }
+        requires moment { moment < MOMENT_LIMIT }
+        requires last { IfSome (moment_of_last (records_of_page self.old.page)) (λ last. last ≡ prev) }
+        requires open { EndsInRecord self.old.page.bytes }
+        ensures { HasPut self.old.page self.new.page prev moment len (replicate (slot_len len) 0) result }
+    {
+        self.page.put(prev, moment, len)
+    }
+
+    /// `Page::put_plain`.
+    #[inline(always)]
+    pub(crate) fn put_plain(&mut self, prev: u64, moment: u64, len: usize) -> Place
+        requires behind { is_blank self.old.page.bytes ≡ false }
+        requires some { 1 ≤ len }
+        requires short { len ≤ SHORT_LIMIT }
+        requires near { moment - prev < EXTEND_FROM }
+        requires far { length self.old.page.bytes + (4 + SHORT_LIMIT) ≤ self.old.page.size }
+        requires order { prev ≤ moment }
+        requires moment { moment < MOMENT_LIMIT }
+        requires last { IfSome (moment_of_last (records_of_page self.old.page)) (λ last. last ≡ prev) }
+        requires open { EndsInRecord self.old.page.bytes }
+        ensures { HasPut self.old.page self.new.page prev moment len (replicate (slot_len len) 0) result }
+    {
+        self.page.put_plain(prev, moment, len)
+    }
+
+    /// `Page::put_payload`.
+    #[inline(always)]
+    pub(crate) fn put_payload(&mut self, prev: u64, moment: u64, payload: &[u8]) -> Place
+        requires room { length self.old.page.bytes
+            + encoded_len (length payload.now) (moment - prev) (is_blank self.old.page.bytes)
+            ≤ self.old.page.size }
+        requires order { prev ≤ moment }
+        requires moment { moment < MOMENT_LIMIT }
+        requires last { IfSome (moment_of_last (records_of_page self.old.page)) (λ last. last ≡ prev) }
+        requires open { EndsInRecord self.old.page.bytes }
+        ensures { HasPut self.old.page self.new.page prev moment (length payload.now) (padded payload.now) result }
+    {
+        self.page.put_payload(prev, moment, payload)
+    }
+}
