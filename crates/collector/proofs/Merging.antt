@@ -1,10 +1,10 @@
 -- A collector that is made parcel by parcel: what it has, and which parcels it keeps.
-use Rattle.std.proofs.Common.{◌≡◌, inl, inr, ℕ, ◌+◌, ◌<◌, ◌≤◌, ◌↔◌, Bool, true, false, MatchBool, List, [], ◌∷◌, ◌++◌, length, take, get_or, append_assoc, append-nil, ⊎_elim, refl, sym, ap, ◌∙◌, subst}
-use Rattle.std.proofs.lemmas.List.{take_more, take_all}
+use Rattle.std.proofs.Common.{◌≡◌, inl, inr, ℕ, ◌+◌, ◌<◌, ◌≤◌, ◌↔◌, Bool, true, false, MatchBool, List, [], ◌∷◌, ◌++◌, length, take, drop, get_or, append_assoc, append-nil, ⊎_elim, refl, sym, ap, ◌∙◌, subst}
+use Rattle.std.proofs.lemmas.List.{take_more, take_all, take-append-drop}
 use Rattle.trace_model.specs.Parcel.{Parcel}
 use Rattle.trace_model.specs.Collection.{Agree, IsBelow, IsSame, IsLeastUpperBound}
 use Rattle.trace_model.proofs.Joined.{joined_left, joined_right, joined_below, below_agrees}
-use Rattle.trace_model.proofs.Collections.{below_below, same_itself, same_same, same_joined}
+use Rattle.trace_model.proofs.Collections.{below_itself, below_below, same_itself, same_same, same_joined}
 use Rattle.collector.specs.declared.added.Added.{Added}
 use Rattle.collector.specs.declared.added.Added.TheVariants.{New, Known}
 use Rattle.collector.specs.Merged.{IsKeptBehind, IsMerged}
@@ -66,6 +66,42 @@ same_least ps qs joined k all agree partly =
       right = below_below qs (ps ++ qs) joined (joined_right ps qs) same.above;
       least = λ above a b. below_below joined (ps ++ qs) above same.below (joined_below ps qs above a b);
     }
+
+-- ---- nothing new
+
+more_taken : (qs : List Parcel) (k : ℕ) (q : Parcel) → k < length qs → q ≡ get_or qs k q → take k qs ++ q ∷ [] ≡ take (k + 1) qs
+more_taken qs k q within is = ap (λ (x : Parcel). take k qs ++ x ∷ []) is ∙ sym (take_more qs k q within)
+
+pub taken_below : (ps qs : List Parcel) (k : ℕ) (q : Parcel) → k < length qs → q ≡ get_or qs k q → IsBelow (take k qs) ps
+    → IsBelow (q ∷ []) ps → IsBelow (take (k + 1) qs) ps
+taken_below ps qs k q within is below next =
+    subst (λ (xs : List Parcel). IsBelow xs ps) (more_taken qs k q within is) (joined_below (take k qs) (q ∷ []) ps below next)
+
+pub all_below : (ps qs : List Parcel) (k : ℕ) → length qs ≤ k → IsBelow (take k qs) ps → IsBelow qs ps
+all_below ps qs k all below = subst (λ (xs : List Parcel). IsBelow xs ps) (take_all k qs all) below
+
+-- each is below all of them
+pub one_below : (qs : List Parcel) (k : ℕ) (q : Parcel) → k < length qs → q ≡ get_or qs k q → IsBelow (q ∷ []) qs
+one_below qs k q within is =
+    below_below (q ∷ []) (take (k + 1) qs) qs
+    (subst (IsBelow (q ∷ [])) (more_taken qs k q within is) (joined_right (take k qs) (q ∷ [])))
+    (subst (IsBelow (take (k + 1) qs)) (take-append-drop (k + 1) qs) (joined_left (take (k + 1) qs) (drop (k + 1) qs)))
+
+pub merged_known : (ps qs : List Parcel) → IsBelow qs ps → IsMerged ps qs ps
+merged_known ps [] below = refl
+merged_known ps (q ∷ qs) below = (
+  ps,
+  inl (below_below (q ∷ []) (q ∷ qs) ps (joined_left (q ∷ []) qs) below, refl),
+  merged_known ps qs (below_below qs (q ∷ qs) ps (joined_right (q ∷ []) qs) below),
+)
+
+pub least_known : (ps qs : List Parcel) → Agree (ps ++ qs) → IsBelow qs ps → IsLeastUpperBound ps qs ps
+least_known ps qs agree below = record {
+  agree = below_agrees ps (ps ++ qs) (joined_left ps qs) agree;
+  left = below_itself ps;
+  right = below;
+  least = λ above a b. a;
+}
 
 -- ---- what a test says
 

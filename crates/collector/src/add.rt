@@ -17,8 +17,8 @@ impl Collector {
 
     /// Adds a parcel: the collector then has and misses what it and the parcel did. It keeps the parcel, unless all
     /// that the parcel has and misses is there already. What is at odds with the kept parcels is refused under its
-    /// least number, and the collector stays as it was; the parcel is dropped. Memory is asked for only where the
-    /// parcel is kept.
+    /// least number, and the collector stays as it was; the parcel is dropped. `NoMemory` is answered only if the
+    /// parcel has or misses something that isn't here, and nothing is at odds.
     pub fn add(&mut self, parcel: Parcel) -> Result<Added, AddFault>
         ensures new { result ≡ Ok New → self.new ≡ self.old ++ parcel ∷ [] }
         ensures known { result ≡ Ok Known → self.new ≡ self.old }

@@ -6,23 +6,29 @@ use crate::fault::AddFault;
 use trace_model::{CpuId, MAX_CPUS, RecordNo};
 
 impl Collector {
-    ghost use Rattle.std.specs.Prelude.{◌≡◌, ℕ, ◌<◌, ◌≤◌, ◌++◌, length, take, IfErr, OnOk, OnErr};
-    ghost use Rattle.trace_model.specs.Collection.{Agree, IsLeastUpperBound};
+    ghost use Rattle.std.specs.Prelude.{◌≡◌, ◌≢◌, ℕ, ◌<◌, ◌≤◌, ◌↔◌, ◌++◌, length, take, IsTrue, IfErr, OnOk, OnErr};
+    ghost use Rattle.trace_model.specs.Collection.{Agree, IsBelow, IsLeastUpperBound};
     ghost use Rattle.collector.specs.Sound.{AreSound};
     ghost use Rattle.collector.specs.Beside.{FitTogether};
     ghost use Rattle.collector.specs.Faults.{IsAddFault};
     ghost use Rattle.collector.specs.Merged.{IsMerged};
+    ghost use Rattle.collector.specs.declared.fault.AddFault.TheVariants.{NoMemory};
 
     /// Puts the other's records and missing numbers to those here: what comes of it is the least collector above
     /// both. The other's parcels are shared; those that add something are kept, in their order. Where the two are at
-    /// odds, the least number tells, and nothing has changed.
+    /// odds, the least number tells, and nothing has changed. `NoMemory` is answered only if the other has or misses
+    /// something that isn't here.
     pub fn merge(&mut self, other: &Collector) -> Result<(), AddFault>
         ensures join { OnOk result (IsLeastUpperBound self.old other.now self.new) }
         ensures kept { OnOk result (IsMerged self.old other.now self.new) }
         ensures fault { IfErr result (λ fault. IsAddFault (self.old ++ other.now) fault) }
+        ensures no_memory { result ≡ Err NoMemory → IsBelow other.now self.old → ⊥ }
         ensures refused { OnErr result (self.new ≡ self.old) }
     {
         self.look_at_all(other)?;
+        if self.holds_all(other) {
+            return Ok(());
+        }
         let count = self.parcels().len();
         let index = self.copied_index()?;
         if self.add_all(other).is_err() {
@@ -30,6 +36,18 @@ impl Collector {
             return Err(AddFault::NoMemory);
         }
         Ok(())
+    }
+
+    /// Whether all that the other has and misses is here.
+    fn holds_all(&self, other: &Collector) -> bool
+        ensures { IsTrue result ↔ IsBelow other.now self.now }
+    {
+        for parcel in other.parcels() {
+            if !self.holds(parcel) {
+                return false;
+            }
+        }
+        true
     }
 
     /// Adds the other's parcels, in their order, with which those here agree. Where memory is refused, some of them are
@@ -50,6 +68,7 @@ impl Collector {
     fn look_at_all(&self, other: &Collector) -> Result<(), AddFault>
         ensures agree { OnOk result (Agree (self.now ++ other.now)) }
         ensures fault { IfErr result (λ fault. IsAddFault (self.now ++ other.now) fault) }
+        ensures at_odds { IfErr result (λ fault. fault ≢ NoMemory) }
     {
         for cpu in 0..MAX_CPUS {
             self.look_at_cpu(other, CpuId(cpu))?;
@@ -65,6 +84,7 @@ impl Collector {
         ensures agree { Agree self.now }
         ensures others_agree { Agree other.now }
         ensures fault { IfErr result (λ fault. IsAddFault (self.now ++ other.now) fault) }
+        ensures at_odds { IfErr result (λ fault. fault ≢ NoMemory) }
     {
         let kept = self.parcels();
         let others = other.parcels();
