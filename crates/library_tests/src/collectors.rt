@@ -192,3 +192,14 @@ fn what_adds_something_is_kept_unless_it_is_at_odds(rt: HostRuntime) -> Result<(
     }
     Ok(())
 }
+
+/// What collectors keep is the page itself.
+#[test]
+fn pages_are_shared_and_not_copied(rt: HostRuntime) -> Result<(), Fail> {
+    let parcel = Parcel::from_bytes(rt.alloc(), ONES_TWOS)?;
+    let mut collector = Collector::new(rt.alloc());
+    assert!(rt; collector.add(parcel.share()?) == Ok(Added::New) && parcel.sharers() == 2);
+    let mut other = Collector::new(rt.alloc());
+    assert!(rt; other.merge(&collector) == Ok(()) && parcel.sharers() == 3);
+    Ok(())
+}

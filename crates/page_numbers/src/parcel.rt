@@ -136,6 +136,14 @@ impl Parcel {
         self.first() == other.first() && self.page.has_data_of(&other.page)
     }
 
+    /// How many parcels have this very page, with this one: those of which one is `share` of another. Others may be
+    /// made or dropped by other threads meanwhile.
+    pub fn sharers(&self) -> usize
+        ensures { 0 < result }
+    {
+        Arc::strong_count(&self.page)
+    }
+
     /// The same parcel once more, of the same page. No byte of it is copied.
     pub fn share(&self) -> Result<Parcel, NoMemory>
         ensures { IfOk result (λ parcel. parcel ≡ self.now) }
