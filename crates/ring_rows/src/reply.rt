@@ -70,6 +70,12 @@ fn put_page(out: &mut String, name: &str, page: &Page) -> Result<(), NoMemory> {
 /// An answer as text. A page that was taken has a line for each record.
 pub fn answer_text(alloc: Global, answer: &Answer) -> Result<String, NoMemory> {
     let mut out = String::new(alloc);
+    put_answer(&mut out, answer)?;
+    Ok(out)
+}
+
+/// Puts the text of an answer.
+fn put_answer(out: &mut String, answer: &Answer) -> Result<(), NoMemory> {
     match answer {
         Answer::Pushed => out.push_str("pushed")?,
         Answer::Going => out.push_str("going")?,
@@ -82,13 +88,13 @@ pub fn answer_text(alloc: Global, answer: &Answer) -> Result<String, NoMemory> {
         Answer::Empty(done, _) => write!(out, "empty {done}")?,
         Answer::Moving(fill, _) => write!(out, "moving {}", fill.0)?,
         Answer::Taken(page, missed) => {
-            put_page(&mut out, "taken", page)?;
+            put_page(out, "taken", page)?;
             write!(out, " missed {missed}")?;
-            put_records(&mut out, page)?;
+            put_records(out, page)?;
         }
         Answer::Wished(fill) => write!(out, "wished {}", fill.0)?,
     }
-    Ok(out)
+    Ok(())
 }
 
 /// A refusal as text.

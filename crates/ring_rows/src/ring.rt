@@ -67,19 +67,26 @@ pub fn kept_text<R: Ring>(ring: &mut R, alloc: Global, answer: Answer) -> Result
     text
 }
 
-/// What a ring answers to an event that both rings can make, and after which both go on.
-pub fn answer<R: Ring>(ring: &mut R, alloc: Global, event: &Event) -> Result<String, NoMemory> {
+/// What a ring answers to an event of its writer, or to a wish; nothing to any other event.
+fn step_answer<R: Ring>(ring: &mut R, event: &Event) -> Option<Answer> {
     match event {
-        Event::Push { moment, len } => answer_text(alloc, &ring.push(*moment, *len)),
-        Event::PushClose => answer_text(alloc, &ring.push_close()),
-        Event::Step => answer_text(alloc, &ring.step()),
-        Event::Finish => answer_text(alloc, &ring.finish()),
-        Event::End(payload) => answer_text(alloc, &ring.end(payload.as_slice())),
+        Event::Push { moment, len } => Some(ring.push(*moment, *len)),
+        Event::PushClose => Some(ring.push_close()),
+        Event::Step => Some(ring.step()),
+        Event::Finish => Some(ring.finish()),
+        Event::End(payload) => Some(ring.end(payload.as_slice())),
+        Event::Wish => Some(ring.wish()),
+        _ => None,
+    }
+}
+
+/// What a ring answers to a whole write, a question, or a take.
+fn whole_answer<R: Ring>(ring: &mut R, alloc: Global, event: &Event) -> Result<String, NoMemory> {
+    match event {
         Event::Write { moment, payload } => match ring.write(*moment, payload.as_slice()) {
             Ok(()) => Ok(String::from_str(alloc, "written")?),
             Err(fault) => refused(alloc, fault),
         },
-        Event::Wish => answer_text(alloc, &ring.wish()),
         Event::Top => match ring.lent() {
             Ok(len) => Ok(format!(in alloc; "{len} bytes")?),
             Err(fault) => refused(alloc, fault),
@@ -90,6 +97,14 @@ pub fn answer<R: Ring>(ring: &mut R, alloc: Global, event: &Event) -> Result<Str
             let answer = ring.take(alloc)?;
             kept_text(ring, alloc, answer)
         }
+    }
+}
+
+/// What a ring answers to an event that both rings can make, and after which both go on.
+pub fn answer<R: Ring>(ring: &mut R, alloc: Global, event: &Event) -> Result<String, NoMemory> {
+    match step_answer(ring, event) {
+        Some(answer) => answer_text(alloc, &answer),
+        None => whole_answer(ring, alloc, event),
     }
 }
 
