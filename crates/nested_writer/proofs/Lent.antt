@@ -1,5 +1,5 @@
 -- The payload of the frame on top, which is lent.
-use Rattle.std.proofs.Common.{◌≡◌, ◌⊎◌, inl, ℕ, ◌+◌, ◌-◌, ◌≤◌, eqb, List, [], ◌∷◌, ◌++◌, length, take, drop, length-take-le, Option, Some, refl, sym, ap, ◌∙◌, subst, arith}
+use Rattle.std.proofs.Common.{◌≡◌, ◌⊎◌, inl, ℕ, ◌+◌, ◌-◌, ◌≤◌, eqb, Bool, true, false, cond, List, [], ◌∷◌, ◌++◌, length, take, drop, length-take-le, length-set, Option, None, Some, refl, sym, ap, ◌∙◌, subst, arith}
 use Rattle.std.specs.Prelude.{slice_set}
 use Rattle.std.specs.List.{slice_get}
 use Rattle.std.proofs.lemmas.List.{drop-take, drop_at, take-take, take_at}
@@ -21,7 +21,7 @@ use Rattle.nested_writer.specs.declared.frame.Purpose.TheVariants.{Record, Close
 use Rattle.nested_writer.specs.declared.frame.Frame.{Frame}
 use Rattle.nested_writer.specs.Stack.{Stack, kind_of}
 use Rattle.nested_writer.specs.Calls.{HasNoSlot, LacksSlot, IsTopSlot, slot_of, top_slot}
-use Rattle.nested_writer.specs.Next.{len_of, pushed_len}
+use Rattle.nested_writer.specs.Next.{len_of, pushed_len, place_of, top_place}
 use Rattle.nested_writer.specs.Lent.{Lent, lent_bytes, with_bytes}
 use Rattle.nested_writer.specs.Lending.{older_with, tail_with, with_top, IsLent}
 use Rattle.nested_writer.specs.IsStack.{IsOpenPage, is_tail, is_older, StandsAt, FramesStand, IsStack, Stands}
@@ -71,6 +71,27 @@ has_slot (top ∷ below) slot is lacks = subst HasNoSlot is lacks
 len_is : (purpose : Purpose) (len moment' len' : ℕ) → len_of purpose ≡ Some len → kind_of purpose ≡ for_record moment' len' → len ≡ len'
 len_is (Record moment len'') len moment' len' is kind = let same : for_record moment len'' ≡ for_record moment' len' = kind in let lens : len'' ≡ len' = cc in sym (some_is len'' len is) ∙ lens
 len_is Close len moment' len' is kind = absurd (let e = is in cc)
+
+-- its place
+pub slot_place : (frames : List Frame) (slot : Slot) (place : Place) → IsTopSlot frames slot → top_place frames ≡ Some place → slot.place ≡ place
+slot_place [] slot place none at = absurd none
+slot_place (top ∷ below) slot place has at = some_is slot.place place (ap place_of (sym has) ∙ at)
+
+-- as many pages are open, whatever is written
+cond_long : (b : Bool) (xs ys : List Contents) → length xs ≡ length ys → length (cond b xs ys) ≡ length xs
+cond_long true xs ys same = refl
+cond_long false xs ys same = sym same
+
+pub older_long : (s : Stack) (top : Option Slot) (page : Contents) → length (older_with s top page) ≡ length s.older
+older_long s None page = refl
+older_long s (Some slot) page = cond_long (eqb slot.fill s.tail.fill) s.older _ (sym (length-set s.older (slot.fill - s.done) page))
+
+no_items : (xs : List Contents) → 0 ≡ length xs → xs ≡ []
+no_items [] e = refl
+no_items (x ∷ xs) e = absurd (omega (arith, e))
+
+pub older_none : (s : Stack) (top : Option Slot) (page : Contents) → s.older ≡ [] → older_with s top page ≡ []
+older_none s top page none = no_items (older_with s top page) (sym (older_long s top page ∙ ap length none))
 
 -- ---- what is lent
 

@@ -113,7 +113,7 @@ impl Payload {
 
     /// The number of the page's first record.
     #[inline(always)]
-    pub(crate) fn first(&self) -> RecordNo
+    pub(crate) fn first_number(&self) -> RecordNo
         ensures { result.0 ≡ self.now.page.first }
     {
         self.page.first()
@@ -130,7 +130,7 @@ impl Payload {
 
     /// Which fill of its ring the page is.
     #[inline(always)]
-    pub(crate) fn fill(&self) -> FillNo
+    pub(crate) fn fill_number(&self) -> FillNo
         ensures { result.0 ≡ self.now.page.fill }
     {
         self.page.fill()

@@ -132,8 +132,8 @@ impl WriterStack {
             → IsReserved self.old top below moment len result self.new }
         ensures stack { HasActed self.old (reserve ∷ []) self.new }
     {
-        let number = self.tail.first().0 + self.tail.count();
-        let fill = self.tail.fill().0;
+        let number = self.tail.first_number().0 + self.tail.count();
+        let fill = self.tail.fill_number().0;
         let place = self.tail.put(self.last_moment, raised, len);
         self.last_moment = raised;
         let slot = Slot {
@@ -174,8 +174,8 @@ impl WriterStack {
         ensures number { result.number ≡ next_number self.old }
         ensures slot { IsTopSlot self.new.frames result }
     {
-        let number = self.tail.first().0 + self.tail.count();
-        let fill = self.tail.fill().0;
+        let number = self.tail.first_number().0 + self.tail.count();
+        let fill = self.tail.fill_number().0;
         let place = self
             .tail
             .put_plain(self.last_moment, pushed.moment, pushed.len);

@@ -5,7 +5,7 @@ use crate::payload::Payload;
 use crate::stack::WriterStack;
 
 impl WriterStack {
-    ghost use Rattle.std.specs.Prelude.{◌≡◌, ℕ, ◌≤◌, ◌↔◌, ◌⊎◌, [], List, length, Some, IsOk, IfOk};
+    ghost use Rattle.std.specs.Prelude.{◌≡◌, ℕ, ◌≤◌, ◌↔◌, ◌⊎◌, [], List, length, Some, IsOk, IfOk, OnOk};
     ghost use Rattle.std.specs.Borrow.{sem};
     ghost use Rattle.trace_model.specs.History.{Action};
     ghost use Rattle.trace_model.specs.Words.{slot_len};
@@ -14,7 +14,7 @@ impl WriterStack {
     ghost use Rattle.nested_writer.specs.Calls.{IsTopSlot, LacksSlot};
     ghost use Rattle.nested_writer.specs.Next.{pushed_len, top_place};
     ghost use Rattle.nested_writer.specs.IsStack.{IsStack, Stands};
-    ghost use Rattle.nested_writer.specs.Lent.{lent_bytes, with_bytes};
+    ghost use Rattle.nested_writer.specs.Lent.{Lent, lent_bytes, with_bytes};
     ghost use Rattle.nested_writer.specs.Lending.{LendsTop, IsLent, with_top};
 
     /// Why nothing is lent, if the frame on top has reserved nothing, or none stands.
@@ -53,15 +53,22 @@ impl WriterStack {
         ensures* lends { sem 𝓛 (LendsTop self.entry result) }
         ensures no_frame { result ≡ Err WriteFault.NoFrame ↔ self.old.frames ≡ [] }
         ensures not_reserved { result ≡ Err WriteFault.NotReserved ↔ LacksSlot self.old.frames }
+        ensures place { (place : Place)
+            → top_place self.old.frames ≡ Some place
+            → IfOk result (λ payload. payload.now.place ≡ place) }
         ensures lent { IfOk result (λ payload. IsLent self.old payload.now) }
         ensures held { (place : Place) → top_place self.old.frames ≡ Some place → IsOk result }
         ensures fits { (len : ℕ)
             → pushed_len self.old.frames ≡ Some len
             → IfOk result (λ payload. length (lent_bytes payload.now) ≡ slot_len len) }
+        ensures long { IfOk result (λ payload. length (lent_bytes payload.now) ≡ payload.now.place.len) }
         ensures word { IfOk result (λ payload. 4 ≤ length (lent_bytes payload.now)) }
         ensures holds { IfOk result (λ payload. (part : List ℕ)
             → length part ≡ length (lent_bytes payload.now)
             → lent_bytes (with_bytes payload.now part) ≡ part) }
+        ensures older { OnOk result ((last : Lent)
+            → length (with_top self.old last).older ≡ length self.old.older) }
+        ensures alone { OnOk result ((last : Lent) → self.old.older ≡ [] → (with_top self.old last).older ≡ []) }
         ensures written { (start : ℕ) (history : List Action)
             → IsStack start history self.old
             → IfOk result (λ payload. (part : List ℕ)
@@ -72,7 +79,7 @@ impl WriterStack {
             → Stands (with_top self.old (with_bytes payload.now part))) }
     {
         let slot = self.top_slot()?;
-        if slot.fill == self.tail.fill().0 {
+        if slot.fill == self.tail.fill_number().0 {
             self.tail.lend(slot.place);
             return Ok(&mut self.tail);
         }

@@ -41,8 +41,8 @@ impl WriterStack {
         ensures done { self.new.done ≡ self.old.done }
         ensures more { length self.new.older ≡ length self.old.older + 1 }
     {
-        let first = self.tail.first().0 + self.tail.count();
-        let fill = self.tail.fill().0 + 1;
+        let first = self.tail.first_number().0 + self.tail.count();
+        let fill = self.tail.fill_number().0 + 1;
         let page = Page::fresh(body, RecordNo(first), FillNo(fill));
         let tail = mem::replace(&mut self.tail, Payload::of(page));
         self.older.push(tail);

@@ -24,7 +24,7 @@ overflow_add-number c =
     let k' = (subst (IsStack start history) (sym c.self.view_is) k).holds in
     let fills = c.self.invariant.fills in
     let fits = number_fits start (opens_of history) (reserved_records history) (is_wished history) s k' (omega arith) in
-    omega (arith, c.first.ensures, c.count.ensures.count)
+    omega (arith, c.first_number.ensures, c.count.ensures.count)
 
 pub put_plain-place-requires-clause-last : goal.put_plain-place-requires-clause-last
 put_plain-place-requires-clause-last c =
@@ -39,7 +39,7 @@ plain : (c : goal.After-hold) → IsPlainTop (shown c.self.inside) c.args.pushed
 plain c = subst (λ (x : Stack). IsPlainTop x c.args.pushed) (sym c.self.view_is) c.requires.plain
 
 abbrev slot_of : goal.After-hold → Slot
-slot_of c = record { number = c.first.result.0 + c.count.result; fill = c.fill-fill.result.0; place = c.put_plain-place.result }
+slot_of c = record { number = c.first_number.result.0 + c.count.result; fill = c.fill_number-fill.result.0; place = c.put_plain-place.result }
 
 abbrev after : goal.After-hold → Stack
 after c = plain_put (shown c.self.inside) c.args.pushed (plain c) c.put_plain-place.new.self.page c.put_plain-place.result (slot_of c).number (slot_of c).fill
@@ -55,12 +55,12 @@ told : (c : goal.After-hold) → shown_after c ≡ after c
 told c = let held = c.hold.ensures (waits_of c.args.pushed) (found c).0 in λ i. record (shown c.self.inside) { tail = c.put_plain-place.new.self.page; frames = frames_from (held i) ((found c).1 i); last_moment = c.args.pushed.moment }
 
 number_is : (c : goal.After-hold) → (slot_of c).number ≡ next_number (shown c.self.inside)
-number_is c = omega (arith, c.first.ensures, c.count.ensures.count)
+number_is c = omega (arith, c.first_number.ensures, c.count.ensures.count)
 
 fill_is : (c : goal.After-hold) → (slot_of c).fill ≡ tail_fill (shown c.self.inside)
 fill_is c =
     let (start, history, k) = c.requires.stack in
-    c.fill-fill.ensures ∙ (subst (IsStack start history) (sym c.self.view_is) k).holds.tail_is.fill_is
+    c.fill_number-fill.ensures ∙ (subst (IsStack start history) (sym c.self.view_is) k).holds.tail_is.fill_is
 
 acts : (c : goal.After-hold) → HasActed (shown c.self.inside) (reserve ∷ []) (after c)
 acts c =

@@ -23,7 +23,7 @@ overflow_add-number c =
     let k' = (subst (IsStack start history) (sym c.self.view_is) k).holds in
     let fills = c.self.invariant.fills in
     let fits = number_fits start (opens_of history) (reserved_records history) (is_wished history) s k' (omega arith) in
-    omega (arith, c.first.ensures, c.count.ensures.count)
+    omega (arith, c.first_number.ensures, c.count.ensures.count)
 
 pub put-place-requires-clause-last : goal.put-place-requires-clause-last
 put-place-requires-clause-last c =
@@ -39,16 +39,16 @@ returns-clause-stack c = λ start history old.
     let on_top' : frames_from c.self.inside.top items ≡ top ∷ below = ap (λ (x : Stack). x.frames) c.self.view_is ∙ on_top in
     let found = top_is c.self.inside.top items top below c.self.invariant.top_first on_top' in
     let put = c.put-place.ensures in
-    let fill_is : c.fill-fill.result.0 ≡ tail_fill s = c.fill-fill.ensures ∙ k.holds.tail_is.fill_is in
+    let fill_is : c.fill_number-fill.result.0 ≡ tail_fill s = c.fill_number-fill.ensures ∙ k.holds.tail_is.fill_is in
     let delta : ℕ = c.args.raised - s.last_moment in
     let blank : Bool = is_blank s.tail.bytes in
     let raised : c.args.raised ≡ max c.args.moment s.last_moment = c.requires.raised ∙ ap (λ (x : Stack). max c.args.moment x.last_moment) (sym c.self.view_is) in
     let room = subst (λ (x : Stack). HasRecordRoom x c.args.moment c.args.len) (sym c.self.view_is) c.requires.room in
     let room' : length s.tail.bytes + encoded_len c.args.len delta blank ≤ s.size = subst (λ (m : ℕ). length s.tail.bytes + encoded_len c.args.len (m - s.last_moment) blank ≤ s.size) (sym raised) room in
-    let slot : Slot = record { number = c.first.result.0 + c.count.result; fill = c.fill-fill.result.0; place = c.put-place.result } in
+    let slot : Slot = record { number = c.first_number.result.0 + c.count.result; fill = c.fill_number-fill.result.0; place = c.put-place.result } in
     rw c.hold_any.ensures (subst (λ (p : Purpose). IsStack start (history ++ reserve ∷ []) (record s { tail = c.put-place.new.self.page; last_moment = c.args.raised; frames = record { purpose = p; progress = Reserved slot } ∷ items })) purpose
-    (reserved_with start history s top items c.args.moment c.args.len noted c.put-place.new.self.page c.put-place.result c.args.raised (c.first.result.0 + c.count.result) c.fill-fill.result.0
-    raised (omega (arith, c.first.ensures, c.count.ensures.count)) fill_is (on_top' ∙ ap (λ (fs : List Frame). top ∷ fs) (sym found.1)) purpose waits (omega (arith, put.longer, room')) record {
+    (reserved_with start history s top items c.args.moment c.args.len noted c.put-place.new.self.page c.put-place.result c.args.raised (c.first_number.result.0 + c.count.result) c.fill_number-fill.result.0
+    raised (omega (arith, c.first_number.ensures, c.count.ensures.count)) fill_is (on_top' ∙ ap (λ (fs : List Frame). top ∷ fs) (sym found.1)) purpose waits (omega (arith, put.longer, room')) record {
       page = put.page;
       records = put.records;
       long = put.longer;

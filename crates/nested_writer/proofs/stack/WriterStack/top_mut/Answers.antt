@@ -3,11 +3,11 @@ use Rattle.record_words.specs.declared.put.Place.{Place}
 use Rattle.nested_writer.specs.declared.frame.Slot.{Slot}
 use Rattle.nested_writer.specs.Stack.{Stack}
 use Rattle.nested_writer.specs.Inside.{shown}
-use Rattle.nested_writer.specs.Calls.{IsTopSlot}
+use Rattle.nested_writer.specs.Calls.{IsTopSlot, top_slot}
 use Rattle.nested_writer.specs.Lent.{Lent}
 use Rattle.nested_writer.specs.Lending.{IsLent}
 use Rattle.nested_writer.specs.IsStack.{Stands}
-use Rattle.nested_writer.proofs.Lent.{same_ends, top_in_tail, top_in_older, some_frame, has_slot, tail_within, tail_lent, other_page, older_within, older_lent, slot_fits, slot_word, lent_there, lent_written, lent_stays}
+use Rattle.nested_writer.proofs.Lent.{same_ends, top_in_tail, top_in_older, some_frame, has_slot, slot_place, older_long, older_none, tail_within, tail_lent, other_page, older_within, older_lent, slot_fits, slot_word, lent_there, lent_written, lent_stays}
 use Rattle.nested_writer.proofs.stack.WriterStack.top_mut.Goals as goal
 
 pub lend-requires : goal.lend-requires
@@ -16,14 +16,14 @@ lend-requires c =
     let slot : Slot = c.in_ok-slot.slot in
     let is : IsTopSlot s.frames slot = c.in_ok-slot.ensures.slot in
     let (start, h, k) = subst Stands (sym c.self.view_is) c.requires.stack in
-    record { within = tail_within start h s slot is k (c.if-slot-fill.true ∙ c.fill.ensures) }
+    record { within = tail_within start h s slot is k (c.if-slot-fill_number.true ∙ c.fill_number.ensures) }
 
-pub returns-then-slot-fill : goal.returns-then-slot-fill
-returns-then-slot-fill c =
+pub returns-then-slot-fill_number : goal.returns-then-slot-fill_number
+returns-then-slot-fill_number c =
     let s : Stack = shown c.self.inside in
     let slot : Slot = c.in_ok-slot.slot in
     let is : IsTopSlot s.frames slot = c.in_ok-slot.ensures.slot in
-    let same : slot.fill ≡ s.tail.fill = c.if-slot-fill.true ∙ c.fill.ensures in
+    let same : slot.fill ≡ s.tail.fill = c.if-slot-fill_number.true ∙ c.fill_number.ensures in
     let stands : Stands s = subst Stands (sym c.self.view_is) c.requires.stack in
     let payload : Lent = c.lend.new.self in
     let lent : IsLent s payload = subst (IsLent s) (sym c.lend.ensures) (tail_lent stands.0 stands.1 s slot is stands.2 same) in
@@ -35,6 +35,10 @@ returns-then-slot-fill c =
         lends = tt;
         no_frame = (λ e. absurd cc, λ none. absurd (some_frame s.frames slot is none));
         not_reserved = (λ e. absurd cc, λ lacks. absurd (has_slot s.frames slot is lacks));
+        place = λ place' at. place ∙ slot_place s.frames slot place' is at;
+        long = lent.long;
+        older = λ w. older_long s (top_slot s.frames) w.page;
+        alone = λ w none. older_none s (top_slot s.frames) w.page none;
         lent = lent;
         held = λ place' there. refl;
         fits = λ len is'. lent.long ∙ ap (λ (p : Place). p.len) place ∙ slot_fits stands.0 stands.1 s slot is stands.2 len is';
@@ -51,7 +55,7 @@ lend-payload-requires-clause-inside c =
     let slot : Slot = c.in_ok-slot.slot in
     let is : IsTopSlot s.frames slot = c.in_ok-slot.ensures.slot in
     let (start, h, k) = subst Stands (sym c.self.view_is) c.requires.stack in
-    (other_page start h s slot is k (λ same. c.if-slot-fill.false (same ∙ sym c.fill.ensures))).inside
+    (other_page start h s slot is k (λ same. c.if-slot-fill_number.false (same ∙ sym c.fill_number.ensures))).inside
 
 pub lend-payload-requires-clause-within : goal.lend-payload-requires-clause-within
 lend-payload-requires-clause-within c =
@@ -59,14 +63,14 @@ lend-payload-requires-clause-within c =
     let slot : Slot = c.in_ok-slot.slot in
     let is : IsTopSlot s.frames slot = c.in_ok-slot.ensures.slot in
     let (start, h, k) = subst Stands (sym c.self.view_is) c.requires.stack in
-    older_within start h s slot is k (λ same. c.if-slot-fill.false (same ∙ sym c.fill.ensures))
+    older_within start h s slot is k (λ same. c.if-slot-fill_number.false (same ∙ sym c.fill_number.ensures))
 
 pub returns : goal.returns
 returns c =
     let s : Stack = shown c.self.inside in
     let slot : Slot = c.in_ok-slot.slot in
     let is : IsTopSlot s.frames slot = c.in_ok-slot.ensures.slot in
-    let other : (slot.fill ≡ s.tail.fill → ⊥) = λ same. c.if-slot-fill.false (same ∙ sym c.fill.ensures) in
+    let other : (slot.fill ≡ s.tail.fill → ⊥) = λ same. c.if-slot-fill_number.false (same ∙ sym c.fill_number.ensures) in
     let stands : Stands s = subst Stands (sym c.self.view_is) c.requires.stack in
     let payload : Lent = c.lend-payload.result.now in
     let found = older_lent stands.0 stands.1 s slot is stands.2 other payload.page c.lend-payload.ensures.page in
@@ -79,6 +83,10 @@ returns c =
         lends = tt;
         no_frame = (λ e. absurd cc, λ none. absurd (some_frame s.frames slot is none));
         not_reserved = (λ e. absurd cc, λ lacks. absurd (has_slot s.frames slot is lacks));
+        place = λ place' at. place ∙ slot_place s.frames slot place' is at;
+        long = lent.long;
+        older = λ w. older_long s (top_slot s.frames) w.page;
+        alone = λ w none. older_none s (top_slot s.frames) w.page none;
         lent = lent;
         held = λ place' there. refl;
         fits = λ len is'. lent.long ∙ ap (λ (p : Place). p.len) place ∙ slot_fits stands.0 stands.1 s slot is stands.2 len is';
