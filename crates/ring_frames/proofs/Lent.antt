@@ -10,6 +10,7 @@ use Rattle.trace_model.specs.Frames.{for_record, Frame as ModelFrame}
 use Rattle.trace_model.specs.History.{Action}
 use Rattle.trace_model.specs.Ring.{Core}
 use Rattle.trace_model.proofs.Overwritten.{place-within}
+use Rattle.record_words.specs.declared.put.Place.{Place}
 use Rattle.page_image.specs.Contents.{Contents}
 use Rattle.page_image.specs.Lending.{with_payload}
 use Rattle.nested_writer.specs.declared.frame.Slot.{Slot}
@@ -17,8 +18,11 @@ use Rattle.nested_writer.specs.declared.frame.Progress.TheVariants.{Reserved}
 use Rattle.nested_writer.specs.declared.frame.Frame.{Frame}
 use Rattle.nested_writer.specs.Stack.{Stack, opened, tail_fill}
 use Rattle.nested_writer.specs.Calls.{IsTopSlot}
-use Rattle.nested_writer.specs.Lending.{with_slot}
+use Rattle.nested_writer.specs.Lent.{Lent, lent_bytes, with_bytes}
+use Rattle.nested_writer.specs.Lending.{with_slot, with_top, IsLent}
 use Rattle.nested_writer.specs.IsStack.{IsOpenPage, is_tail, is_older, IsStack}
+use Rattle.nested_writer.proofs.Ending.{open_page_is}
+use Rattle.nested_writer.proofs.Lent.{overwritten_there}
 use Rattle.ring_frames.specs.Value.{FramesValue}
 use Rattle.ring_frames.specs.AreFrames.{ring_frames, AreBelow, AreNotedAlike, AreFrames}
 use Rattle.ring_frames.specs.Answers.{open_page, bytes_of_progress, top_bytes}
@@ -66,17 +70,6 @@ on_top s slot is = by_frames s.frames refl is
 same_kind : (a b : ModelFrame) (xs ys : List ModelFrame) → ◌≡◌ {A = List ModelFrame} (a ∷ xs) (b ∷ ys) → a.kind ≡ b.kind
 same_kind a b xs ys e = let heads : a ≡ b = cc in ap (λ (f : ModelFrame). f.kind) heads
 
--- the bytes that are put over others stand there
-overwritten_there : (bytes : List ℕ) (start len : ℕ) (part : List ℕ) → length part ≡ len → start + len ≤ length bytes → bytes_at start len (take (length bytes) (overwritten bytes start part)) ≡ part
-overwritten_there bytes start len part long within =
-    let more : ℕ = length bytes - start in
-    let behind : List ℕ = drop (start + length part) bytes in
-    ap (λ (k : ℕ). take len (drop start (take k (overwritten bytes start part)))) (let sum : length bytes ≡ start + more = omega arith in sum)
-    ∙ ap (take len) (drop-take start more (overwritten bytes start part))
-    ∙ ap (λ (l : List ℕ). take len (take more l)) (drop_at (take start bytes) (part ++ behind) start (length-take-le start bytes (omega arith)))
-    ∙ take-take len more (part ++ behind) (omega arith)
-    ∙ take_at part behind len long
-
 -- the page of the slot, as it is when bytes are written there
 pub page_written : (s : Stack) (slot : Slot) (part : List ℕ) (page : Contents) → s.tail.fill ≡ tail_fill s → IsOpenPage s.done s.older s.tail slot.fill page → (open_page (with_slot s slot part) slot.fill).bytes ≡ (with_payload page slot.place.start part).bytes
 page_written s slot part page tail_is (is_tail at is) =
@@ -103,8 +96,8 @@ module _ (n size start : ℕ) (v : FramesValue) (c : Core) (k : AreFrames n size
   model_is = k.frames_are ∙ ap (λ (fs : List Frame). ring_frames fs (v.phase ∷ v.below)) t.stack_is
 
   -- what is lent are the bytes in the slot
-  pub lent_bytes : (now : List ℕ) → ((page : Contents) → IsOpenPage v.stack.done v.stack.older v.stack.tail slot.fill page → now ≡ slice_range page.bytes slot.place.start (slot.place.start + slot.place.len)) → now ≡ top_bytes v.stack v.stack.frames
-  lent_bytes now lent =
+  pub bytes_lent : (now : List ℕ) → ((page : Contents) → IsOpenPage v.stack.done v.stack.older v.stack.tail slot.fill page → now ≡ slice_range page.bytes slot.place.start (slot.place.start + slot.place.len)) → now ≡ top_bytes v.stack v.stack.frames
+  bytes_lent now lent =
       let (moment, len, kind, lies) = stands n size start v c k t.top t.rest slot t.stack_is t.has _ _ model_is in
       lent lies.page lies.open_page
       ∙ ap (λ (m : ℕ). take m (drop slot.place.start lies.page.bytes)) (let same : (slot.place.start + slot.place.len) - slot.place.start ≡ slot.place.len = omega arith in same)
@@ -143,3 +136,19 @@ module _ (n size start : ℕ) (v : FramesValue) (c : Core) (k : AreFrames n size
       ∙ ap (bytes_of_progress (with_slot v.stack slot part)) t.has
       ∙ ap (bytes_at slot.place.start slot.place.len) (page_written v.stack slot part lies.page k.stack_is.holds.tail_is.fill_is lies.open_page)
       ∙ overwritten_there lies.page.bytes slot.place.start slot.place.len part long within
+
+-- ---- what the stack lends
+
+module _ (n size start : ℕ) (v : FramesValue) (c : Core) (k : AreFrames n size start v c) (payload : Lent) (lent : IsLent v.stack payload) where
+  -- it is what stands in the slot of the frame on top
+  pub top_lent : lent_bytes payload ≡ top_bytes v.stack v.stack.frames
+  top_lent = bytes_lent n size start v c k lent.slot lent.on_top (lent_bytes payload) (λ page there.
+      ap (λ (p : Place). slice_range payload.page.bytes p.start (p.start + p.len)) lent.place_is
+      ∙ ap (λ (p : Contents). slice_range p.bytes lent.slot.place.start (lent.slot.place.start + lent.slot.place.len))
+      (open_page_is v.stack.done v.stack.older v.stack.tail lent.slot.fill payload.page page lent.open_page there))
+
+  -- what is written is what then stands there
+  pub top_written : (part : List ℕ) → length part ≡ length (lent_bytes payload) → top_bytes (with_top v.stack (with_bytes payload part)) v.stack.frames ≡ part
+  top_written part fills =
+      ap (λ (t : Stack). top_bytes t v.stack.frames) (lent.in_slot part)
+      ∙ written_there n size start v c k lent.slot lent.on_top part (fills ∙ lent.long ∙ ap (λ (p : Place). p.len) lent.place_is)

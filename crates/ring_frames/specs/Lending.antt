@@ -1,13 +1,16 @@
 -- The payload of the frame on top, which is lent out to be written.
-use Rattle.std.specs.Prelude.{◌≡◌, ℕ, List, ◌∷◌, length}
-use Rattle.std.specs.Borrow.{Lends, MutBor, Fml, Array, u8}
+use Rattle.std.specs.Prelude.{◌≡◌, ℕ, List, ◌∷◌, length, Result}
+use Rattle.std.specs.Borrow.{LendsIfOk, MutBor, Fml}
 use Rattle.trace_model.specs.Words.{slot_len}
 use Rattle.trace_model.specs.Frames.{for_record, Frame as ModelFrame}
 use Rattle.trace_model.specs.Ring.{Core}
 use Rattle.nested_writer.specs.declared.frame.Slot.{Slot}
 use Rattle.nested_writer.specs.declared.frame.Frame.{Frame}
 use Rattle.nested_writer.specs.Stack.{Stack}
-use Rattle.nested_writer.specs.Lending.{with_slot}
+use Rattle.nested_writer.specs.declared.fault.WriteFault.{WriteFault}
+use Rattle.nested_writer.specs.Lent.{Lent}
+use Rattle.nested_writer.specs.Lending.{with_slot, with_top}
+use Rattle.nested_writer.specs.contracts.payload.Payload as payload_rows
 use Rattle.ring_frames.specs.Value.{FramesValue}
 use Rattle.ring_frames.specs.AreFrames.{AreFrames}
 use Rattle.ring_frames.specs.Answers.{bytes_in, HoldSlot}
@@ -17,9 +20,14 @@ use Rattle.ring_frames.specs.contracts.frames.Frames.{the_row}
 abbrev pub with_slot_payload : FramesValue → Slot → List ℕ → FramesValue
 with_slot_payload v slot part = record v { stack = with_slot v.stack slot part }
 
--- the frames end with that slot set to the last bytes behind the result
-abbrev pub LendsSlot : MutBor FramesValue → Slot → MutBor (List ℕ) → Fml
-LendsSlot frames slot result = Lends the_row (Array u8 0) frames result (with_slot_payload frames.now slot)
+-- the frames with this page in place of that of the payload of the frame on top
+abbrev pub with_lent : FramesValue → Lent → FramesValue
+with_lent v payload = record v { stack = with_top v.stack payload }
+
+-- where the result is a payload, the frames end with the last value behind it; else nothing changes
+abbrev pub LendsTop : MutBor FramesValue → Result (MutBor Lent) WriteFault → Fml
+LendsTop frames result =
+    LendsIfOk the_row payload_rows.the_row frames result (with_lent frames.now) frames.now
 
 -- whatever is written there, the frames are those of the same states
 abbrev pub StaysFrames : FramesValue → Slot → Type 0

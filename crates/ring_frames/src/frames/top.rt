@@ -1,15 +1,20 @@
 //! The payload of the frame on top, lent to be written.
 use crate::frames::Frames;
-use nested_writer::WriteFault;
 use nested_writer::frame::Slot;
+use nested_writer::{Payload, WriteFault};
 
 impl Frames {
-    ghost use Rattle.std.specs.Prelude.{◌≡◌, ◌↔◌, ℕ, List, [], length, IfOk};
+    ghost use Rattle.std.specs.Prelude.{◌≡◌, ◌≤◌, ◌↔◌, ℕ, List, [], length, Some, IsOk, IfOk};
     ghost use Rattle.std.specs.Borrow.{sem};
+    ghost use Rattle.trace_model.specs.Words.{slot_len};
+    ghost use Rattle.record_words.specs.declared.put.Place.{Place};
+    ghost use Rattle.nested_writer.specs.declared.frame.Slot.{Slot};
     ghost use Rattle.nested_writer.specs.Calls.{LacksSlot, IsTopSlot};
-    ghost use Rattle.nested_writer.specs.Lending.{with_slot};
+    ghost use Rattle.nested_writer.specs.Next.{pushed_len, top_place};
+    ghost use Rattle.nested_writer.specs.Lent.{lent_bytes, with_bytes};
+    ghost use Rattle.nested_writer.specs.Lending.{IsLent, with_top};
     ghost use Rattle.ring_frames.specs.Answers.{top_bytes};
-    ghost use Rattle.ring_frames.specs.Lending.{FitsFrame, LeavesOthers, LendsSlot, StaysFrames};
+    ghost use Rattle.ring_frames.specs.Lending.{FitsFrame, LeavesOthers, LendsTop, StaysFrames};
     ghost use Rattle.ring_frames.specs.Steps.{IsShown};
 
     /// Where the record of the frame on top stands. Refused with `NoFrame` where none stands, and with `NotReserved`
@@ -24,21 +29,30 @@ impl Frames {
         self.stack.top_slot()
     }
 
-    /// The payload in the slot of the frame on top, to be written. All else stays as it is, so the payloads of the
-    /// other frames; and the frames are those of the same states whatever is written.
+    /// The payload in the slot of the frame on top, to be written: it acts as the slice of its bytes. All else stays as
+    /// it is, so the payloads of the other frames; and the frames are those of the same states whatever is written.
+    /// Refused as `top_slot` is.
     #[inline(always)]
-    pub fn payload_mut(&mut self, slot: Slot) -> &mut [u8]
+    pub fn top_mut(&mut self) -> Result<&mut Payload, WriteFault>
         requires shown { IsShown self.old }
-        requires slot { IsTopSlot self.old.stack.frames slot }
-        ensures* lends { sem 𝓛 (LendsSlot self.entry slot result) }
-        ensures payload { result.now ≡ top_bytes self.old.stack self.old.stack.frames }
-        ensures len { length result.now ≡ slot.place.len }
-        ensures fits { FitsFrame self.old slot }
-        ensures written { (part : List ℕ) → length part ≡ slot.place.len
-            → top_bytes (with_slot self.old.stack slot part) self.old.stack.frames ≡ part }
-        ensures others { LeavesOthers self.old.stack slot }
-        ensures stays { StaysFrames self.old slot }
+        ensures* lends { sem 𝓛 (LendsTop self.entry result) }
+        ensures no_frame { result ≡ Err WriteFault.NoFrame ↔ self.old.stack.frames ≡ [] }
+        ensures not_reserved { result ≡ Err WriteFault.NotReserved ↔ LacksSlot self.old.stack.frames }
+        ensures held { (place : Place) → top_place self.old.stack.frames ≡ Some place → IsOk result }
+        ensures lent { IfOk result (λ payload. IsLent self.old.stack payload.now) }
+        ensures len { (len : ℕ)
+            → pushed_len self.old.stack.frames ≡ Some len
+            → IfOk result (λ payload. length (lent_bytes payload.now) ≡ slot_len len) }
+        ensures word { IfOk result (λ payload. 4 ≤ length (lent_bytes payload.now)) }
+        ensures payload { IfOk result (λ payload.
+            lent_bytes payload.now ≡ top_bytes self.old.stack self.old.stack.frames) }
+        ensures written { IfOk result (λ payload. (part : List ℕ)
+            → length part ≡ length (lent_bytes payload.now)
+            → top_bytes (with_top self.old.stack (with_bytes payload.now part)) self.old.stack.frames ≡ part) }
+        ensures fits { (slot : Slot) → IsTopSlot self.old.stack.frames slot → FitsFrame self.old slot }
+        ensures others { (slot : Slot) → IsTopSlot self.old.stack.frames slot → LeavesOthers self.old.stack slot }
+        ensures stays { (slot : Slot) → IsTopSlot self.old.stack.frames slot → StaysFrames self.old slot }
     {
-        self.stack.payload_mut(slot)
+        self.stack.top_mut()
     }
 }
