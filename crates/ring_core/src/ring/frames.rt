@@ -8,7 +8,7 @@ impl Core {
     ghost use Rattle.trace_model.specs.Steps as model;
     ghost use Rattle.ring_frames.specs.declared.phase.Phase.TheVariants.{Idle};
     ghost use Rattle.ring_frames.specs.declared.phase.Turned.TheVariants.{Going};
-    ghost use Rattle.ring_frames.specs.Answers.{top_bytes, EndsPayload, KeepsPayloads};
+    ghost use Rattle.ring_frames.specs.Answers.{top_bytes, EndsPayload, KeepsPayloads, ZerosSlot};
     ghost use Rattle.ring_frames.specs.Phases.{told};
     ghost use Rattle.ring_core.specs.Steps.{Makes, IsRing, IsLate};
 
@@ -50,6 +50,7 @@ impl Core {
         requires phase { self.old.phase ≡ Idle }
         ensures makes { Makes self.old model.steps result self.new }
         ensures payloads { KeepsPayloads self.old.stack self.new.stack }
+        ensures zeros { ZerosSlot self.old.stack result self.new.stack }
     {
         self.frames.reserve()
     }

@@ -60,7 +60,9 @@ impl Core {
 fn first_links(alloc: Global, pages: usize, start: u64) -> Result<Vec<Link>, NoMemory>
     requires most { pages ≤ MAX_PAGES }
     requires start { start + pages < LINK_FILLS }
-    ensures { IfOk result (λ links. (length links.items ≡ pages) × AreFirstLinks pages start links.items) }
+    ensures pages { IfOk result (λ links. length links.items ≡ pages) }
+    ensures links { IfOk result (λ links. AreFirstLinks pages start links.items) }
+    ensures room { IfOk result (λ links. vec_capacity links ≡ pages) }
 {
     let mut links = Vec::with_capacity(alloc, pages)?;
     for position in 0..pages as u16 {
@@ -72,7 +74,9 @@ fn first_links(alloc: Global, pages: usize, start: u64) -> Result<Vec<Link>, NoM
 /// The pages of a new ring: each position has the page of its number.
 fn first_order(alloc: Global, pages: usize) -> Result<Vec<u16>, NoMemory>
     requires { pages ≤ MAX_PAGES }
-    ensures { IfOk result (λ order. (length order.items ≡ pages) × AreFirstPages order.items) }
+    ensures pages { IfOk result (λ order. length order.items ≡ pages) }
+    ensures order { IfOk result (λ order. AreFirstPages order.items) }
+    ensures room { IfOk result (λ order. vec_capacity order ≡ pages) }
 {
     let mut order = Vec::with_capacity(alloc, pages)?;
     for page in 0..pages as u16 {
@@ -92,7 +96,9 @@ fn first_homes(
     requires small { MIN_SIZE ≤ size }
     requires large { size ≤ MAX_SIZE }
     requires words { size % 4 ≡ 0 }
-    ensures { IfOk result (λ homes. (length homes.items ≡ pages + 1) × AreFirstHomes pages size tail homes.items) }
+    ensures pages { IfOk result (λ homes. length homes.items ≡ pages + 1) }
+    ensures homes { IfOk result (λ homes. AreFirstHomes pages size tail homes.items) }
+    ensures room { IfOk result (λ homes. vec_capacity homes ≡ pages + 1) }
 {
     let mut homes = Vec::with_capacity(alloc, pages + 1)?;
     for page in 0..pages {
@@ -121,6 +127,6 @@ fn first_home(
     Ok(Some(Page::fresh(body, RecordNo(0), FillNo(0))))
 }
 
-ghost use Rattle.std.specs.Prelude.{◌≡◌, ◌≢◌, ◌+◌, ◌%◌, ◌≤◌, ◌<◌, length, IfOk};
+ghost use Rattle.std.specs.Prelude.{◌≡◌, ◌≢◌, ◌+◌, ◌%◌, ◌≤◌, ◌<◌, length, vec_capacity, IfOk};
 ghost use Rattle.trace_model.specs.declared.limits.TheConstants.{MAX_PAGES, MIN_SIZE, MAX_SIZE, LINK_FILLS};
 ghost use Rattle.ring_core.specs.NewRing.{AreFirstLinks, AreFirstPages, IsFirstHome, AreFirstHomes};

@@ -1,6 +1,5 @@
 //! The steps by which pages come to the writer and go: a fill is begun, fills are closed, and the reader's wish is
 //! looked for.
-use crate::event::Answer;
 use crate::ring::Core;
 use ring_frames::Turned;
 
@@ -60,13 +59,13 @@ impl Core {
     /// A load of the reader's wish: where it is for the tail, and the tail holds a record and isn't the last fill, the
     /// frame closes it; else it closes what was begun meanwhile, or is gone.
     #[inline(always)]
-    pub(crate) fn load_wish(&mut self) -> Answer
+    pub(crate) fn load_wish(&mut self) -> Turned
         requires ring { IsRing self.old }
         requires top { self.old.stack.frames ≢ [] }
         requires phase { self.old.phase ≡ Wishing }
-        ensures makes { Makes self.old model.steps result self.new }
+        ensures makes { Makes self.old model.steps (told result) self.new }
         ensures payloads { KeepsPayloads self.old.stack self.new.stack }
     {
-        self.frames.load_wish(self.wish).answer()
+        self.frames.load_wish(self.wish)
     }
 }

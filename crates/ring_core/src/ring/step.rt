@@ -7,7 +7,7 @@ use ring_frames::Phase;
 impl Core {
     ghost use Rattle.trace_model.specs.Steps as model;
     ghost use Rattle.std.specs.Prelude.{◌≡◌};
-    ghost use Rattle.ring_frames.specs.Answers.{KeepsPayloads};
+    ghost use Rattle.ring_frames.specs.Answers.{KeepsPayloads, ZerosSlot};
     ghost use Rattle.ring_core.specs.Answers.{event_of, IsWhole, StepsPayloads};
     ghost use Rattle.ring_core.specs.Steps.{Makes, IsRing, HasItsSize, GivesBodyBack};
 
@@ -20,6 +20,7 @@ impl Core {
         ensures step { Makes self.old (event_of self.old event) result self.new }
         ensures given_back { GivesBodyBack event result }
         ensures payloads { StepsPayloads event self.old.stack self.new.stack }
+        ensures zeros { ZerosSlot self.old.stack result self.new.stack }
         ensures ring { IsRing self.new }
         ensures size { self.new.stack.size ≡ self.old.stack.size }
         ensures page { IsWhole self.old.stack.size result }
@@ -35,6 +36,7 @@ impl Core {
         ensures step { Makes self.old (event_of self.old event) result self.new }
         ensures given_back { GivesBodyBack event result }
         ensures payloads { StepsPayloads event self.old.stack self.new.stack }
+        ensures zeros { ZerosSlot self.old.stack result self.new.stack }
     {
         match event {
             Event::Push { moment, len } => self.push(moment, len),
@@ -52,6 +54,7 @@ impl Core {
         requires ring { IsRing self.old }
         ensures makes { Makes self.old model.steps result self.new }
         ensures payloads { KeepsPayloads self.old.stack self.new.stack }
+        ensures zeros { ZerosSlot self.old.stack result self.new.stack }
     {
         if self.frames.top().is_none() {
             return Answer::Refused(WriteFault::NoFrame);
@@ -70,7 +73,7 @@ impl Core {
             Phase::Clearing { noted, page } => self.clear(noted, page).answer(),
             Phase::Opening { noted, page } => self.open(noted, page).answer(),
             Phase::Releasing => self.release().answer(),
-            Phase::Wishing => self.load_wish(),
+            Phase::Wishing => self.load_wish().answer(),
         }
     }
 }

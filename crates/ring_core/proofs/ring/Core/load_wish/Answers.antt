@@ -13,6 +13,6 @@ load_wish-requires-clause-frames c =
     (n, size, start, m, record { reached = core.reached; are = core.shows.frames })
 
 pub returns-clause-makes : goal.returns-clause-makes
-returns-clause-makes c = rw c.answer.ensures
-    (subst (λ (x : CoreValue). Makes x steps (told c.load_wish.result) (shown record c.self.inside { frames = c.load_wish.new.self })) c.self.view_is
-    (looked_for_wish (shown c.self.inside) (told c.load_wish.result) c.load_wish.new.self c.load_wish.ensures.looks))
+returns-clause-makes c =
+    subst (λ (x : CoreValue). Makes x steps (told c.load_wish.result) (shown record c.self.inside { frames = c.load_wish.new.self })) c.self.view_is
+    (looked_for_wish (shown c.self.inside) (told c.load_wish.result) c.load_wish.new.self c.load_wish.ensures.looks)

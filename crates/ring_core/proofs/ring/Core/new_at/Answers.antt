@@ -6,14 +6,14 @@ pub returns : goal.returns
 returns c = new_core c.args.pages c.args.size c.args.start c.in_ok-links.links.items _ c.requires.pages c.requires.start record {
   frames = c.in_ok-frames.ensures;
   links_are = refl;
-  positions = c.in_ok-links.ensures.0;
-  links = c.in_ok-links.ensures.1;
+  positions = c.in_ok-links.ensures.pages;
+  links = c.in_ok-links.ensures.links;
   spare_link = c.normal.ensures;
-  pages = c.in_ok-order.ensures.0;
-  order = c.in_ok-order.ensures.1;
+  pages = c.in_ok-order.ensures.pages;
+  order = c.in_ok-order.ensures.order;
   spare = refl;
-  homes_are = c.in_ok-homes.ensures.0;
-  homes = c.in_ok-homes.ensures.1;
+  homes_are = c.in_ok-homes.ensures.pages;
+  homes = c.in_ok-homes.ensures.homes;
   wish = refl;
   reader = refl;
 }

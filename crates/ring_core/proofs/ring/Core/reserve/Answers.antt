@@ -1,5 +1,6 @@
 use Rattle.std.proofs.Common.{sym, subst}
 use Rattle.trace_model.specs.Steps.{steps}
+use Rattle.ring_frames.specs.Answers.{ZerosSlot}
 use Rattle.ring_core.specs.Value.{CoreValue}
 use Rattle.ring_core.specs.Inside.{shown}
 use Rattle.ring_core.specs.Steps.{IsRing, Makes}
@@ -14,3 +15,6 @@ reserve-requires-clause-frames c =
 pub returns-clause-makes : goal.returns-clause-makes
 returns-clause-makes c = subst (λ (x : CoreValue). Makes x steps c.reserve.result (shown record c.self.inside { frames = c.reserve.new.self })) c.self.view_is
     (made_privately (shown c.self.inside) steps c.reserve.result c.reserve.new.self c.reserve.ensures.step)
+
+pub returns-clause-zeros : goal.returns-clause-zeros
+returns-clause-zeros c = subst (λ (x : CoreValue). ZerosSlot x.stack c.reserve.result c.reserve.new.self.stack) c.self.view_is c.reserve.ensures.zeros
