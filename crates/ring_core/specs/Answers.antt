@@ -1,13 +1,14 @@
 -- What an event of a ring means in the model, and what comes with its answer.
-use Rattle.std.specs.Prelude.{◌≡◌, ℕ, List}
+use Rattle.std.specs.Prelude.{◌≡◌, ℕ, List, Some}
 use Rattle.trace_model.specs.Steps as model
 use Rattle.page_image.specs.Contents.{IsPage}
 use Rattle.nested_writer.specs.Stack.{Stack}
+use Rattle.nested_writer.specs.Next.{pushed_len}
 use Rattle.ring_core.specs.declared.event.Event.{Event}
 use Rattle.ring_core.specs.declared.event.Event.TheVariants.{Push, PushClose, Step, End, Read, Wish}
 use Rattle.ring_frames.specs.declared.answer.Answer.{Answer}
 use Rattle.ring_frames.specs.declared.answer.Answer.TheVariants.{Pushed, Going, Reserved, Ended, Gone, Refused, Looking, Empty, Moving, Taken as IsTaken, Wished}
-use Rattle.ring_frames.specs.Answers.{top_bytes, KeepsPayloads, EndsPayload}
+use Rattle.ring_frames.specs.Answers.{top_bytes, KeepsPayloads, EndsPayload, KeepsTop}
 use Rattle.ring_core.specs.Value.{CoreValue}
 
 -- ---- events
@@ -30,6 +31,15 @@ StepsPayloads Step old new = KeepsPayloads old new
 StepsPayloads End old new = EndsPayload old new
 StepsPayloads (Read body) old new = KeepsPayloads old new
 StepsPayloads Wish old new = KeepsPayloads old new
+
+-- The payload's length that the frame on top was pushed for: a push says it, and steps and the reader keep it.
+abbrev pub StepsTop : Event → Answer → Stack → Stack → Type 0
+StepsTop (Push moment len) result old new = result ≡ Pushed → pushed_len new.frames ≡ Some len
+StepsTop PushClose result old new = Unit {0}
+StepsTop Step result old new = KeepsTop result old new
+StepsTop End result old new = Unit {0}
+StepsTop (Read body) result old new = pushed_len new.frames ≡ pushed_len old.frames
+StepsTop Wish result old new = pushed_len new.frames ≡ pushed_len old.frames
 
 -- ---- answers
 

@@ -13,6 +13,7 @@ use Rattle.nested_writer.specs.declared.frame.Slot.{Slot}
 use Rattle.nested_writer.specs.declared.frame.Progress.{Progress}
 use Rattle.nested_writer.specs.declared.frame.Progress.TheVariants.{Waiting, Through, Reserved as HasReserved, Left}
 use Rattle.nested_writer.specs.declared.frame.Frame.{Frame}
+use Rattle.nested_writer.specs.Next.{pushed_len}
 use Rattle.nested_writer.specs.Stack.{Stack}
 use Rattle.nested_writer.specs.Calls.{LacksSlot, IsTopSlot}
 use Rattle.nested_writer.specs.Released.{IsWrittenPage}
@@ -101,3 +102,8 @@ ZerosSlot old result new = (number : RecordNo) (slot : Slot)
     → LacksSlot old.frames
     → IsTopSlot new.frames slot
     → bytes_in new slot ≡ replicate slot.place.len 0
+
+-- If the frame on top goes on or its record is reserved by this answer, it is for a payload of the same length as before.
+pub record KeepsTop (result : Answer) (old new : Stack) : Type 0 where
+  pub going : result ≡ Going → pushed_len new.frames ≡ pushed_len old.frames
+  pub reserved : (number : RecordNo) → result ≡ Reserved number → pushed_len new.frames ≡ pushed_len old.frames

@@ -8,7 +8,7 @@ impl Core {
     ghost use Rattle.trace_model.specs.Steps as model;
     ghost use Rattle.std.specs.Prelude.{◌≡◌};
     ghost use Rattle.ring_frames.specs.Answers.{KeepsPayloads, ZerosSlot};
-    ghost use Rattle.ring_core.specs.Answers.{event_of, IsWhole, StepsPayloads};
+    ghost use Rattle.ring_core.specs.Answers.{event_of, IsWhole, StepsPayloads, StepsTop};
     ghost use Rattle.ring_core.specs.Steps.{Makes, IsRing, HasItsSize, GivesBodyBack};
 
     /// One event, which is one step of the ring's model: its answer tells the model's, and the ring is in the state
@@ -21,6 +21,7 @@ impl Core {
         ensures given_back { GivesBodyBack event result }
         ensures payloads { StepsPayloads event self.old.stack self.new.stack }
         ensures zeros { ZerosSlot self.old.stack result self.new.stack }
+        ensures top { StepsTop event result self.old.stack self.new.stack }
         ensures ring { IsRing self.new }
         ensures size { self.new.stack.size ≡ self.old.stack.size }
         ensures page { IsWhole self.old.stack.size result }
@@ -37,6 +38,7 @@ impl Core {
         ensures given_back { GivesBodyBack event result }
         ensures payloads { StepsPayloads event self.old.stack self.new.stack }
         ensures zeros { ZerosSlot self.old.stack result self.new.stack }
+        ensures top { StepsTop event result self.old.stack self.new.stack }
     {
         match event {
             Event::Push { moment, len } => self.push(moment, len),
