@@ -1,11 +1,11 @@
 -- The payload of the frame on top, which is lent and written.
-use Rattle.std.proofs.Common.{◌≡◌, ℕ, ◌+◌, ◌-◌, ◌≤◌, Bool, true, false, cond, eqb, List, [], ◌∷◌, ◌++◌, length, length-set, take, drop, refl, sym, ap, ◌∙◌, subst, arith, length-take-le}
+use Rattle.std.proofs.Common.{◌≡◌, ℕ, ◌+◌, ◌-◌, Bool, true, false, cond, eqb, List, [], ◌∷◌, length, length-set, take, drop, refl, sym, ap, ◌∙◌, subst, arith}
 use Rattle.std.specs.Prelude.{slice_range, slice_set, slice_index_or}
 use Rattle.std.proofs.lemmas.Bool.{cond-true, cond-false, eq-eqb, ne_eqb}
-use Rattle.std.proofs.lemmas.List.{drop-take, drop_at, take-take, take_at, get_or-set_same}
+use Rattle.std.proofs.lemmas.List.{get_or-set_same}
 use Rattle.std.proofs.lemmas.Option.{slice_get_within, get_or_from_slice_get}
 use Rattle.trace_model.specs.Words.{slot_len}
-use Rattle.trace_model.specs.Overwriting.{overwritten, bytes_at}
+use Rattle.trace_model.specs.Overwriting.{bytes_at}
 use Rattle.trace_model.specs.Frames.{for_record, Frame as ModelFrame}
 use Rattle.trace_model.specs.History.{Action}
 use Rattle.trace_model.specs.Ring.{Core}
@@ -22,6 +22,7 @@ use Rattle.nested_writer.specs.Lent.{Lent, lent_bytes, with_bytes}
 use Rattle.nested_writer.specs.Lending.{with_slot, with_top, IsLent}
 use Rattle.nested_writer.specs.IsStack.{IsOpenPage, is_tail, is_older, IsStack}
 use Rattle.nested_writer.proofs.Ending.{open_page_is}
+use Rattle.nested_writer.proofs.Lending.{lent_len}
 use Rattle.nested_writer.proofs.Lent.{overwritten_there}
 use Rattle.ring_frames.specs.Value.{FramesValue}
 use Rattle.ring_frames.specs.AreFrames.{ring_frames, AreBelow, AreNotedAlike, AreFrames}
@@ -102,6 +103,15 @@ module _ (n size start : ℕ) (v : FramesValue) (c : Core) (k : AreFrames n size
       lent lies.page lies.open_page
       ∙ ap (λ (m : ℕ). take m (drop slot.place.start lies.page.bytes)) (let same : (slot.place.start + slot.place.len) - slot.place.start ≡ slot.place.len = omega arith in same)
       ∙ sym (bytes_are n size start v c k t.top t.rest slot t.stack_is t.has _ _ model_is lies.page lies.open_page)
+
+  -- as many as the slot has room for
+  pub top_long : length (top_bytes v.stack v.stack.frames) ≡ slot.place.len
+  top_long =
+      let (moment, len, kind, lies) = stands n size start v c k t.top t.rest slot t.stack_is t.has _ _ model_is in
+      ap length (sym (bytes_lent (slice_range lies.page.bytes slot.place.start (slot.place.start + slot.place.len)) (λ page there.
+      ap (λ (p : Contents). slice_range p.bytes slot.place.start (slot.place.start + slot.place.len))
+      (open_page_is v.stack.done v.stack.older v.stack.tail slot.fill lies.page page lies.open_page there))))
+      ∙ lent_len start c.history v.stack slot lies.page is lies.open_page k.stack_is
 
   -- whatever is written there, the frames are those of the same state
   pub written_stays : (part : List ℕ) → length part ≡ slot.place.len → ((history : List Action) → IsStack start history v.stack → length part ≡ slot.place.len → IsStack start history (with_slot v.stack slot part)) → AreFrames n size start (with_slot_payload v slot part) c

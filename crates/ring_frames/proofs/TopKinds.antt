@@ -1,6 +1,6 @@
 -- What the frame on top was pushed for: a push says it, and each step keeps it by which the frame goes on or reserves.
 use Rattle.std.proofs.Common.{◌≡◌, ℕ, List, [], ◌∷◌, Option, Some, None, refl, sym, ap, ◌∙◌, subst}
-use Rattle.trace_model.specs.Frames.{Kind, for_record, for_close, FrameState, waiting, reserved, left, Role, owner, helper, Phase, idle, looking, claiming, looking_next, marking, clearing, opening, releasing, wishing, Frame}
+use Rattle.trace_model.specs.Frames.{Kind, for_record, for_close, FrameState, waiting, reserved, left, Phase, idle, looking, claiming, looking_next, marking, clearing, opening, releasing, wishing, Frame}
 use Rattle.trace_model.specs.Ring.{Core}
 use Rattle.trace_model.specs.Steps as model
 use Rattle.nested_writer.specs.declared.frame.Purpose.{Purpose}
@@ -10,7 +10,7 @@ use Rattle.nested_writer.specs.Stack.{kind_of}
 use Rattle.nested_writer.specs.Next.{len_of, pushed_len}
 use Rattle.ring_frames.specs.declared.phase.Phase as code
 use Rattle.ring_frames.specs.declared.answer.Answer.{Answer}
-use Rattle.ring_frames.specs.declared.answer.Answer.TheVariants.{Pushed, Going, Reserved}
+use Rattle.ring_frames.specs.declared.answer.Answer.TheVariants.{Pushed}
 use Rattle.ring_frames.specs.Value.{FramesValue}
 use Rattle.ring_frames.specs.AreFrames.{ring_frames, AreFrames}
 use Rattle.ring_frames.specs.Answers.{Tells, KeepsTop}
