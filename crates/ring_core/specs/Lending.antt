@@ -1,6 +1,6 @@
 -- The payload of the frame on top, which a ring lends out to be written.
-use Rattle.std.specs.Prelude.{◌≡◌, ℕ, List, [], ◌∷◌, length}
-use Rattle.std.specs.Borrow.{Lends, MutBor, Fml, Array, u8}
+use Rattle.std.specs.Prelude.{◌≡◌, ℕ, List, [], ◌∷◌, length, Result}
+use Rattle.std.specs.Borrow.{LendsIfOk, MutBor, Fml}
 use Rattle.trace_model.specs.Words.{slot_len}
 use Rattle.trace_model.specs.Frames.{for_record, Frame as ModelFrame}
 use Rattle.trace_model.specs.Ring.{Core}
@@ -9,7 +9,11 @@ use Rattle.nested_writer.specs.declared.frame.Progress.{Progress}
 use Rattle.nested_writer.specs.declared.frame.Progress.TheVariants.{Waiting, Through, Reserved, Left}
 use Rattle.nested_writer.specs.declared.frame.Frame.{Frame}
 use Rattle.nested_writer.specs.Stack.{Stack}
+use Rattle.nested_writer.specs.declared.fault.WriteFault.{WriteFault}
+use Rattle.nested_writer.specs.Lent.{Lent}
 use Rattle.nested_writer.specs.Lending.{with_slot}
+use Rattle.nested_writer.specs.Lending as stack
+use Rattle.nested_writer.specs.contracts.payload.Payload as payload_rows
 use Rattle.ring_core.specs.Value.{CoreValue}
 use Rattle.ring_core.specs.IsCore.{IsCore}
 use Rattle.ring_frames.specs.Answers.{top_bytes}
@@ -35,9 +39,13 @@ with_top_payload v part = record v { stack = with_top v.stack v.stack.frames par
 abbrev pub with_slot_payload : CoreValue → Slot → List ℕ → CoreValue
 with_slot_payload v slot part = record v { stack = with_slot v.stack slot part }
 
--- the ring ends with that slot set to the last bytes behind the result
-abbrev pub LendsSlot : MutBor CoreValue → Slot → MutBor (List ℕ) → Fml
-LendsSlot core slot result = Lends the_row (Array u8 0) core result (with_slot_payload core.now slot)
+-- the ring with this page in place of that of the payload of the frame on top
+abbrev pub with_lent : CoreValue → Lent → CoreValue
+with_lent v payload = record v { stack = stack.with_top v.stack payload }
+
+-- where the result is a payload, the ring ends with the last value behind it; else nothing changes
+abbrev pub LendsTop : MutBor CoreValue → Result (MutBor Lent) WriteFault → Fml
+LendsTop core result = LendsIfOk the_row payload_rows.the_row core result (with_lent core.now) core.now
 
 -- whatever is written there, the ring is in the same states
 abbrev pub StaysRing : CoreValue → Type 0

@@ -1,46 +1,49 @@
 //! The payload of the frame on top, lent to be written.
 use crate::ring::Core;
-use nested_writer::WriteFault;
-use nested_writer::frame::Slot;
+use nested_writer::{Payload, WriteFault};
 
 impl Core {
-    ghost use Rattle.std.specs.Prelude.{◌≡◌, ◌↔◌, ℕ, List, [], length, IfOk};
+    ghost use Rattle.std.specs.Prelude.{◌≡◌, ◌≤◌, ◌↔◌, ℕ, List, [], length, Some, IsOk, IfOk};
     ghost use Rattle.std.specs.Borrow.{sem};
+    ghost use Rattle.trace_model.specs.Words.{slot_len};
+    ghost use Rattle.record_words.specs.declared.put.Place.{Place};
+    ghost use Rattle.nested_writer.specs.declared.frame.Slot.{Slot};
     ghost use Rattle.nested_writer.specs.Calls.{LacksSlot, IsTopSlot};
+    ghost use Rattle.nested_writer.specs.Next.{pushed_len, top_place};
+    ghost use Rattle.nested_writer.specs.Lent.{lent_bytes, with_bytes};
+    ghost use Rattle.nested_writer.specs.Lending.{IsLent, with_top};
     ghost use Rattle.ring_frames.specs.Answers.{top_bytes};
     ghost use Rattle.ring_frames.specs.Lending.{LeavesOthers};
-    ghost use Rattle.ring_core.specs.Lending.{FitsFrame, LendsSlot, StaysRing, with_slot_payload};
-    ghost use Rattle.nested_writer.specs.Lending.{with_slot};
+    ghost use Rattle.ring_core.specs.Lending.{FitsFrame, LendsTop, StaysRing, with_lent};
     ghost use Rattle.ring_core.specs.Steps.{IsRing};
 
-    /// Where the record of the frame on top stands. Refused with `NoFrame` where none stands, and with `NotReserved`
-    /// where the one on top has no record.
+    /// The payload in the slot of the frame on top, to be written: it acts as the slice of its bytes. All else stays as
+    /// it is, so the payloads of the other frames; and the ring is in the same state whatever is written. Refused with
+    /// `NoFrame` if none stands, and with `NotReserved` if the one on top has no record.
     #[inline(always)]
-    pub fn top_slot(&self) -> Result<Slot, WriteFault>
-        ensures no_frame { result ≡ Err WriteFault.NoFrame ↔ self.now.stack.frames ≡ [] }
-        ensures not_reserved { result ≡ Err WriteFault.NotReserved ↔ LacksSlot self.now.stack.frames }
-        ensures slot { IfOk result (λ slot. IsTopSlot self.now.stack.frames slot) }
-        ensures found { (slot : Slot) → IsTopSlot self.now.stack.frames slot → result ≡ Ok slot }
-    {
-        self.frames.top_slot()
-    }
-
-    /// The payload in the slot of the frame on top, to be written. All else stays as it is, so the payloads of the
-    /// other frames; and the ring is in the same state whatever is written.
-    #[inline(always)]
-    pub fn payload_mut(&mut self, slot: Slot) -> &mut [u8]
+    pub fn top_mut(&mut self) -> Result<&mut Payload, WriteFault>
         requires ring { IsRing self.old }
-        requires slot { IsTopSlot self.old.stack.frames slot }
-        ensures* lends { sem 𝓛 (LendsSlot self.entry slot result) }
-        ensures payload { result.now ≡ top_bytes self.old.stack self.old.stack.frames }
-        ensures len { length result.now ≡ slot.place.len }
-        ensures fits { FitsFrame self.old slot }
-        ensures written { (part : List ℕ) → length part ≡ slot.place.len
-            → top_bytes (with_slot self.old.stack slot part) self.old.stack.frames ≡ part }
-        ensures others { LeavesOthers self.old.stack slot }
-        ensures stays { StaysRing self.old }
-        ensures ring { (part : List ℕ) → length part ≡ slot.place.len → IsRing (with_slot_payload self.old slot part) }
+        ensures* lends { sem 𝓛 (LendsTop self.entry result) }
+        ensures no_frame { result ≡ Err WriteFault.NoFrame ↔ self.old.stack.frames ≡ [] }
+        ensures not_reserved { result ≡ Err WriteFault.NotReserved ↔ LacksSlot self.old.stack.frames }
+        ensures held { (place : Place) → top_place self.old.stack.frames ≡ Some place → IsOk result }
+        ensures lent { IfOk result (λ payload. IsLent self.old.stack payload.now) }
+        ensures len { (len : ℕ)
+            → pushed_len self.old.stack.frames ≡ Some len
+            → IfOk result (λ payload. length (lent_bytes payload.now) ≡ slot_len len) }
+        ensures word { IfOk result (λ payload. 4 ≤ length (lent_bytes payload.now)) }
+        ensures payload { IfOk result (λ payload.
+            lent_bytes payload.now ≡ top_bytes self.old.stack self.old.stack.frames) }
+        ensures written { IfOk result (λ payload. (part : List ℕ)
+            → length part ≡ length (lent_bytes payload.now)
+            → top_bytes (with_top self.old.stack (with_bytes payload.now part)) self.old.stack.frames ≡ part) }
+        ensures ring { IfOk result (λ payload. (part : List ℕ)
+            → length part ≡ length (lent_bytes payload.now)
+            → IsRing (with_lent self.old (with_bytes payload.now part))) }
+        ensures fits { (slot : Slot) → IsTopSlot self.old.stack.frames slot → FitsFrame self.old slot }
+        ensures others { (slot : Slot) → IsTopSlot self.old.stack.frames slot → LeavesOthers self.old.stack slot }
+        ensures stays { (slot : Slot) → IsTopSlot self.old.stack.frames slot → StaysRing self.old }
     {
-        self.frames.payload_mut(slot)
+        self.frames.top_mut()
     }
 }
