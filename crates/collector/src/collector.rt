@@ -3,6 +3,7 @@ use crate::index::Index;
 use crate::ranges::Stretch;
 use page_numbers::Parcel;
 use std::alloc::Global;
+use std::fmt;
 use std::marker::Model;
 use trace_model::{CpuId, NoMemory};
 
@@ -102,5 +103,14 @@ impl Collector {
     {
         self.parcels.truncate(count);
         self.index = index;
+    }
+}
+
+/// The parcels that it keeps.
+impl fmt::Debug for Collector {
+    fn fmt<W: fmt::Write>(&self, f: &mut fmt::Formatter<W>) -> fmt::Result {
+        f.debug_struct("Collector")
+            .field("parcels", &self.parcels)
+            .finish_non_exhaustive()
     }
 }

@@ -11,6 +11,7 @@ mod top;
 use link_marks::Link;
 use page_image::Page;
 use ring_frames::{Frames, Reader};
+use std::fmt;
 use std::marker::Model;
 
 /// A ring of N pages and a spare, the writer's frames and the reader. The page of a fill that is begun and not closed
@@ -62,5 +63,15 @@ impl Core {
         ensures { result ≡ self.now.stack.size }
     {
         self.frames.size()
+    }
+}
+
+/// How many frames stand, and of how many bytes of data the pages are: a ring has no short text.
+impl fmt::Debug for Core {
+    fn fmt<W: fmt::Write>(&self, f: &mut fmt::Formatter<W>) -> fmt::Result {
+        f.debug_struct("Core")
+            .field("depth", &self.depth())
+            .field("size", &self.size())
+            .finish_non_exhaustive()
     }
 }

@@ -27,3 +27,5 @@ pub mod TopAnswers
 pub mod Turning
 pub mod StepActions
 pub mod WholeAppends
+pub mod TopKinds
+pub mod Rooms

@@ -1,5 +1,6 @@
 pub mod Value
 pub mod Calls
+pub mod Rooms
 pub mod Lending
 pub mod Takes
 pub mod NewReader

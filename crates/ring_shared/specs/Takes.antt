@@ -9,7 +9,7 @@ use Rattle.trace_model.specs.Partition.{IsPartition}
 use Rattle.link_marks.specs.Reached.{IsReached}
 use Rattle.link_marks.specs.AnswerLaws.{ArePassed}
 use Rattle.link_marks.specs.KeptPartition.{pieces_of}
-use Rattle.page_image.specs.Contents.{Contents, records_of_page}
+use Rattle.page_image.specs.Contents.{Contents, records_of_page, IsPage}
 use Rattle.ring_frames.specs.Answers.{IsTakenPage}
 use Rattle.ring_frames.specs.ReaderPhases.{reader_phase_of}
 use Rattle.ring_frames.specs.declared.reader.ReaderPhase.{ReaderPhase}
@@ -127,6 +127,12 @@ abbrev pub IsTake : Shape → Reading → List ℕ → Take → Reading → Type
 IsTake shape before body (Page page missed) after = IsPageTaken shape before page missed after
 IsTake shape before body (Empty done back) after = (length back ≡ length body) × IsEmptyFound shape before done after
 IsTake shape before body (Moving fill back) after = (length back ≡ length body) × IsSentAway shape before fill.0 after
+
+-- what the take hands out: a page of this size, or the body, of this size too
+abbrev pub IsOfSize : ℕ → Take → Type 0
+IsOfSize size (Page page missed) = IsPage page × (page.size ≡ size)
+IsOfSize size (Empty done back) = length back ≡ size
+IsOfSize size (Moving fill back) = length back ≡ size
 
 -- the number that the take answered, where it found nothing
 abbrev pub empty_of : Take → Option ℕ

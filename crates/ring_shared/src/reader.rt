@@ -5,6 +5,7 @@ mod taking;
 
 use ring_frames::Reader as Progress;
 use ring_steps::ReaderSeat;
+use std::fmt;
 use std::marker::Model;
 
 /// The end of a running ring at which pages are taken.
@@ -39,4 +40,13 @@ impl Model for Reader {
     } };
 
     ghost invariant = { λ r. r.seat.shape.pages ≡ vec_capacity r.order };
+}
+
+/// What the last take answered if it found nothing: the rest of a reader has no short text.
+impl fmt::Debug for Reader {
+    fn fmt<W: fmt::Write>(&self, f: &mut fmt::Formatter<W>) -> fmt::Result {
+        f.debug_struct("Reader")
+            .field("empty_at", &self.empty_at())
+            .finish_non_exhaustive()
+    }
 }

@@ -5,7 +5,7 @@ use page_image::Page;
 use std::alloc::Global;
 
 /// What is left of a ring whose ends were joined.
-#[derive(Drop)]
+#[derive(Debug, Drop)]
 pub struct Settled {
     pub(crate) tail: Page,
 }
@@ -26,7 +26,7 @@ impl Settled {
 }
 
 /// Why two ends weren't settled: `settle` takes no memory, and never answers it.
-#[derive(Drop)]
+#[derive(Debug, Drop)]
 pub enum SettleFault {
     /// There was no memory. The ends come back.
     NoMemory(Writer, Reader),

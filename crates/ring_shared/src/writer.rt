@@ -12,6 +12,7 @@ mod write;
 use ring_frames::Frames;
 use ring_steps::WriterSeat;
 use std::collections::VecDeque;
+use std::fmt;
 use std::marker::Model;
 
 /// The end of a running ring at which records are put in, by writers of which each may interrupt the one before.
@@ -62,5 +63,16 @@ impl Writer {
         ensures { result ≡ self.now.frames.stack.done }
     {
         self.frames.done()
+    }
+}
+
+/// How many frames stand, and the number of the oldest fill that is not closed: the rest of a writer has no
+/// short text.
+impl fmt::Debug for Writer {
+    fn fmt<W: fmt::Write>(&self, f: &mut fmt::Formatter<W>) -> fmt::Result {
+        f.debug_struct("Writer")
+            .field("depth", &self.depth())
+            .field("done", &self.done())
+            .finish_non_exhaustive()
     }
 }

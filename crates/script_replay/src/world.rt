@@ -3,7 +3,7 @@ use collector::Collector;
 use replay_log::LogLine;
 
 /// What the replay of a script leaves: its collectors, by their numbers, and the log.
-#[derive(Drop)]
+#[derive(Debug, Drop)]
 pub struct World {
     pub collectors: Vec<Collector>,
     pub log: Vec<LogLine>,

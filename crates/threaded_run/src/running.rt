@@ -20,7 +20,7 @@ use std::thread::{Scope, Threads};
 use trace_script::{ReplayFault, Script};
 
 /// What a run leaves.
-#[derive(Drop)]
+#[derive(Debug, Drop)]
 pub struct Ran {
     /// The collectors of the script, in their order. No channel promises that what was taken reached them: audit each.
     pub collectors: Vec<Collector>,

@@ -9,7 +9,7 @@ impl Reader {
     ghost use Rattle.trace_model.specs.Steps.{wishes, wished_for};
     ghost use Rattle.ring_steps.specs.Seats.{IsReaderStep};
     ghost use Rattle.ring_shared.specs.declared.take.Turn.TheVariants.{Done};
-    ghost use Rattle.ring_shared.specs.Takes.{IsReader, IsTake, TakesSteps, EmptyAfter, SameRing, empty_of};
+    ghost use Rattle.ring_shared.specs.Takes.{IsReader, IsTake, TakesSteps, EmptyAfter, SameRing, IsOfSize, empty_of};
 
     /// Takes the oldest page that is closed and unread, for which `body`, of the ring's data size in bytes, goes into
     /// the ring; with any other answer a body of that size comes back. It answers as soon as one of its steps does. It
@@ -20,6 +20,7 @@ impl Reader {
         requires size { length body ≡ self.old.shape.size }
         ensures took { IsTake self.old.shape self.old.part body result self.new.part }
         ensures steps { TakesSteps self.old.shape self.old.part result self.new.part }
+        ensures size { IsOfSize self.old.shape.size result }
         ensures empty_at { self.new.empty_at ≡ empty_of result }
         ensures ring { SameRing self.old self.new }
         ensures reader { IsReader self.new }
@@ -62,6 +63,7 @@ impl Reader {
         ensures fill { result.0 ≡ self.old.part.reader.seen }
         ensures step { IsReaderStep self.old.shape self.old.part (λ _. ⊤) wishes (wished_for result.0) self.new.part }
         ensures wished { self.new ≡ record self.old { part = record self.old.part { wish = result.0 + 1 } } }
+        ensures ring { SameRing self.old self.new }
         ensures reader { IsReader self.new }
     {
         let fill = FillNo(self.at.seen);

@@ -27,12 +27,15 @@ enum Aim {
 
 impl Writer {
     ghost use Rattle.std.specs.Prelude.{◌≡◌, ℕ, ◌∷◌, List};
+    ghost use Rattle.trace_model.specs.declared.numbers.RecordNo.{RecordNo};
     ghost use Rattle.trace_model.specs.Frames.{Frame as ModelFrame};
     ghost use Rattle.link_marks.specs.FrameOutcomes.{IsReserving, IsLeaving};
     ghost use Rattle.ring_shared.specs.Value.{SameWriter};
     ghost use Rattle.ring_shared.specs.Calls.{IsWriter};
     ghost use Rattle.ring_frames.specs.declared.phase.Phase.TheVariants.{Wishing};
+    ghost use Rattle.ring_frames.specs.declared.answer.Answer.TheVariants.{Reserved, Gone};
     ghost use Rattle.ring_frames.specs.Answers.{KeepsPayloads, ZerosSlot};
+    ghost use Rattle.ring_shared.specs.Rooms.{rooms, IsOneMore};
     ghost use Rattle.ring_shared.specs.Finishing.{Finishes, IsFinished, ZerosFinished, Reserves, Leaves, Closes, IsGoneOrRefused, met_behind};
 
     /// Steps a close frame, or one that was ended or refused, until it is gone, and any other record frame until its
@@ -45,6 +48,8 @@ impl Writer {
         ensures finished { Finishes self.old.shape self.old.part result self.new.part }
         ensures payloads { KeepsPayloads self.old.frames.stack self.new.frames.stack }
         ensures zeros { ZerosSlot self.old.frames.stack result self.new.frames.stack }
+        ensures room { (number : RecordNo) → result ≡ Reserved number → rooms self.new ≡ rooms self.old }
+        ensures gone { result ≡ Gone → IsOneMore (rooms self.old) (rooms self.new) }
         ensures ring { SameWriter self.old self.new }
         ensures writer { IsWriter self.new }
     {

@@ -6,18 +6,22 @@ use std::marker::Brand;
 use trace_model::RecordNo;
 
 impl Writer {
-    ghost use Rattle.std.specs.Prelude.{◌≡◌, ◌≢◌, ℕ, [], Some};
+    ghost use Rattle.std.specs.Prelude.{◌≡◌, ◌≢◌, ℕ, [], ◌∷◌, Some, None};
     ghost use Rattle.trace_model.specs.Steps as model;
+    ghost use Rattle.trace_model.specs.Words.{slot_len};
     ghost use Rattle.trace_model.specs.Frames.{noted_fill};
     ghost use Rattle.link_marks.specs.Seats.{PhaseIsPrivate};
     ghost use Rattle.nested_writer.specs.Stack.{opened};
     ghost use Rattle.nested_writer.specs.PlainTop.{IsPlainTop};
+    ghost use Rattle.nested_writer.specs.declared.stack.leave.Ended.TheVariants.{Pending};
     ghost use Rattle.ring_frames.specs.declared.phase.Phase.TheVariants.{Idle};
     ghost use Rattle.ring_frames.specs.Value.{phase_of};
     ghost use Rattle.ring_frames.specs.Answers.{top_bytes, EndsPayload, KeepsPayloads, ZerosSlot};
     ghost use Rattle.ring_frames.specs.Phases.{told};
+    ghost use Rattle.ring_shared.specs.Value.{SameWriter};
     ghost use Rattle.ring_shared.specs.Calls.{IsWriter, MakesSome};
     ghost use Rattle.ring_shared.specs.Nearer.{IsNearer};
+    ghost use Rattle.ring_shared.specs.Rooms.{rooms, IsOneMore};
 
     /// A writer begins: a frame is pushed for a record of this moment, below `MOMENT_LIMIT`, and of a payload of `len`
     /// bytes. `Pushed`; or refused, and nothing changed: `TooDeep` where four frames stand, `TooLong` where the record
@@ -27,6 +31,9 @@ impl Writer {
         requires writer { IsWriter self.old }
         ensures makes { MakesSome self.old (model.pushes moment len) result self.new }
         ensures payloads { KeepsPayloads self.old.frames.stack self.new.frames.stack }
+        ensures room { result ≡ Answer.Pushed → rooms self.new ≡ Some (slot_len len) ∷ rooms self.old }
+        ensures ring { SameWriter self.old self.new }
+        ensures writer { IsWriter self.new }
     {
         self.seat.note::<Brand, _>(&(moment, len));
         self.frames.push(moment, len)
@@ -37,6 +44,9 @@ impl Writer {
         requires writer { IsWriter self.old }
         ensures makes { MakesSome self.old model.pushes_close result self.new }
         ensures payloads { KeepsPayloads self.old.frames.stack self.new.frames.stack }
+        ensures room { result ≡ Answer.Pushed → rooms self.new ≡ None ∷ rooms self.old }
+        ensures ring { SameWriter self.old self.new }
+        ensures writer { IsWriter self.new }
     {
         self.seat.note::<Brand, _>(&());
         self.frames.push_close()
@@ -50,6 +60,9 @@ impl Writer {
         ensures makes { MakesSome self.old (model.ends (top_bytes self.old.frames.stack self.old.frames.stack.frames)) result
             self.new }
         ensures payloads { EndsPayload self.old.frames.stack self.new.frames.stack }
+        ensures rooms { result ≡ Answer.Ended Pending → IsOneMore (rooms self.old) (rooms self.new) }
+        ensures ring { SameWriter self.old self.new }
+        ensures writer { IsWriter self.new }
     {
         self.seat.note::<Brand, _>(&self.frames);
         self.frames.end()

@@ -4,13 +4,17 @@ use nested_writer::WriteFault;
 use ring_frames::{Answer, Phase, Turned};
 
 impl Writer {
-    ghost use Rattle.std.specs.Prelude.{◌≢◌, []};
+    ghost use Rattle.std.specs.Prelude.{◌≡◌, ◌≢◌, []};
+    ghost use Rattle.trace_model.specs.declared.numbers.RecordNo.{RecordNo};
     ghost use Rattle.trace_model.specs.Steps as model;
+    ghost use Rattle.ring_frames.specs.declared.answer.Answer.TheVariants.{Going, Reserved, Gone};
     ghost use Rattle.ring_frames.specs.declared.phase.Phase.TheVariants.{Idle};
     ghost use Rattle.ring_frames.specs.Answers.{KeepsPayloads, ZerosSlot};
     ghost use Rattle.ring_frames.specs.Phases.{told};
+    ghost use Rattle.ring_shared.specs.Value.{SameWriter};
     ghost use Rattle.ring_shared.specs.Calls.{IsWriter, MakesSome};
     ghost use Rattle.ring_shared.specs.Nearer.{IsNearer};
+    ghost use Rattle.ring_shared.specs.Rooms.{rooms, IsOneMore};
 
     /// One step of the frame on top, in its phase: a step on one word, or one that touches none. `Going` while it
     /// stands and has reserved nothing or has left; `Reserved` with its record's number, whose slot holds only zeros
@@ -24,6 +28,11 @@ impl Writer {
         ensures nearer { IsNearer self.old self.new }
         ensures payloads { KeepsPayloads self.old.frames.stack self.new.frames.stack }
         ensures zeros { ZerosSlot self.old.frames.stack result self.new.frames.stack }
+        ensures going { result ≡ Going → rooms self.new ≡ rooms self.old }
+        ensures room { (number : RecordNo) → result ≡ Reserved number → rooms self.new ≡ rooms self.old }
+        ensures gone { result ≡ Gone → IsOneMore (rooms self.old) (rooms self.new) }
+        ensures ring { SameWriter self.old self.new }
+        ensures writer { IsWriter self.new }
     {
         if self.frames.is_empty() {
             return Answer::Refused(WriteFault::NoFrame);

@@ -11,6 +11,7 @@ impl Writer {
     ghost use Rattle.ring_frames.specs.Answers.{top_bytes};
     ghost use Rattle.ring_frames.specs.Lending.{LeavesOthers};
     ghost use Rattle.ring_shared.specs.Calls.{IsWriter};
+    ghost use Rattle.ring_shared.specs.Rooms.{IsTopRoom};
     ghost use Rattle.ring_shared.specs.Lending.{FitsFrame, LendsSlot, StaysWriter};
 
     /// Where the record of the frame on top stands. Refused with `NoFrame` where none stands, and with `NotReserved`
@@ -35,6 +36,7 @@ impl Writer {
         ensures payload { result.now ≡ top_bytes self.old.frames.stack self.old.frames.stack.frames }
         ensures len { length result.now ≡ slot.place.len }
         ensures fits { FitsFrame self.old slot }
+        ensures room { IsTopRoom self.old (length result.now) }
         ensures written { (part : List ℕ) → length part ≡ slot.place.len
             → top_bytes (with_slot self.old.frames.stack slot part) self.old.frames.stack.frames ≡ part }
         ensures others { LeavesOthers self.old.frames.stack slot }

@@ -13,6 +13,7 @@ impl Writer {
     ghost use Rattle.ring_shared.specs.Calls.{IsWriter};
     ghost use Rattle.ring_frames.specs.Answers.{KeepsPayloads};
     ghost use Rattle.ring_shared.specs.Covering.{CoversPayloads, KeepsCovered};
+    ghost use Rattle.ring_shared.specs.Rooms.{rooms};
     ghost use Rattle.ring_shared.specs.WholeWrites.{IsWritten, IsRefusedWrite, IsReserved, EndsRecord};
 
     /// Writes a record of this moment and payload in one call: what `begin`, `finish_top`, the payload's copy into what
@@ -25,6 +26,7 @@ impl Writer {
         ensures refused { (fault : WriteFault) → result ≡ Err fault
             → IsRefusedWrite self.old.shape self.old.part moment (length payload.now) fault self.new.part }
         ensures payloads { KeepsPayloads self.old.frames.stack self.new.frames.stack }
+        ensures rooms { rooms self.new ≡ rooms self.old }
         ensures ring { SameWriter self.old self.new }
         ensures writer { IsWriter self.new }
     {

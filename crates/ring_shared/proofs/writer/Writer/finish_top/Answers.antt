@@ -1,11 +1,11 @@
 use Rattle.std.specs.Prelude.{Option, Some, IfSome, List, []}
-use Rattle.std.proofs.Common.{◌≡◌, ◌≢◌, sym, ◌∙◌, subst}
+use Rattle.std.proofs.Common.{◌≡◌, ◌≢◌, refl, sym, ◌∙◌, subst}
 use Rattle.link_marks.specs.FrameOutcomes.{IsLeaving}
 use Rattle.nested_writer.specs.declared.frame.Frame as stack
 use Rattle.nested_writer.specs.Calls.{top_of}
 use Rattle.nested_writer.specs.declared.frame.Pushed.{Pushed}
 use Rattle.nested_writer.specs.PlainTop.{IsPlainTop}
-use Rattle.ring_frames.specs.declared.answer.Answer.TheVariants.{Reserved}
+use Rattle.ring_frames.specs.declared.answer.Answer.TheVariants.{Reserved, Gone}
 use Rattle.ring_frames.specs.declared.phase.Phase.TheVariants.{Wishing}
 use Rattle.ring_shared.specs.declared.writer.finish.Aim.TheVariants as aim
 use Rattle.ring_shared.specs.Value.{WriterValue}
@@ -15,6 +15,7 @@ use Rattle.ring_shared.specs.contracts.writer.Writer.{the_view}
 use Rattle.ring_shared.proofs.Aims.{IsOnTop, reserving_on_top, finishes_reserving, finishes_leaving}
 use Rattle.ring_shared.proofs.Depths.{reserving_top}
 use Rattle.ring_shared.proofs.Finishes.{reserving_first, reserving_ends}
+use Rattle.ring_shared.proofs.Rooms.{finished_rooms, finished_gone}
 use Rattle.ring_shared.proofs.TopAnswers.{wishing_on_top}
 use Rattle.ring_shared.proofs.writer.Writer.finish_top.Goals as goal
 use Rattle.ring_shared.proofs.writer.Writer.finish_top.Goals.{in-Wishing, in_default}
@@ -52,3 +53,16 @@ returns-then-not-is_empty-clause-finished c =
     (λ none. let yes = c.is_empty.ensures.1 none in let no = c.if-not-is_empty.true in cc)
     (elim c.match-matches.branch [ in-Wishing w ↦ sym c.phase.ensures ∙ w.in-Wishing.is | in_default w ↦ absurd (let no = w.matches-is in let yes = c.if-matches.true in cc) ]))
     c.finish_wishing.ensures.leaves
+
+-- ---- rooms
+
+pub returns-then-not-is_empty-clause-gone : goal.returns-then-not-is_empty-clause-gone
+returns-then-not-is_empty-clause-gone c gone = finished_gone _ _ c.finish_wishing.result _ (returns-then-not-is_empty-clause-finished c) gone
+
+pub returns-in-Gone-clause-gone : goal.returns-in-Gone-clause-gone
+returns-in-Gone-clause-gone c gone = finished_gone _ _ Gone _ c.in-Gone.ensures.finished refl
+
+pub returns-in-Ok-clause-room : goal.returns-in-Ok-clause-room
+returns-in-Ok-clause-room c number told =
+    let (slot, on_top, finishes) = c.in-Reserved.ensures.finished in
+    finished_rooms _ _ _ _ finishes record { 0 = slot.number } refl

@@ -8,6 +8,8 @@ use Rattle.ring_steps.specs.Views.{Writing}
 use Rattle.ring_shared.specs.Value.{WriterValue}
 use Rattle.ring_shared.specs.Calls.{IsWriter, MakesSome}
 use Rattle.ring_shared.specs.Finishing.{Leaves}
+use Rattle.ring_shared.specs.Rooms.{rooms, rooms_of}
+use Rattle.ring_shared.proofs.Rooms.{write_rooms}
 use Rattle.ring_shared.specs.WholeWrites.{IsRefusedWrite, IsWritten}
 use Rattle.ring_shared.specs.contracts.writer.Writer.{the_view}
 use Rattle.ring_shared.proofs.Called.{writer_seen}
@@ -168,3 +170,19 @@ returns-in-Going-clause-payloads c =
     let end : WriterValue = c.leave_on-refusal.new.self in
     subst (λ (x : WriterValue). KeepsPayloads x.frames.stack end.frames.stack) c.self.view_is
     (kept_then v.frames.stack c.stay.new.self.stack end.frames.stack (kept_then v.frames.stack c.write.new.self.stack c.stay.new.self.stack c.write.ensures.payloads c.stay.ensures.payloads) c.leave_on-refusal.ensures.payloads)
+
+-- ---- rooms
+
+pub returns-in_default-clause-rooms : goal.returns-in_default-clause-rooms
+returns-in_default-clause-rooms c =
+    let v : WriterValue = the_view c.self.inside in
+    write_rooms v.shape v.part c.write_by_steps.new.self.part c.args.moment c.args.payload.now c.write_by_steps.result c.write_by_steps.ensures.written c.write_by_steps.ensures.refused ∙ ap rooms c.self.view_is
+
+pub returns-then-not-is_wished-clause-rooms : goal.returns-then-not-is_wished-clause-rooms
+returns-then-not-is_wished-clause-rooms c = ap rooms_of (returns-then-not-is_wished-clause-written c refl).frames
+
+pub returns-in-Gone-clause-rooms : goal.returns-in-Gone-clause-rooms
+returns-in-Gone-clause-rooms c = ap rooms_of (returns-in-Gone-clause-written c refl).frames
+
+pub returns-in-Going-clause-rooms : goal.returns-in-Going-clause-rooms
+returns-in-Going-clause-rooms c = ap rooms_of (returns-in-Going-clause-written c refl).frames
