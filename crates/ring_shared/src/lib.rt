@@ -3,6 +3,37 @@
 //! Both share the words of one table (`ring_steps`), and no call waits for the other end. The writer puts records into
 //! the ring, nested ones too, and moves the head on where the ring is full; the reader takes the oldest page that is
 //! closed and unread, and knows how many records were lost in front of it.
+//!
+//! Code without loops names no fact of the ends: `ring` gives what their calls ask for, and each call gives it again. A
+//! loop names what it keeps, which is `IsWriter` of a writer, `IsReader` of a reader, and that it is the same end as
+//! before (`SameWriter`, `SameRing`). So of the steps of the frame on top until one of them answers:
+//!
+//! ```text
+//! ghost use Rattle.ring_shared.specs.Value.{SameWriter};
+//! ghost use Rattle.ring_shared.specs.Calls.{IsWriter};
+//!
+//! fn finish(writer: &mut Writer) -> Answer
+//!     requires writer { IsWriter writer.old }
+//!     ensures writer { IsWriter writer.new }
+//!     ensures ring { SameWriter writer.old writer.new }
+//! {
+//!     for made in 0..64 {
+//!         let _made = made;
+//!         match writer.step() {
+//!             Answer::Going => {}
+//!             answer => return answer,
+//!         }
+//!     }
+//!     Answer::Going
+//! }
+//! ```
+//!
+//! and in `proofs/finish/Invariants.antt`, after its `use` lines:
+//!
+//! ```text
+//! abbrev pub invariant-loop-made : goal.invariant-loop-made
+//! invariant-loop-made l = IsWriter l.writer × SameWriter l.initial.writer l.writer
+//! ```
 #![tactic(auto)]
 
 pub mod laws;

@@ -46,12 +46,15 @@ impl Model for Writer {
 }
 
 impl Writer {
-    ghost use Rattle.std.specs.Prelude.{◌≡◌, length};
+    ghost use Rattle.std.specs.Prelude.{◌≡◌, [], length};
+    ghost use Rattle.ring_shared.specs.Calls.{IsWriter};
 
     /// How many frames stand.
     #[inline(always)]
     pub fn depth(&self) -> usize
-        ensures { result ≡ length self.now.frames.stack.frames }
+        ensures stack { result ≡ length self.now.frames.stack.frames }
+        ensures part { IsWriter self.now → result ≡ length self.now.part.frames }
+        ensures none { IsWriter self.now → result ≡ 0 → self.now.part.frames ≡ [] }
     {
         self.frames.depth()
     }
@@ -60,7 +63,8 @@ impl Writer {
     /// closed.
     #[inline(always)]
     pub fn done(&self) -> u64
-        ensures { result ≡ self.now.frames.stack.done }
+        ensures stack { result ≡ self.now.frames.stack.done }
+        ensures part { IsWriter self.now → result ≡ self.now.part.done }
     {
         self.frames.done()
     }

@@ -18,7 +18,7 @@ loop-answer-init c =
     record {
       writer = c.requires.writer;
       ring = (refl, refl);
-      depth = c.depth-depth.ensures ∙ depth_is v c.requires.writer;
+      depth = c.depth-depth.ensures.stack ∙ depth_is v c.requires.writer;
       some = (frame, below, top);
       amid = λ other others is. leaving_first v.shape other others v.part is (leaving_top v.part.frames frame other below others top leaves is);
       payloads = same_stack v.frames.stack v.frames.stack refl;
@@ -32,7 +32,7 @@ returns-then-depth-clause-leaves c = λ frame below top.
     let h = c.loop-answer.invariant in
     let old : WriterValue = c.loop-answer.self in let new : WriterValue = c.step-answer.new.self in let shape : Shape = c.args.self.now.shape in
     let makes = c.step-answer.ensures.makes in
-    let less = c.if-depth.true in let now_deep = c.depth.ensures ∙ depth_is new makes.writer in let deep = h.depth in
+    let less = c.if-depth.true in let now_deep = c.depth.ensures.stack ∙ depth_is new makes.writer in let deep = h.depth in
     subst (λ (x : Answer). Leaves shape below c.args.self.now.part x new.part) (sym c.told.ensures)
     (leaving_ends shape below c.args.self.now.part c.loop-answer.met old.part new.part c.step-answer.result (h.amid frame below top)
     (call_in shape old new c.step-answer.result h.ring.0 makes) (omega arith))
@@ -48,7 +48,7 @@ loop-answer-smaller c =
     let makes = c.step-answer.ensures.makes in
     let (frame, below, top) = h.some in
     let a : IsAmidLeaving shape below c.args.self.now.part c.loop-answer.met old.part = h.amid frame below top in
-    let more = c.if-depth.false in let now_deep = c.depth.ensures ∙ depth_is new makes.writer in let deep = h.depth in
+    let more = c.if-depth.false in let now_deep = c.depth.ensures.stack ∙ depth_is new makes.writer in let deep = h.depth in
     c.step-answer.ensures.nearer a.frame below a.top (leaving_unnumbered a.frame.kind a.frame.state a.leaves)
     (leaving_stands shape below c.args.self.now.part c.loop-answer.met old.part new.part c.step-answer.result a
     (call_in shape old new c.step-answer.result h.ring.0 makes) (λ less. omega arith))
@@ -59,7 +59,7 @@ loop-answer-preserved c =
     let old : WriterValue = c.loop-answer.self in let new : WriterValue = c.step-answer.new.self in let shape : Shape = c.args.self.now.shape in
     let first : Writing = c.args.self.now.part in
     let makes = c.step-answer.ensures.makes in
-    let more = c.if-depth.false in let now_deep = c.depth.ensures ∙ depth_is new makes.writer in let deep = h.depth in
+    let more = c.if-depth.false in let now_deep = c.depth.ensures.stack ∙ depth_is new makes.writer in let deep = h.depth in
     let call = call_in shape old new c.step-answer.result h.ring.0 makes in
     let stands : length new.part.frames < length old.part.frames → ⊥ = λ less. omega arith in
     let (frame, below, top) = h.some in
@@ -80,7 +80,7 @@ returns-then-depth-clause-gone c =
     let h = c.loop-answer.invariant in
     let old : WriterValue = c.loop-answer.self in let new : WriterValue = c.step-answer.new.self in let shape : Shape = c.args.self.now.shape in
     let makes = c.step-answer.ensures.makes in
-    let less = c.if-depth.true in let now_deep = c.depth.ensures ∙ depth_is new makes.writer in let deep = h.depth in
+    let less = c.if-depth.true in let now_deep = c.depth.ensures.stack ∙ depth_is new makes.writer in let deep = h.depth in
     let (frame, below, top) = h.some in
     subst IsGoneOrRefused (sym c.told.ensures)
     (leaving_told shape below c.args.self.now.part c.loop-answer.met old.part new.part c.step-answer.result (h.amid frame below top)

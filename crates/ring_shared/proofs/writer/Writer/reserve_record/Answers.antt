@@ -23,8 +23,8 @@ returns-then-depth-clause-refused c = λ fault e.
     let shape_is = c.begin.ensures.makes.shape_is in
     let why : WriteFault = c.in-Some-met_first.fault in
     let same : why ≡ fault = cc in
-    let before_deep = c.depth-depth.ensures ∙ depth_is x c.requires.writer in
-    let now_deep = c.depth.ensures ∙ depth_is two c.finish_top.ensures.writer in
+    let before_deep = c.depth-depth.ensures.stack ∙ depth_is x c.requires.writer in
+    let now_deep = c.depth.ensures.stack ∙ depth_is two c.finish_top.ensures.writer in
     let more = c.if-depth.true in
     let deep : length x.part.frames < length two.part.frames = omega arith in
     subst (λ (f : WriteFault). IsRefusedWrite x.shape x.part c.args.moment c.args.len f c.finish_top-then-depth.new.self.part) same
@@ -57,8 +57,8 @@ returns-else-depth-clause-refused c = λ fault e.
     let x : WriterValue = c.args.self.now in let one : WriterValue = c.begin.new.self in let two : WriterValue = c.finish_top.new.self in
     let why : WriteFault = c.in-Some-met_first.fault in
     let same : why ≡ fault = cc in
-    let before_deep = c.depth-depth.ensures ∙ depth_is x c.requires.writer in
-    let now_deep = c.depth.ensures ∙ depth_is two c.finish_top.ensures.writer in
+    let before_deep = c.depth-depth.ensures.stack ∙ depth_is x c.requires.writer in
+    let now_deep = c.depth.ensures.stack ∙ depth_is two c.finish_top.ensures.writer in
     let flat = c.if-depth.false in
     let low : length two.part.frames ≤ length x.part.frames = omega arith in
     subst (λ (f : WriteFault). IsRefusedWrite x.shape x.part c.args.moment c.args.len f two.part) same
