@@ -27,5 +27,6 @@ pub mod TopAnswers
 pub mod Turning
 pub mod StepActions
 pub mod WholeAppends
+pub mod TopLent
 pub mod TopKinds
 pub mod Rooms

@@ -1,9 +1,12 @@
 -- The payload of the frame on top, which a writer lends out to be written.
-use Rattle.std.specs.Prelude.{◌≡◌, ℕ, List, ◌∷◌, length}
-use Rattle.std.specs.Borrow.{Lends, MutBor, Fml, Array, u8}
+use Rattle.std.specs.Prelude.{◌≡◌, ℕ, List, ◌∷◌, length, Result}
+use Rattle.std.specs.Borrow.{LendsIfOk, MutBor, Fml}
 use Rattle.trace_model.specs.Words.{slot_len}
 use Rattle.trace_model.specs.Frames.{for_record, Frame}
+use Rattle.nested_writer.specs.declared.fault.WriteFault.{WriteFault}
 use Rattle.nested_writer.specs.declared.frame.Slot.{Slot}
+use Rattle.nested_writer.specs.Lent.{Lent, lent_bytes, with_bytes}
+use Rattle.nested_writer.specs.contracts.payload.Payload as payload_rows
 use Rattle.ring_frames.specs.Lending as frames
 use Rattle.ring_shared.specs.Value.{WriterValue}
 use Rattle.ring_shared.specs.Calls.{IsWriter}
@@ -13,13 +16,20 @@ use Rattle.ring_shared.specs.contracts.writer.Writer.{the_row}
 abbrev pub with_slot_payload : WriterValue → Slot → List ℕ → WriterValue
 with_slot_payload v slot part = record v { frames = frames.with_slot_payload v.frames slot part }
 
--- the writer ends with that slot set to the last bytes behind the result
-abbrev pub LendsSlot : MutBor WriterValue → Slot → MutBor (List ℕ) → Fml
-LendsSlot writer slot result = Lends the_row (Array u8 0) writer result (with_slot_payload writer.now slot)
+-- the writer with this page in place of that of the payload of the frame on top
+abbrev pub with_lent : WriterValue → Lent → WriterValue
+with_lent v payload = record v { frames = frames.with_lent v.frames payload }
+
+-- if the result is a payload, the writer ends with the last value behind it; else nothing changes
+abbrev pub LendsTop : MutBor WriterValue → Result (MutBor Lent) WriteFault → Fml
+LendsTop writer result =
+    LendsIfOk the_row payload_rows.the_row writer result (with_lent writer.now) writer.now
 
 -- whatever is written there, the writer's fields are its part of the ring
-abbrev pub StaysWriter : WriterValue → Slot → Type 0
-StaysWriter v slot = (part : List ℕ) → length part ≡ slot.place.len → IsWriter (with_slot_payload v slot part)
+abbrev pub StaysWriter : WriterValue → Lent → Type 0
+StaysWriter v payload = (part : List ℕ)
+    → length part ≡ length (lent_bytes payload)
+    → IsWriter (with_lent v (with_bytes payload part))
 
 -- the slot has just the room of the record that the frame on top was pushed for
 abbrev pub FitsFrame : WriterValue → Slot → Type 0

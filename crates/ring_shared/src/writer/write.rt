@@ -17,7 +17,7 @@ impl Writer {
     ghost use Rattle.ring_shared.specs.WholeWrites.{IsWritten, IsRefusedWrite, IsReserved, EndsRecord};
 
     /// Writes a record of this moment and payload in one call: what `begin`, `finish_top`, the payload's copy into what
-    /// `payload_mut` lends, `end` and `finish_top` do together, nested in the frames that stand. Refused as `begin` is,
+    /// `top_mut` lends, `end` and `finish_top` do together, nested in the frames that stand. Refused as `begin` is,
     /// or as `Crowded` or `Worn`, and then no record is left behind.
     #[inline(always)]
     pub fn write(&mut self, moment: u64, payload: &[u8]) -> Result<(), WriteFault>
@@ -58,7 +58,7 @@ impl Writer {
         ensures writer { IsWriter self.new }
     {
         let slot = self.reserve_record(moment, payload.len())?;
-        put_padded(self.payload_mut(slot), payload);
+        put_padded(self.top_mut()?, payload);
         self.end_record(slot);
         Ok(())
     }
