@@ -15,7 +15,7 @@ use Rattle.page_image.specs.Contents.{Contents, records_of_page}
 use Rattle.page_numbers.specs.declared.fault.ParcelFault.{ParcelFault}
 use Rattle.page_numbers.specs.declared.fault.ParcelFault.TheVariants.{Image as ImageIs, NumberOverflow, MissedTooMany, MissedDiffers, BadCpu, NoMemory as MemoryIs}
 use Rattle.page_numbers.specs.Parcels.{parcel_of}
-use Rattle.page_numbers.specs.Faults.{IsRefused, fault_of_image, IsParcelFault}
+use Rattle.page_numbers.specs.Faults.{IsRefusedAs, fault_of_image, IsParcelFault}
 
 -- what the reading of an image answers, each fault where it is
 pub record ImageAnswers (image : List ℕ) (r : Result Image ImageFault) : Type 0 where
@@ -54,12 +54,12 @@ pub HasImage-of : (bytes : List ℕ) (cpu fill first missed : ℕ) (image : List
 HasImage-of bytes cpu fill first missed image time size told page h known reads = record { image = image; numbers = h; cpu_known = known; time = time; size = size; reads = reads }
 
 -- where the image is read, what is refused is a fault of the bytes
-pub refused-fault : (bytes : List ℕ) (parcel : Parcel) (told : Missed) (fault : ParcelFault) → HasImage bytes parcel told → IsRefused parcel fault → IsParcelFault bytes fault
+pub refused-fault : (bytes : List ℕ) (parcel : Parcel) (told : Missed) (fault : ParcelFault) → HasImage bytes parcel told → IsRefusedAs parcel told fault → IsParcelFault bytes fault
 refused-fault bytes parcel told (ImageIs image) h refused = absurd refused
 refused-fault bytes parcel told NumberOverflow h refused = record { parcel = parcel; told = told; image = h; past = refused.past }
 refused-fault bytes parcel told MissedTooMany h refused = record { parcel = parcel; told = told; image = h; numbers_fit = refused.numbers_fit; past = refused.past }
-refused-fault bytes parcel told MissedDiffers h refused = absurd refused
-refused-fault bytes parcel told BadCpu h refused = let known = h.cpu_known in absurd (omega arith)
+refused-fault bytes parcel told MissedDiffers h refused = record { parcel = parcel; told = told; image = h; sound = refused.0; differs = refused.1 }
+refused-fault bytes parcel told BadCpu h refused = absurd refused
 refused-fault bytes parcel told MemoryIs h refused = (parcel, told, h)
 
 -- the page that is read, under its CPU and numbers

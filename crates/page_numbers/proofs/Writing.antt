@@ -1,5 +1,5 @@
 -- The bytes of a parcel, part by part.
-use Rattle.std.proofs.Common.{◌≡◌, ℕ, ◌+◌, ◌-◌, ◌≤◌, List, [], ◌++◌, length, replicate, ap, ◌∙◌, arith, append_assoc, length-append}
+use Rattle.std.proofs.Common.{◌≡◌, ℕ, ◌+◌, ◌-◌, ◌≤◌, List, [], ◌++◌, length, replicate, ap, ◌∙◌, arith, append_assoc, length-append, Result, Ok, Err, IfOk, OnOk}
 use Rattle.trace_model.specs.Image.{le64, commit_word, commit_of, stored_count, filled, image_of}
 use Rattle.trace_model.specs.ParcelBytes.{with_numbers}
 use Rattle.trace_model.proofs.ImageParts.{length-le64}
@@ -27,3 +27,8 @@ put_all cpu fill first missed image empty one two three four final none first_is
     ∙ append_assoc ((le64 cpu ++ le64 fill) ++ le64 first) (le64 missed) image
     ∙ append_assoc (le64 cpu ++ le64 fill) (le64 first) (le64 missed ++ image)
     ∙ append_assoc (le64 cpu) (le64 fill) (le64 first ++ (le64 missed ++ image))
+
+-- what is told of an answer with bytes, put together
+pub each_told : {A E : Type 0} (r : Result A E) (P : A → Type 0) (Q R : Type 0) (S : A → Type 0) → IfOk r P → OnOk r Q → OnOk r R → ((x : A) → P x → Q → R → S x) → IfOk r S
+each_told (Ok x) P Q R S one two three then = then x one two three
+each_told (Err e) P Q R S one two three then = tt

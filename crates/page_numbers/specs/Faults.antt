@@ -3,7 +3,7 @@ use Rattle.std.specs.Prelude.{ℕ, ◌+◌, ◌^◌, ◌<◌, ◌≤◌, List, l
 use Rattle.trace_model.specs.Faults.{cut, bad_length, time_overflow}
 use Rattle.trace_model.specs.Image.{Missed, ImageCause, too_short, bad_size, bad_count, bad_word}
 use Rattle.trace_model.specs.Parcel.{Parcel}
-use Rattle.trace_model.specs.ParcelBytes.{IsParcel, HasImage, ParcelCause, bad_cpu, bad_image, number_overflow, missed_too_many, missed_differs, FirstParcelFault}
+use Rattle.trace_model.specs.ParcelBytes.{IsParcel, AgreesWith, HasImage, ParcelCause, bad_cpu, bad_image, number_overflow, missed_too_many, missed_differs, FirstParcelFault}
 use Rattle.trace_model.specs.declared.limits.TheConstants.{MAX_CPUS}
 use Rattle.record_words.specs.declared.next.WordFault.TheVariants.{Cut, BadLength, TimeOverflow}
 use Rattle.page_image.specs.declared.image.ImageFault.{ImageFault}
@@ -33,6 +33,16 @@ IsRefused parcel MissedTooMany = MissesTooMany parcel
 IsRefused parcel MissedDiffers = ⊥
 IsRefused parcel BadCpu = MAX_CPUS ≤ parcel.cpu
 IsRefused parcel NoMemory = IsParcel parcel
+
+-- why what would be this parcel, read from an image that tells this of missed events, is refused: the numbers in front
+-- of the image tell otherwise, or one of those; memory is refused only if nothing else is wrong
+abbrev pub IsRefusedAs : Parcel → Missed → ParcelFault → Type 0
+IsRefusedAs parcel told (Image fault) = ⊥
+IsRefusedAs parcel told NumberOverflow = NumbersOverflow parcel
+IsRefusedAs parcel told MissedTooMany = MissesTooMany parcel
+IsRefusedAs parcel told MissedDiffers = IsParcel parcel × ¬ AgreesWith told parcel.missed
+IsRefusedAs parcel told BadCpu = ⊥
+IsRefusedAs parcel told NoMemory = IsParcel parcel × AgreesWith told parcel.missed
 
 -- ---- of bytes
 

@@ -6,6 +6,7 @@
 
 mod fault;
 pub mod laws;
+mod numbered;
 mod numbers;
 mod parcel;
 

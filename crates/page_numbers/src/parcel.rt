@@ -1,27 +1,19 @@
 //! A parcel, and what it tells.
-ghost use Rattle.std.specs.Prelude.{◌≡◌, ℕ, ◌+◌, ◌^◌, ◌<◌, ◌≤◌, length, IfErr, OnOk};
-ghost use Rattle.trace_model.specs.declared.limits.TheConstants.{MAX_CPUS};
-ghost use Rattle.page_image.specs.Contents.{IsPage, records_of_page};
-ghost use Rattle.page_numbers.specs.Parcels.{parcel_of};
-ghost use Rattle.page_numbers.specs.Faults.{IsRefused};
-
 mod bytes;
 
 use crate::fault::ParcelFault;
+use crate::numbered::NumberedPage;
 use page_borrow::{Records, records};
 use page_image::Page;
 use std::alloc::Global;
 use std::marker::Model;
-use std::sync::Arc;
-use trace_model::{CpuId, FillNo, MAX_CPUS, NoMemory, RecordNo};
+use trace_model::{CpuId, FillNo, NoMemory, RecordNo};
 
 /// A taken page, shared: the records of one fill of a CPU under their numbers, and how many numbers are missing in
 /// front of them, those between the last record taken before and the first one of this page.
 #[derive(Debug, Drop)]
 pub struct Parcel {
-    cpu: CpuId,
-    missed: u64,
-    page: Arc<Page, Global>,
+    numbered: NumberedPage,
 }
 
 impl Model for Parcel {
@@ -32,9 +24,10 @@ impl Model for Parcel {
 
     ghost Value = { ParcelSeen };
 
-    ghost view = { λ p. parcel_of p.cpu.0 p.page.value p.missed };
+    ghost view = { λ p. parcel_of p.numbered.cpu.0 p.numbered.page.value p.numbered.missed };
 
-    ghost invariant = { λ p. IsPage p.page.value × IsParcel (parcel_of p.cpu.0 p.page.value p.missed) };
+    ghost invariant = { λ p. IsPage p.numbered.page.value
+        × IsParcel (parcel_of p.numbered.cpu.0 p.numbered.page.value p.numbered.missed) };
 }
 
 impl Parcel {
@@ -68,14 +61,8 @@ impl Parcel {
         ensures sound { IfOk result (λ parcel. IsParcel parcel) }
         ensures refused { IfErr result (λ fault. IsRefused (parcel_of cpu.0 page missed) fault) }
     {
-        if cpu.0 >= MAX_CPUS {
-            return Err(ParcelFault::BadCpu);
-        }
-        check_numbers(&page, missed)?;
         Ok(Parcel {
-            cpu,
-            missed,
-            page: Arc::new(alloc, page)?,
+            numbered: NumberedPage::of(alloc, cpu, page, missed)?,
         })
     }
 
@@ -84,14 +71,14 @@ impl Parcel {
         ensures cpu { result.0 ≡ self.now.cpu }
         ensures known { result.0 < MAX_CPUS }
     {
-        self.cpu
+        self.numbered.cpu
     }
 
     /// Which fill of its CPU's ring the page was.
     pub fn fill(&self) -> FillNo
         ensures { result.0 ≡ self.now.fill }
     {
-        self.page.fill()
+        self.numbered.page.fill()
     }
 
     /// The number of the first record.
@@ -99,14 +86,14 @@ impl Parcel {
         ensures first { result.0 ≡ self.now.first }
         ensures numbers { result.0 + length self.now.records < 2 ^ 64 }
     {
-        self.page.first()
+        self.numbered.page.first()
     }
 
     /// How many records it has.
     pub fn count(&self) -> u64
         ensures { result ≡ length self.now.records }
     {
-        self.page.count()
+        self.numbered.page.count()
     }
 
     /// How many numbers are missing in front of the first record's.
@@ -114,7 +101,7 @@ impl Parcel {
         ensures missed { result ≡ self.now.missed }
         ensures in_front { result ≤ self.now.first }
     {
-        self.missed
+        self.numbered.missed
     }
 
     /// The records in their order, numbered from the first number on, each with its bytes where they stand in the
@@ -123,7 +110,7 @@ impl Parcel {
         ensures entries { result ≡ entries_of_parcel self.now }
         ensures own_bytes { (page : Contents) × IsOfPage self.now page × AllStandInPage page result }
     {
-        records(&self.page)
+        records(&self.numbered.page)
     }
 
     /// Whether both parcels' pages are alike: they have the same first number, time and data. Then the parcels have
@@ -133,7 +120,7 @@ impl Parcel {
         ensures pages { (page there : Contents) × IsOfPage self.now page × IsOfPage other.now there
             × (IsTrue result ↔ AreAlike page there) }
     {
-        self.first() == other.first() && self.page.has_data_of(&other.page)
+        self.first() == other.first() && self.numbered.page.has_data_of(&other.numbered.page)
     }
 
     /// How many parcels have this very page, with this one: those of which one is `share` of another. Others may be
@@ -149,27 +136,7 @@ impl Parcel {
         ensures { IfOk result (λ parcel. parcel ≡ self.now) }
     {
         Ok(Parcel {
-            cpu: self.cpu,
-            missed: self.missed,
-            page: Arc::try_clone(&self.page)?,
+            numbered: self.numbered.share()?,
         })
     }
-}
-
-/// Looks whether the page's records have numbers, and whether so many numbers stand in front of them.
-fn check_numbers(page: &Page, missed: u64) -> Result<(), ParcelFault>
-    requires page { IsPage page.now }
-    ensures numbers { OnOk result (page.now.first + length (records_of_page page.now) < 2 ^ 64) }
-    ensures missed { OnOk result (missed ≤ page.now.first) }
-    ensures refused { IfErr result (λ fault. (cpu : ℕ) → cpu < MAX_CPUS
-        → IsRefused (parcel_of cpu page.now missed) fault) }
-{
-    let first = page.first().0;
-    if first.checked_add(page.count()).is_none() {
-        return Err(ParcelFault::NumberOverflow);
-    }
-    if missed > first {
-        return Err(ParcelFault::MissedTooMany);
-    }
-    Ok(())
 }

@@ -1,22 +1,11 @@
 //! A parcel as bytes, read and written.
-ghost use Rattle.std.specs.Prelude.{◌≡◌, ◌++◌, OnOk};
-ghost use Rattle.trace_model.specs.Image.{le64};
-
 use crate::fault::ParcelFault;
+use crate::numbered::NumberedPage;
 use crate::numbers::{NUMBERS, read_numbers};
-use crate::parcel::{Parcel, check_numbers};
-use page_image::{Image, read_image};
-use std::alloc::{AllocError, Global};
-use std::sync::Arc;
-use trace_model::{FillNo, NoMemory, RecordNo};
-
-/// Puts a number behind the bytes, its lowest byte first.
-#[tactic(auto, unfolding(trace_model::specs::Image::le64))]
-fn put_number(bytes: &mut Vec<u8>, number: u64) -> Result<(), AllocError>
-    ensures { OnOk result (bytes.new.items ≡ bytes.old.items ++ le64 number) }
-{
-    bytes.extend_from_slice(&number.to_le_bytes())
-}
+use crate::parcel::Parcel;
+use page_image::read_image;
+use std::alloc::Global;
+use trace_model::NoMemory;
 
 impl Parcel {
     ghost use Rattle.std.specs.Prelude.{◌≡◌, ◌≢◌, ◌⊎◌, ◌↔◌, IfOk, IfErr};
@@ -46,20 +35,9 @@ impl Parcel {
     {
         let numbers = read_numbers(bytes)?;
         let cpu = numbers.cpu()?;
-        let Image {
-            page,
-            missed: told,
-            ..
-        } = read_image(alloc, &bytes[NUMBERS..])?;
-        let page = page.numbered(RecordNo(numbers.first), FillNo(numbers.fill));
-        check_numbers(&page, numbers.missed)?;
-        if !numbers.agree_with(told) {
-            return Err(ParcelFault::MissedDiffers);
-        }
+        let image = read_image(alloc, &bytes[NUMBERS..])?;
         Ok(Parcel {
-            cpu,
-            missed: numbers.missed,
-            page: Arc::new(alloc, page)?,
+            numbered: NumberedPage::of_image(alloc, cpu, numbers, image)?,
         })
     }
 
@@ -68,13 +46,6 @@ impl Parcel {
         ensures written { IfOk result (λ bytes. IsWritten self.now bytes.items) }
         ensures reads { IfOk result (λ bytes. DecodesParcel bytes.items self.now) }
     {
-        let image = self.page.write_image(alloc, self.missed)?;
-        let mut bytes = Vec::with_capacity(alloc, NUMBERS + image.len())?;
-        put_number(&mut bytes, u64::from(self.cpu.0))?;
-        put_number(&mut bytes, self.page.fill().0)?;
-        put_number(&mut bytes, self.page.first().0)?;
-        put_number(&mut bytes, self.missed)?;
-        bytes.extend_from_slice(&image)?;
-        Ok(bytes)
+        self.numbered.to_bytes(alloc)
     }
 }

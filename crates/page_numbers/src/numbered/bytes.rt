@@ -1,0 +1,80 @@
+//! A page under its numbers, from bytes and as bytes.
+ghost use Rattle.std.specs.Prelude.{◌≡◌, ◌++◌, OnOk};
+ghost use Rattle.trace_model.specs.Image.{le64};
+
+use crate::fault::ParcelFault;
+use crate::numbered::{NumberedPage, check_numbers};
+use crate::numbers::{NUMBERS, Numbers};
+use page_image::Image;
+use std::alloc::{AllocError, Global};
+use std::sync::Arc;
+use trace_model::{CpuId, FillNo, NoMemory, RecordNo};
+
+/// Puts a number behind the bytes, its lowest byte first.
+#[tactic(auto, unfolding(trace_model::specs::Image::le64))]
+fn put_number(bytes: &mut Vec<u8>, number: u64) -> Result<(), AllocError>
+    ensures { OnOk result (bytes.new.items ≡ bytes.old.items ++ le64 number) }
+{
+    bytes.extend_from_slice(&number.to_le_bytes())
+}
+
+impl NumberedPage {
+    ghost use Rattle.std.specs.Prelude.{◌≡◌, ◌<◌, ◌≤◌, ◌^◌, length, IfOk, IfErr, OnOk};
+    ghost use Rattle.trace_model.specs.ParcelBytes.{IsParcel, AgreesWith};
+    ghost use Rattle.trace_model.specs.declared.limits.TheConstants.{MAX_CPUS, MAX_SIZE};
+    ghost use Rattle.page_image.specs.Contents.{IsPage};
+    ghost use Rattle.page_image.specs.Images.{missed_of};
+    ghost use Rattle.page_numbers.specs.Parcels.{parcel_of};
+    ghost use Rattle.page_numbers.specs.Faults.{IsRefusedAs};
+    ghost use Rattle.page_numbers.specs.Written.{page_under, bytes_of_page};
+
+    /// The page of this image under the numbers in front of it. Memory is asked for behind all faults.
+    pub(crate) fn of_image(
+        alloc: Global,
+        cpu: CpuId,
+        numbers: Numbers,
+        image: Image,
+    ) -> Result<NumberedPage, ParcelFault>
+        requires page { IsPage image.page }
+        requires cpu { cpu.0 < MAX_CPUS }
+        ensures cpu { IfOk result (λ numbered. numbered.cpu ≡ cpu) }
+        ensures page { IfOk result (λ numbered. numbered.page.value ≡ page_under image.page numbers) }
+        ensures missed { IfOk result (λ numbered. numbered.missed ≡ numbers.missed) }
+        ensures reads { IfOk result (λ numbered. IsPage numbered.page.value) }
+        ensures sound { OnOk result (IsParcel (parcel_of cpu.0 (page_under image.page numbers) numbers.missed)) }
+        ensures agrees { OnOk result (AgreesWith (missed_of image.missed) numbers.missed) }
+        ensures refused { IfErr result (λ fault. IsRefusedAs
+            (parcel_of cpu.0 (page_under image.page numbers) numbers.missed) (missed_of image.missed) fault) }
+    {
+        let page = image
+            .page
+            .numbered(RecordNo(numbers.first), FillNo(numbers.fill));
+        check_numbers(&page, numbers.missed)?;
+        if !numbers.agree_with(image.missed) {
+            return Err(ParcelFault::MissedDiffers);
+        }
+        Ok(NumberedPage {
+            cpu,
+            missed: numbers.missed,
+            page: Arc::new(alloc, page)?,
+        })
+    }
+
+    /// The numbers as bytes, and behind them the page's image, which tells of missed events what the numbers do.
+    pub(crate) fn to_bytes(&self, alloc: Global) -> Result<Vec<u8>, NoMemory>
+        ensures bytes { IfOk result (λ bytes. bytes.items
+            ≡ bytes_of_page self.now.cpu.0 self.now.page.value self.now.missed) }
+        ensures fits { OnOk result (length self.now.page.value.bytes ≤ self.now.page.value.size) }
+        ensures limit { OnOk result (self.now.page.value.size ≤ MAX_SIZE) }
+        ensures fill { OnOk result (self.now.page.value.fill < 2 ^ 64) }
+    {
+        let image = self.page.write_image(alloc, self.missed)?;
+        let mut bytes = Vec::with_capacity(alloc, NUMBERS + image.len())?;
+        put_number(&mut bytes, u64::from(self.cpu.0))?;
+        put_number(&mut bytes, self.page.fill().0)?;
+        put_number(&mut bytes, self.page.first().0)?;
+        put_number(&mut bytes, self.missed)?;
+        bytes.extend_from_slice(&image)?;
+        Ok(bytes)
+    }
+}
