@@ -1,11 +1,10 @@
 -- Hexadecimal digits: the table of them, and bytes in parts.
-use Rattle.std.proofs.Common.{◌≡◌, ℕ, zero, suc, ◌+◌, ◌-◌, ◌<◌, ◌≤◌, ◌==◌, true, false, List, [], ◌∷◌, ◌++◌, length, get_or, take, drop, append_assoc, refl, sym, ap, ◌∙◌, arith}
+use Rattle.std.proofs.Common.{◌≡◌, ℕ, zero, suc, ◌+◌, ◌-◌, ◌<◌, ◌≤◌, true, List, [], ◌∷◌, ◌++◌, length, get_or, take, drop, append_assoc, refl, sym, ap, ◌∙◌, arith}
 use Rattle.std.specs.List.{list_all, enumerate_from}
 use Rattle.std.specs.Str.{bytes_eq}
 use Rattle.std.proofs.lemmas.Bool.{and_parts}
 use Rattle.std.proofs.lemmas.List.{take_rest}
 use Rattle.std.proofs.lemmas.Slice.Eq.{bytes_eq-Decides}
-use Rattle.text_model.specs.Text.{hex_text}
 use Rattle.text_values.specs.Digits.{pair_of, pairs_of}
 use Rattle.text_values.specs.declared.values.TheConstants.{PAIRS}
 
@@ -44,12 +43,6 @@ eight_digits (a ∷ b ∷ c ∷ d ∷ e ∷ f ∷ []) front back eight is1 is2 =
 eight_digits (a ∷ b ∷ c ∷ d ∷ e ∷ f ∷ g ∷ []) front back eight is1 is2 = absurd (omega arith)
 eight_digits (a ∷ b ∷ c ∷ d ∷ e ∷ f ∷ g ∷ h ∷ i ∷ bytes) front back eight is1 is2 = absurd (omega arith)
 eight_digits (a ∷ b ∷ c ∷ d ∷ e ∷ f ∷ g ∷ h ∷ []) front back eight is1 is2 = rw (is1, is2) refl
-
--- ---- a payload
--- the digits of one that isn't empty
-pub payload_digits : (bytes : List ℕ) → false ≡ (length bytes == 0) → pairs_of bytes ≡ hex_text bytes
-payload_digits [] some = cc some
-payload_digits (b ∷ bytes) some = refl
 
 -- ---- in parts
 -- the digits of one part behind those of another

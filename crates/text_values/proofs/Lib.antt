@@ -1,1 +1,2 @@
+pub mod Behind
 mod Hexadecimal

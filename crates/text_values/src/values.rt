@@ -1,17 +1,17 @@
 //! Numbers and payloads as text.
-ghost use Rattle.std.specs.Prelude.{◌≡◌, ◌++◌, OnOk};
+ghost use Rattle.std.specs.Prelude.{◌≡◌, ◌++◌, OnOk, OnErr};
 ghost use Rattle.std.specs.Fmt.{decimal};
+ghost use Rattle.trace_model.specs.Sublist.{IsPrefix};
 ghost use Rattle.text_model.specs.Text.{hex_text};
 ghost use Rattle.text_values.specs.Digits.{pair_of, pairs_of};
 
 use itoa::Buffer;
 use trace_model::NoMemory;
 
-// On an error these may leave a part of what they put, in a text that the caller drops.
-
-/// Puts the number in decimal.
+/// Puts the number in decimal. If memory is refused, the text is as before.
 pub fn put_number(out: &mut Vec<u8>, number: u64) -> Result<(), NoMemory>
-    ensures { OnOk result (out.new.items ≡ out.old.items ++ decimal number) }
+    ensures text { OnOk result (out.new.items ≡ out.old.items ++ decimal number) }
+    ensures kept { OnErr result (out.new.items ≡ out.old.items) }
 {
     let mut buffer = Buffer::new();
     out.extend_from_slice(buffer.format(number).as_bytes())?;
@@ -79,10 +79,11 @@ fn eight_pairs(bytes: [u8; 8]) -> [u8; 16]
     ]
 }
 
-/// Puts the digits of bytes, byte by byte.
+/// Puts the digits of bytes, byte by byte. On an error a part of that may be put.
 #[inline(always)]
 fn put_each(out: &mut Vec<u8>, bytes: &[u8]) -> Result<(), NoMemory>
-    ensures { OnOk result (out.new.items ≡ out.old.items ++ pairs_of bytes.now) }
+    ensures text { OnOk result (out.new.items ≡ out.old.items ++ pairs_of bytes.now) }
+    ensures behind { IsPrefix out.old.items out.new.items }
 {
     for byte in bytes {
         out.extend_from_slice(&pair(*byte))?;
@@ -90,10 +91,11 @@ fn put_each(out: &mut Vec<u8>, bytes: &[u8]) -> Result<(), NoMemory>
     Ok(())
 }
 
-/// Puts the digits of less than eight bytes quickly.
+/// Puts the digits of less than eight bytes quickly. On an error a part of that may be put.
 #[inline(always)]
 fn put_few(out: &mut Vec<u8>, bytes: &[u8]) -> Result<(), NoMemory>
-    ensures { OnOk result (out.new.items ≡ out.old.items ++ pairs_of bytes.now) }
+    ensures text { OnOk result (out.new.items ≡ out.old.items ++ pairs_of bytes.now) }
+    ensures behind { IsPrefix out.old.items out.new.items }
 {
     if let [a, b, c, d, rest @ ..] = bytes {
         out.extend_from_slice(&four_pairs([*a, *b, *c, *d]))?;
@@ -102,10 +104,11 @@ fn put_few(out: &mut Vec<u8>, bytes: &[u8]) -> Result<(), NoMemory>
     put_each(out, bytes)
 }
 
-/// Puts two digits for each byte.
+/// Puts two digits for each byte. On an error a part of that may be put.
 #[inline(always)]
 fn put_hex(out: &mut Vec<u8>, bytes: &[u8]) -> Result<(), NoMemory>
-    ensures { OnOk result (out.new.items ≡ out.old.items ++ pairs_of bytes.now) }
+    ensures text { OnOk result (out.new.items ≡ out.old.items ++ pairs_of bytes.now) }
+    ensures behind { IsPrefix out.old.items out.new.items }
 {
     let mut left = bytes;
     while let [a, b, c, d, e, f, g, h, rest @ ..] = left {
@@ -115,13 +118,19 @@ fn put_hex(out: &mut Vec<u8>, bytes: &[u8]) -> Result<(), NoMemory>
     put_few(out, left)
 }
 
-/// Puts the payload in lower-case hexadecimal, `-` if it is empty.
+/// Puts the payload in lower-case hexadecimal, `-` if it is empty. If memory is refused, the text is as before.
 pub fn put_payload(out: &mut Vec<u8>, payload: &[u8]) -> Result<(), NoMemory>
-    ensures { OnOk result (out.new.items ≡ out.old.items ++ hex_text payload.now) }
+    ensures text { OnOk result (out.new.items ≡ out.old.items ++ hex_text payload.now) }
+    ensures kept { OnErr result (out.new.items ≡ out.old.items) }
 {
     if payload.is_empty() {
         out.push(b'-')?;
         return Ok(());
     }
-    put_hex(out, payload)
+    let start = out.len();
+    let put = put_hex(out, payload);
+    if put.is_err() {
+        out.truncate(start);
+    }
+    put
 }
