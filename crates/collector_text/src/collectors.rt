@@ -1,7 +1,8 @@
 //! The text of collectors.
-ghost use Rattle.std.specs.Prelude.{◌≡◌, ◌≤◌, ◌∷◌, [], ◌++◌, List, OnOk, IfOk, IfSome, codes, flat_map, length};
+ghost use Rattle.std.specs.Prelude.{◌≡◌, ◌≤◌, ◌∷◌, [], ◌++◌, List, vec_capacity, OnOk, OnErr, IfOk, IfSome, codes, flat_map, length};
 ghost use Rattle.std.specs.Fmt.{decimal};
 ghost use Rattle.std.specs.List.{AllZip, enumerate_from, slice_range};
+ghost use Rattle.trace_model.specs.Sublist.{IsPrefix};
 ghost use Rattle.text_model.specs.Text.{line_feed};
 ghost use Rattle.world_model.specs.Printing.{Shown, printed_collector};
 ghost use Rattle.collector_text.specs.Tells.{Tells, StandsBetween, text_below};
@@ -23,10 +24,11 @@ pub struct Span {
     pub end: usize,
 }
 
-/// The head line of the collector of this number.
+/// The head line of the collector of this number. On an error a part of that may be put.
 fn put_head(out: &mut Vec<u8>, number: u64) -> Result<(), NoMemory>
-    ensures { OnOk result (out.new.items ≡ out.old.items
+    ensures text { OnOk result (out.new.items ≡ out.old.items
         ++ (codes "collector " ++ decimal number ++ line_feed ∷ [])) }
+    ensures behind { IsPrefix out.old.items out.new.items }
 {
     out.extend_from_slice(b"collector ")?;
     put_number(out, number)?;
@@ -34,13 +36,21 @@ fn put_head(out: &mut Vec<u8>, number: u64) -> Result<(), NoMemory>
     Ok(())
 }
 
-/// Puts this part of the text once more.
+/// A buffer for copies of parts of a text of this length.
+fn buffer_for(alloc: Global, text: usize) -> Result<Vec<u8>, NoMemory>
+    ensures { IfOk result (λ part. vec_capacity part ≤ text) }
+{
+    Ok(Vec::with_capacity(alloc, PART.min(text))?)
+}
+
+/// Puts this part of the text once more. On an error a part of that may be put.
 fn put_again(alloc: Global, out: &mut Vec<u8>, span: Span) -> Result<(), NoMemory>
     requires forward { span.start ≤ span.end }
     requires inside { span.end ≤ length out.old.items }
-    ensures { OnOk result (out.new.items ≡ out.old.items ++ slice_range out.old.items span.start span.end) }
+    ensures text { OnOk result (out.new.items ≡ out.old.items ++ slice_range out.old.items span.start span.end) }
+    ensures behind { IsPrefix out.old.items out.new.items }
 {
-    let mut part = Vec::with_capacity(alloc, PART)?;
+    let mut part = buffer_for(alloc, span.end - span.start)?;
     let mut at = span.start;
     while at < span.end {
         let behind = at + PART.min(span.end - at);
@@ -54,7 +64,7 @@ fn put_again(alloc: Global, out: &mut Vec<u8>, span: Span) -> Result<(), NoMemor
 
 /// The text of a collector below its head line: a line for each record, by time, and one for each run of missing
 /// numbers. Of an earlier collector that stands in a part of the text; where both have and miss the same, that part is
-/// put once more.
+/// put once more. On an error a part of that may be put.
 fn put_below(
     alloc: Global,
     out: &mut Vec<u8>,
@@ -63,8 +73,9 @@ fn put_below(
     span: Span,
 ) -> Result<(), NoMemory>
     requires { IfSome before (λ b. StandsBetween b.now out.old.items span.start span.end) }
-    ensures { OnOk result ((shown : Shown) × Tells collector.now shown
+    ensures text { OnOk result ((shown : Shown) × Tells collector.now shown
         × (out.new.items ≡ out.old.items ++ text_below shown)) }
+    ensures behind { IsPrefix out.old.items out.new.items }
 {
     if let Some(other) = before {
         if other.same(collector) {
@@ -75,11 +86,32 @@ fn put_below(
     put_runs(out, collector)
 }
 
+/// The text of a collector under this number. On an error a part of that may be put.
+fn put_whole(
+    alloc: Global,
+    out: &mut Vec<u8>,
+    number: u64,
+    collector: &Collector,
+    before: Option<&Collector>,
+    span: Span,
+) -> Result<Span, NoMemory>
+    requires { IfSome before (λ b. StandsBetween b.now out.old.items span.start span.end) }
+    ensures told { OnOk result ((shown : Shown) × Tells collector.now shown
+        × (out.new.items ≡ out.old.items ++ printed_collector number shown)) }
+    ensures below { IfOk result (λ own. StandsBetween collector.now out.new.items own.start own.end) }
+    ensures behind { IsPrefix out.old.items out.new.items }
+{
+    put_head(out, number)?;
+    let start = out.len();
+    put_below(alloc, out, collector, before, span)?;
+    let end = out.len();
+    Ok(Span { start, end })
+}
+
 /// Puts the text of a collector under this number: a line `collector K`, below it a line for each of its records, by
 /// time, and a line for each run of a CPU's missing numbers, by rising CPU and number. Answers where what stands below
-/// the first line is. Of an earlier collector that is at `span`; where both have and miss the same, it is copied.
-///
-/// Where memory is refused, a part of that may have been put.
+/// the first line is. Of an earlier collector that is at `span`; where both have and miss the same, it is copied. If
+/// memory is refused, the text is as before.
 pub fn put_collector(
     alloc: Global,
     out: &mut Vec<u8>,
@@ -92,31 +124,47 @@ pub fn put_collector(
     ensures told { OnOk result ((shown : Shown) × Tells collector.now shown
         × (out.new.items ≡ out.old.items ++ printed_collector number shown)) }
     ensures below { IfOk result (λ own. StandsBetween collector.now out.new.items own.start own.end) }
+    ensures kept { OnErr result (out.new.items ≡ out.old.items) }
 {
-    put_head(out, number)?;
     let start = out.len();
-    put_below(alloc, out, collector, before, span)?;
-    let end = out.len();
-    Ok(Span { start, end })
+    let put = put_whole(alloc, out, number, collector, before, span);
+    if put.is_err() {
+        out.truncate(start);
+    }
+    put
 }
 
-/// Puts the text of each collector, numbered from 0.
-///
-/// Where memory is refused, a part of that may have been put.
+/// The text of each collector, numbered from 0. On an error a part of that may be put.
+fn put_all(alloc: Global, out: &mut Vec<u8>, collectors: &[Collector]) -> Result<(), NoMemory>
+    ensures text { OnOk result ((shown : List Shown) × AllZip Tells collectors.now shown
+        × (out.new.items ≡ out.old.items
+        ++ flat_map (λ pair. printed_collector pair.0 pair.1) (enumerate_from 0 shown))) }
+    ensures behind { IsPrefix out.old.items out.new.items }
+{
+    let mut before: Option<&Collector> = None;
+    let mut span = Span { start: 0, end: 0 };
+    for (i, collector) in collectors.iter().enumerate() {
+        span = put_whole(alloc, out, i as u64, collector, before, span)?;
+        before = Some(collector);
+    }
+    Ok(())
+}
+
+/// Puts the text of each collector, numbered from 0. If memory is refused, the text is as before.
 pub fn put_collectors(
     alloc: Global,
     out: &mut Vec<u8>,
     collectors: &[Collector],
 ) -> Result<(), NoMemory>
-    ensures { OnOk result ((shown : List Shown) × AllZip Tells collectors.now shown
+    ensures text { OnOk result ((shown : List Shown) × AllZip Tells collectors.now shown
         × (out.new.items ≡ out.old.items
         ++ flat_map (λ pair. printed_collector pair.0 pair.1) (enumerate_from 0 shown))) }
+    ensures kept { OnErr result (out.new.items ≡ out.old.items) }
 {
-    let mut before: Option<&Collector> = None;
-    let mut span = Span { start: 0, end: 0 };
-    for (i, collector) in collectors.iter().enumerate() {
-        span = put_collector(alloc, out, i as u64, collector, before, span)?;
-        before = Some(collector);
+    let start = out.len();
+    let put = put_all(alloc, out, collectors);
+    if put.is_err() {
+        out.truncate(start);
     }
-    Ok(())
+    put
 }

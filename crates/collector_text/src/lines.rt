@@ -1,7 +1,8 @@
 //! The lines of a collector's records.
-ghost use Rattle.std.specs.Prelude.{◌≡◌, ◌+◌, ◌≤◌, [], ◌∷◌, ◌++◌, List, OnOk, drop, flat_map, map};
+ghost use Rattle.std.specs.Prelude.{◌≡◌, ◌+◌, ◌≤◌, [], ◌∷◌, ◌++◌, List, OnOk, OnErr, drop, flat_map, map};
 ghost use Rattle.std.specs.Fmt.{decimal};
 ghost use Rattle.text_model.specs.Text.{space};
+ghost use Rattle.trace_model.specs.Sublist.{IsPrefix};
 ghost use Rattle.trace_model.specs.Listing.{Line as LineTold, IsListing};
 ghost use Rattle.time_merge.specs.Lines.{line_told};
 ghost use Rattle.world_model.specs.Printing.{printed_line};
@@ -32,8 +33,9 @@ fn put_in_front(buffer: &mut [u8; FRONT], number: u64, end: usize) -> usize
 /// The numbers of a line, with a space behind each.
 #[inline(always)]
 fn put_front(out: &mut Vec<u8>, line: &Line<'_>) -> Result<(), NoMemory>
-    ensures { OnOk result (out.new.items ≡ out.old.items ++ (decimal line.now.cpu.0
+    ensures text { OnOk result (out.new.items ≡ out.old.items ++ (decimal line.now.cpu.0
         ++ space ∷ decimal line.now.number.0 ++ space ∷ decimal line.now.moment.0 ++ space ∷ [])) }
+    ensures kept { OnErr result (out.new.items ≡ out.old.items) }
 {
     let mut buffer = [0; FRONT];
     let moment = put_in_front(&mut buffer, line.moment.0, FRONT);
@@ -43,9 +45,10 @@ fn put_front(out: &mut Vec<u8>, line: &Line<'_>) -> Result<(), NoMemory>
     Ok(())
 }
 
-/// A record's line: its CPU, its number, its moment and its payload.
+/// A record's line: its CPU, its number, its moment and its payload. On an error a part of that may be put.
 fn put_line(out: &mut Vec<u8>, line: &Line<'_>) -> Result<(), NoMemory>
-    ensures { OnOk result (out.new.items ≡ out.old.items ++ printed_line (line_told line.now)) }
+    ensures text { OnOk result (out.new.items ≡ out.old.items ++ printed_line (line_told line.now)) }
+    ensures behind { IsPrefix out.old.items out.new.items }
 {
     put_front(out, line)?;
     put_payload(out, line.bytes)?;
@@ -53,9 +56,10 @@ fn put_line(out: &mut Vec<u8>, line: &Line<'_>) -> Result<(), NoMemory>
     Ok(())
 }
 
-/// These lines, in their order.
+/// These lines, in their order. On an error a part of that may be put.
 fn put_each(out: &mut Vec<u8>, lines: &[Line<'_>]) -> Result<(), NoMemory>
-    ensures { OnOk result (out.new.items ≡ out.old.items ++ flat_map printed_line (map line_told lines.now)) }
+    ensures text { OnOk result (out.new.items ≡ out.old.items ++ flat_map printed_line (map line_told lines.now)) }
+    ensures behind { IsPrefix out.old.items out.new.items }
 {
     for line in lines {
         put_line(out, line)?;
@@ -63,14 +67,15 @@ fn put_each(out: &mut Vec<u8>, lines: &[Line<'_>]) -> Result<(), NoMemory>
     Ok(())
 }
 
-/// The lines of the collector's records, by time.
+/// The lines of the collector's records, by time. On an error a part of that may be put.
 pub(crate) fn put_lines(
     alloc: Global,
     out: &mut Vec<u8>,
     collector: &Collector,
 ) -> Result<(), NoMemory>
-    ensures { OnOk result ((lines : List LineTold) × IsListing collector.now lines
+    ensures text { OnOk result ((lines : List LineTold) × IsListing collector.now lines
         × (out.new.items ≡ out.old.items ++ flat_map printed_line lines)) }
+    ensures behind { IsPrefix out.old.items out.new.items }
 {
     let lines = listing(alloc, collector)?;
     put_each(out, &lines)

@@ -1,5 +1,6 @@
 //! The lines of a collector's missing numbers.
 ghost use Rattle.std.specs.Prelude.{◌≡◌, ℕ, ◌++◌, List, OnOk, flat_map};
+ghost use Rattle.trace_model.specs.Sublist.{IsPrefix};
 ghost use Rattle.collector.specs.Runs.{AreMissingRuns};
 ghost use Rattle.world_model.specs.Printing.{printed_missing, printed_runs};
 ghost use Rattle.collector_text.specs.Tells.{runs_of};
@@ -8,9 +9,10 @@ use collector::Collector;
 use text_values::put_number;
 use trace_model::{CpuId, MAX_CPUS, NoMemory, RecordNo};
 
-/// A run's line: its CPU, its first and its last number.
+/// A run's line: its CPU, its first and its last number. On an error a part of that may be put.
 fn put_run(out: &mut Vec<u8>, cpu: CpuId, first: RecordNo, last: RecordNo) -> Result<(), NoMemory>
-    ensures { OnOk result (out.new.items ≡ out.old.items ++ printed_missing cpu.0 (first.0, last.0)) }
+    ensures text { OnOk result (out.new.items ≡ out.old.items ++ printed_missing cpu.0 (first.0, last.0)) }
+    ensures behind { IsPrefix out.old.items out.new.items }
 {
     out.extend_from_slice(b"missing ")?;
     put_number(out, u64::from(cpu.0))?;
@@ -22,10 +24,11 @@ fn put_run(out: &mut Vec<u8>, cpu: CpuId, first: RecordNo, last: RecordNo) -> Re
     Ok(())
 }
 
-/// The lines of the missing runs of one CPU.
+/// The lines of the missing runs of one CPU. On an error a part of that may be put.
 fn put_runs_of(out: &mut Vec<u8>, collector: &Collector, cpu: CpuId) -> Result<(), NoMemory>
-    ensures { OnOk result ((runs : List (ℕ × ℕ)) × AreMissingRuns collector.now cpu.0 runs
+    ensures text { OnOk result ((runs : List (ℕ × ℕ)) × AreMissingRuns collector.now cpu.0 runs
         × (out.new.items ≡ out.old.items ++ flat_map (printed_missing cpu.0) runs)) }
+    ensures behind { IsPrefix out.old.items out.new.items }
 {
     for (first, last) in collector.missing(cpu) {
         put_run(out, cpu, first, last)?;
@@ -33,11 +36,12 @@ fn put_runs_of(out: &mut Vec<u8>, collector: &Collector, cpu: CpuId) -> Result<(
     Ok(())
 }
 
-/// The lines of the missing runs of each CPU.
+/// The lines of the missing runs of each CPU. On an error a part of that may be put.
 pub(crate) fn put_runs(out: &mut Vec<u8>, collector: &Collector) -> Result<(), NoMemory>
-    ensures { OnOk result ((runs : List (List (ℕ × ℕ)))
+    ensures text { OnOk result ((runs : List (List (ℕ × ℕ)))
         × ((cpu : ℕ) → AreMissingRuns collector.now cpu (runs_of runs cpu))
         × (out.new.items ≡ out.old.items ++ printed_runs runs)) }
+    ensures behind { IsPrefix out.old.items out.new.items }
 {
     let _parcels = collector.parcels();
     for cpu in 0..MAX_CPUS {

@@ -16,9 +16,9 @@ told parcels listed lent before out same is text =
     let put = subst (λ (ls : List LineHere). out ≡ before ++ flat_map printed_line (map line_told ls)) same text in
     (map line_told listed, is, put)
 
-pub returns : goal.returns
-returns c =
+pub returns-clause-text : goal.returns-clause-text
+returns-clause-text c =
     on_ok_weaker c.put_each.result
     (told c.args.collector.now c.in_ok-lines.lines.items c.deref.result.now c.args.out.now.items
     c.put_each.new.out.items c.deref.ensures.value c.in_ok-lines.ensures)
-    c.put_each.ensures
+    c.put_each.ensures.text

@@ -4,8 +4,8 @@ use Rattle.collector.specs.Runs.{run_told}
 use Rattle.world_model.specs.Printing.{printed_missing}
 use Rattle.collector_text.proofs.runs.put_runs_of.Goals as goal
 
-pub returns : goal.returns
-returns c =
+pub returns-clause-text : goal.returns-clause-text
+returns-clause-text c =
     let runs = c.missing-first-items.result in
     let given = c.into_iter-first-iterator.ensures.into_iter_gives in
     let all = YieldsList-end (YieldsList-from_first run_told (λ left. left) runs given) c.loop-first.yielded _

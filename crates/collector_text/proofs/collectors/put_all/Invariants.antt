@@ -3,7 +3,7 @@ use Rattle.trace_model.specs.Parcel.{Parcel}
 use Rattle.world_model.specs.Printing.{Shown, printed_collector}
 use Rattle.collector_text.specs.Tells.{Tells, StandsBetween}
 use Rattle.collector_text.proofs.Appended.{ArePut}
-use Rattle.collector_text.proofs.collectors.put_collectors.Given as goal
+use Rattle.collector_text.proofs.collectors.put_all.Given as goal
 
 abbrev pub invariant-loop-i : goal.invariant-loop-i
 invariant-loop-i l = record {
