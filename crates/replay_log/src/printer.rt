@@ -1,6 +1,7 @@
 //! The printing of a replay's log.
-ghost use Rattle.std.specs.Prelude.{◌≡◌, ◌++◌, OnOk, flat_map};
+ghost use Rattle.std.specs.Prelude.{◌≡◌, ◌++◌, OnOk, OnErr, flat_map};
 ghost use Rattle.std.specs.Fmt.{decimal};
+ghost use Rattle.trace_model.specs.Sublist.{IsPrefix};
 ghost use Rattle.text_model.specs.Printing.{delivery_text, line_text, log_line_text, page_text, printed_log_line, refusal_text};
 ghost use Rattle.ring_frames.specs.Answers.{refusal_of};
 ghost use Rattle.replay_log.specs.LogTypes.{shown_log, shown_log_line};
@@ -10,18 +11,20 @@ use nested_writer::WriteFault;
 use text_values::put_number;
 use trace_model::{CpuId, FillNo, NoMemory, RecordNo};
 
-// On an error these may leave a part of what they put, in a text that the caller drops.
+// On an error all but `put_log` may leave a part of what they put.
 
 /// Puts the words and then the number.
 fn put_named(out: &mut Vec<u8>, words: &[u8], number: u64) -> Result<(), NoMemory>
-    ensures { OnOk result (out.new.items ≡ out.old.items ++ (words.now ++ decimal number)) }
+    ensures text { OnOk result (out.new.items ≡ out.old.items ++ (words.now ++ decimal number)) }
+    ensures behind { IsPrefix out.old.items out.new.items }
 {
     out.extend_from_slice(words)?;
     put_number(out, number)
 }
 
 fn put_fault(out: &mut Vec<u8>, fault: WriteFault) -> Result<(), NoMemory>
-    ensures { OnOk result (out.new.items ≡ out.old.items ++ refusal_text (refusal_of fault)) }
+    ensures text { OnOk result (out.new.items ≡ out.old.items ++ refusal_text (refusal_of fault)) }
+    ensures behind { IsPrefix out.old.items out.new.items }
 {
     match fault {
         WriteFault::TooDeep => out.extend_from_slice(b"TooDeep")?,
@@ -37,7 +40,8 @@ fn put_fault(out: &mut Vec<u8>, fault: WriteFault) -> Result<(), NoMemory>
 
 /// The front of a line: the number of the script's line, and a CPU.
 fn put_front(out: &mut Vec<u8>, line: u64, cpu: CpuId) -> Result<(), NoMemory>
-    ensures { OnOk result (out.new.items ≡ out.old.items ++ line_text line cpu.0) }
+    ensures text { OnOk result (out.new.items ≡ out.old.items ++ line_text line cpu.0) }
+    ensures behind { IsPrefix out.old.items out.new.items }
 {
     put_number(out, line)?;
     put_named(out, b" c", u64::from(cpu.0))
@@ -51,7 +55,8 @@ fn put_taken(
     count: u16,
     missed: u64,
 ) -> Result<(), NoMemory>
-    ensures { OnOk result (out.new.items ≡ out.old.items ++ page_text fill.0 first.0 count missed) }
+    ensures text { OnOk result (out.new.items ≡ out.old.items ++ page_text fill.0 first.0 count missed) }
+    ensures behind { IsPrefix out.old.items out.new.items }
 {
     put_named(out, b" taken fill ", fill.0)?;
     put_named(out, b" first ", first.0)?;
@@ -69,8 +74,9 @@ fn put_delivery(
     fill: FillNo,
     brought: &[u8],
 ) -> Result<(), NoMemory>
-    ensures { OnOk result (out.new.items
+    ensures text { OnOk result (out.new.items
         ≡ out.old.items ++ (delivery_text line collector cpu.0 fill.0 ++ brought.now)) }
+    ensures behind { IsPrefix out.old.items out.new.items }
 {
     put_number(out, line)?;
     put_named(out, b" d ", collector as u64)?;
@@ -82,7 +88,8 @@ fn put_delivery(
 
 /// A line without its end.
 fn put_line(out: &mut Vec<u8>, logged: &LogLine) -> Result<(), NoMemory>
-    ensures { OnOk result (out.new.items ≡ out.old.items ++ log_line_text (shown_log_line logged.now)) }
+    ensures text { OnOk result (out.new.items ≡ out.old.items ++ log_line_text (shown_log_line logged.now)) }
+    ensures behind { IsPrefix out.old.items out.new.items }
 {
     match logged {
         LogLine::Refused { line, cpu, fault } => {
@@ -137,19 +144,34 @@ fn put_line(out: &mut Vec<u8>, logged: &LogLine) -> Result<(), NoMemory>
 
 /// A line of the log.
 fn put_log_line(out: &mut Vec<u8>, logged: &LogLine) -> Result<(), NoMemory>
-    ensures { OnOk result (out.new.items ≡ out.old.items ++ printed_log_line (shown_log_line logged.now)) }
+    ensures text { OnOk result (out.new.items ≡ out.old.items ++ printed_log_line (shown_log_line logged.now)) }
+    ensures behind { IsPrefix out.old.items out.new.items }
 {
     put_line(out, logged)?;
     out.push(b'\n')?;
     Ok(())
 }
 
-/// Puts the lines of the log.
-pub fn put_log(out: &mut Vec<u8>, log: &[LogLine]) -> Result<(), NoMemory>
-    ensures { OnOk result (out.new.items ≡ out.old.items ++ flat_map printed_log_line (shown_log log.now)) }
+/// The lines of the log.
+fn put_lines(out: &mut Vec<u8>, log: &[LogLine]) -> Result<(), NoMemory>
+    ensures text { OnOk result (out.new.items ≡ out.old.items ++ flat_map printed_log_line (shown_log log.now)) }
+    ensures behind { IsPrefix out.old.items out.new.items }
 {
     for logged in log {
         put_log_line(out, logged)?;
     }
     Ok(())
+}
+
+/// Puts the lines of the log. If memory is refused, the text is as before.
+pub fn put_log(out: &mut Vec<u8>, log: &[LogLine]) -> Result<(), NoMemory>
+    ensures text { OnOk result (out.new.items ≡ out.old.items ++ flat_map printed_log_line (shown_log log.now)) }
+    ensures kept { OnErr result (out.new.items ≡ out.old.items) }
+{
+    let start = out.len();
+    let put = put_lines(out, log);
+    if put.is_err() {
+        out.truncate(start);
+    }
+    put
 }
