@@ -1,5 +1,6 @@
 //! The line of an audit.
-ghost use Rattle.std.specs.Prelude.{◌≡◌, ◌++◌, OnOk, codes};
+ghost use Rattle.std.specs.Prelude.{◌≡◌, ◌++◌, OnOk, OnErr, codes};
+ghost use Rattle.trace_model.specs.Sublist.{IsPrefix};
 ghost use Rattle.run_text.specs.Verdicts.{verdict_of};
 ghost use Rattle.run_text.specs.Printing.{place_text, printed_audit, verdict_text};
 
@@ -7,9 +8,10 @@ use run_audit::{AuditFault, Audited};
 use text_values::put_number;
 use trace_model::{CpuId, FillNo, NoMemory};
 
-/// A CPU and a fill of its ring.
+/// A CPU and a fill of its ring. On an error a part of that may be put.
 fn put_place(out: &mut Vec<u8>, cpu: CpuId, fill: FillNo) -> Result<(), NoMemory>
-    ensures { OnOk result (out.new.items ≡ out.old.items ++ place_text cpu.0 fill.0) }
+    ensures text { OnOk result (out.new.items ≡ out.old.items ++ place_text cpu.0 fill.0) }
+    ensures behind { IsPrefix out.old.items out.new.items }
 {
     put_number(out, u64::from(cpu.0))?;
     out.push(b' ')?;
@@ -17,9 +19,10 @@ fn put_place(out: &mut Vec<u8>, cpu: CpuId, fill: FillNo) -> Result<(), NoMemory
     Ok(())
 }
 
-/// What an audit answered, without the line's end.
+/// What an audit answered, without the line's end. On an error a part of that may be put.
 fn put_verdict(out: &mut Vec<u8>, answer: Result<Audited, AuditFault>) -> Result<(), NoMemory>
-    ensures { OnOk result (out.new.items ≡ out.old.items ++ verdict_text (verdict_of answer)) }
+    ensures text { OnOk result (out.new.items ≡ out.old.items ++ verdict_text (verdict_of answer)) }
+    ensures behind { IsPrefix out.old.items out.new.items }
 {
     match answer {
         Ok(_) => {
@@ -37,15 +40,27 @@ fn put_verdict(out: &mut Vec<u8>, answer: Result<Audited, AuditFault>) -> Result
     }
 }
 
-/// Puts the line that tells what an audit answered: `audit yes`, `audit stray C F` or `audit lacks C F`, C and F being
-/// the CPU and the fill of the parcel that the audit names.
-///
-/// If memory is refused, a part of that may have been put.
-pub fn put_audit(out: &mut Vec<u8>, answer: Result<Audited, AuditFault>) -> Result<(), NoMemory>
-    ensures { OnOk result (out.new.items ≡ out.old.items ++ printed_audit (verdict_of answer)) }
+/// The line of an audit. On an error a part of that may be put.
+fn put_line(out: &mut Vec<u8>, answer: Result<Audited, AuditFault>) -> Result<(), NoMemory>
+    ensures text { OnOk result (out.new.items ≡ out.old.items ++ printed_audit (verdict_of answer)) }
+    ensures behind { IsPrefix out.old.items out.new.items }
 {
     out.extend_from_slice(b"audit ")?;
     put_verdict(out, answer)?;
     out.push(b'\n')?;
     Ok(())
+}
+
+/// Puts the line that tells what an audit answered: `audit yes`, `audit stray C F` or `audit lacks C F`, C and F being
+/// the CPU and the fill of the parcel that the audit names. If memory is refused, the text is as before.
+pub fn put_audit(out: &mut Vec<u8>, answer: Result<Audited, AuditFault>) -> Result<(), NoMemory>
+    ensures text { OnOk result (out.new.items ≡ out.old.items ++ printed_audit (verdict_of answer)) }
+    ensures kept { OnErr result (out.new.items ≡ out.old.items) }
+{
+    let start = out.len();
+    let put = put_line(out, answer);
+    if put.is_err() {
+        out.truncate(start);
+    }
+    put
 }

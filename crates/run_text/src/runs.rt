@@ -1,6 +1,7 @@
 //! The text of a run's collectors.
-ghost use Rattle.std.specs.Prelude.{◌≡◌, ◌++◌, List, OnOk, IfOk, IfSome};
+ghost use Rattle.std.specs.Prelude.{◌≡◌, ◌++◌, List, OnOk, OnErr, IfOk, IfSome};
 ghost use Rattle.std.specs.List.{AllZip};
+ghost use Rattle.trace_model.specs.Sublist.{IsPrefix};
 ghost use Rattle.collector_text.specs.Tells.{StandsBetween};
 ghost use Rattle.run_audit.specs.Audit.{taken_in};
 ghost use Rattle.run_text.specs.Verdicts.{IsVerdict, verdict_of};
@@ -21,7 +22,8 @@ fn answer_of(collector: &Collector, ledgers: &[Ledger]) -> Result<Audited, Audit
 }
 
 /// The text of a collector under this number, and the line of its audit. Answers where what stands below the first line
-/// is, up to the audit. Of an earlier collector that is at `span`; where both have and miss the same, it is copied.
+/// is, up to the audit. Of an earlier collector that is at `span`; where both have and miss the same, it is copied. On
+/// an error a part of that may be put.
 fn put_audited(
     alloc: Global,
     out: &mut Vec<u8>,
@@ -36,6 +38,7 @@ fn put_audited(
         × TellsAudited (taken_in ledgers.now) collector.now shown
         × (out.new.items ≡ out.old.items ++ printed_audited number shown)) }
     ensures below { IfOk result (λ own. StandsBetween collector.now out.new.items own.start own.end) }
+    ensures behind { IsPrefix out.old.items out.new.items }
 {
     let own = put_collector(alloc, out, number, collector, before, span)?;
     let answer = answer_of(collector, ledgers);
@@ -43,19 +46,18 @@ fn put_audited(
     Ok(own)
 }
 
-/// Puts what a run left: the text of each collector, numbered from 0, and behind each the line of its audit against
-/// these ledgers.
-///
-/// If memory is refused, a part of that may have been put.
-pub fn put_run(
+/// The text of each collector, numbered from 0, and behind each the line of its audit against these ledgers. On an error
+/// a part of that may be put.
+fn put_all(
     alloc: Global,
     out: &mut Vec<u8>,
     collectors: &[Collector],
     ledgers: &[Ledger],
 ) -> Result<(), NoMemory>
-    ensures { OnOk result ((shown : List AuditedShown)
+    ensures text { OnOk result ((shown : List AuditedShown)
         × AllZip (TellsAudited (taken_in ledgers.now)) collectors.now shown
         × (out.new.items ≡ out.old.items ++ printed_run shown)) }
+    ensures behind { IsPrefix out.old.items out.new.items }
 {
     let mut before: Option<&Collector> = None;
     let mut span = Span { start: 0, end: 0 };
@@ -64,4 +66,25 @@ pub fn put_run(
         before = Some(collector);
     }
     Ok(())
+}
+
+/// Puts what a run left: the text of each collector, numbered from 0, and behind each the line of its audit against
+/// these ledgers. If memory is refused, the text is as before.
+pub fn put_run(
+    alloc: Global,
+    out: &mut Vec<u8>,
+    collectors: &[Collector],
+    ledgers: &[Ledger],
+) -> Result<(), NoMemory>
+    ensures text { OnOk result ((shown : List AuditedShown)
+        × AllZip (TellsAudited (taken_in ledgers.now)) collectors.now shown
+        × (out.new.items ≡ out.old.items ++ printed_run shown)) }
+    ensures kept { OnErr result (out.new.items ≡ out.old.items) }
+{
+    let start = out.len();
+    let put = put_all(alloc, out, collectors, ledgers);
+    if put.is_err() {
+        out.truncate(start);
+    }
+    put
 }

@@ -4,18 +4,23 @@ use Rattle.run_text.specs.Verdicts.{verdict_of}
 use Rattle.run_text.specs.Printing.{printed_audit}
 use Rattle.run_text.proofs.runs.put_audited.Goals as goal
 
+pub returns-in_err-put_audit-clause-behind : goal.returns-in_err-put_audit-clause-behind
+returns-in_err-put_audit-clause-behind c = (_, c.in_err-put_audit.ensures.kept ∙ c.in_ok-own.ensures.told.2)
+
 pub returns : goal.returns
 returns c =
     let told = c.in_ok-own.ensures.told in
+    let more = c.in_ok-put_audit.ensures.text
+    ∙ ap (λ (t : List ℕ). t ++ printed_audit (verdict_of c.answer_of-answer.result)) told.2
+    ∙ append_assoc c.args.out.now.items _ (printed_audit (verdict_of c.answer_of-answer.result)) in
     record {
       told = (
         record { collector = told.0; verdict = verdict_of c.answer_of-answer.result },
         record { tells = told.1; verdict = c.answer_of-answer.ensures },
-        c.in_ok-put_audit.ensures
-            ∙ ap (λ (t : List ℕ). t ++ printed_audit (verdict_of c.answer_of-answer.result)) told.2
-            ∙ append_assoc c.args.out.now.items _ (printed_audit (verdict_of c.answer_of-answer.result)),
+        more,
       );
       below = stands_kept c.args.collector.now c.put_collector.new.out.items
-          (printed_audit (verdict_of c.answer_of-answer.result)) c.put_audit.new.out.items _ _ c.in_ok-put_audit.ensures
-          c.in_ok-own.ensures.below;
+          (printed_audit (verdict_of c.answer_of-answer.result)) c.put_audit.new.out.items _ _
+          c.in_ok-put_audit.ensures.text c.in_ok-own.ensures.below;
+      behind = (_, more);
     }

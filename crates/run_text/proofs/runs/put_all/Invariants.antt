@@ -4,7 +4,7 @@ use Rattle.collector_text.specs.Tells.{StandsBetween}
 use Rattle.collector_text.proofs.Appended.{ArePut}
 use Rattle.run_audit.specs.Audit.{taken_in}
 use Rattle.run_text.specs.Printing.{AuditedShown, TellsAudited, printed_audited}
-use Rattle.run_text.proofs.runs.put_run.Given as goal
+use Rattle.run_text.proofs.runs.put_all.Given as goal
 
 abbrev pub invariant-loop-i : goal.invariant-loop-i
 invariant-loop-i l = record {
