@@ -1,6 +1,7 @@
 -- The commands of a script as they are kept, one more and one of them.
-use Rattle.std.proofs.Common.{◌≡◌, ℕ, suc, zero, ◌-◌, ◌<◌, ◌≤◌, List, [], ◌∷◌, ◌++◌, length, get_or, take, drop, Some, refl, sym, ◌∙◌, ap, subst, arith, length-append, length-drop}
+use Rattle.std.proofs.Common.{◌≡◌, ℕ, suc, zero, ◌-◌, ◌≤◌, List, [], ◌∷◌, ◌++◌, length, take, drop, Option, Some, refl, sym, ◌∙◌, ap, subst, arith, length-append, length-drop}
 use Rattle.std.specs.List.{slice_get}
+use Rattle.std.specs.Option.{option_map, unwrap_or}
 use Rattle.std.proofs.Math.Seq.{drop-append_seam}
 use Rattle.std.proofs.lemmas.List.{take-append-le, take_all, drop-append-le}
 use Rattle.trace_script.specs.declared.kept.KeptLine.{KeptLine}
@@ -51,20 +52,23 @@ pub length-commands_kept : (bytes : List ℕ) (start : ℕ) (lines : List KeptLi
 length-commands_kept bytes start [] = refl
 length-commands_kept bytes start (line ∷ lines) = ap (λ (n : ℕ). suc n) (length-commands_kept bytes line.end lines)
 
-pub command_at : (bytes : List ℕ) (start : ℕ) (lines : List KeptLine) (i : ℕ) (d : KeptLine) → i < length lines
-    → slice_get (commands_kept bytes start lines) i ≡ Some ((get_or lines i d).number, shown_order (part bytes (start_of start lines i) (get_or lines i d).end) (get_or lines i d).order)
-command_at bytes start [] i d below = absurd (omega arith)
-command_at bytes start (line ∷ lines) zero d below = refl
-command_at bytes start (line ∷ lines) (suc i) d below = command_at bytes line.end lines i d (omega arith)
+pub command_at : (bytes : List ℕ) (start : ℕ) (lines : List KeptLine) (i : ℕ) (line : KeptLine) → slice_get lines i ≡ Some line
+    → slice_get (commands_kept bytes start lines) i ≡ Some (line.number, shown_order (part bytes (start_of start lines i) line.end) line.order)
+command_at bytes start [] i line at = cc
+command_at bytes start (l ∷ lines) zero line at = ap (λ (o : Option KeptLine). option_map (λ (l : KeptLine). (l.number, shown_order (part bytes start l.end) l.order)) o) at
+command_at bytes start (l ∷ lines) (suc i) line at = command_at bytes l.end lines i line at
 
 -- a payload begins where that of the line before ends
-pub start_behind : (start : ℕ) (lines : List KeptLine) (i : ℕ) (d : KeptLine) → i < length lines → start_of start lines (suc i) ≡ (get_or lines i d).end
-start_behind start [] i d below = absurd (omega arith)
-start_behind start (line ∷ lines) zero d below = refl
-start_behind start (line ∷ lines) (suc i) d below = start_behind line.end lines i d (omega arith)
+pub start_behind : (start : ℕ) (lines : List KeptLine) (i : ℕ) (line : KeptLine) → slice_get lines i ≡ Some line → start_of start lines (suc i) ≡ line.end
+start_behind start [] i line at = cc
+start_behind start (l ∷ lines) zero line at = ap (λ (o : Option KeptLine). unwrap_or (option_map (λ (l : KeptLine). l.end) o) 0) at
+start_behind start (l ∷ lines) (suc i) line at = start_behind l.end lines i line at
 
-pub payload_within : (start len : ℕ) (lines : List KeptLine) (i : ℕ) (d : KeptLine) → AreKept start len lines → i < length lines
-    → (start_of start lines i ≤ (get_or lines i d).end) × ((get_or lines i d).end ≤ len)
-payload_within start len [] i d h below = absurd (omega arith)
-payload_within start len (line ∷ lines) zero d h below = (h.0, kept_within line.end len lines h.1)
-payload_within start len (line ∷ lines) (suc i) d h below = payload_within line.end len lines i d h.1 (omega arith)
+pub payload_within : (start len : ℕ) (lines : List KeptLine) (i : ℕ) (line : KeptLine) → AreKept start len lines → slice_get lines i ≡ Some line
+    → (start_of start lines i ≤ line.end) × (line.end ≤ len)
+payload_within start len [] i line h at = absurd (cc)
+payload_within start len (l ∷ lines) zero line h at =
+    let same : l.end ≡ line.end = ap (λ (o : Option KeptLine). unwrap_or (option_map (λ (l : KeptLine). l.end) o) 0) at in
+    let within = kept_within l.end len lines h.1 in
+    (omega (arith, h.0, same), omega (arith, same, within))
+payload_within start len (l ∷ lines) (suc i) line h at = payload_within l.end len lines i line h.1 at

@@ -1,22 +1,11 @@
-//! The commands of a script, as they are kept: 32 bytes a command, and the payloads one behind the other.
+//! The commands of a script, as they are kept, and the payloads one behind the other.
 
-ghost use Rattle.std.specs.Prelude.{◌≡◌, ◌<◌, ◌≤◌, length};
-ghost use Rattle.trace_script.specs.Kept.{part, start_of};
+ghost use Rattle.std.specs.Prelude.{◌≡◌, ◌≤◌, length};
+ghost use Rattle.trace_script.specs.Kept.{part};
 
 use crate::command::ScriptLine;
-use crate::kept::KeptLine;
+use crate::kept_lines::KeptLines;
 use std::marker::Model;
-
-/// Where the payload of the line at this index begins.
-fn payload_start(lines: &[KeptLine], index: usize) -> usize
-    requires { index < length lines.now }
-    ensures { result ≡ start_of 0 lines.now index }
-{
-    if index == 0 {
-        return 0;
-    }
-    lines[index - 1].end
-}
 
 /// The bytes from one place to another.
 fn part_of(bytes: &[u8], start: usize, end: usize) -> &[u8]
@@ -30,7 +19,7 @@ fn part_of(bytes: &[u8], start: usize, end: usize) -> &[u8]
 /// The commands of a script, in the order of their lines.
 #[derive(Debug, Drop)]
 pub struct Commands {
-    lines: Vec<KeptLine>,
+    lines: KeptLines,
     payloads: Vec<u8>,
 }
 
@@ -41,9 +30,9 @@ impl Model for Commands {
 
     ghost Value = { List (ℕ × CommandSeen) };
 
-    ghost view = { λ c. commands_kept c.payloads.items 0 c.lines.items };
+    ghost view = { λ c. commands_kept c.payloads.items 0 c.lines };
 
-    ghost invariant = { λ c. AreKept 0 (length c.payloads.items) c.lines.items };
+    ghost invariant = { λ c. AreKept 0 (length c.payloads.items) c.lines };
 }
 
 impl Commands {
@@ -52,9 +41,9 @@ impl Commands {
     ghost use Rattle.trace_script.specs.ScriptTypes.{shown_line};
 
     /// The commands of these lines, whose payloads are these bytes.
-    pub(crate) fn of(lines: Vec<KeptLine>, payloads: Vec<u8>) -> Commands
-        requires { AreKept 0 (length payloads.items) lines.items }
-        ensures { result ≡ commands_kept payloads.items 0 lines.items }
+    pub(crate) fn of(lines: KeptLines, payloads: Vec<u8>) -> Commands
+        requires { AreKept 0 (length payloads.items) lines }
+        ensures { result ≡ commands_kept payloads.items 0 lines }
     {
         Commands { lines, payloads }
     }
@@ -78,8 +67,8 @@ impl Commands {
         requires { index < length self.now }
         ensures { slice_get self.now index ≡ Some (shown_line result) }
     {
-        let line = self.lines[index];
-        let start = payload_start(self.lines.as_slice(), index);
+        let line = self.lines.line(index);
+        let start = self.lines.start(index);
         let payload = part_of(self.payloads.as_slice(), start, line.end);
         ScriptLine {
             number: line.number,

@@ -1,9 +1,8 @@
 //! A command of a script as it is kept.
 
 use crate::order::Order;
-use std::mem::size_of;
 
-/// A command as it is kept: 32 bytes, its payload aside.
+/// A command as it is kept, its payload aside.
 #[derive(Clone, Copy, Debug)]
 pub struct KeptLine {
     /// The number of its line among all lines of the text, from 1.
@@ -12,6 +11,3 @@ pub struct KeptLine {
     pub end: usize,
     pub order: Order,
 }
-
-// A script of many lines takes so much for each.
-const _: () = prove!(size_of::<KeptLine>() == 32);

@@ -10,6 +10,7 @@ mod fault_line;
 mod fields;
 mod header;
 mod kept;
+mod kept_lines;
 mod lines;
 mod order;
 mod orders;

@@ -10,6 +10,7 @@ use crate::commands::Commands;
 use crate::fault::{ScriptFault, reading_at};
 use crate::header::{read_header, read_start};
 use crate::kept::KeptLine;
+use crate::kept_lines::KeptLines;
 use crate::lines::{Lines, NumberedLine};
 use crate::order::Order;
 use crate::orders::order_in;
@@ -84,14 +85,17 @@ fn read_commands(
     ensures memory { result ≡ Err ScriptFault.NoMemory
         → BeginAsCommands cpus collectors (significant_lines_after lines.old.passed lines.old.rest.now) }
 {
-    let mut kept = Vec::new(alloc);
+    let mut kept = KeptLines::new(alloc);
     let mut payloads = Vec::new(alloc);
     while let Some(order) = next_order(cpus, collectors, lines, &mut payloads)? {
-        kept.push(KeptLine {
+        let line = KeptLine {
             number: lines.passed,
             end: payloads.len(),
             order,
-        })?;
+        };
+        let Ok(()) = kept.push(line) else {
+            return Err(ScriptFault::NoMemory);
+        };
     }
     Ok(Commands::of(kept, payloads))
 }

@@ -16,7 +16,7 @@ pub loop-payloads-preserved : goal.loop-payloads-preserved
 loop-payloads-preserved c =
     let next = rw c.in-Some.is at c.in_ok-order.ensures.next in
     let puts = next.2 in
-    let more = line_kept c.loop-payloads.payloads.items _ puts.0 c.loop-payloads.kept.items _ _ puts.1 c.in_ok-push.ensures.items (c.len.ensures ∙ c.next_order.new.payloads.ok.0) c.loop-payloads.invariant.kept in
+    let more = line_kept c.loop-payloads.payloads.items _ puts.0 c.loop-payloads.kept _ _ puts.1 c.in-Ok.ensures.pushed (c.len.ensures ∙ c.next_order.new.payloads.ok.0) c.loop-payloads.invariant.kept in
     record {
       so_far = commands_turn c.args.cpus c.args.collectors _ _ _ _ _ _ _ (shown_order puts.0 c.in-Some.order) c.loop-payloads.invariant.so_far next.1 puts.2 more.0;
       read = read_turn c.args.cpus c.args.collectors _ _ _ _ _ _ _ (shown_order puts.0 c.in-Some.order) c.loop-payloads.invariant.read next.1 puts.2 more.0;
@@ -26,7 +26,7 @@ loop-payloads-preserved c =
 pub of-requires : goal.of-requires
 of-requires c =
     let next = rw c.in_default.is at c.in_ok-order.ensures.next in
-    subst (λ (bs : List ℕ). AreKept 0 (length bs) c.loop-payloads.kept.items) (sym next.1) c.loop-payloads.invariant.kept
+    subst (λ (bs : List ℕ). AreKept 0 (length bs) c.loop-payloads.kept) (sym next.1) c.loop-payloads.invariant.kept
 
 pub returns-in_err-order-clause-memory : goal.returns-in_err-order-clause-memory
 returns-in_err-order-clause-memory c = λ refused.
@@ -34,8 +34,8 @@ returns-in_err-order-clause-memory c = λ refused.
     let p = err_from_is_err_and c.from_residual.result c.from_residual.ensures.1 in
     line_refused c.args.cpus c.args.collectors _ _ _ _ _ _ c.in_err-order.field-0.0 c.loop-payloads.invariant.read next.1 next.2 (cc)
 
-pub returns-in_err-push-clause-memory : goal.returns-in_err-push-clause-memory
-returns-in_err-push-clause-memory c = λ refused.
+pub returns-in_default-push-clause-memory : goal.returns-in_default-push-clause-memory
+returns-in_default-push-clause-memory c = λ refused.
     let next = rw c.in-Some.is at c.in_ok-order.ensures.next in
     let puts = next.2 in
     line_read c.args.cpus c.args.collectors _ _ _ _ _ _ (shown_order puts.0 c.in-Some.order) c.loop-payloads.invariant.read next.1 puts.2
@@ -44,5 +44,5 @@ pub returns-clause-gives : goal.returns-clause-gives
 returns-clause-gives c =
     let next = rw c.in_default.is at c.in_ok-order.ensures.next in
     commands_end c.args.cpus c.args.collectors _ _ _ c.loop-payloads.invariant.so_far next.0
-    ∙ ap (λ (bs : List ℕ). let r : Read Commands = Ok (commands_kept bs 0 c.loop-payloads.kept.items) in r) (sym next.1)
+    ∙ ap (λ (bs : List ℕ). let r : Read Commands = Ok (commands_kept bs 0 c.loop-payloads.kept) in r) (sym next.1)
     ∙ ap (λ (cs : Commands). let r : Read Commands = Ok cs in r) (sym c.of.ensures)
