@@ -53,8 +53,8 @@ fn shortened(line: KeptLine) -> Option<ShortLine>
     })
 }
 
-/// Commands of a script, in the order of their lines. The numbers of the lines and the ends of the payloads only rise
-/// in a script, so that all but the first 2^32 bytes of it are read without a command that doesn't fit 32 bits.
+/// The commands of a script, in the order of their lines. From line to line these numbers only rise, so that a text of
+/// less than 2^32 bytes has short ones alone.
 #[derive(Debug, Drop)]
 pub struct KeptLines {
     short: Vec<ShortLine>,
@@ -97,20 +97,23 @@ impl KeptLines {
         Ok(())
     }
 
-    /// Puts a command behind all others.
+    /// Puts a command behind all others. What is rare gets a copy, so that the command itself needs no memory.
     #[inline(always)]
     pub fn push(&mut self, line: KeptLine) -> Result<(), NoMemory>
         ensures pushed { OnOk result (self.new ≡ self.old ++ line ∷ []) }
         ensures refused { OnErr result (self.new ≡ self.old) }
     {
-        if !self.long.is_empty() {
-            return self.push_long(line);
+        if self.long.is_empty() {
+            if let Some(short) = shortened(line) {
+                self.short.push(short)?;
+                return Ok(());
+            }
         }
-        let Some(short) = shortened(line) else {
-            return self.push_long(line);
-        };
-        self.short.push(short)?;
-        Ok(())
+        self.push_long(KeptLine {
+            number: line.number,
+            end: line.end,
+            order: line.order,
+        })
     }
 
     /// How many there are.

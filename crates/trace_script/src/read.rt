@@ -87,6 +87,8 @@ fn read_commands(
 {
     let mut kept = KeptLines::new(alloc);
     let mut payloads = Vec::new(alloc);
+    // Two digits spell a byte of a payload. If so much room is refused at once, it is made little by little.
+    let _room = payloads.reserve(lines.rest.len() / 2);
     while let Some(order) = next_order(cpus, collectors, lines, &mut payloads)? {
         let line = KeptLine {
             number: lines.passed,
