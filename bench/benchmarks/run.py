@@ -2,7 +2,7 @@
 
 Each CPU writes 100,000 payloads of one length into a ring of 16 pages of 4,080 bytes, by turns in the script; the gate
 is open. Each program makes the script first, which isn't timed, but stands in the memory that is measured. Two rivals
-differ only in how many bytes a line of their script takes: as few as it can, or as many as one of ours.
+differ only in how many bytes a line of their script takes: as few as it can, or 32.
 """
 
 from statistics import median

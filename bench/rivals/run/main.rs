@@ -7,7 +7,7 @@
 //! and prints how many nanoseconds both took, what became of the records, and what Linux says of the memory before
 //! and after.
 //!
-//! A command takes 16 bytes, or with `--cfg wide` as many as the product's, 32.
+//! A command takes 16 bytes, or 32 with `--cfg wide`.
 //!
 //! A page is filled by its writer alone and goes to the reader under a lock, one for each ring, which is taken once a
 //! page. It does less than the product: a script here has `w` lines alone, so that no writer is interrupted by another.
