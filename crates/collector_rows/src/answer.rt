@@ -1,0 +1,68 @@
+//! What is answered, as text.
+use crate::calls::Answer;
+use collector::Added;
+use page_image::{Image, Missed};
+use page_numbers::Parcel;
+use std::alloc::Global;
+use trace_model::NoMemory;
+
+/// Puts lines below an answer, each indented by two spaces.
+fn put_below(out: &mut String, lines: &[u8]) -> Result<(), NoMemory> {
+    out.push_str("\n  ")?;
+    for byte in lines.strip_suffix(b"\n".as_slice()).unwrap_or(lines) {
+        out.push(char::from(*byte))?;
+        if *byte == b'\n' {
+            out.push_str("  ")?;
+        }
+    }
+    Ok(())
+}
+
+/// Puts what an image tells.
+fn put_image(out: &mut String, image: &Image) -> Result<(), NoMemory> {
+    let (time, size, count) = (image.time, image.size, image.page.count());
+    write!(out, "time {time} size {size} count {count} missed ")?;
+    match image.missed {
+        Missed::None => out.push_str("none")?,
+        Missed::Unknown => out.push_str("unknown")?,
+        Missed::Count(events) => write!(out, "{events}")?,
+    }
+    Ok(())
+}
+
+/// Puts what a parcel tells.
+fn put_parcel(out: &mut String, parcel: &Parcel) -> Result<(), NoMemory> {
+    let (cpu, fill, first) = (parcel.cpu().0, parcel.fill().0, parcel.first().0);
+    let (count, missed) = (parcel.count(), parcel.missed());
+    write!(
+        out,
+        "cpu {cpu} fill {fill} first {first} count {count} missed {missed}"
+    )?;
+    Ok(())
+}
+
+/// Puts what is answered.
+pub fn put_answer(out: &mut String, alloc: Global, answer: &Answer) -> Result<(), NoMemory> {
+    match answer {
+        Answer::Image(image) => put_image(out, image)?,
+        Answer::Parcel(parcel, None) => {
+            put_parcel(out, parcel)?;
+            out.push_str(" same bytes")?;
+        }
+        Answer::Parcel(parcel, Some(bytes)) => {
+            put_parcel(out, parcel)?;
+            out.push_str(" bytes ")?;
+            out.push_str(hex::encode(alloc, bytes)?.as_str())?;
+        }
+        Answer::Added(Added::New) => out.push_str("new")?,
+        Answer::Added(Added::Known) => out.push_str("known")?,
+        Answer::Merged => out.push_str("merged")?,
+        Answer::Is(true) => out.push_str("yes")?,
+        Answer::Is(false) => out.push_str("no")?,
+        Answer::Shown(kept, text) => {
+            write!(out, "keeps {kept}")?;
+            put_below(out, text)?;
+        }
+    }
+    Ok(())
+}

@@ -1,0 +1,184 @@
+//! The collectors of a row, and the calls that an event makes.
+use crate::event::Event;
+use collector::{AddFault, Added, Collector};
+use collector_text::{Span, put_collector};
+use page_image::{Image, ImageFault, read_image};
+use page_numbers::{Parcel, ParcelFault};
+use std::alloc::Global;
+use std::mem;
+use thiserror::Error;
+use trace_model::{CpuId, NoMemory, RecordNo};
+
+/// What a call answers that does what it is asked.
+#[derive(Debug, Drop)]
+pub enum Answer {
+    /// The page of an image.
+    Image(Image),
+    /// A parcel, and the bytes that are written of it if they are others than those that were read.
+    Parcel(Parcel, Option<Vec<u8>>),
+    /// A parcel was added.
+    Added(Added),
+    /// A collector was merged into another.
+    Merged,
+    /// Whether it is so.
+    Is(bool),
+    /// How many parcels a collector keeps, and its text.
+    Shown(usize, Vec<u8>),
+}
+
+/// Why a call doesn't.
+#[derive(Debug, Drop, Error)]
+pub enum Refusal {
+    /// The row has no such collector, or both that are named are one.
+    #[error("no collector")]
+    NoCollector,
+    /// Memory was refused.
+    #[error("memory")]
+    NoMemory,
+    /// The bytes are no image.
+    #[error("{0:?}")]
+    Image(ImageFault),
+    /// The bytes are no parcel.
+    #[error("{0:?}")]
+    Parcel(ParcelFault),
+    /// There are two records of this CPU and number.
+    #[error("Clash({0}, {1})")]
+    Clash(u32, u64),
+    /// This CPU's number has a record and is missing.
+    #[error("TakenAndMissing({0}, {1})")]
+    TakenAndMissing(u32, u64),
+}
+
+impl From<NoMemory> for Refusal {
+    fn from(_: NoMemory) -> Refusal {
+        Refusal::NoMemory
+    }
+}
+
+impl From<ImageFault> for Refusal {
+    fn from(fault: ImageFault) -> Refusal {
+        match fault {
+            ImageFault::NoMemory => Refusal::NoMemory,
+            fault => Refusal::Image(fault),
+        }
+    }
+}
+
+impl From<ParcelFault> for Refusal {
+    fn from(fault: ParcelFault) -> Refusal {
+        match fault {
+            ParcelFault::NoMemory => Refusal::NoMemory,
+            fault => Refusal::Parcel(fault),
+        }
+    }
+}
+
+impl From<AddFault> for Refusal {
+    fn from(fault: AddFault) -> Refusal {
+        match fault {
+            AddFault::NoMemory => Refusal::NoMemory,
+            AddFault::Clash(CpuId(cpu), RecordNo(number)) => Refusal::Clash(cpu, number),
+            AddFault::TakenAndMissing(CpuId(cpu), RecordNo(number)) => {
+                Refusal::TakenAndMissing(cpu, number)
+            }
+        }
+    }
+}
+
+/// The parcel with these bytes, shared, and what is written of it.
+fn parcel(alloc: Global, bytes: &[u8]) -> Result<Answer, Refusal> {
+    let first = Parcel::from_bytes(alloc, bytes)?;
+    let parcel = first.share()?;
+    drop(first);
+    let written = parcel.to_bytes(alloc)?;
+    let others = if written.as_slice() == bytes {
+        None
+    } else {
+        Some(written)
+    };
+    Ok(Answer::Parcel(parcel, others))
+}
+
+/// The text of the collector of this number, and how many parcels it keeps.
+fn shown(alloc: Global, number: usize, collector: &Collector) -> Result<Answer, NoMemory> {
+    let mut text = Vec::new(alloc);
+    let none = Span { start: 0, end: 0 };
+    let _below = put_collector(alloc, &mut text, number as u64, collector, None, none)?;
+    Ok(Answer::Shown(collector.parcels().len(), text))
+}
+
+/// The collectors of a row.
+#[derive(Drop)]
+pub struct Collectors {
+    alloc: Global,
+    collectors: Vec<Collector>,
+}
+
+impl Collectors {
+    /// So many empty collectors.
+    pub fn new(alloc: Global, count: usize) -> Result<Collectors, NoMemory> {
+        let mut collectors = Vec::new(alloc);
+        for _ in 0..count {
+            collectors.push(Collector::new(alloc))?;
+        }
+        Ok(Collectors { alloc, collectors })
+    }
+
+    /// How many there are.
+    pub fn count(&self) -> usize {
+        self.collectors.len()
+    }
+
+    /// What an event answers.
+    pub fn ask(&mut self, event: &Event) -> Result<Answer, Refusal> {
+        match event {
+            Event::Image(bytes) => Ok(Answer::Image(read_image(self.alloc, bytes)?)),
+            Event::Parcel(bytes) => parcel(self.alloc, bytes),
+            Event::Add(number, bytes) => self.add(*number, bytes),
+            Event::Holds(number, bytes) => {
+                let parcel = Parcel::from_bytes(self.alloc, bytes)?;
+                Ok(Answer::Is(self.one(*number)?.holds(&parcel)))
+            }
+            Event::Merge(number, other) => self.merge(*number, *other),
+            Event::Same(number, other) => {
+                Ok(Answer::Is(self.one(*number)?.same(self.one(*other)?)))
+            }
+            Event::Show(number) => self.show(*number),
+        }
+    }
+
+    /// The collector of this number.
+    fn one(&self, number: usize) -> Result<&Collector, Refusal> {
+        self.collectors.get(number).ok_or(Refusal::NoCollector)
+    }
+
+    /// The text of the collector of this number.
+    fn show(&self, number: usize) -> Result<Answer, Refusal> {
+        Ok(shown(self.alloc, number, self.one(number)?)?)
+    }
+
+    /// Adds the parcel with these bytes.
+    fn add(&mut self, number: usize, bytes: &[u8]) -> Result<Answer, Refusal> {
+        let Some(collector) = self.collectors.get_mut(number) else {
+            return Err(Refusal::NoCollector);
+        };
+        let parcel = Parcel::from_bytes(self.alloc, bytes)?;
+        Ok(Answer::Added(collector.add(parcel)?))
+    }
+
+    /// Merges the other collector into the one of this number, which is taken out of the list meanwhile.
+    fn merge(&mut self, number: usize, other: usize) -> Result<Answer, Refusal> {
+        let Some(place) = self.collectors.get_mut(number) else {
+            return Err(Refusal::NoCollector);
+        };
+        let mut collector = mem::replace(place, Collector::new(self.alloc));
+        let merged = match self.collectors.get(other) {
+            Some(found) if other != number => collector.merge(found).map_err(Refusal::from),
+            _ => Err(Refusal::NoCollector),
+        };
+        if let Some(place) = self.collectors.get_mut(number) {
+            *place = collector;
+        }
+        merged.map(|()| Answer::Merged)
+    }
+}

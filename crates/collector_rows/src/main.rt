@@ -1,0 +1,44 @@
+//! The program `collector_rows`: reads worked exchanges with collectors, and writes them with what is answered.
+//!
+//! Standard input is a text of rows, as the file `stdout` of this crate, with or without answers. Each event of a row
+//! is a call of `page_image`, `page_numbers`, `collector` or `collector_text`, and what it answers is written after it.
+//! An event that is refused memory is carried out once more, after a line `memory` and the text of each collector of
+//! the row: so a caller that refuses it a growth sees that nothing has changed, and that the call succeeds then.
+#![tactic(auto)]
+
+mod answer;
+mod calls;
+mod event;
+mod rows;
+
+use rows::{Fault, Rows};
+use std::process::ExitCode;
+
+/// The text was read to its end.
+const DONE: u8 = 0;
+
+/// A line of the text is none of a row.
+const REFUSED: u8 = 1;
+
+/// Memory was refused outside of the calls, or a read or a write failed.
+const FAILED: u8 = 3;
+
+/// Answers each line of standard input.
+fn answer_all<R: Input + Print + AllocGlobal>(rt: &R) -> Result<(), Fault> {
+    let mut rows = Rows::new(rt.alloc());
+    for (before, line) in rt.lines(rt.alloc()).enumerate() {
+        let number = (before as u64).wrapping_add(1);
+        if let Some(answered) = rows.answered(number, line?.as_str())? {
+            println!(rt; "{answered}")?;
+        }
+    }
+    Ok(())
+}
+
+fn main(rt: HostRuntime) -> ExitCode {
+    let Err(fault) = answer_all(&rt) else {
+        return ExitCode::from(DONE);
+    };
+    let _ = eprintln!(rt; "collector_rows: {fault}");
+    ExitCode::from(fault.status())
+}
