@@ -6,6 +6,7 @@ plain rings: the second makes a take whole with the step that ends it.
 import re
 import subprocess
 import sys
+import tempfile
 
 LINK_FILLS, MOMENT_LIMIT, MAX_FRAMES = 1 << 48, 1 << 59, 4
 # From this distance between two moments on, a time extend is between their records.
@@ -377,7 +378,11 @@ def compare(program, rows, what):
 
 def compare_text(program, text, what):
     asked = re.sub(r"(?m) -> .*$|^  .*\n", "", text)
-    ran = subprocess.run([program], input=asked, capture_output=True, text=True, timeout=SECONDS, check=False)
+    # From a pipe the program would read one byte a call.
+    with tempfile.TemporaryFile("w+") as given:
+        given.write(asked)
+        given.seek(0)
+        ran = subprocess.run([program], stdin=given, capture_output=True, text=True, timeout=SECONDS, check=False)
     if (ran.returncode, ran.stdout) != (0, text):
         pairs = zip(text.splitlines(), ran.stdout.splitlines())
         wanted, found = next((pair for pair in pairs if pair[0] != pair[1]), ("all", f"status {ran.returncode}"))

@@ -6,9 +6,8 @@ use page_numbers::Parcel;
 use std::alloc::Global;
 use trace_model::NoMemory;
 
-/// Puts lines below an answer, each indented by two spaces.
-fn put_below(out: &mut String, lines: &[u8]) -> Result<(), NoMemory> {
-    out.push_str("\n  ")?;
+/// Puts lines, each but the first indented by two spaces.
+fn put_lines(out: &mut String, lines: &[u8]) -> Result<(), NoMemory> {
     for byte in lines.strip_suffix(b"\n".as_slice()).unwrap_or(lines) {
         out.push(char::from(*byte))?;
         if *byte == b'\n' {
@@ -59,10 +58,7 @@ pub fn put_answer(out: &mut String, alloc: Global, answer: &Answer) -> Result<()
         Answer::Merged => out.push_str("merged")?,
         Answer::Is(true) => out.push_str("yes")?,
         Answer::Is(false) => out.push_str("no")?,
-        Answer::Shown(kept, text) => {
-            write!(out, "keeps {kept}")?;
-            put_below(out, text)?;
-        }
+        Answer::Shown(text) => put_lines(out, text)?,
     }
     Ok(())
 }

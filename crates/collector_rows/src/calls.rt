@@ -1,7 +1,7 @@
 //! The collectors of a row, and the calls that an event makes.
-use crate::event::Event;
+use crate::event::{Event, Numbers};
 use collector::{AddFault, Added, Collector};
-use collector_text::{Span, put_collector};
+use collector_text::put_collectors;
 use page_image::{Image, ImageFault, read_image};
 use page_numbers::{Parcel, ParcelFault};
 use std::alloc::Global;
@@ -22,8 +22,8 @@ pub enum Answer {
     Merged,
     /// Whether it is so.
     Is(bool),
-    /// How many parcels a collector keeps, and its text.
-    Shown(usize, Vec<u8>),
+    /// A line with how many parcels each collector keeps, and below it their text.
+    Shown(Vec<u8>),
 }
 
 /// Why a call doesn't.
@@ -85,26 +85,22 @@ impl From<AddFault> for Refusal {
     }
 }
 
-/// The parcel with these bytes, shared, and what is written of it.
-fn parcel(alloc: Global, bytes: &[u8]) -> Result<Answer, Refusal> {
-    let first = Parcel::from_bytes(alloc, bytes)?;
+/// A parcel that is shared, and what is written of it if that isn't this.
+fn parcel(alloc: Global, first: Parcel, read: &[u8]) -> Result<Answer, NoMemory> {
     let parcel = first.share()?;
     drop(first);
     let written = parcel.to_bytes(alloc)?;
-    let others = if written.as_slice() == bytes {
-        None
-    } else {
-        Some(written)
-    };
-    Ok(Answer::Parcel(parcel, others))
+    let is_read = written.as_slice() == read;
+    Ok(Answer::Parcel(parcel, if is_read { None } else { Some(written) }))
 }
 
-/// The text of the collector of this number, and how many parcels it keeps.
-fn shown(alloc: Global, number: usize, collector: &Collector) -> Result<Answer, NoMemory> {
-    let mut text = Vec::new(alloc);
-    let none = Span { start: 0, end: 0 };
-    let _below = put_collector(alloc, &mut text, number as u64, collector, None, none)?;
-    Ok(Answer::Shown(collector.parcels().len(), text))
+/// The page of an image as a parcel with these numbers.
+fn parcel_of(alloc: Global, numbers: &Numbers, image: &[u8]) -> Result<Answer, Refusal> {
+    let page = read_image(alloc, image)?
+        .page
+        .numbered(numbers.first, numbers.fill);
+    let first = Parcel::of(alloc, numbers.cpu, page, numbers.missed)?;
+    Ok(parcel(alloc, first, &[])?)
 }
 
 /// The collectors of a row.
@@ -124,16 +120,15 @@ impl Collectors {
         Ok(Collectors { alloc, collectors })
     }
 
-    /// How many there are.
-    pub fn count(&self) -> usize {
-        self.collectors.len()
-    }
-
     /// What an event answers.
     pub fn ask(&mut self, event: &Event) -> Result<Answer, Refusal> {
         match event {
             Event::Image(bytes) => Ok(Answer::Image(read_image(self.alloc, bytes)?)),
-            Event::Parcel(bytes) => parcel(self.alloc, bytes),
+            Event::Of(numbers, image) => parcel_of(self.alloc, numbers, image),
+            Event::Parcel(bytes) => {
+                let first = Parcel::from_bytes(self.alloc, bytes)?;
+                Ok(parcel(self.alloc, first, bytes)?)
+            }
             Event::Add(number, bytes) => self.add(*number, bytes),
             Event::Holds(number, bytes) => {
                 let parcel = Parcel::from_bytes(self.alloc, bytes)?;
@@ -143,7 +138,7 @@ impl Collectors {
             Event::Same(number, other) => {
                 Ok(Answer::Is(self.one(*number)?.same(self.one(*other)?)))
             }
-            Event::Show(number) => self.show(*number),
+            Event::Show => Ok(self.show()?),
         }
     }
 
@@ -152,9 +147,16 @@ impl Collectors {
         self.collectors.get(number).ok_or(Refusal::NoCollector)
     }
 
-    /// The text of the collector of this number.
-    fn show(&self, number: usize) -> Result<Answer, Refusal> {
-        Ok(shown(self.alloc, number, self.one(number)?)?)
+    /// A line with how many parcels each collector keeps, and below it their text.
+    pub fn show(&self) -> Result<Answer, NoMemory> {
+        let mut kept = String::from_str(self.alloc, "keeps")?;
+        for collector in &self.collectors {
+            write!(kept, " {}", collector.parcels().len())?;
+        }
+        kept.push('\n')?;
+        let mut text = kept.into_bytes();
+        put_collectors(self.alloc, &mut text, &self.collectors)?;
+        Ok(Answer::Shown(text))
     }
 
     /// Adds the parcel with these bytes.

@@ -1,13 +1,24 @@
 //! The lines of the text that ask something.
 use std::alloc::Global;
 use std::str::SplitWhitespace;
-use trace_model::NoMemory;
+use trace_model::{CpuId, FillNo, NoMemory, RecordNo};
+
+/// The numbers of a page that is to be a parcel.
+#[derive(Clone, Copy, Debug)]
+pub struct Numbers {
+    pub cpu: CpuId,
+    pub fill: FillNo,
+    pub first: RecordNo,
+    pub missed: u64,
+}
 
 /// What a line asks. A collector of the row is named by its number, from 0.
 #[derive(Debug, Drop)]
 pub enum Event {
     /// Which page has this image?
     Image(Vec<u8>),
+    /// Which parcel is the page of this image, under these numbers?
+    Of(Numbers, Vec<u8>),
     /// Which parcel has these bytes, and which bytes are written of it?
     Parcel(Vec<u8>),
     /// The parcel with these bytes is added to a collector.
@@ -18,61 +29,95 @@ pub enum Event {
     Merge(usize, usize),
     /// Have both collectors the same records and missing numbers?
     Same(usize, usize),
-    /// What is the text of a collector?
-    Show(usize),
+    /// How many parcels does each collector keep, and what is its text?
+    Show,
 }
 
-/// The next word, as the number of a collector.
-fn number(words: &mut SplitWhitespace<'_>) -> Option<usize> {
+/// The next word, as a number.
+fn number(words: &mut SplitWhitespace<'_>) -> Option<u64> {
     words.next()?.parse().ok()
 }
 
-/// The next word, as hexadecimal digits; no word is no byte.
-fn bytes(alloc: Global, words: &mut SplitWhitespace<'_>) -> Result<Option<Vec<u8>>, NoMemory> {
-    match hex::decode(alloc, words.next().unwrap_or("")) {
-        Ok(bytes) => Ok(Some(bytes)),
-        Err(hex::FromHexError::OutOfMemory) => Err(NoMemory),
-        Err(_) => Ok(None),
+/// The next word, as the number of a collector.
+fn place(words: &mut SplitWhitespace<'_>) -> Option<usize> {
+    words.next()?.parse().ok()
+}
+
+/// The next words, as the numbers of a page.
+fn numbers_in(words: &mut SplitWhitespace<'_>) -> Option<Numbers> {
+    Some(Numbers {
+        cpu: CpuId(words.next()?.parse().ok()?),
+        fill: FillNo(number(words)?),
+        first: RecordNo(number(words)?),
+        missed: number(words)?,
+    })
+}
+
+/// The words that are left, each as hexadecimal digits.
+fn bytes(alloc: Global, words: SplitWhitespace<'_>) -> Result<Option<Vec<u8>>, NoMemory> {
+    let mut bytes = Vec::new(alloc);
+    for word in words {
+        match hex::decode(alloc, word) {
+            Ok(part) => bytes.extend_from_slice(&part)?,
+            Err(hex::FromHexError::OutOfMemory) => return Err(NoMemory),
+            Err(_) => return Ok(None),
+        }
     }
+    Ok(Some(bytes))
 }
 
 impl Event {
     /// The event of a line, if any.
     pub fn of(alloc: Global, line: &str) -> Result<Option<Event>, NoMemory> {
         let mut words = line.split_whitespace();
-        let event = match words.next() {
-            Some("image") => bytes(alloc, &mut words)?.map(Event::Image),
-            Some("parcel") => bytes(alloc, &mut words)?.map(Event::Parcel),
-            Some(name @ ("add" | "holds")) => Event::of_parcel(alloc, name, &mut words)?,
-            Some(name) => Event::of_collectors(name, &mut words),
-            None => None,
-        };
-        Ok(if words.next().is_none() { event } else { None })
+        match words.next() {
+            Some("image") => Ok(bytes(alloc, words)?.map(Event::Image)),
+            Some("parcel") => Ok(bytes(alloc, words)?.map(Event::Parcel)),
+            Some("of") => Event::of_page(alloc, words),
+            Some("add") => Event::of_parcel(alloc, true, words),
+            Some("holds") => Event::of_parcel(alloc, false, words),
+            Some(name) => Ok(Event::of_collectors(name, words)),
+            None => Ok(None),
+        }
     }
 
-    /// An event of a collector and a parcel.
+    /// An event of a page with its numbers.
+    fn of_page(alloc: Global, mut words: SplitWhitespace<'_>) -> Result<Option<Event>, NoMemory> {
+        let numbers = numbers_in(&mut words);
+        let image = bytes(alloc, words)?;
+        Ok(match (numbers, image) {
+            (Some(numbers), Some(image)) => Some(Event::Of(numbers, image)),
+            _ => None,
+        })
+    }
+
+    /// An event of a collector and a parcel, which is added or asked for.
     fn of_parcel(
         alloc: Global,
-        name: &str,
-        words: &mut SplitWhitespace<'_>,
+        adds: bool,
+        mut words: SplitWhitespace<'_>,
     ) -> Result<Option<Event>, NoMemory> {
-        let number = number(words);
+        let place = place(&mut words);
         let bytes = bytes(alloc, words)?;
-        Ok(match (name, number, bytes) {
-            ("add", Some(number), Some(bytes)) => Some(Event::Add(number, bytes)),
-            ("holds", Some(number), Some(bytes)) => Some(Event::Holds(number, bytes)),
+        Ok(match (place, bytes) {
+            (Some(place), Some(bytes)) if adds => Some(Event::Add(place, bytes)),
+            (Some(place), Some(bytes)) => Some(Event::Holds(place, bytes)),
             _ => None,
         })
     }
 
     /// An event of collectors alone.
-    fn of_collectors(name: &str, words: &mut SplitWhitespace<'_>) -> Option<Event> {
-        let first = number(words)?;
-        match name {
-            "merge" => Some(Event::Merge(first, number(words)?)),
-            "same" => Some(Event::Same(first, number(words)?)),
-            "show" => Some(Event::Show(first)),
-            _ => None,
+    fn of_collectors(name: &str, mut words: SplitWhitespace<'_>) -> Option<Event> {
+        let event = match name {
+            "merge" => Event::Merge(place(&mut words)?, place(&mut words)?),
+            "same" => Event::Same(place(&mut words)?, place(&mut words)?),
+            "show" => Event::Show,
+            _ => return None,
+        };
+        if words.next().is_none() {
+            Some(event)
+        } else {
+            None
         }
     }
 }

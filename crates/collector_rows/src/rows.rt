@@ -80,11 +80,8 @@ fn put_again(
     row: &mut Collectors,
     event: &Event,
 ) -> Result<(), NoMemory> {
-    out.push_str("memory")?;
-    for number in 0..row.count() {
-        out.push_str("\n  ")?;
-        put(out, alloc, &row.ask(&Event::Show(number)))?;
-    }
+    out.push_str("memory\n  ")?;
+    put_answer(out, alloc, &row.show()?)?;
     out.push_str("\n  again -> ")?;
     put(out, alloc, &row.ask(event))
 }
