@@ -200,6 +200,13 @@ class Row:
     def same(self, at, other):
         return yes(self.collectors[at].same(self.collectors[other]))
 
+    def get(self, at, cpu, number):
+        collector = self.collectors[at]
+        if any(run[0] == cpu and run[1] <= number < run[2] for run in collector.missing):
+            return "missing"
+        record = collector.records.get((cpu, number))
+        return f"{record[0]} {record[1].hex() or '-'}" if record else "unknown"
+
     def show(self):
         lines = ["keeps" + "".join(f" {len(collector.kept)}" for collector in self.collectors)]
         for number, collector in enumerate(self.collectors):

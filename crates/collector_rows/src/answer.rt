@@ -58,6 +58,13 @@ pub fn put_answer(out: &mut String, alloc: Global, answer: &Answer) -> Result<()
         Answer::Merged => out.push_str("merged")?,
         Answer::Is(true) => out.push_str("yes")?,
         Answer::Is(false) => out.push_str("no")?,
+        Answer::Record(moment, payload) if payload.is_empty() => write!(out, "{moment} -")?,
+        Answer::Record(moment, payload) => {
+            write!(out, "{moment} ")?;
+            out.push_str(hex::encode(alloc, payload)?.as_str())?;
+        }
+        Answer::Missing => out.push_str("missing")?,
+        Answer::Unknown => out.push_str("unknown")?,
         Answer::Shown(text) => put_lines(out, text)?,
     }
     Ok(())

@@ -22,6 +22,12 @@ pub enum Answer {
     Merged,
     /// Whether it is so.
     Is(bool),
+    /// A record's moment and payload.
+    Record(u64, Vec<u8>),
+    /// A number is missing.
+    Missing,
+    /// Nothing is known of a number.
+    Unknown,
     /// A line with how many parcels each collector keeps, and below it their text.
     Shown(Vec<u8>),
 }
@@ -138,6 +144,7 @@ impl Collectors {
             Event::Same(number, other) => {
                 Ok(Answer::Is(self.one(*number)?.same(self.one(*other)?)))
             }
+            Event::Get(number, cpu, record) => self.get(*number, *cpu, *record),
             Event::Show => Ok(self.show()?),
         }
     }
@@ -145,6 +152,21 @@ impl Collectors {
     /// The collector of this number.
     fn one(&self, number: usize) -> Result<&Collector, Refusal> {
         self.collectors.get(number).ok_or(Refusal::NoCollector)
+    }
+
+    /// What a collector has of a CPU under this number.
+    fn get(&self, number: usize, cpu: CpuId, record: RecordNo) -> Result<Answer, Refusal> {
+        let collector = self.one(number)?;
+        let Some(entry) = collector.get(cpu, record) else {
+            let is_missing = collector.is_missing(cpu, record);
+            return Ok(if is_missing {
+                Answer::Missing
+            } else {
+                Answer::Unknown
+            });
+        };
+        let payload = Vec::from_slice(self.alloc, entry.bytes).map_err(NoMemory::from)?;
+        Ok(Answer::Record(entry.moment.0, payload))
     }
 
     /// A line with how many parcels each collector keeps, and below it their text.

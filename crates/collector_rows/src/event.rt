@@ -29,6 +29,8 @@ pub enum Event {
     Merge(usize, usize),
     /// Have both collectors the same records and missing numbers?
     Same(usize, usize),
+    /// Has a collector a record of this CPU under this number, or misses it?
+    Get(usize, CpuId, RecordNo),
     /// How many parcels does each collector keep, and what is its text?
     Show,
 }
@@ -43,10 +45,15 @@ fn place(words: &mut SplitWhitespace<'_>) -> Option<usize> {
     words.next()?.parse().ok()
 }
 
+/// The next word, as the number of a CPU.
+fn cpu(words: &mut SplitWhitespace<'_>) -> Option<CpuId> {
+    Some(CpuId(words.next()?.parse().ok()?))
+}
+
 /// The next words, as the numbers of a page.
 fn numbers_in(words: &mut SplitWhitespace<'_>) -> Option<Numbers> {
     Some(Numbers {
-        cpu: CpuId(words.next()?.parse().ok()?),
+        cpu: cpu(words)?,
         fill: FillNo(number(words)?),
         first: RecordNo(number(words)?),
         missed: number(words)?,
@@ -111,6 +118,11 @@ impl Event {
         let event = match name {
             "merge" => Event::Merge(place(&mut words)?, place(&mut words)?),
             "same" => Event::Same(place(&mut words)?, place(&mut words)?),
+            "get" => Event::Get(
+                place(&mut words)?,
+                cpu(&mut words)?,
+                RecordNo(number(&mut words)?),
+            ),
             "show" => Event::Show,
             _ => return None,
         };

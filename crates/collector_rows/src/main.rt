@@ -12,6 +12,7 @@ mod event;
 mod rows;
 
 use rows::{Fault, Rows};
+use std::io;
 use std::process::ExitCode;
 
 /// The text was read to its end.
@@ -23,16 +24,32 @@ const REFUSED: u8 = 1;
 /// Memory was refused outside of the calls, or a read or a write failed.
 const FAILED: u8 = 3;
 
-/// Answers each line of standard input.
-fn answer_all<R: Input + Print + AllocGlobal>(rt: &R) -> Result<(), Fault> {
-    let mut rows = Rows::new(rt.alloc());
-    for (before, line) in rt.lines(rt.alloc()).enumerate() {
-        let number = (before as u64).wrapping_add(1);
-        if let Some(answered) = rows.answered(number, line?.as_str())? {
-            println!(rt; "{answered}")?;
-        }
+/// Writes the line of this number with its answer.
+fn answer_line<R: Print>(
+    rt: &R,
+    rows: &mut Rows,
+    number: u64,
+    line: io::Result<String>,
+) -> Result<(), Fault> {
+    if let Some(answered) = rows.answered(number, line?.as_str())? {
+        println!(rt; "{answered}")?;
     }
     Ok(())
+}
+
+// The rows are lent, so that the exits of the loop do not each drop all collectors, which takes minutes to prove.
+/// Answers each line of standard input.
+fn answer_lines<R: Input + Print + AllocGlobal>(rt: &R, rows: &mut Rows) -> Result<(), Fault> {
+    for (before, line) in rt.lines(rt.alloc()).enumerate() {
+        answer_line(rt, rows, (before as u64).wrapping_add(1), line)?;
+    }
+    Ok(())
+}
+
+/// Answers standard input, from no collector on.
+fn answer_all<R: Input + Print + AllocGlobal>(rt: &R) -> Result<(), Fault> {
+    let mut rows = Rows::new(rt.alloc());
+    answer_lines(rt, &mut rows)
 }
 
 fn main(rt: HostRuntime) -> ExitCode {
