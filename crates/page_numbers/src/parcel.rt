@@ -7,6 +7,7 @@ use page_borrow::{Records, records};
 use page_image::Page;
 use std::alloc::Global;
 use std::marker::Model;
+use std::sync::Arc;
 use trace_model::{CpuId, FillNo, NoMemory, RecordNo};
 
 /// A taken page, shared: the records of one fill of a CPU under their numbers, and how many numbers are missing in
@@ -128,7 +129,7 @@ impl Parcel {
     pub fn sharers(&self) -> usize
         ensures { 0 < result }
     {
-        Arc::strong_count(&self.page)
+        Arc::strong_count(&self.numbered.page)
     }
 
     /// The same parcel once more, of the same page. No byte of it is copied.
