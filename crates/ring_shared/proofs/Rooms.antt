@@ -106,8 +106,8 @@ module _ (shape : Shape) (before : Writing) (result : Answer) (after : Writing) 
   push_rooms moment len call e =
       let told : call.answer ≡ model.pushed = tells_so shape before (model.pushes moment len) result after call Pushed e in
       elim (push_answers shape.pages shape.size call.core moment len call.answer call.next call.step) [
-        inl p ↦ sym (rooms_after shape before (model.pushes moment len) result after call) ∙ ap rooms_of p.top ∙ ap (λ (k : Kind). room_of k ∷ rooms_of call.core.frames) p.kind_is ∙ ap (λ (rs : List (Option ℕ)). Some (slot_len len) ∷ rs) (rooms_before shape before (model.pushes moment len) result after call)
-      | inr r ↦ absurd (let both = refused_not call.answer model.pushed r.0 r.1 told in cc)
+        | inl p ↦ sym (rooms_after shape before (model.pushes moment len) result after call) ∙ ap rooms_of p.top ∙ ap (λ (k : Kind). room_of k ∷ rooms_of call.core.frames) p.kind_is ∙ ap (λ (rs : List (Option ℕ)). Some (slot_len len) ∷ rs) (rooms_before shape before (model.pushes moment len) result after call)
+        | inr r ↦ absurd (let both = refused_not call.answer model.pushed r.0 r.1 told in cc)
       ]
 
   -- and one that closes has none
@@ -214,9 +214,9 @@ module _ (shape : Shape) (before : Writing) (result : Answer) (after : Writing) 
 module _ (shape : Shape) (before after : Writing) (moment len : ℕ) where
   refused_push : (fault : WriteFault) → IsCall shape before (model.pushes moment len) (Refused fault) after → rooms_of after.frames ≡ rooms_of before.frames
   refused_push fault call = elim (push_answers shape.pages shape.size call.core moment len call.answer call.next call.step) [
-      inl p ↦ absurd (let told = call.tells in let both : model.pushed ≡ model.refused (refusal_of fault) = sym p.answer_is ∙ told in cc)
+    | inl p ↦ absurd (let told = call.tells in let both : model.pushed ≡ model.refused (refusal_of fault) = sym p.answer_is ∙ told in cc)
     | inr r ↦ sym (rooms_after shape before (model.pushes moment len) (Refused fault) after call) ∙ ap (λ (c : Core). rooms_of c.frames) r.2 ∙ rooms_before shape before (model.pushes moment len) (Refused fault) after call
-    ]
+  ]
 
   refused_write : (fault : WriteFault) → IsRefusedWrite shape before moment len fault after → rooms_of after.frames ≡ rooms_of before.frames
   refused_write fault (inl push) = refused_push fault push

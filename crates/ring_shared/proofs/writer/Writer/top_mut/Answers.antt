@@ -23,7 +23,7 @@ returns c =
     let w : IsWriter v = subst IsWriter (sym c.self.view_is) c.requires.writer in
     let lends = c.top_mut.ensures in
     let fits : (slot : Slot) → IsTopSlot v.frames.stack.frames slot → FitsFrame v slot =
-        λ slot is frame below moment len top kind. lends.fits slot is v.shape.pages v.shape.size v.shape.start w.core frame below moment len w.frames_are (ap (λ (x : Writing). x.frames) w.part_is ∙ top) kind in (
+    λ slot is frame below moment len top kind. lends.fits slot is v.shape.pages v.shape.size v.shape.start w.core frame below moment len w.frames_are (ap (λ (x : Writing). x.frames) w.part_is ∙ top) kind in (
       rw (← c.self.view_is) refl,
       record {
         lends = tt;
