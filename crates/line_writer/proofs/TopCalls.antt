@@ -259,22 +259,30 @@ pub record IsTopPayload (old : LineWriter) (slot : Slot) (payload : List ℕ) : 
   pub slot_is : slot.place.len ≡ slot_len (length payload)
   pub event_is : event_on_top old.writer.part.frames (payloads_of old) ≡ ends (padded payload)
 
+-- there is room for each frame's payload
+pub few_frames : (old : LineWriter) (is : IsLineWriter old) → length old.writer.part.frames ≤ length old.payloads
+few_frames old is =
+    let w : WriterValue = old.writer in
+    let r = reached_kept w.shape.pages w.shape.size w.shape.start is.writer.core is.writer.reached in
+    let low = r.stack.few in
+    let room = is.room in
+    let same = ap (λ (p : Writing). length p.frames) is.writer.part_is in
+    omega arith
+
+pub some_frames : (frames : List Frame) → frames ≢ [] → 0 < length frames
+some_frames [] some = absurd (some refl)
+some_frames (top ∷ below) some = omega arith
+
 module _ (old : LineWriter) (is : IsLineWriter old) (slot : Slot)
     (at : IsTopSlot old.writer.frames.stack.frames slot) where
   t : HasReservedTop old.writer.part.frames
   t = reserved_top old.writer is.writer slot at
 
-  pub some_depth : 0 < length old.writer.part.frames
+  some_depth : 0 < length old.writer.part.frames
   some_depth = let long = ap (λ (l : List Frame). length l) t.top in omega arith
 
-  pub few_depth : length old.writer.part.frames ≤ length old.payloads
-  few_depth =
-      let w : WriterValue = old.writer in
-      let r = reached_kept w.shape.pages w.shape.size w.shape.start is.writer.core is.writer.reached in
-      let low = r.stack.few in
-      let room = is.room in
-      let same = ap (λ (p : Writing). length p.frames) is.writer.part_is in
-      omega arith
+  few_depth : length old.writer.part.frames ≤ length old.payloads
+  few_depth = few_frames old is
 
   pub is_top_payload : (depth : ℕ) (none : Bor (List ℕ))
       → depth ≡ length old.writer.part.frames
@@ -353,7 +361,7 @@ module _ (old : LineWriter) (is : IsLineWriter old) (slot : Slot)
   pub end_called : (v : WriterValue) (payload part : List ℕ) (result : Answer)
       → IsTopPayload old slot payload
       → part ≡ payload ++ replicate (slot.place.len - length payload) 0
-      → ((part : List ℕ) → length part ≡ slot.place.len
+      → (length part ≡ slot.place.len
       → top_bytes (with_slot old.writer.frames.stack slot part) old.writer.frames.stack.frames ≡ part)
       → MakesSome (with_slot_payload old.writer slot part)
       (ends (top_bytes (with_slot old.writer.frames.stack slot part)
@@ -368,7 +376,7 @@ module _ (old : LineWriter) (is : IsLineWriter old) (slot : Slot)
       (with_slot old.writer.frames.stack slot part).frames ≡ padded payload =
       ap (top_bytes (with_slot old.writer.frames.stack slot part))
       (slot_keeps old.writer.frames.stack slot part).frames_is
-      ∙ written part fills ∙ whole in
+      ∙ written fills ∙ whole in
       called old is v _ result makes.shape_is makes.table_is makes.writer makes.call (ap ends bytes ∙ sym h.event_is)
       (end_closer v result _ makes.shape_is makes.writer makes.call)
 

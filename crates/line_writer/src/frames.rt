@@ -2,7 +2,7 @@
 ghost use Rattle.std.specs.Prelude.{◌≡◌, ◌≤◌, ◌-◌, ◌++◌, ◌↔◌, true, length, replicate};
 ghost use Rattle.ring_frames.specs.declared.answer.Answer.TheVariants.{Pushed};
 
-use nested_writer::frame::Slot;
+use nested_writer::WriteFault;
 use ring_frames::Answer;
 use ring_shared::Writer;
 use trace_model::MAX_FRAMES;
@@ -33,8 +33,9 @@ pub(crate) struct LineWriter<'a> {
 }
 
 impl<'a> LineWriter<'a> {
-    ghost use Rattle.std.specs.Prelude.{◌≡◌, ◌≢◌, [], length};
+    ghost use Rattle.std.specs.Prelude.{◌≡◌, ◌≢◌, [], length, OnOk, OnErr};
     ghost use Rattle.trace_model.specs.Steps.{pushes, pushes_close};
+    ghost use Rattle.nested_writer.specs.declared.frame.Slot.{Slot};
     ghost use Rattle.nested_writer.specs.Calls.{IsTopSlot};
     ghost use Rattle.ring_shared.specs.Calls.{IsWriter};
     ghost use Rattle.line_writer.specs.LineWriters.{payloads_of, IsLineWriter, Pushes, CallsTop, WritesWhole};
@@ -104,22 +105,22 @@ impl<'a> LineWriter<'a> {
         requires top { self.old.writer.part.frames ≢ [] }
         ensures { CallsTop self.old self.new }
     {
-        match self.writer.top_slot() {
-            Ok(slot) => self.end_top(slot),
-            Err(_) => {
-                let _answer = self.writer.step();
-            }
+        if self.end_top().is_err() {
+            let _answer = self.writer.step();
         }
     }
 
-    /// The record of the frame on top is written, and ended.
-    fn end_top(&mut self, slot: Slot)
+    /// The record of the frame on top, if it is reserved, is written and ended; else nothing changes.
+    fn end_top(&mut self) -> Result<(), WriteFault>
         requires is { IsLineWriter self.old }
-        requires slot { IsTopSlot self.old.writer.frames.stack.frames slot }
-        ensures { CallsTop self.old self.new }
+        requires top { self.old.writer.part.frames ≢ [] }
+        ensures ended { OnOk result (CallsTop self.old self.new) }
+        ensures kept { OnErr result (self.new ≡ self.old) }
+        ensures none { OnErr result ((slot : Slot) → IsTopSlot self.old.writer.frames.stack.frames slot → ⊥) }
     {
         let payload = self.payloads[self.depth() - 1];
-        put_padded(self.writer.payload_mut(slot), payload);
+        put_padded(self.writer.top_mut()?, payload);
         let _answer = self.writer.end();
+        Ok(())
     }
 }
