@@ -61,11 +61,9 @@ impl Ends {
     }
 
     /// The payload is put to the front of the slot of the frame on top, if its record is reserved.
-    fn put(&mut self, payload: &[u8]) {
-        let Ok(slot) = self.writer.top_slot() else {
-            return;
-        };
-        fill(self.writer.payload_mut(slot), payload);
+    fn put(&mut self, payload: &[u8]) -> Result<(), WriteFault> {
+        fill(self.writer.top_mut()?, payload);
+        Ok(())
     }
 
     /// What is unread once both ends are joined: there is no frame, and the last take found no closed fill unread.
@@ -99,7 +97,7 @@ impl Ring for Ends {
     }
 
     fn end(&mut self, payload: &[u8]) -> Answer {
-        self.put(payload);
+        let _put = self.put(payload);
         self.writer.end()
     }
 
@@ -120,8 +118,9 @@ impl Ring for Ends {
         Answer::Wished(self.reader.wish())
     }
 
-    fn lent(&self) -> Result<usize, WriteFault> {
-        Ok(self.writer.top_slot()?.place.len)
+    fn lent(&mut self) -> Result<usize, WriteFault> {
+        let slot: &mut [u8] = self.writer.top_mut()?;
+        Ok(slot.len())
     }
 
     fn depth(&self) -> usize {

@@ -34,7 +34,7 @@ pub trait Ring {
     fn wish(&mut self) -> Answer;
 
     /// How many bytes are lent for the payload of the frame on top.
-    fn lent(&self) -> Result<usize, WriteFault>;
+    fn lent(&mut self) -> Result<usize, WriteFault>;
 
     /// How many frames there are.
     fn depth(&self) -> usize;

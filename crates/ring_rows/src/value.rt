@@ -70,11 +70,9 @@ impl Value {
     }
 
     /// The payload is put to the front of the slot of the frame on top, if its record is reserved.
-    fn put(&mut self, payload: &[u8]) {
-        let Ok(slot) = self.core.top_slot() else {
-            return;
-        };
-        fill(self.core.payload_mut(slot), payload);
+    fn put(&mut self, payload: &[u8]) -> Result<(), WriteFault> {
+        fill(self.core.top_mut()?, payload);
+        Ok(())
     }
 
     /// What is unread, if there is no frame and no closed fill is unread: the tail, which is closed and taken for it.
@@ -126,7 +124,7 @@ impl Ring for Value {
     }
 
     fn end(&mut self, payload: &[u8]) -> Answer {
-        self.put(payload);
+        let _put = self.put(payload);
         self.core.step(Event::End)
     }
 
@@ -163,8 +161,9 @@ impl Ring for Value {
         self.core.step(Event::Wish)
     }
 
-    fn lent(&self) -> Result<usize, WriteFault> {
-        Ok(self.core.top_slot()?.place.len)
+    fn lent(&mut self) -> Result<usize, WriteFault> {
+        let slot: &mut [u8] = self.core.top_mut()?;
+        Ok(slot.len())
     }
 
     fn depth(&self) -> usize {

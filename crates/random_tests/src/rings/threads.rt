@@ -4,7 +4,7 @@ ghost use Rattle.ring_shared.specs.Value.{WriterValue, ReaderValue};
 ghost use Rattle.ring_shared.specs.Calls.{IsWriter};
 ghost use Rattle.ring_shared.specs.Takes.{IsReader};
 
-use nested_writer::Ended;
+use nested_writer::{Ended, WriteFault};
 use page_borrow::records;
 use page_image::{Body, Page};
 use ring_frames::Answer;
@@ -104,20 +104,19 @@ impl Writing {
     }
 
     /// The payload of this number is written for the frame on top, if its record is reserved.
-    fn put(&mut self, number: u64)
+    fn put(&mut self, number: u64) -> Result<(), WriteFault>
         ensures { self.new.table ≡ self.old.table }
     {
-        let Ok(slot) = self.writer.top_slot() else {
-            return;
-        };
-        fill(self.writer.payload_mut(slot), &payload_of(number));
+        fill(self.writer.top_mut()?, &payload_of(number));
+        Ok(())
     }
 
     /// The frame on top, which reserved this number, is ended.
     fn end(&mut self, rt: &impl Abort, number: u64)
         ensures { self.new.table ≡ self.old.table }
     {
-        self.put(number);
+        let put = self.put(number);
+        assert!(rt; put.is_ok());
         let ended = self.writer.end();
         assert!(rt; matches!(ended, Answer::Ended(Ended::Full)));
         let gone = self.writer.finish_top();
