@@ -1,5 +1,5 @@
 -- What the frame on top is asked for: a step, or the end of its record with the payload that was put into its slot.
-use Rattle.std.proofs.Common.{◌≡◌, ℕ, ◌+◌, ◌-◌, ◌≤◌, List, [], ◌∷◌, ◌++◌, length, replicate, get_or, map, reverse, refl, sym, ap, ◌∙◌, subst, arith}
+use Rattle.std.proofs.Common.{◌≡◌, ℕ, ◌+◌, ◌-◌, ◌≤◌, List, [], ◌∷◌, ◌++◌, length, replicate, get_or, map, reverse, Some, refl, sym, ap, ◌∙◌, subst, arith}
 use Rattle.std.proofs.lemmas.List.{length-map, length-reverse, get_or-map, get_or-reverse}
 use Rattle.trace_model.specs.Words.{slot_len, padded}
 use Rattle.trace_model.specs.Frames.{Kind, for_record, for_close, FrameState, reserved, Frame}
@@ -16,6 +16,7 @@ use Rattle.nested_writer.specs.declared.frame.Progress.TheVariants.{Waiting, Thr
 use Rattle.nested_writer.specs.declared.frame.Frame as stack
 use Rattle.nested_writer.specs.Stack.{Stack, state_of}
 use Rattle.nested_writer.specs.Calls.{IsTopSlot}
+use Rattle.nested_writer.specs.Next.{place_of, top_place}
 use Rattle.nested_writer.specs.Lending.{with_slot}
 use Rattle.ring_frames.specs.declared.phase.Phase.{Phase}
 use Rattle.ring_frames.specs.declared.answer.Answer.{Answer}
@@ -57,6 +58,13 @@ asked_step old answer new none makes n size start cpu lane is =
     ∙ steps_on_top old.core.stack.frames old.core.phase old.core.below lane.payloads none in
     subst (λ (e : model.Event). IsStep n size start lane.core e answer new) (sym asks)
     (makes n size start lane.core is.is_core)
+
+-- a slot on top has a place
+pub top_has_place : (frames : List stack.Frame) (slot : Slot)
+    → IsTopSlot frames slot
+    → top_place frames ≡ Some slot.place
+top_has_place [] slot none = absurd none
+top_has_place (f ∷ frames) slot has = ap place_of has
 
 -- ---- a record that is reserved, and its payload
 

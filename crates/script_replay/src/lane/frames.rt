@@ -3,7 +3,6 @@ ghost use Rattle.std.specs.Prelude.{◌≡◌, ◌≤◌, ◌-◌, ◌++◌, len
 
 use crate::lane::Lane;
 use nested_writer::WriteFault;
-use nested_writer::frame::Slot;
 use replay_log::{At, LogLine, tell, tell_refusal};
 use ring_core::{Answer, Event};
 use trace_model::NoMemory;
@@ -25,7 +24,6 @@ fn put_padded(slot: &mut [u8], payload: &[u8])
 impl<'a> Lane<'a> {
     ghost use Rattle.std.specs.Prelude.{◌≡◌, ◌≢◌, ℕ, ◌-◌, [], drop, length, OnOk};
     ghost use Rattle.script_model.specs.Script.{step_frame, finish_frame};
-    ghost use Rattle.nested_writer.specs.Calls.{IsTopSlot};
     ghost use Rattle.script_replay.specs.Lanes.{IsLaneOf, Has, HasLine};
     ghost use Rattle.script_replay.specs.Frames.{AsksTop, StepsOnce, FollowsFrame};
 
@@ -90,29 +88,18 @@ impl<'a> Lane<'a> {
         answer
     }
 
-    /// One step of the ring's frame on top.
+    /// One step of the ring's frame on top: if its record is reserved, this is written, and ended.
     #[inline(always)]
     fn ask_top(&mut self) -> Answer
         requires { (cpu : ℕ) × IsLaneOf cpu self.old }
         ensures ring { self.new ≡ record self.old { core = self.new.core } }
         ensures step { AsksTop self.old result self.new.core }
     {
-        match self.core.top_slot() {
-            Ok(slot) => self.end_top(slot),
-            Err(_) => self.core.step(Event::Step),
-        }
-    }
-
-    /// The record of the frame on top is written, and ended.
-    #[inline(always)]
-    fn end_top(&mut self, slot: Slot) -> Answer
-        requires lane { (cpu : ℕ) × IsLaneOf cpu self.old }
-        requires slot { IsTopSlot self.old.core.stack.frames slot }
-        ensures ring { self.new ≡ record self.old { core = self.new.core } }
-        ensures step { AsksTop self.old result self.new.core }
-    {
+        let Ok(slot) = self.core.top_mut() else {
+            return self.core.step(Event::Step);
+        };
         let payload = self.payloads[self.payloads.len() - 1];
-        put_padded(self.core.payload_mut(slot), payload);
+        put_padded(slot, payload);
         self.core.step(Event::End)
     }
 
