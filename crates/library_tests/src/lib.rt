@@ -1,5 +1,5 @@
-//! Tests alone: each call of the library on worked values, with what it answers written out, from a record's words up
-//! to the text of collectors.
+//! Tests alone: calls of the library on worked values, with what they answer written out, from a record's words up to
+//! pages, and what collectors keep.
 #![tactic(auto)]
 
 #[cfg(test)]
@@ -11,12 +11,6 @@ mod frames;
 #[cfg(test)]
 mod images;
 #[cfg(test)]
-mod listings;
-#[cfg(test)]
 mod pages;
-#[cfg(test)]
-mod parcels;
-#[cfg(test)]
-mod texts;
 #[cfg(test)]
 mod words;
