@@ -1,9 +1,7 @@
-//! Tests alone: random parcels, added to collectors as to plain ones; random scripts and page images; and the two ends
-//! of a ring in two threads. Random exchanges with a ring are made by `tools/random-rows`.
+//! Tests alone: random scripts and page images, and the two ends of a ring in two threads. Random exchanges with a ring
+//! are made by `tools/random-rows`, random parcels for collectors by `tools/random-parcels`.
 #![tactic(auto)]
 
-#[cfg(test)]
-mod collectors;
 #[cfg(test)]
 mod images;
 #[cfg(test)]

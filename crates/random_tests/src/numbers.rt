@@ -1,8 +1,6 @@
 //! Random numbers from a seed, by the SplitMix64 generator.
 ghost use Rattle.std.specs.Prelude.{◌<◌};
 
-use std::process::Abort;
-
 #[derive(Drop)]
 pub struct Numbers {
     state: u64,
@@ -25,12 +23,5 @@ impl Numbers {
         ensures { 0 < bound → result < bound }
     {
         self.next() % bound.max(1)
-    }
-
-    /// One of these.
-    pub fn one_of<T: Copy>(&mut self, rt: &impl Abort, list: &[T]) -> T {
-        let index = self.below(list.len() as u64) as usize;
-        assert!(rt; index < list.len());
-        list[index]
     }
 }
