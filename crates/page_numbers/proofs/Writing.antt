@@ -19,15 +19,6 @@ contents_fit time contents missed size whole =
       length-le64 word,
     )
 
--- the numbers one behind the other, and the image
-pub put_all : (cpu fill first missed : ℕ) (image empty one two three four final : List ℕ) → empty ≡ [] → one ≡ empty ++ le64 cpu → two ≡ one ++ le64 fill → three ≡ two ++ le64 first → four ≡ three ++ le64 missed → final ≡ four ++ image
-    → final ≡ with_numbers cpu fill first missed image
-put_all cpu fill first missed image empty one two three four final none first_is second third fourth last =
-    last ∙ ap (λ (b : List ℕ). b ++ image) (fourth ∙ ap (λ (b : List ℕ). b ++ le64 missed) (third ∙ ap (λ (b : List ℕ). b ++ le64 first) (second ∙ ap (λ (b : List ℕ). b ++ le64 fill) (first_is ∙ ap (λ (b : List ℕ). b ++ le64 cpu) none))))
-    ∙ append_assoc ((le64 cpu ++ le64 fill) ++ le64 first) (le64 missed) image
-    ∙ append_assoc (le64 cpu ++ le64 fill) (le64 first) (le64 missed ++ image)
-    ∙ append_assoc (le64 cpu) (le64 fill) (le64 first ++ (le64 missed ++ image))
-
 -- what is told of an answer with bytes, put together
 pub each_told : {A E : Type 0} (r : Result A E) (P : A → Type 0) (Q R : Type 0) (S : A → Type 0) → IfOk r P → OnOk r Q → OnOk r R → ((x : A) → P x → Q → R → S x) → IfOk r S
 each_told (Ok x) P Q R S one two three then = then x one two three

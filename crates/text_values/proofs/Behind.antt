@@ -1,9 +1,6 @@
 -- Texts that begin with what was there before.
-use Rattle.std.proofs.Common.{◌≡◌, List, [], ◌++◌, append-nil, append_assoc, sym, ap, ◌∙◌}
+use Rattle.std.proofs.Common.{◌≡◌, List, ◌++◌, append_assoc, ap, ◌∙◌}
 use Rattle.trace_model.specs.Sublist.{IsPrefix}
-
-pub behind_itself : {A : Type 0} (before : List A) → IsPrefix before before
-behind_itself {A} before = ([], sym (append-nil before))
 
 -- more is put behind what was there
 pub behind_put : {A : Type 0} (before so_far part out : List A) → IsPrefix before so_far → out ≡ so_far ++ part
