@@ -1,7 +1,6 @@
 -- The bytes of a parcel, part by part.
-use Rattle.std.proofs.Common.{◌≡◌, ℕ, ◌+◌, ◌-◌, ◌≤◌, List, [], ◌++◌, length, replicate, ap, ◌∙◌, arith, append_assoc, length-append, Result, Ok, Err, IfOk, OnOk}
+use Rattle.std.proofs.Common.{◌≡◌, ℕ, ◌+◌, ◌-◌, ◌≤◌, List, ◌++◌, length, replicate, arith, length-append, Result, Ok, Err, IfOk, OnOk}
 use Rattle.trace_model.specs.Image.{le64, commit_word, commit_of, stored_count, filled, image_of}
-use Rattle.trace_model.specs.ParcelBytes.{with_numbers}
 use Rattle.trace_model.proofs.ImageParts.{length-le64}
 
 -- an image that is as long as its page's size says holds all of the data
