@@ -10,7 +10,7 @@ NEEDS = ("rt", "cc", "valgrind")
 RECORDS = 105_000
 WAYS = (
     ("in_one", "`WriterStack::write` and `pop_bottom`"),
-    ("in_steps", "`begin`, `allot`, `top_slot`, `payload_mut` and a copy, `end`, `pop_bottom`"),
+    ("in_steps", "`begin`, `allot`, `top_mut` and a copy, `end`, `pop_bottom`"),
     ("in_place", "`Page::put`, `payload_mut` and a copy"),
     ("at_once", "`Page::put_payload`"),
 )
