@@ -7,12 +7,15 @@ which they differ are kept in the folder for temporary files.
 import random
 import subprocess
 import tempfile
+from concurrent.futures import ThreadPoolExecutor
 from pathlib import Path
 
 from lib import images, scripts, tables
 from lib.programs import Failure, rival, tracering
 
 NEEDS = ("rt", "rustc")
+# How many programs are run at a time.
+AT_A_TIME = 4
 
 
 def ran(program, words, data):
@@ -26,34 +29,28 @@ def kept(name, data):
     return str(file)
 
 
-def compare_scripts(rng, programs, count, seed):
-    refused, differ = 0, []
-    for number in range(count):
-        script, words = scripts.made_script(rng), ["replay", *rng.choice([[], ["--log"], ["--log"]])]
-        ours, plain = (ran(program, words, script) for program in programs)
-        refused += ours[0] == 1
-        if ours != plain:
-            differ.append(kept(f"{seed}-{number}.trace", script))
-    return "scripts", refused, differ
+def compare_scripts(pool, rng, programs, count, seed):
+    made = [(scripts.made_script(rng), ["replay", *rng.choice([[], ["--log"], ["--log"]])]) for _ in range(count)]
+    found = list(pool.map(lambda given: [ran(program, given[1], given[0]) for program in programs], made))
+    differ = [kept(f"{seed}-{at}.trace", made[at][0]) for at, (ours, plain) in enumerate(found) if ours != plain]
+    return "scripts", sum(ours[0] == 1 for ours, _ in found), differ
 
 
-def compare_images(rng, program, count, seed):
-    refused, differ = 0, []
-    for number in range(count):
-        image = images.made_image(rng)
-        wanted = images.dumped(image)
-        refused += wanted[0] == 1
-        if ran(program, ["dump"], image) != wanted:
-            differ.append(kept(f"{seed}-{number}.page", image))
-    return "page images", refused, differ
+def compare_images(pool, rng, program, count, seed):
+    made = [images.made_image(rng) for _ in range(count)]
+    wanted = [images.dumped(image) for image in made]
+    found = list(pool.map(lambda image: ran(program, ["dump"], image), made))
+    differ = [kept(f"{seed}-{at}.page", made[at]) for at in range(count) if found[at] != wanted[at]]
+    return "page images", sum(answer[0] == 1 for answer in wanted), differ
 
 
 def run(folder, count="1000", seed="1"):
     ours, rng, number = tracering(), random.Random(int(seed)), int(count)
-    found = [
-        compare_scripts(rng, [ours, rival(folder, "replay")], number, seed),
-        compare_images(rng, ours, number, seed),
-    ]
+    with ThreadPoolExecutor(AT_A_TIME) as pool:
+        found = [
+            compare_scripts(pool, rng, [ours, rival(folder, "replay")], number, seed),
+            compare_images(pool, rng, ours, number, seed),
+        ]
     yield f"Seed {seed}."
     yield ""
     yield from tables.head("Compared", "Number", "of them refused", "Differ")
