@@ -37,7 +37,7 @@ cause_no_memory : (r : Result Parcel ParcelFault) (cause : ParcelCause) → r �
 unfolding is_memory fault_told
 cause_no_memory r cause is memory = false≢true (sym (no_cause cause) ∙ ap (λ (x : Result Parcel ParcelFault). is_memory (fault_told x)) (sym is ∙ memory))
 
--- a fault that is told tells of the cause that is there
+-- a fault that is reported names the cause that is there
 cause_is : (bytes : List ℕ) (cause : ParcelCause) → IsParcelFault bytes (parcel_fault cause) → FirstParcelFault bytes cause
 cause_is bytes bad_cpu is = is
 cause_is bytes (bad_image too_short) is = is
@@ -64,7 +64,7 @@ told_is bytes MissedDiffers cause not f g = ap parcel_fault (FirstParcelFault-un
 told_is bytes BadCpu cause not f g = ap parcel_fault (FirstParcelFault-unique bytes bad_cpu cause f g)
 told_is bytes NoMemory cause not f g = absurd (not refl)
 
--- where a cause is, it is told, unless memory is refused
+-- if there is a cause, it is reported, unless memory is refused
 tells_cause : (bytes : List ℕ) (r : Result Parcel ParcelFault) (cause : ParcelCause) → IfOk r (DecodesParcel bytes) → IfErr r (IsParcelFault bytes) → FirstParcelFault bytes cause → r ≢ Err NoMemory → r ≡ Err (parcel_fault cause)
 tells_cause bytes (Ok parcel) cause reads fault is not = absurd (DecodesParcel-FirstParcelFault bytes parcel cause reads is)
 tells_cause bytes (Err told) cause reads fault is not = ap (λ (f : ParcelFault). Err f) (told_is bytes told cause (λ e. not (ap (λ (f : ParcelFault). Err f) e)) fault is)
@@ -75,7 +75,7 @@ fault-iff bytes r cause reads fault = (
   λ is. tells_cause bytes r cause reads fault is.0 is.1,
 )
 
--- a parcel that the bytes read as is told, unless memory is refused
+-- a parcel that the bytes read as is answered, unless memory is refused
 pub reading_told : (bytes : List ℕ) (r : Result Parcel ParcelFault) (parcel : Parcel) → IfOk r (DecodesParcel bytes) → IfErr r (IsParcelFault bytes) → DecodesParcel bytes parcel → (r ≡ Ok parcel) ⊎ (r ≡ Err NoMemory)
 reading_told bytes (Ok read) parcel reads fault is = inl (ap (λ (p : Parcel). Ok p) (DecodesParcel-unique bytes read parcel reads is))
 reading_told bytes (Err NoMemory) parcel reads fault is = inr refl

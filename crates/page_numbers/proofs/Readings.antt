@@ -53,7 +53,7 @@ pub HasImage-of : (bytes : List ℕ) (cpu fill first missed : ℕ) (image : List
     → HasImage bytes (parcel_of cpu (record page { first = first; fill = fill }) missed) told
 HasImage-of bytes cpu fill first missed image time size told page h known reads = record { image = image; numbers = h; cpu_known = known; time = time; size = size; reads = reads }
 
--- where the image is read, what is refused is a fault of the bytes
+-- if the image is read, what is refused is a fault of the bytes
 pub refused-fault : (bytes : List ℕ) (parcel : Parcel) (told : Missed) (fault : ParcelFault) → HasImage bytes parcel told → IsRefusedAs parcel told fault → IsParcelFault bytes fault
 refused-fault bytes parcel told (ImageIs image) h refused = absurd refused
 refused-fault bytes parcel told NumberOverflow h refused = record { parcel = parcel; told = told; image = h; past = refused.past }

@@ -15,7 +15,7 @@ use std::alloc::Global;
 use std::sync::Arc;
 use trace_model::{CpuId, MAX_CPUS, NoMemory};
 
-/// A taken page, shared, its CPU, and how many numbers are missing in front of its records.
+/// A taken page, shared, its CPU, and how many numbers are missing before its records.
 #[derive(Debug, Drop)]
 pub(crate) struct NumberedPage {
     pub(crate) cpu: CpuId,
@@ -69,7 +69,7 @@ impl NumberedPage {
     }
 }
 
-/// Looks whether the page's records have numbers, and whether so many numbers stand in front of them.
+/// Looks whether the page's records have numbers, and whether there are at least `missed` numbers before them.
 fn check_numbers(page: &Page, missed: u64) -> Result<(), ParcelFault>
     requires page { IsPage page.now }
     ensures numbers { OnOk result (page.now.first + length (records_of_page page.now) < 2 ^ 64) }

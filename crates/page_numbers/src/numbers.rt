@@ -1,4 +1,4 @@
-//! The numbers in front of the image of a parcel.
+//! The numbers before the image of a parcel.
 ghost use Rattle.std.specs.Prelude.{◌≡◌, ℕ, ◌+◌, ◌≤◌, ◌<◌, ◌^◌, ◌++◌, List, length, drop, IfOk, IfErr, IsTrue, OnOk, OnErr, ◌↔◌};
 ghost use Rattle.trace_model.specs.Image.{from_le64, le64};
 ghost use Rattle.trace_model.specs.ParcelBytes.{HasNumbers, AgreesWith};
@@ -16,7 +16,7 @@ pub(crate) const NUMBERS: usize = 32;
 /// The fewest bytes of a parcel: its numbers, and an image without data.
 const MIN_PARCEL: usize = 48;
 
-/// The numbers of a parcel, as they stand in its bytes.
+/// The numbers of a parcel, as they are in its bytes.
 #[derive(Clone, Copy)]
 pub(crate) struct Numbers {
     cpu: u64,
@@ -34,7 +34,7 @@ fn number_at(bytes: &[u8], at: usize) -> u64
     LittleEndian::read_u64(&bytes[at..])
 }
 
-/// Reads the numbers of a parcel that has at least an image's header behind them.
+/// Reads the numbers of a parcel that has at least an image's header after them.
 pub(crate) fn read_numbers(bytes: &[u8]) -> Result<Numbers, ParcelFault>
     ensures numbers { IfOk result (λ numbers. HasNumbers bytes.now numbers.cpu numbers.fill numbers.first
         numbers.missed (drop NUMBERS bytes.now)) }
@@ -68,7 +68,7 @@ impl Numbers {
         }
     }
 
-    /// Whether the image tells of missed events what the last number does.
+    /// Whether the image states of missed events what the last number does.
     pub(crate) fn agree_with(self, told: Missed) -> bool
         ensures { IsTrue result ↔ AgreesWith (missed_of told) self.missed }
     {

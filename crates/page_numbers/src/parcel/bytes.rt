@@ -15,7 +15,7 @@ impl Parcel {
     ghost use Rattle.page_numbers.specs.Written.{IsWritten};
 
     /// Reads a parcel from its bytes: 32 bytes of numbers, and a page image of at most `MAX_IMAGE` bytes. Memory is
-    /// asked for where the image has a reading: for its page before its records' numbers are looked at, and behind
+    /// asked for only if the image has a reading: for its page before its records' numbers are looked at, and after
     /// all faults for sharing it.
     pub fn from_bytes(alloc: Global, bytes: &[u8]) -> Result<Parcel, ParcelFault>
         ensures reads { IfOk result (λ parcel. DecodesParcel bytes.now parcel) }
@@ -41,7 +41,7 @@ impl Parcel {
         })
     }
 
-    /// The parcel as bytes: its numbers, and its page's image, which tells of missed events what the parcel does.
+    /// The parcel as bytes: its numbers, and its page's image, which states of missed events what the parcel does.
     pub fn to_bytes(&self, alloc: Global) -> Result<Vec<u8>, NoMemory>
         ensures written { IfOk result (λ bytes. IsWritten self.now bytes.items) }
         ensures reads { IfOk result (λ bytes. DecodesParcel bytes.items self.now) }
