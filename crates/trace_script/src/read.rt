@@ -19,7 +19,7 @@ use crate::usual::usual_line;
 use std::alloc::Global;
 use trace_model::FillNo;
 
-/// The command of a line, whose payload is put behind those that are there.
+/// The command of a line, whose payload is appended to those that are there.
 fn order_at(
     cpus: u32,
     collectors: u16,
@@ -53,7 +53,7 @@ fn next_of_any_form(
     Ok(Some(order))
 }
 
-/// The same, where nearly all lines are of a usual form.
+/// The same, by a shorter way for a line of a usual form, which nearly all lines have.
 #[inline(always)]
 fn next_order(
     cpus: u32,
