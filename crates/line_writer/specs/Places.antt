@@ -1,4 +1,4 @@
--- Whose line a command is, and where the lines of each CPU's writer stand among the commands.
+-- Whose line a command is, and where the lines of each CPU's writer are among the commands.
 use Rattle.std.specs.Prelude.{◌≡◌, ℕ, nat_eq, false, List, take, Option, Some, None, Vec}
 use Rattle.std.specs.declared.alloc.Global.{Global}
 use Rattle.std.specs.List.{slice_get, AllZip}
@@ -13,7 +13,7 @@ abbrev pub IsWriterOf : Command → Option CpuId → Type 0
 IsWriterOf command None = (cpu : ℕ) → writer_line cpu command ≡ false
 IsWriterOf command (Some of) = (cpu : ℕ) → writer_line cpu command ≡ nat_eq of.0 cpu
 
--- each CPU's list has the places of its writer lines among so many of the commands
+-- each CPU's list has the places of its writer lines among the first `count` commands
 abbrev pub ArePlaced : List (ℕ × Command) → (count : ℕ) → List (Vec ℕ Global) → Type 0
 ArePlaced commands count lists = (cpu : ℕ) (places : Vec ℕ Global)
     → slice_get lists cpu ≡ Some places

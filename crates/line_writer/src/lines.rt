@@ -27,7 +27,7 @@ fn writer_of(command: Command) -> Option<CpuId>
     }
 }
 
-/// So many lists without places.
+/// `count` lists without places.
 fn new_lists(alloc: Global, count: usize) -> Result<Vec<Vec<usize>>, NoMemory>
     ensures count { IfOk result (λ lists. vec_len lists ≡ count) }
     ensures new { IfOk result (λ lists. All (λ places. places.items ≡ []) lists.items) }

@@ -71,9 +71,9 @@ fn obey_places<'a, G: Gate>(
     Ok(())
 }
 
-/// Obeys the lines of a CPU's writer, which stand at these places of the script, on a new ring; then finishes the
-/// frames that are left, the top one first. After each fill that the writer closes, the gate is asked: the fill at
-/// which it didn't let the writer pass ends this at once.
+/// Obeys the lines of a CPU's writer, which are at these places of the script, on a new ring; then finishes the frames
+/// that are left, the top one first. After each fill that the writer closes, the gate is asked: the fill at which it
+/// didn't let the writer pass ends this at once.
 pub fn obey_lines<G: Gate>(
     end: WriterEnd,
     script: &Script,
