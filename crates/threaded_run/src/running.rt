@@ -28,7 +28,7 @@ pub struct Ran {
     pub ledgers: Vec<Ledger>,
 }
 
-/// For each of so many CPUs whether its writer is over: not yet.
+/// For each of `count` CPUs whether its writer is over: not yet.
 fn new_flags(alloc: Global, count: usize) -> Result<Vec<AtomicBool>, ReplayFault>
     ensures count { IfOk result (λ flags. vec_len flags ≡ count) }
     ensures fault { IfErr result (λ fault. fault ≢ GateShut) }

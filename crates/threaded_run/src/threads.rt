@@ -131,8 +131,8 @@ fn start_reader<'s, E, R: Wait + Sync, G: Gate>(
     }
 }
 
-/// Starts both threads of a new ring, the reader's first. If the writer's isn't started, the reader's is told that it
-/// is over, and joined.
+/// Starts both threads of a new ring, the reader's first. If the writer's isn't started, the reader's finds that the
+/// writer is over, and is joined.
 pub(crate) fn start<'s, E, R: Threads + Wait + Sync, G: Gate>(
     rt: &'s R,
     scope: &Scope<'s, E>,
