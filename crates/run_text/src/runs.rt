@@ -46,7 +46,7 @@ fn put_audited(
     Ok(own)
 }
 
-/// The text of each collector, numbered from 0, and behind each the line of its audit against these ledgers. On an error
+/// The text of each collector, numbered from 0, and after each the line of its audit against these ledgers. On an error
 /// a part of that may be put.
 fn put_all(
     alloc: Global,
