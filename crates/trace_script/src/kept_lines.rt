@@ -86,18 +86,7 @@ impl KeptLines {
         }
     }
 
-    /// Puts a command behind all others that doesn't fit 32 bits, or that has such a one in front of it.
-    #[cold]
-    #[inline(never)]
-    fn push_long(&mut self, line: KeptLine) -> Result<(), NoMemory>
-        ensures pushed { OnOk result (self.new ≡ self.old ++ line ∷ []) }
-        ensures refused { OnErr result (self.new ≡ self.old) }
-    {
-        self.long.push(line)?;
-        Ok(())
-    }
-
-    /// Puts a command behind all others. What is rare gets a copy, so that the command itself needs no memory.
+    /// Puts a command after all others.
     #[inline(always)]
     pub fn push(&mut self, line: KeptLine) -> Result<(), NoMemory>
         ensures pushed { OnOk result (self.new ≡ self.old ++ line ∷ []) }
@@ -109,11 +98,8 @@ impl KeptLines {
                 return Ok(());
             }
         }
-        self.push_long(KeptLine {
-            number: line.number,
-            end: line.end,
-            order: line.order,
-        })
+        self.long.push(line)?;
+        Ok(())
     }
 
     /// How many there are.
