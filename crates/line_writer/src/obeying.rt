@@ -12,6 +12,7 @@ ghost use Rattle.line_writer.specs.Obeying.{AreLinesOf, Obeys};
 use crate::end::WriterEnd;
 use crate::frames::LineWriter;
 use crate::gate::Gate;
+use crate::places::Places;
 use trace_model::{CpuId, FillNo};
 use trace_script::{Command, Script};
 
@@ -55,7 +56,7 @@ fn obey_line<'a, G: Gate>(
 fn obey_places<'a, G: Gate>(
     lane: &mut LineWriter<'a>,
     script: &'a Script,
-    places: &[usize],
+    places: &Places,
     cpu: CpuId,
     gate: &G,
 ) -> Result<(), FillNo>
@@ -65,8 +66,9 @@ fn obey_places<'a, G: Gate>(
     ensures shut { IfErr result (λ fill. G.answers gate.now who.Writer cpu.0 fill.0 false) }
 {
     let commands = script.commands();
-    for place in places {
-        obey_line(lane, gate, cpu, commands.line(*place).command)?;
+    for index in 0..places.len() {
+        let place = places.place(index);
+        obey_line(lane, gate, cpu, commands.line(place).command)?;
     }
     Ok(())
 }
@@ -77,7 +79,7 @@ fn obey_places<'a, G: Gate>(
 pub fn obey_lines<G: Gate>(
     end: WriterEnd,
     script: &Script,
-    places: &[usize],
+    places: &Places,
     cpu: CpuId,
     gate: &G,
 ) -> Result<WriterEnd, FillNo>

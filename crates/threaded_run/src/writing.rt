@@ -3,7 +3,7 @@ ghost use Rattle.std.specs.Prelude.{◌≡◌};
 ghost use Rattle.ring_steps.specs.NewRings.{first_writing};
 ghost use Rattle.line_writer.specs.Obeying.{AreLinesOf, Obeys};
 
-use line_writer::{Gate, WriterEnd, obey_lines};
+use line_writer::{Gate, Places, WriterEnd, obey_lines};
 use std::snapshot::Snapshot;
 use std::sync::atomic::{AtomicBool, Ordering};
 use std::thread::Promise;
@@ -27,7 +27,7 @@ impl<'a, G: Gate> Promise<Result<WriterEnd, FillNo>> for Writes<'a, G> {
 pub(crate) fn write_lines<G: Gate>(
     end: WriterEnd,
     script: &Script,
-    places: &[usize],
+    places: &Places,
     cpu: CpuId,
     gate: &G,
     over: &AtomicBool,

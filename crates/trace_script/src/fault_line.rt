@@ -10,7 +10,8 @@ use trace_model::NoMemory;
 
 /// Puts the number of a line and the name of its fault. On an error a part of that may be put.
 fn put_line_fault(out: &mut Vec<u8>, line: u64, name: &[u8]) -> Result<(), NoMemory>
-    ensures text { OnOk result (out.new.items ≡ out.old.items ++ (codes "line " ++ decimal line ++ codes ": " ++ name.now)) }
+    ensures text { OnOk result
+        (out.new.items ≡ out.old.items ++ (codes "line " ++ decimal line ++ codes ": " ++ name.now)) }
     ensures behind { IsPrefix out.old.items out.new.items }
 {
     let mut buffer = Buffer::new();

@@ -86,19 +86,7 @@ impl KeptLines {
         }
     }
 
-    /// Appends a command that doesn't fit 32 bits, or that follows such a one.
-    #[cold]
-    #[inline(never)]
-    fn push_long(&mut self, line: KeptLine) -> Result<(), NoMemory>
-        ensures pushed { OnOk result (self.new ≡ self.old ++ line ∷ []) }
-        ensures refused { OnErr result (self.new ≡ self.old) }
-    {
-        self.long.push(line)?;
-        Ok(())
-    }
-
-    /// Appends a command. A long one, which is rare, is passed on as a copy, so that the command itself needs no
-    /// memory.
+    /// Appends a command.
     #[inline(always)]
     pub fn push(&mut self, line: KeptLine) -> Result<(), NoMemory>
         ensures pushed { OnOk result (self.new ≡ self.old ++ line ∷ []) }
@@ -110,11 +98,8 @@ impl KeptLines {
                 return Ok(());
             }
         }
-        self.push_long(KeptLine {
-            number: line.number,
-            end: line.end,
-            order: line.order,
-        })
+        self.long.push(line)?;
+        Ok(())
     }
 
     /// How many there are.
