@@ -17,7 +17,7 @@ runs_of runs cpu = or_none (slice_get runs cpu)
 
 -- The lines are the listing of what the collector's parcels have, and of each CPU the runs are those of the numbers
 -- that they miss.
-pub record Tells (collector : List Parcel) (shown : Shown) : Type 0 where
+pub record IsPrintOf (collector : List Parcel) (shown : Shown) : Type 0 where
   pub lines : IsListing collector shown.lines
   pub runs : (cpu : ℕ) → AreMissingRuns collector cpu (runs_of shown.runs cpu)
 
@@ -28,7 +28,7 @@ text_below shown = flat_map printed_line shown.lines ++ printed_runs shown.runs
 -- The text between these places states what the collector has and misses.
 pub record StandsBetween (collector : List Parcel) (text : List ℕ) (start end : ℕ) : Type 0 where
   pub shown : Shown
-  pub tells : Tells collector shown
+  pub tells : IsPrintOf collector shown
   pub forward : start ≤ end
   pub inside : end ≤ length text
   pub is : slice_range text start end ≡ text_below shown

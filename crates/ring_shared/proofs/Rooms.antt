@@ -15,14 +15,14 @@ use Rattle.nested_writer.specs.declared.fault.WriteFault.{WriteFault}
 use Rattle.nested_writer.specs.declared.stack.leave.Ended.TheVariants.{Pending}
 use Rattle.ring_frames.specs.declared.answer.Answer.{Answer}
 use Rattle.ring_frames.specs.declared.answer.Answer.TheVariants.{Pushed, Going, Reserved, Ended, Gone, Refused}
-use Rattle.ring_frames.specs.Answers.{Tells, refusal_of}
+use Rattle.ring_frames.specs.Answers.{IsAnswerOf, refusal_of}
 use Rattle.ring_steps.specs.declared.rule.Shape.{Shape}
 use Rattle.ring_steps.specs.Views.{Writing}
 use Rattle.ring_shared.specs.Value.{WriterValue}
 use Rattle.ring_shared.specs.Calls.{IsWriter, IsCall}
 use Rattle.ring_shared.specs.Lending.{FitsFrame}
 use Rattle.ring_shared.specs.WholeWrites.{IsWritten, IsRefusedWrite}
-use Rattle.ring_shared.specs.Finishing.{GoesOn, at_once, one_more, Leaves, is_gone, was_refused, FinishesFrame, FinishesTop, Finishes}
+use Rattle.ring_shared.specs.Finishing.{MakesSteps, at_once, one_more, Leaves, is_gone, was_refused, FinishesFrame, FinishesTop, Finishes}
 use Rattle.ring_shared.specs.Rooms.{room_of, rooms_of, IsOneMore, IsTopRoom}
 use Rattle.ring_shared.proofs.Finishes.{IsRefusal, is_refusal, is_gone_told}
 use Rattle.ring_shared.proofs.PushedEnded.{push_answers}
@@ -94,8 +94,8 @@ module _ (shape : Shape) (before : Writing) (event : model.Event) (result : Answ
   rooms_after : rooms_of call.next.frames ≡ rooms_of after.frames
   rooms_after = ap (λ (p : Writing). rooms_of p.frames) call.after_is
 
-  tells_so : (to : Answer) → result ≡ to → Tells shape.size to call.answer
-  tells_so to e = subst (λ (r : Answer). Tells shape.size r call.answer) e call.tells
+  tells_so : (to : Answer) → result ≡ to → IsAnswerOf shape.size to call.answer
+  tells_so to e = subst (λ (r : Answer). IsAnswerOf shape.size r call.answer) e call.tells
 
   more_rooms : IsOneMore (rooms_of call.core.frames) (rooms_of call.next.frames) → IsOneMore (rooms_of before.frames) (rooms_of after.frames)
   more_rooms (room, is) = (room, sym rooms_before ∙ is ∙ ap (λ (rs : List (Option ℕ)). room ∷ rs) rooms_after)
@@ -168,14 +168,14 @@ module _ (shape : Shape) (before : Writing) (result : Answer) (after : Writing) 
 -- ---- of a frame that is stepped as far as it gets
 
 -- steps that go on change no room
-goes_rooms : (shape : Shape) (before after : Writing) → GoesOn shape before after → rooms_of after.frames ≡ rooms_of before.frames
+goes_rooms : (shape : Shape) (before after : Writing) → MakesSteps shape before after → rooms_of after.frames ≡ rooms_of before.frames
 goes_rooms shape before _ at_once = refl
 goes_rooms shape before _ (one_more between after goes call) = going_rooms shape between Going after call refl ∙ goes_rooms shape before between goes
 
 -- the last step, and those before it
 record HasLast (shape : Shape) (before : Writing) (result : Answer) (after : Writing) : Type 0 where
   pub between : Writing
-  pub goes : GoesOn shape before between
+  pub goes : MakesSteps shape before between
   pub last : IsCall shape between model.steps result after
 
 module _ (shape : Shape) (result : Answer) (after : Writing) (goes_on : IsRefusal result → ⊥) where

@@ -11,7 +11,7 @@ use Rattle.script_model.proofs.ScriptReads.{script_reads, fault_reads}
 use Rattle.world_model.specs.World.{World}
 use Rattle.world_model.specs.Printing.{printed_world}
 use Rattle.world_model.proofs.OneWorld.{one_world}
-use Rattle.collector_text.specs.Tells.{Tells}
+use Rattle.collector_text.specs.IsPrintOf.{IsPrintOf}
 use Rattle.collector_text.proofs.OneText.{one_world_text}
 use Rattle.trace_cli.specs.Commands.{IsPrinting, PrintsReplay, PrintsFault, ReplayGives}
 
@@ -21,8 +21,8 @@ one_printing : (script : Script) (asked : Bool) (bytes others : List ℕ) → Is
 one_printing script asked bytes others limits a b =
     let same : a.world ≡ b.world =
     one_world script script.commands a.world b.world limits a.of_script b.of_script in
-    let also : AllZip Tells a.world.delivered b.shown =
-    subst (λ (w : World). AllZip Tells w.delivered b.shown) (sym same) b.told in
+    let also : AllZip IsPrintOf a.world.delivered b.shown =
+    subst (λ (w : World). AllZip IsPrintOf w.delivered b.shown) (sym same) b.told in
     a.printed
     ∙ one_world_text a.world.delivered a.shown b.shown asked a.world.log a.told also
     ∙ ap (λ (w : World). printed_world asked w.log b.shown) same

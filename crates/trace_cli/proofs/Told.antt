@@ -7,7 +7,7 @@ use Rattle.trace_model.specs.Collection.{IsSame}
 use Rattle.text_model.specs.Log.{LogLine}
 use Rattle.script_model.specs.Script.{Script}
 use Rattle.world_model.specs.Printing.{Shown, printed_world}
-use Rattle.collector_text.specs.Tells.{Tells}
+use Rattle.collector_text.specs.IsPrintOf.{IsPrintOf}
 use Rattle.collector_text.proofs.OneText.{same_are_told}
 use Rattle.replay_log.specs.declared.line.LogLine as logged
 use Rattle.replay_log.specs.LogTypes.{shown_log}
@@ -16,7 +16,7 @@ use Rattle.trace_cli.specs.Commands.{IsPrinting}
 
 pub all_tell : (collectors delivered : List (List Parcel)) (shown : List Shown) → length collectors ≡ length delivered
     → ((collector : ℕ) (kept parcels : List Parcel) → slice_get collectors collector ≡ Some kept → slice_get delivered collector ≡ Some parcels → IsSame kept parcels)
-    → AllZip Tells collectors shown → AllZip Tells delivered shown
+    → AllZip IsPrintOf collectors shown → AllZip IsPrintOf delivered shown
 all_tell [] [] [] count same all = tt
 all_tell [] [] (s ∷ shown) count same all = absurd all
 all_tell [] (d ∷ delivered) shown count same all = absurd (omega arith)
@@ -29,7 +29,7 @@ all_tell (c ∷ collectors) (d ∷ delivered) (s ∷ shown) count same all = (
 
 pub printing : (script : Script) (collectors : List (List Parcel)) (log : List logged.LogLine) (asked : Bool) (bytes : List ℕ)
     → IsHeadline script collectors log
-    → (shown : List Shown) × AllZip Tells collectors shown × (bytes ≡ printed_world asked (shown_log log) shown)
+    → (shown : List Shown) × AllZip IsPrintOf collectors shown × (bytes ≡ printed_world asked (shown_log log) shown)
     → IsPrinting script asked bytes
 printing script collectors log asked bytes h (shown, told, printed) = record {
   world = h.world;

@@ -7,7 +7,7 @@ use Rattle.script_model.specs.Script.{Script, ParsesScript, FirstScriptFault}
 use Rattle.world_model.specs.World.{World, WorldOf}
 use Rattle.world_model.specs.Headline.{IsGenuineWorld}
 use Rattle.world_model.specs.Printing.{Shown, printed_world}
-use Rattle.collector_text.specs.Tells.{Tells}
+use Rattle.collector_text.specs.IsPrintOf.{IsPrintOf}
 use Rattle.command_io.specs.declared.status.TheConstants.{DONE, REFUSED}
 
 -- These bytes are the printing of the script's world: its log, if it is asked for, and of each collector what the pages
@@ -17,7 +17,7 @@ pub record IsPrinting (script : Script) (asked : Bool) (bytes : List ℕ) : Type
   pub of_script : WorldOf script world
   pub genuine : IsGenuineWorld script world
   pub shown : List Shown
-  pub told : AllZip Tells world.delivered shown
+  pub told : AllZip IsPrintOf world.delivered shown
   pub printed : bytes ≡ printed_world asked world.log shown
 
 -- the text spells a script, and these bytes are the printing of its world

@@ -3,7 +3,7 @@ ghost use Rattle.std.specs.Prelude.{◌≡◌, ℕ, ◌∷◌, ◌++◌, [], Lis
 ghost use Rattle.std.specs.List.{AllZip};
 ghost use Rattle.script_model.specs.Script.{ParsesScript};
 ghost use Rattle.world_model.specs.Printing.{Shown, printed_world};
-ghost use Rattle.collector_text.specs.Tells.{Tells};
+ghost use Rattle.collector_text.specs.IsPrintOf.{IsPrintOf};
 ghost use Rattle.command_io.specs.CommandRun.{IsCommandRun};
 ghost use Rattle.command_io.specs.Output.{bytes_of, status_of};
 ghost use Rattle.trace_script.specs.ScriptFaults.{TellsFirstFault, script_fault_text};
@@ -33,7 +33,7 @@ fn replayed(alloc: Global, script: &Script) -> Result<World, NoMemory>
 /// The printing of a world: the log, if it is asked for, and the collectors. The log is given back before the
 /// collectors are printed.
 fn print_world(alloc: Global, world: World, log: bool) -> Result<Vec<u8>, NoMemory>
-    ensures { IfOk result (λ text. (shown : List Shown) × AllZip Tells world.collectors.items shown
+    ensures { IfOk result (λ text. (shown : List Shown) × AllZip IsPrintOf world.collectors.items shown
         × (text.items ≡ printed_world log (shown_log world.log.items) shown)) }
 {
     let World {

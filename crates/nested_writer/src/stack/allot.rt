@@ -20,7 +20,7 @@ impl WriterStack {
     ghost use Rattle.trace_model.specs.History.{Action, reserve, leave};
     ghost use Rattle.page_image.specs.Contents.{Contents};
     ghost use Rattle.nested_writer.specs.Stack.{opened, tail_fill, next_number};
-    ghost use Rattle.nested_writer.specs.Calls.{with_progress, after_leave, IsTop, HasLeft, IsUnchanged, WantsPage, NeedsPage, IsCrowded, IsWorn, IsReserved, HasRecordRoom, HasTopLeft, IsTopSlot};
+    ghost use Rattle.nested_writer.specs.Calls.{with_progress, after_leave, IsTop, HasLeft, IsUnchanged, WantsPage, NeedsPage, IsCrowded, IsWorn, ReservesRecord, HasRecordRoom, HasTopLeft, IsTopSlot};
     ghost use Rattle.nested_writer.specs.Ends.{MayEndTop};
     ghost use Rattle.nested_writer.specs.Kept.{SameFills, SamePages};
     ghost use Rattle.nested_writer.specs.Next.{IsPlaced, IsReadyForPage};
@@ -129,7 +129,7 @@ impl WriterStack {
         requires raised { raised ≡ max moment self.old.last_moment }
         requires room { HasRecordRoom self.old moment len }
         ensures reserved { (top : Frame) (below : List Frame) → IsTop self.old top below
-            → IsReserved self.old top below moment len result self.new }
+            → ReservesRecord self.old top below moment len result self.new }
         ensures stack { HasActed self.old (reserve ∷ []) self.new }
     {
         let number = self.tail.first_number().0 + self.tail.count();
@@ -169,7 +169,7 @@ impl WriterStack {
         requires stack { Stands self.old }
         requires plain { IsPlainTop self.old pushed }
         ensures reserved { (top : Frame) (below : List Frame) → IsTop self.old top below
-            → IsReserved self.old top below pushed.moment pushed.len result.place self.new }
+            → ReservesRecord self.old top below pushed.moment pushed.len result.place self.new }
         ensures stack { HasActed self.old (reserve ∷ []) self.new }
         ensures number { result.number ≡ next_number self.old }
         ensures slot { IsTopSlot self.new.frames result }

@@ -15,7 +15,7 @@ impl Frames {
     ghost use Rattle.nested_writer.specs.Lending.{IsLent, with_top};
     ghost use Rattle.ring_frames.specs.Answers.{top_bytes};
     ghost use Rattle.ring_frames.specs.Lending.{FitsFrame, LeavesOthers, LendsTop, StaysFrames};
-    ghost use Rattle.ring_frames.specs.Steps.{IsShown};
+    ghost use Rattle.ring_frames.specs.Steps.{AreSomeFrames};
 
     /// Where the record of the frame on top is. Refused with `NoFrame` if there is no frame, and with `NotReserved` if
     /// the one on top has no record.
@@ -34,7 +34,7 @@ impl Frames {
     /// Refused as `top_slot` is.
     #[inline(always)]
     pub fn top_mut(&mut self) -> Result<&mut Payload, WriteFault>
-        requires shown { IsShown self.old }
+        requires shown { AreSomeFrames self.old }
         ensures* lends { sem 𝓛 (LendsTop self.entry result) }
         ensures no_frame { result ≡ Err WriteFault.NoFrame ↔ self.old.stack.frames ≡ [] }
         ensures not_reserved { result ≡ Err WriteFault.NotReserved ↔ LacksSlot self.old.stack.frames }

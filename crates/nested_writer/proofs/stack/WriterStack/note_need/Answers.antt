@@ -2,7 +2,7 @@ use Rattle.std.proofs.Common.{◌≡◌, ℕ, Some, sym, ap, ◌∙◌, arith}
 use Rattle.nested_writer.specs.declared.frame.Progress.TheVariants.{Waiting}
 use Rattle.nested_writer.specs.declared.frame.Frame.{Frame}
 use Rattle.nested_writer.specs.Stack.{Stack, opened}
-use Rattle.nested_writer.specs.Inside.{shown, frames_from}
+use Rattle.nested_writer.specs.Inside.{stack_of, frames_from}
 use Rattle.nested_writer.proofs.Tops.{top_is as top_is'}
 use Rattle.nested_writer.proofs.Allotting.{crowded_after, worn_after, noted_after}
 use Rattle.nested_writer.proofs.Answering.{crowded_answer, worn_answer, page_answer}
@@ -21,7 +21,7 @@ returns-then-opened-self-ge-LINK_FILLS-clause-after c =
 pub returns-clause-after : goal.returns-clause-after
 returns-clause-after c =
     let (below, top_is) = c.requires.top in
-    let s : Stack = shown c.self.inside in
+    let s : Stack = stack_of c.self.inside in
     let found = top_is' c.self.inside.top c.self.inside.below.items c.args.top below c.self.invariant.top_first (ap (λ (x : Stack). x.frames) c.self.view_is ∙ top_is) in
     let begun : c.opened-opened.result ≡ opened s = c.opened-opened.ensures.begun ∙ ap opened (sym c.self.view_is) in
     let noted : c.note.new.self ≡ Some (record c.args.top { progress = Waiting (Some (opened s)) }) = c.note.ensures c.args.top found.0 ∙ ap (λ (n : ℕ). let f : Frame = record c.args.top { progress = Waiting (Some n) } in Some f) begun in

@@ -2,7 +2,7 @@ use Rattle.std.proofs.Common.{◌≡◌, ◌+◌, ◌≤◌, length, refl, sym, 
 use Rattle.record_words.specs.declared.put.Place.{Place}
 use Rattle.nested_writer.specs.declared.frame.Slot.{Slot}
 use Rattle.nested_writer.specs.Stack.{Stack}
-use Rattle.nested_writer.specs.Inside.{shown}
+use Rattle.nested_writer.specs.Inside.{stack_of}
 use Rattle.nested_writer.specs.Calls.{IsTopSlot, top_slot}
 use Rattle.nested_writer.specs.Lent.{Lent}
 use Rattle.nested_writer.specs.Lending.{IsLent}
@@ -12,7 +12,7 @@ use Rattle.nested_writer.proofs.stack.WriterStack.top_mut.Goals as goal
 
 pub lend-requires : goal.lend-requires
 lend-requires c =
-    let s : Stack = shown c.self.inside in
+    let s : Stack = stack_of c.self.inside in
     let slot : Slot = c.in_ok-slot.slot in
     let is : IsTopSlot s.frames slot = c.in_ok-slot.ensures.slot in
     let (start, h, k) = subst Stands (sym c.self.view_is) c.requires.stack in
@@ -20,7 +20,7 @@ lend-requires c =
 
 pub returns-then-slot-fill_number : goal.returns-then-slot-fill_number
 returns-then-slot-fill_number c =
-    let s : Stack = shown c.self.inside in
+    let s : Stack = stack_of c.self.inside in
     let slot : Slot = c.in_ok-slot.slot in
     let is : IsTopSlot s.frames slot = c.in_ok-slot.ensures.slot in
     let same : slot.fill ≡ s.tail.fill = c.if-slot-fill_number.true ∙ c.fill_number.ensures in
@@ -51,7 +51,7 @@ returns-then-slot-fill_number c =
 
 pub lend-payload-requires-clause-inside : goal.lend-payload-requires-clause-inside
 lend-payload-requires-clause-inside c =
-    let s : Stack = shown c.self.inside in
+    let s : Stack = stack_of c.self.inside in
     let slot : Slot = c.in_ok-slot.slot in
     let is : IsTopSlot s.frames slot = c.in_ok-slot.ensures.slot in
     let (start, h, k) = subst Stands (sym c.self.view_is) c.requires.stack in
@@ -59,7 +59,7 @@ lend-payload-requires-clause-inside c =
 
 pub lend-payload-requires-clause-within : goal.lend-payload-requires-clause-within
 lend-payload-requires-clause-within c =
-    let s : Stack = shown c.self.inside in
+    let s : Stack = stack_of c.self.inside in
     let slot : Slot = c.in_ok-slot.slot in
     let is : IsTopSlot s.frames slot = c.in_ok-slot.ensures.slot in
     let (start, h, k) = subst Stands (sym c.self.view_is) c.requires.stack in
@@ -67,7 +67,7 @@ lend-payload-requires-clause-within c =
 
 pub returns : goal.returns
 returns c =
-    let s : Stack = shown c.self.inside in
+    let s : Stack = stack_of c.self.inside in
     let slot : Slot = c.in_ok-slot.slot in
     let is : IsTopSlot s.frames slot = c.in_ok-slot.ensures.slot in
     let other : (slot.fill ≡ s.tail.fill → ⊥) = λ same. c.if-slot-fill_number.false (same ∙ sym c.fill_number.ensures) in

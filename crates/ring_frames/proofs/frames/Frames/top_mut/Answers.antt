@@ -9,18 +9,18 @@ use Rattle.nested_writer.specs.Lent.{Lent, lent_bytes, with_bytes}
 use Rattle.nested_writer.specs.Lending.{IsLent, with_top}
 use Rattle.nested_writer.proofs.Written.{written}
 use Rattle.ring_frames.specs.Value.{FramesValue}
-use Rattle.ring_frames.specs.Inside.{shown}
+use Rattle.ring_frames.specs.Inside.{frames_in}
 use Rattle.ring_frames.specs.Answers.{top_bytes}
 use Rattle.ring_frames.specs.Lending.{FitsFrame, LeavesOthers, StaysFrames}
-use Rattle.ring_frames.specs.Steps.{IsShown}
+use Rattle.ring_frames.specs.Steps.{AreSomeFrames}
 use Rattle.ring_frames.proofs.Lent.{top_lent, top_written, slot_fits, written_stays}
 use Rattle.ring_frames.proofs.Others.{leaves_others}
 use Rattle.ring_frames.proofs.frames.Frames.top_mut.Goals as goal
 
 pub returns : goal.returns
 returns c =
-    let v : FramesValue = shown c.self.inside in
-    let (n, size, start, s, are) = subst IsShown (sym c.self.view_is) c.requires.shown in
+    let v : FramesValue = frames_in c.self.inside in
+    let (n, size, start, s, are) = subst AreSomeFrames (sym c.self.view_is) c.requires.frames_in in
     let lends = c.top_mut.ensures in (
       rw (← c.self.view_is) refl,
       record {

@@ -5,13 +5,13 @@ use Rattle.trace_model.specs.Record.{Record}
 use Rattle.trace_model.specs.History.{Action, Reservation, reserved_records, as_record}
 use Rattle.trace_model.specs.Packing.{opens_of, fills_of}
 use Rattle.trace_model.specs.Fitting.{IsRising}
-use Rattle.trace_model.specs.Ring.{Held, first_of_fill, fill_of}
+use Rattle.trace_model.specs.Ring.{PageRecords, first_of_fill, fill_of}
 use Rattle.trace_model.proofs.FillFirsts.{first_below, fill_behind}
 use Rattle.link_marks.proofs.PartitionLemmas.{take_split, take_map}
-use Rattle.ring_steps.proofs.Heard.{first_records}
+use Rattle.ring_steps.proofs.Observed.{first_records}
 
 -- The records up to the end of a fill: those before a number, those from there to the fill, and its own.
-pub heard_with : (start : ℕ) (h : List Action) (f expected : ℕ) (held : Held)
+pub observed_with : (start : ℕ) (h : List Action) (f expected : ℕ) (held : PageRecords)
     → f - start < length (opens_of h)
     → IsRising 0 (opens_of h) (length (reserved_records h))
     → expected ≤ first_of_fill h start f
@@ -20,13 +20,13 @@ pub heard_with : (start : ℕ) (h : List Action) (f expected : ℕ) (held : Held
     × (length lost ≡ held.first - expected)
     × (held.first + length held.records ≤ length (reserved_records h))
     × (first_records (held.first + length held.records) h ≡ first_records expected h ++ (lost ++ map as_record held.records))
-heard_with start h f expected held low r le is =
+observed_with start h f expected held low r le is =
     let xs : List Reservation = reserved_records h in
     let rs : List Record = map as_record xs in
     let first : ℕ = first_of_fill h start f in
     let fill : List Reservation = get_or (fills_of h) (f - start) [] in
-    let first_is : held.first ≡ first = ap (λ (x : Held). x.first) is in
-    let records_is : held.records ≡ fill = ap (λ (x : Held). x.records) is in
+    let first_is : held.first ≡ first = ap (λ (x : PageRecords). x.first) is in
+    let records_is : held.records ≡ fill = ap (λ (x : PageRecords). x.records) is in
     let next : ℕ = get_or (0 ∷ opens_of h) (suc (f - start)) 0 in
     let up : take next xs ≡ take first xs ++ fill = fill_behind 0 (opens_of h) xs (f - start) low r in
     let within : next ≤ length xs = first_below 0 (opens_of h) (length xs) (suc (f - start)) low r in

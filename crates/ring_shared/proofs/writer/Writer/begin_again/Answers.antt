@@ -11,7 +11,7 @@ use Rattle.ring_steps.specs.Ends.{passed_in}
 use Rattle.ring_shared.proofs.Standing.{phase_shown}
 use Rattle.ring_shared.proofs.Bounds.{opened_now}
 use Rattle.ring_shared.proofs.Nearing.{nearer_quietly, quiet_late}
-use Rattle.ring_shared.proofs.writer.Writer.begin_anew.Goals as goal
+use Rattle.ring_shared.proofs.writer.Writer.begin_again.Goals as goal
 
 pub note-requires : goal.note-requires
 note-requires c = record {
@@ -22,8 +22,8 @@ note-requires c = record {
 pub returns-clause-makes : goal.returns-clause-makes
 returns-clause-makes c =
     let own = subst (λ (x : WriterValue). PhaseIsPrivate (phase_of x.frames.phase) (opened x.frames.stack)) (sym c.self.view_is) c.requires.private in
-    let made = c.begin_anew.ensures.late own in
-    seen_call _ _ (λ _. steps) (told c.begin_anew.result) _ c.self.view_is c.requires.writer c.note.ensures.shape c.note.ensures.table c.note.ensures.noted refl made
+    let made = c.begin_again.ensures.late own in
+    seen_call _ _ (λ _. steps) (told c.begin_again.result) _ c.self.view_is c.requires.writer c.note.ensures.shape c.note.ensures.table c.note.ensures.noted refl made
 
 pub returns-clause-nearer : goal.returns-clause-nearer
 returns-clause-nearer c =

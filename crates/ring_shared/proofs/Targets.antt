@@ -13,11 +13,11 @@ use Rattle.ring_frames.specs.declared.phase.Phase.{Phase}
 use Rattle.ring_frames.specs.AreFrames.{ring_frames}
 use Rattle.ring_steps.specs.declared.rule.Shape.{Shape}
 use Rattle.ring_steps.specs.Views.{Writing}
-use Rattle.ring_shared.specs.declared.writer.finish.Aim.{Aim}
-use Rattle.ring_shared.specs.declared.writer.finish.Aim.TheVariants as aim
+use Rattle.ring_shared.specs.declared.writer.finish.Target.{Target}
+use Rattle.ring_shared.specs.declared.writer.finish.Target.TheVariants as target
 use Rattle.ring_shared.specs.Value.{WriterValue}
 use Rattle.ring_shared.specs.Calls.{IsWriter, IsCall}
-use Rattle.ring_shared.specs.Finishing.{Reserves, Leaves, FinishesFrame, FinishesTop, Finishes, IsAim}
+use Rattle.ring_shared.specs.Finishing.{Reserves, Leaves, FinishesFrame, FinishesTop, Finishes, IsTarget}
 
 -- the frame on top, as the model has it
 pub record IsOnTop (frames : List Frame) (state : Kind → FrameState → Type 0) : Type 0 where
@@ -29,16 +29,16 @@ pub record IsOnTop (frames : List Frame) (state : Kind → FrameState → Type 0
 pub frames_of : (v : WriterValue) → IsWriter v → v.part.frames ≡ ring_frames v.frames.stack.frames (v.frames.phase ∷ v.frames.below)
 frames_of v w = ap (λ (p : Writing). p.frames) (sym w.part_is) ∙ w.frames_are.frames_are
 
-on_top : (frames : List stack.Frame) (phase : Phase) (below : List Phase) (shown : List Frame) (to : Aim) (state : Kind → FrameState → Type 0) → shown ≡ ring_frames frames (phase ∷ below) → IsAim (top_of frames) to → (to ≡ aim.Step → ⊥) → ((f : stack.Frame) → IsAim (Rattle.std.specs.Prelude.Some f) to → state (kind_of f.purpose) (state_of f.progress)) → IsOnTop shown state
+on_top : (frames : List stack.Frame) (phase : Phase) (below : List Phase) (shown : List Frame) (to : Target) (state : Kind → FrameState → Type 0) → shown ≡ ring_frames frames (phase ∷ below) → IsTarget (top_of frames) to → (to ≡ target.Step → ⊥) → ((f : stack.Frame) → IsTarget (Rattle.std.specs.Prelude.Some f) to → state (kind_of f.purpose) (state_of f.progress)) → IsOnTop shown state
 on_top [] phase below shown to state same is other says = absurd (other is)
 on_top (f ∷ frames) phase below shown to state same is other says = record { frame = _; below = _; top = same; is = says f is }
 
 module _ (v : WriterValue) (w : IsWriter v) where
-  pub reserving_on_top : IsAim (top_of v.frames.stack.frames) aim.Record → IsOnTop v.part.frames IsReserving
-  reserving_on_top is = on_top v.frames.stack.frames v.frames.phase v.frames.below v.part.frames aim.Record IsReserving (frames_of v w) is (λ e. cc) (λ f at. at)
+  pub reserving_on_top : IsTarget (top_of v.frames.stack.frames) target.Record → IsOnTop v.part.frames IsReserving
+  reserving_on_top is = on_top v.frames.stack.frames v.frames.phase v.frames.below v.part.frames target.Record IsReserving (frames_of v w) is (λ e. cc) (λ f at. at)
 
-  pub leaving_on_top : IsAim (top_of v.frames.stack.frames) aim.End → IsOnTop v.part.frames IsLeaving
-  leaving_on_top is = on_top v.frames.stack.frames v.frames.phase v.frames.below v.part.frames aim.End IsLeaving (frames_of v w) is (λ e. cc) (λ f at. at)
+  pub leaving_on_top : IsTarget (top_of v.frames.stack.frames) target.End → IsOnTop v.part.frames IsLeaving
+  leaving_on_top is = on_top v.frames.stack.frames v.frames.phase v.frames.below v.part.frames target.End IsLeaving (frames_of v w) is (λ e. cc) (λ f at. at)
 
 module _ (shape : Shape) (before : Writing) (result : Answer) (after : Writing) where
   reserving_frame : (kind : Kind) (state : FrameState) (below : List Frame) → IsReserving kind state → Reserves shape kind below before result after → FinishesFrame shape kind state below before result after
@@ -71,11 +71,11 @@ module _ (shape : Shape) (before : Writing) (result : Answer) (after : Writing) 
   pub finishes_leaving : IsOnTop before.frames IsLeaving → ((frame : Frame) (below : List Frame) → before.frames ≡ frame ∷ below → Leaves shape below before result after) → Finishes shape before result after
   finishes_leaving t l = subst (λ (frames : List Frame). FinishesTop shape frames before result after) (sym t.top) (leaving_frame t.frame.kind t.frame.state t.below t.is (l t.frame t.below t.top))
 
-  finishes_in : (frames : List stack.Frame) (phase : Phase) (below : List Phase) → before.frames ≡ ring_frames frames (phase ∷ below) → IsAim (top_of frames) aim.Step → IsCall shape before model.steps result after → Finishes shape before result after
+  finishes_in : (frames : List stack.Frame) (phase : Phase) (below : List Phase) → before.frames ≡ ring_frames frames (phase ∷ below) → IsTarget (top_of frames) target.Step → IsCall shape before model.steps result after → Finishes shape before result after
   finishes_in [] phase below same is call = subst (λ (fs : List Frame). FinishesTop shape fs before result after) (sym same) call
   finishes_in (f ∷ frames) phase below same (number, is) call = subst (λ (fs : List Frame). FinishesTop shape fs before result after) (sym same) (reserved_frame (kind_of f.purpose) (state_of f.progress) number _ is call)
 
-pub finishes_step : (v : WriterValue) (w : IsWriter v) (result : Answer) (after : Writing) → IsAim (top_of v.frames.stack.frames) aim.Step → IsCall v.shape v.part model.steps result after → Finishes v.shape v.part result after
+pub finishes_step : (v : WriterValue) (w : IsWriter v) (result : Answer) (after : Writing) → IsTarget (top_of v.frames.stack.frames) target.Step → IsCall v.shape v.part model.steps result after → Finishes v.shape v.part result after
 finishes_step v w result after is call = finishes_in v.shape v.part result after v.frames.stack.frames v.frames.phase v.frames.below (frames_of v w) is call
 
 -- ---- slots

@@ -15,12 +15,12 @@ use Rattle.link_marks.proofs.ToldSteps.{leads_step}
 abbrev pub first_records : ℕ → List Action → List Record
 first_records e history = take e (map as_record (reserved_records history))
 
-heard_longer : (h more : List Action) (e : ℕ) → e ≤ committed_len h → first_records e (h ++ more) ≡ first_records e h
-heard_longer h [] e low = ap (first_records e) (append-nil h)
-heard_longer h (a ∷ more) e low = let up = committed_len-more h a in
-    sym (ap (first_records e) (append_assoc h (a ∷ []) more)) ∙ (heard_longer (h ++ a ∷ []) more e (omega arith) ∙ frozen h a e low)
+observed_longer : (h more : List Action) (e : ℕ) → e ≤ committed_len h → first_records e (h ++ more) ≡ first_records e h
+observed_longer h [] e low = ap (first_records e) (append-nil h)
+observed_longer h (a ∷ more) e low = let up = committed_len-more h a in
+    sym (ap (first_records e) (append_assoc h (a ∷ []) more)) ∙ (observed_longer (h ++ a ∷ []) more e (omega arith) ∙ frozen h a e low)
 
-pub heard_stays : (n size start : ℕ) (c : Core) (event : Event) (answer : Answer) (after : Core) → IsRingKept n size start c → Step n size c event answer after → first_records c.reader.expected after.history ≡ first_records c.reader.expected c.history
-heard_stays n size start c event answer after k step =
+pub observed_stays : (n size start : ℕ) (c : Core) (event : Event) (answer : Answer) (after : Core) → IsRingKept n size start c → Step n size c event answer after → first_records c.reader.expected after.history ≡ first_records c.reader.expected c.history
+observed_stays n size start c event answer after k step =
     let l = leads_step n size start c event answer after k.links k.stack k.history step in
-    ap (first_records c.reader.expected) l.actions ∙ heard_longer c.history (actions_of l.deeds) c.reader.expected (settled n start c k.links k.contents k.closed k.partition)
+    ap (first_records c.reader.expected) l.actions ∙ observed_longer c.history (actions_of l.events) c.reader.expected (settled n start c k.links k.contents k.closed k.partition)
