@@ -11,7 +11,7 @@ use Rattle.trace_model.specs.Frames.{FrameState, left, pushed_onto, pushed_of}
 use Rattle.trace_model.specs.Ring.{first_of_fill, fill_of}
 use Rattle.trace_model.specs.OpenPages.{IsOf, AreOf, HoldsRecords}
 use Rattle.trace_model.proofs.Committed.{whole_front}
-use Rattle.trace_model.proofs.CommittedWritten.{committed-HasItsBytes}
+use Rattle.trace_model.proofs.CommittedWritten.{committed-IsWritten}
 use Rattle.trace_model.proofs.FillCuts.{length-cut_from}
 use Rattle.trace_model.proofs.FullFills.{packed_full}
 use Rattle.trace_model.proofs.OpenPages.{AreOf-length, fill_len-some}
@@ -38,7 +38,7 @@ all_committed : (h : List Action) → (writer_after h).stack ≡ [] → committe
 all_committed h none = ap (λ (front : List Action). map as_record (reserved_records front)) (whole_prefix h none)
 
 all_written : (h : List Action) → IsHistory h → (writer_after h).stack ≡ [] → All HasItsBytes (reserved_records h)
-all_written h keeps none = subst (λ (front : List Action). All HasItsBytes (reserved_records front)) (whole_prefix h none) (committed-HasItsBytes h keeps)
+all_written h keeps none = subst (λ (front : List Action). All HasItsBytes (reserved_records front)) (whole_prefix h none) (committed-IsWritten h keeps)
 
 -- ---- a fill of them
 

@@ -138,8 +138,8 @@ frames-finished number payload records (record_frame moment len other ∷ stack)
 frames-finished number payload records (close_frame ∷ stack) h = (tt, frames-finished number payload records stack h.1)
 
 -- the payload fills the slot that was reserved for it
-written_with-HasItsBytes : (payload : List ℕ) (len : ℕ) (before r : Reservation) → written_with payload before ≡ r → before.len ≡ slot_len len → slot_len (length payload) ≡ slot_len len → HasItsBytes r
-written_with-HasItsBytes payload len before r is slot fits =
+written_with-IsWritten : (payload : List ℕ) (len : ℕ) (before r : Reservation) → written_with payload before ≡ r → before.len ≡ slot_len len → slot_len (length payload) ≡ slot_len len → HasItsBytes r
+written_with-IsWritten payload len before r is slot fits =
     subst HasItsBytes is (length-padded payload ∙ fits ∙ sym slot)
 
 leave-IsKept : (f : PushedFrame) (stack : List PushedFrame) (records : List Reservation) (payload : Option (List ℕ)) → MayAct (f ∷ stack) (leave payload) → IsKept (f ∷ stack) records → IsKept stack (records_after_leave f payload records)
@@ -152,11 +152,11 @@ leave-IsKept (record_frame moment len (Some number)) stack records None may h = 
 leave-IsKept (record_frame moment len (Some number)) stack records (Some payload) may h = record {
   frames = frames-finished number payload records stack h.frames.1;
   each = λ k r at. ⊎_elim
-      (λ one. inl (written_with-HasItsBytes payload len one.0 r one.2 (h.frames.0.1 one.0 one.1) may))
+      (λ one. inl (written_with-IsWritten payload len one.0 r one.2 (h.frames.0.1 one.0 one.1) may))
       (λ other. ⊎_elim (λ done. inl done) (λ stands. inr (⊎_elim (λ e. absurd (other.0 (same_number number k e))) (λ below. below) stands)) (h.each k r other.1))
       (StandsAt-finished number payload records k r at);
   fills = λ k r at. ⊎_elim
-      (λ one. written_fills r (written_with-HasItsBytes payload len one.0 r one.2 (h.frames.0.1 one.0 one.1) may))
+      (λ one. written_fills r (written_with-IsWritten payload len one.0 r one.2 (h.frames.0.1 one.0 one.1) may))
       (λ other. h.fills k r other.1)
       (StandsAt-finished number payload records k r at);
 }
@@ -195,8 +195,8 @@ each_written : (records : List Reservation) → ((k : ℕ) (r : Reservation) →
 each_written [] h = tt
 each_written (r ∷ records) h = (h 0 r refl, each_written records (λ k q at. h (suc k) q at))
 
-pub committed-HasItsBytes : (history : List Action) → IsHistory history → All HasItsBytes (reserved_records (settled_prefix history))
-committed-HasItsBytes history keeps =
+pub committed-IsWritten : (history : List Action) → IsHistory history → All HasItsBytes (reserved_records (settled_prefix history))
+committed-IsWritten history keeps =
     let start : WriterState = record { stack = []; records = [] } in
     let front = settled_prefix history in
     let found = settled_within (length history) history in

@@ -32,8 +32,8 @@ add_page-requires-clause-fills c =
     let (page, is) = subst IsOpening (sym c.self.view_is) c.requires.phase in
     fills n size start v m core some page is
 
-pub begin_again-requires-clause-frames_in : goal.begin_again-requires-clause-frames_in
-begin_again-requires-clause-frames_in c =
+pub begin_again-requires-clause-shown : goal.begin_again-requires-clause-shown
+begin_again-requires-clause-shown c =
     let v : FramesValue = frames_in c.self.inside in
     let (n, size, start, m, core) = subst IsFrames (sym c.self.view_is) c.requires.frames in
     (n, size, start, with_new_tail m 0, begun n size start v m 0 c.add_page.new.self (next_number v.stack) core.are c.add_page.ensures.page c.add_page.ensures.stack)

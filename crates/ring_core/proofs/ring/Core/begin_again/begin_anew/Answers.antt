@@ -7,8 +7,8 @@ use Rattle.ring_core.specs.Steps.{IsReachedCore, IsLate, Makes}
 use Rattle.ring_core.proofs.Privately.{made_privately}
 use Rattle.ring_core.proofs.ring.Core.begin_again.Goals as goal
 
-pub begin_again-requires-clause-core_of : goal.begin_again-requires-clause-core_of
-begin_again-requires-clause-core_of c =
+pub begin_again-requires-clause-shown : goal.begin_again-requires-clause-shown
+begin_again-requires-clause-shown c =
     let (n, size, start, m, core) = subst IsReachedCore (sym c.self.view_is) c.requires.ring in
     (n, size, start, m, core.shows.frames)
 
