@@ -169,10 +169,12 @@ impl Ranges {
         requires cut { IsCut self.old end }
         ensures apart { AreApart self.new }
         ensures inside { (n : ℕ) → first ≤ n → n < end → HasContent self.new n content }
-        ensures alone { (n : ℕ) (other : Content) → first ≤ n → n < end → HasContent self.new n other → other ≡ content }
+        ensures alone { (n : ℕ) (other : Content) → first ≤ n → n < end
+            → HasContent self.new n other → other ≡ content }
         ensures in_front { (n : ℕ) (other : Content) → n < first
             → (HasContent self.old n other ↔ HasContent self.new n other) }
-        ensures behind { (n : ℕ) (other : Content) → end ≤ n → (HasContent self.old n other ↔ HasContent self.new n other) }
+        ensures behind { (n : ℕ) (other : Content) → end ≤ n
+            → (HasContent self.old n other ↔ HasContent self.new n other) }
         ensures marks { (place : ℕ) → end ≤ place → IsMarked self.old place → IsMarked self.new place }
         ensures cuts { (place : ℕ) → end ≤ place → IsCut self.old place → IsCut self.new place }
     {
@@ -206,8 +208,10 @@ impl Ranges {
         ensures inside { OnOk result ((n : ℕ) → first ≤ n → n < end → HasContent self.new n content) }
         ensures alone { OnOk result ((n : ℕ) (other : Content) → first ≤ n → n < end
             → HasContent self.new n other → other ≡ content) }
-        ensures in_front { (n : ℕ) (other : Content) → n < first → (HasContent self.old n other ↔ HasContent self.new n other) }
-        ensures behind { (n : ℕ) (other : Content) → end ≤ n → (HasContent self.old n other ↔ HasContent self.new n other) }
+        ensures in_front { (n : ℕ) (other : Content) → n < first
+            → (HasContent self.old n other ↔ HasContent self.new n other) }
+        ensures behind { (n : ℕ) (other : Content) → end ≤ n
+            → (HasContent self.old n other ↔ HasContent self.new n other) }
         ensures others { (q : ℕ) → (first < end → q ≢ first)
             → get nat_cmp self.new.spans q ≡ get nat_cmp self.old.spans q }
         ensures ends { first < end → (span : Span) → HasSpan self.new first span → span.end ≤ end }

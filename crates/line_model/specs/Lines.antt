@@ -172,7 +172,8 @@ pub record TopPart (n size : ℕ) (before : LineState) (events : List RingEvent)
 -- ---- lines
 
 -- `s K`: at most K actions of the top frame
-pub record StepsPart (n size count : ℕ) (before : LineState) (events : List RingEvent) (after : LineState) : Type 0 where
+pub record StepsPart (n size count : ℕ) (before : LineState) (events : List RingEvent) (after : LineState)
+    : Type 0 where
   pub top : TopPart n size before events after
   pub few : length (actions_of events) ≤ count
 

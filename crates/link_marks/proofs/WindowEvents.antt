@@ -1,4 +1,4 @@
--- What happens to a ring's window in one step is one happening.
+-- What one step makes of a ring's window is one event.
 use Rattle.std.proofs.Common.{◌≡◌, ℕ, List, [], ◌∷◌, ◌++◌, length, refl, sym, ap, ◌∙◌, arith, length-append}
 use Rattle.trace_model.specs.Window.{Window, WindowEvent, opened_one, released_one, took_one, lost_one, window_after}
 use Rattle.trace_model.specs.Ring.{Taken, Reader, Core, window_of}

@@ -19,8 +19,8 @@ Holds n start order held cuts records f =
 
 -- The fills are as many as are begun, each page has room for one, and those that are begun and not taken or
 -- lost are in their pages.
-pub record PagesKept (n start : ℕ) (order : List ℕ) (held : List PageRecords) (cuts : List ℕ) (records : List Reservation)
-    (head opened : ℕ)
+pub record PagesKept (n start : ℕ) (order : List ℕ) (held : List PageRecords) (cuts : List ℕ)
+    (records : List Reservation) (head opened : ℕ)
     : Type 0 where
   pub begun : opened ≡ start + 1 + length cuts
   pub from_start : start ≤ head

@@ -11,8 +11,8 @@ use Rattle.link_marks.specs.ToldRuns.{fills_taken, fills_lost, IsToldBy}
 
 -- ---- steps
 
--- A happening as the state shows it. If a fill is begun, the history has one more open_fill; if one is taken,
--- it is the head, and the last page that the reader took; and else a happening changes neither.
+-- An event of the window as the state shows it. If a fill is begun, the history has one more open_fill; if one is
+-- taken, it is the head, and the last page that the reader took; any other event changes neither.
 abbrev pub IsEventShown : Core → Core → WindowEvent → Type 0
 IsEventShown c after opened_one = IsPrefix (c.history ++ open_fill ∷ []) after.history × (after.reader ≡ c.reader)
 IsEventShown c after released_one = (after.history ≡ c.history) × (after.reader ≡ c.reader)
@@ -23,7 +23,7 @@ IsEventShown c after took_one =
     × (after.reader.taken ≡ c.reader.taken ++ t ∷ [])
 IsEventShown c after lost_one = (after.history ≡ c.history) × (after.reader ≡ c.reader)
 
--- The happening takes the window of one state to that of another if it may, and is shown there.
+-- The event moves the window of one state to that of another, as it may, and is shown there.
 pub record MovesWindow (n : ℕ) (c : Core) (what : WindowEvent) (after : Core) : Type 0 where
   pub step : WindowStep n c.history (window_of c) what (window_of after)
   pub shown : IsEventShown c after what

@@ -22,7 +22,8 @@ AreOfRings n size start cores ledgers = (cpu : ℕ) (ledger : Ledger)
 
 -- What is kept has the committed records of a CPU that are in a fill that was taken, under their own numbers, and no
 -- others; and it misses the numbers that were overwritten unread before such a fill, and no others.
-pub record KeepsExactly (history : List Action) (start : ℕ) (events : List RingEvent) (cpu : ℕ) (kept taken : List Parcel)
+pub record KeepsExactly (history : List Action) (start : ℕ) (events : List RingEvent) (cpu : ℕ)
+    (kept taken : List Parcel)
     : Type 0 where
   pub has : (number : ℕ) (r : Record)
       → Has kept cpu number r

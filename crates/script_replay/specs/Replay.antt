@@ -29,7 +29,8 @@ pub record IsReplay (script : Script) (collectors : List (List Parcel)) (log : L
 -- What a collector keeps makes of a CPU's history: it has exactly the committed records that are in the fill of one of
 -- the pages that were delivered to it, under their own numbers, and misses exactly the numbers that were overwritten
 -- unread before one of them.
-pub record KeepsExactly (history : List Action) (start : ℕ) (events : List RingEvent) (cpu : ℕ) (kept delivered : List Parcel)
+pub record KeepsExactly (history : List Action) (start : ℕ) (events : List RingEvent) (cpu : ℕ)
+    (kept delivered : List Parcel)
     : Type 0 where
   pub has : (number : ℕ) (r : Record)
       → Has kept cpu number r

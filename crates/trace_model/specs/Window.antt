@@ -23,7 +23,7 @@ pub data WindowEvent : Type 0 where
   took_one : WindowEvent
   lost_one : WindowEvent
 
--- the counts after a happening: each moves one of them by one
+-- the counts after an event: each moves one of them by one
 abbrev pub window_after : Window → WindowEvent → Window
 window_after w opened_one = record { head = w.head; done = w.done; opened = w.opened + 1 }
 window_after w released_one = record { head = w.head; done = w.done + 1; opened = w.opened }
@@ -39,14 +39,14 @@ MayMove n history w released_one = (w.done + 1 < w.opened) × IsTrue (is_settled
 MayMove n history w took_one = w.head < w.done
 MayMove n history w lost_one = (w.head < w.done) × (w.opened ≡ w.head + n)
 
--- the happening may happen, after this history, and makes the one window of the other
-pub record WindowStep (n : ℕ) (history : List Action) (before : Window) (happening : WindowEvent) (after : Window)
+-- the event may happen, after this history, and makes the second window of the first
+pub record WindowStep (n : ℕ) (history : List Action) (before : Window) (event : WindowEvent) (after : Window)
     : Type 0 where
-  pub may : MayMove n history before happening
-  pub after_is : after ≡ window_after before happening
+  pub may : MayMove n history before event
+  pub after_is : after ≡ window_after before event
 
 -- What is done to a ring, in one order: what the frames do; and a fill is closed, taken by the reader, or lost to
--- a writer. That a fill is begun is an action of the frames, and happens to the window with it.
+-- a writer. That a fill is begun is an action of the frames, and an event of the window too.
 pub data RingEvent : Type 0 where
   acts : Action → RingEvent
   closes : RingEvent
@@ -61,7 +61,7 @@ actions_of (closes ∷ events) = actions_of events
 actions_of (takes ∷ events) = actions_of events
 actions_of (loses ∷ events) = actions_of events
 
--- what happens to the window with an action
+-- the event of the window that an action is, if it is one
 abbrev pub window_event_of : Action → Option WindowEvent
 window_event_of (push moment len) = None
 window_event_of push_close = None

@@ -40,7 +40,8 @@ StandsIn history start fill number =
 
 -- The record of this number was overwritten unread before a fill: it is in one that was lost, after all
 -- that were taken before that fill.
-pub record IsOverwrittenBefore (history : List Action) (start : ℕ) (events : List RingEvent) (fill number : ℕ) : Type 0 where
+pub record IsOverwrittenBefore (history : List Action) (start : ℕ) (events : List RingEvent) (fill number : ℕ)
+    : Type 0 where
   pub lost : ℕ
   pub was_lost : Contains (fills_lost start events) lost
   pub stands : StandsIn history start lost number
