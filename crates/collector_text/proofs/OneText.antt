@@ -13,7 +13,7 @@ use Rattle.collector.specs.Runs.{InRun, AreRuns}
 use Rattle.text_model.specs.Log.{LogLine}
 use Rattle.text_model.specs.Printing.{printed_log_line}
 use Rattle.world_model.specs.Printing.{Shown, printed_missing, printed_collector, printed_world}
-use Rattle.collector_text.specs.IsPrintOf.{IsPrintOf, runs_of}
+use Rattle.collector_text.specs.Prints.{IsPrintOf, runs_of}
 
 -- ---- runs of the same numbers are the same
 

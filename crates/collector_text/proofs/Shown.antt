@@ -11,7 +11,7 @@ use Rattle.trace_model.specs.Collection.{IsSame}
 use Rattle.collector.specs.Runs.{AreMissingRuns}
 use Rattle.text_model.specs.Text.{line_feed}
 use Rattle.world_model.specs.Printing.{Shown, printed_collector, printed_line, printed_runs}
-use Rattle.collector_text.specs.IsPrintOf.{IsPrintOf, StandsBetween, runs_of, text_below}
+use Rattle.collector_text.specs.Prints.{IsPrintOf, StandsBetween, runs_of, text_below}
 use Rattle.collector_text.proofs.OneText.{same_are_told}
 
 -- the lines and the runs are what is below a collector's head line

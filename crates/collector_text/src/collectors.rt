@@ -5,7 +5,7 @@ ghost use Rattle.std.specs.List.{AllZip, enumerate_from, slice_range};
 ghost use Rattle.trace_model.specs.Sublist.{IsPrefix};
 ghost use Rattle.text_model.specs.Text.{line_feed};
 ghost use Rattle.world_model.specs.Printing.{Shown, printed_collector};
-ghost use Rattle.collector_text.specs.IsPrintOf.{IsPrintOf, StandsBetween, text_below};
+ghost use Rattle.collector_text.specs.Prints.{IsPrintOf, StandsBetween, text_below};
 
 use crate::lines::put_lines;
 use crate::runs::put_runs;

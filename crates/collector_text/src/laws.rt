@@ -6,7 +6,7 @@ ghost use Rattle.trace_model.specs.Parcel.{Parcel};
 ghost use Rattle.trace_model.specs.Collection.{IsSame};
 ghost use Rattle.text_model.specs.Log.{LogLine};
 ghost use Rattle.world_model.specs.Printing.{Shown, printed_collector, printed_world};
-ghost use Rattle.collector_text.specs.IsPrintOf.{IsPrintOf, StandsBetween};
+ghost use Rattle.collector_text.specs.Prints.{IsPrintOf, StandsBetween};
 
 /// The text of a collector is also that of each collector that is the same, and it is the only one. So what is printed
 /// of a world is one text too.

@@ -120,5 +120,5 @@ pub record IsStack (start : ℕ) (history : List Action) (s : Stack) : Type 0 wh
   pub holds : IsStackOf start (opens_of history) (reserved_records history) (is_wished history) s
 
 -- The stack is what some history leaves, in a ring with some first fill.
-abbrev pub Stands : Stack → Type 0
+unfoldable pub Stands : Stack → Type 0
 Stands s = (start : ℕ) × (history : List Action) × IsStack start history s

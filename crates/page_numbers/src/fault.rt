@@ -5,6 +5,7 @@ ghost use Rattle.page_numbers.specs.declared.fault.ParcelFault.TheVariants.{NoMe
 
 use page_image::ImageFault;
 use std::alloc::AllocFailed;
+use trace_model::NoMemory;
 
 /// Why a page can't be a parcel, or bytes can't be read as one. What is looked at first, in its bytes or in a page, is
 /// the CPU, then the image, and then the others in the order in which they are listed here.
@@ -16,7 +17,7 @@ pub enum ParcelFault {
     NumberOverflow,
     /// More numbers are missing before the first record's than there are.
     MissedTooMany,
-    /// The image states otherwise of missed events than the number before it.
+    /// The image states other missed events than the number before it.
     MissedDiffers,
     /// The CPU's number isn't below `MAX_CPUS`.
     BadCpu,
@@ -32,6 +33,14 @@ impl From<ImageFault> for ParcelFault {
             ImageFault::NoMemory => ParcelFault::NoMemory,
             fault => ParcelFault::Image(fault),
         }
+    }
+}
+
+impl From<NoMemory> for ParcelFault {
+    ghost from_gives = { λ f e. e ≡ MemoryIs };
+
+    fn from(_refused: NoMemory) -> ParcelFault {
+        ParcelFault::NoMemory
     }
 }
 

@@ -1,15 +1,9 @@
 //! A page under its numbers, as a parcel holds it. A parcel is seen by its records; the contracts here see the whole
 //! page, also its time, its size and its data.
-ghost use Rattle.std.specs.Prelude.{◌≡◌, ℕ, ◌+◌, ◌^◌, ◌<◌, ◌≤◌, length, IfErr, OnOk};
-ghost use Rattle.trace_model.specs.Image.{Missed};
-ghost use Rattle.trace_model.specs.declared.limits.TheConstants.{MAX_CPUS};
-ghost use Rattle.page_image.specs.Contents.{IsPage, records_of_page};
-ghost use Rattle.page_numbers.specs.Parcels.{parcel_of};
-ghost use Rattle.page_numbers.specs.Faults.{IsRefused, IsRefusedAs};
-
 mod bytes;
 
 use crate::fault::ParcelFault;
+use crate::numbers::check_numbers;
 use page_image::Page;
 use std::alloc::Global;
 use std::sync::Arc;
@@ -24,7 +18,7 @@ pub(crate) struct NumberedPage {
 }
 
 impl NumberedPage {
-    ghost use Rattle.std.specs.Prelude.{◌≡◌, IfOk, IfErr, OnOk};
+    ghost use Rattle.std.specs.Prelude.{◌≡◌, IfOk, IfErr, OnOk, length};
     ghost use Rattle.trace_model.specs.ParcelBytes.{IsParcel};
     ghost use Rattle.page_image.specs.Contents.{IsPage};
     ghost use Rattle.page_numbers.specs.Parcels.{parcel_of};
@@ -47,11 +41,31 @@ impl NumberedPage {
         if cpu.0 >= MAX_CPUS {
             return Err(ParcelFault::BadCpu);
         }
-        check_numbers(&page, missed)?;
+        check_numbers(page.first(), page.count(), missed)?;
         Ok(NumberedPage {
             cpu,
             missed,
             page: Arc::new(alloc, page)?,
+        })
+    }
+
+    /// A copy of the page that is as long as its data, under these numbers.
+    pub(crate) fn fitted(
+        alloc: Global,
+        cpu: CpuId,
+        page: &Page,
+        missed: u64,
+    ) -> Result<NumberedPage, NoMemory>
+        ensures cpu { IfOk result (λ numbered. numbered.cpu ≡ cpu) }
+        ensures page { IfOk result (λ numbered. numbered.page.value
+            ≡ record page.now { size = length page.now.bytes }) }
+        ensures reads { IfOk result (λ numbered. IsPage page.now → IsPage numbered.page.value) }
+        ensures missed { IfOk result (λ numbered. numbered.missed ≡ missed) }
+    {
+        Ok(NumberedPage {
+            cpu,
+            missed,
+            page: Arc::new(alloc, page.fitted(alloc)?)?,
         })
     }
 
@@ -67,24 +81,4 @@ impl NumberedPage {
             page: Arc::try_clone(&self.page)?,
         })
     }
-}
-
-/// Looks whether the page's records have numbers, and whether there are at least `missed` numbers before them.
-fn check_numbers(page: &Page, missed: u64) -> Result<(), ParcelFault>
-    requires page { IsPage page.now }
-    ensures numbers { OnOk result (page.now.first + length (records_of_page page.now) < 2 ^ 64) }
-    ensures missed { OnOk result (missed ≤ page.now.first) }
-    ensures refused { IfErr result (λ fault. (cpu : ℕ) → cpu < MAX_CPUS
-        → IsRefused (parcel_of cpu page.now missed) fault) }
-    ensures refused_as { IfErr result (λ fault. (cpu : ℕ) (told : Missed) → cpu < MAX_CPUS
-        → IsRefusedAs (parcel_of cpu page.now missed) told fault) }
-{
-    let first = page.first().0;
-    if first.checked_add(page.count()).is_none() {
-        return Err(ParcelFault::NumberOverflow);
-    }
-    if missed > first {
-        return Err(ParcelFault::MissedTooMany);
-    }
-    Ok(())
 }

@@ -3,6 +3,7 @@ use Rattle.std.specs.Prelude.{None, Some, Option, Result, Ok, Err}
 use Rattle.std.proofs.Common.{◌≡◌, ◌≢◌, ℕ, List, [], ◌∷◌, length, refl, sym, ap, ◌∙◌, subst, inl, inr}
 use Rattle.trace_model.specs.declared.numbers.RecordNo.{RecordNo}
 use Rattle.trace_model.specs.Words.{slot_len}
+use Rattle.trace_model.proofs.Elements.{some_is}
 use Rattle.trace_model.specs.Frames.{Kind, for_record, for_close, FrameState, waiting, reserved, left, Refusal, Frame}
 use Rattle.trace_model.specs.Ring.{Core}
 use Rattle.trace_model.specs.Steps as model
@@ -23,7 +24,7 @@ use Rattle.ring_shared.specs.Calls.{IsWriter, IsCall}
 use Rattle.ring_shared.specs.Lending.{FitsFrame}
 use Rattle.ring_shared.specs.WholeWrites.{IsWritten, IsRefusedWrite}
 use Rattle.ring_shared.specs.Finishing.{MakesSteps, at_once, one_more, Leaves, is_gone, was_refused, FinishesFrame, FinishesTop, Finishes}
-use Rattle.ring_shared.specs.Rooms.{room_of, rooms_of, IsOneMore, IsTopRoom}
+use Rattle.ring_shared.specs.Rooms.{room_of, rooms_of, rooms, IsOneMore, IsTopRoom}
 use Rattle.ring_shared.proofs.Finishes.{IsRefusal, is_refusal, is_gone_told}
 use Rattle.ring_shared.proofs.PushedEnded.{push_answers}
 use Rattle.ring_shared.proofs.Standing.{kept_now}
@@ -244,3 +245,10 @@ top_room v w slot on_top fits =
     let agree = top_agrees w.core t.frame t.below at (kept_now v w).stack in
     let record_is : IsForRecord t.frame.kind = (subst (λ (s : FrameState). MayBeIn t.frame.kind s t.frame.phase) t.state_is agree.0).0 in
     (rooms_of t.below, ap rooms_of t.top ∙ ap (λ (room : Option ℕ). room ∷ rooms_of t.below) (room_of_record t.frame.kind slot.place.len record_is (λ moment len is. fits t.frame t.below moment len t.top is)))
+
+-- it is the first of the rooms
+pub same_room : (bytes : ℕ) (below : List (Option ℕ)) (v : WriterValue) → rooms v ≡ Some bytes ∷ below → (long : ℕ) → IsTopRoom v long → long ≡ bytes
+same_room bytes below v is long (others, top) =
+    let both : ◌≡◌ {A = List (Option ℕ)} (Some long ∷ others) (Some bytes ∷ below) = sym top ∙ is in
+    let heads : ◌≡◌ {A = Option ℕ} (Some long) (Some bytes) = cc in
+    some_is long bytes heads

@@ -5,7 +5,7 @@ use Rattle.std.specs.List.{enumerate_from}
 use Rattle.trace_model.specs.Parcel.{Parcel}
 use Rattle.text_model.specs.Text.{line_feed, space}
 use Rattle.world_model.specs.Printing.{Shown, printed_collector}
-use Rattle.collector_text.specs.IsPrintOf.{IsPrintOf}
+use Rattle.collector_text.specs.Prints.{IsPrintOf}
 use Rattle.run_text.specs.Verdicts.{Verdict, IsVerdict, yes, stray, lacks}
 
 -- a CPU and a fill of its ring

@@ -2,7 +2,7 @@
 ghost use Rattle.std.specs.Prelude.{◌≡◌, ◌++◌, List, OnOk, OnErr, IfOk, IfSome};
 ghost use Rattle.std.specs.List.{AllZip};
 ghost use Rattle.trace_model.specs.Sublist.{IsPrefix};
-ghost use Rattle.collector_text.specs.Tells.{StandsBetween};
+ghost use Rattle.collector_text.specs.Prints.{StandsBetween};
 ghost use Rattle.run_audit.specs.Audit.{taken_in};
 ghost use Rattle.run_text.specs.Verdicts.{IsVerdict, verdict_of};
 ghost use Rattle.run_text.specs.Printing.{AuditedShown, IsAuditedPrintOf, printed_audited, printed_run};

@@ -8,7 +8,7 @@ use Rattle.threaded_run.specs.declared.running.Ran.{Ran}
 use Rattle.run_text.specs.Printing.{AuditedShown, IsAuditedPrintOf, printed_run}
 use Rattle.command_io.specs.declared.output.TheConstants.{THREAD_LINE}
 use Rattle.command_io.specs.declared.status.TheConstants.{DONE, END_FAILED}
-use Rattle.trace_cli.specs.Commands.{PrintsFault}
+use Rattle.replay_command.specs.Commands.{PrintsFault}
 
 -- These bytes are the printing of what a run of the script left: of each collector what its parcels have and miss, and
 -- what its audit against the parcels of the run's ledgers answers.

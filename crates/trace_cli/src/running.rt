@@ -9,9 +9,9 @@ ghost use Rattle.run_text.specs.Printing.{AuditedShown, IsAuditedPrintOf, printe
 ghost use Rattle.threaded_run.specs.Runs.{IsRan};
 ghost use Rattle.trace_cli.specs.Runs.{IsRunOutput, RunGives};
 
-use crate::commands::{fault_line, read_text};
 use command_io::{Command, Output, Sink, Source, run_command};
 use line_writer::OpenGate;
+use replay_command::{fault_line, read_text};
 use run_text::put_run;
 use std::alloc::Global;
 use std::sync::Wait;

@@ -28,6 +28,7 @@ impl Core {
         ensures not_reserved { result ≡ Err WriteFault.NotReserved ↔ LacksSlot self.old.stack.frames }
         ensures held { (place : Place) → top_place self.old.stack.frames ≡ Some place → IsOk result }
         ensures lent { IfOk result (λ payload. IsLent self.old.stack payload.now) }
+        ensures unwritten { IfOk result (λ payload. with_lent self.old payload.now ≡ self.old) }
         ensures len { (len : ℕ)
             → pushed_len self.old.stack.frames ≡ Some len
             → IfOk result (λ payload. length (lent_bytes payload.now) ≡ slot_len len) }

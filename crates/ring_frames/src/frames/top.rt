@@ -14,7 +14,7 @@ impl Frames {
     ghost use Rattle.nested_writer.specs.Lent.{lent_bytes, with_bytes};
     ghost use Rattle.nested_writer.specs.Lending.{IsLent, with_top};
     ghost use Rattle.ring_frames.specs.Answers.{top_bytes};
-    ghost use Rattle.ring_frames.specs.Lending.{FitsFrame, LeavesOthers, LendsTop, StaysFrames};
+    ghost use Rattle.ring_frames.specs.Lending.{FitsFrame, LeavesOthers, LendsTop, StaysFrames, with_lent};
     ghost use Rattle.ring_frames.specs.Steps.{AreSomeFrames};
 
     /// Where the record of the frame on top is. Refused with `NoFrame` if there is no frame, and with `NotReserved` if
@@ -40,6 +40,7 @@ impl Frames {
         ensures not_reserved { result ≡ Err WriteFault.NotReserved ↔ LacksSlot self.old.stack.frames }
         ensures held { (place : Place) → top_place self.old.stack.frames ≡ Some place → IsOk result }
         ensures lent { IfOk result (λ payload. IsLent self.old.stack payload.now) }
+        ensures unwritten { IfOk result (λ payload. with_lent self.old payload.now ≡ self.old) }
         ensures len { (len : ℕ)
             → pushed_len self.old.stack.frames ≡ Some len
             → IfOk result (λ payload. length (lent_bytes payload.now) ≡ slot_len len) }

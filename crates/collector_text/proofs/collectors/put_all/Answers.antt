@@ -2,7 +2,7 @@ use Rattle.std.proofs.Common.{List}
 use Rattle.trace_model.specs.Parcel.{Parcel}
 use Rattle.world_model.specs.Printing.{Shown, printed_collector}
 use Rattle.text_values.proofs.Behind.{behind_behind}
-use Rattle.collector_text.specs.IsPrintOf.{IsPrintOf}
+use Rattle.collector_text.specs.Prints.{IsPrintOf}
 use Rattle.collector_text.proofs.Appended.{put_none, put_more, put_all}
 use Rattle.collector_text.proofs.collectors.put_all.Goals as goal
 

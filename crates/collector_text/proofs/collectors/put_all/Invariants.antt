@@ -1,7 +1,7 @@
 use Rattle.std.proofs.Common.{List, IfSome, take}
 use Rattle.trace_model.specs.Parcel.{Parcel}
 use Rattle.world_model.specs.Printing.{Shown, printed_collector}
-use Rattle.collector_text.specs.IsPrintOf.{IsPrintOf, StandsBetween}
+use Rattle.collector_text.specs.Prints.{IsPrintOf, StandsBetween}
 use Rattle.collector_text.proofs.Appended.{ArePut}
 use Rattle.collector_text.proofs.collectors.put_all.Given as goal
 

@@ -4,7 +4,7 @@ use Rattle.trace_model.specs.Packing.{opens_of, is_wished}
 use Rattle.nested_writer.specs.Stack.{Stack, opened, next_number, blank_page}
 use Rattle.nested_writer.specs.Inside.{stack_of}
 use Rattle.nested_writer.specs.Calls.{MayAddPage}
-use Rattle.nested_writer.specs.IsStack.{IsStack}
+use Rattle.nested_writer.specs.IsStack.{IsStack, Stands}
 use Rattle.nested_writer.proofs.Bounds.{number_fits}
 use Rattle.nested_writer.proofs.Answering.{number_counts}
 use Rattle.nested_writer.proofs.Opening.{page_may_be_added}
@@ -12,6 +12,7 @@ use Rattle.nested_writer.proofs.Staying.{acted_stays}
 use Rattle.nested_writer.proofs.stack.WriterStack.add_page.Goals as goal
 
 pub overflow_add-first : goal.overflow_add-first
+unfolding Stands
 overflow_add-first c =
     let (start, history, k) = c.requires.stack in
     let s : Stack = stack_of c.self.inside in

@@ -8,7 +8,7 @@ use Rattle.nested_writer.specs.declared.frame.Purpose.TheVariants.{Record}
 use Rattle.nested_writer.specs.declared.frame.Progress.TheVariants.{Waiting}
 use Rattle.nested_writer.specs.Stack.{Stack, tail_fill, next_number}
 use Rattle.nested_writer.specs.Inside.{stack_of, frames_from}
-use Rattle.nested_writer.specs.IsStack.{IsStack}
+use Rattle.nested_writer.specs.IsStack.{IsStack, Stands}
 use Rattle.nested_writer.proofs.Tops.{top_is}
 use Rattle.nested_writer.proofs.Bounds.{tail_ends_at, number_fits}
 use Rattle.nested_writer.specs.Allotted.{HasActed}
@@ -18,6 +18,7 @@ use Rattle.nested_writer.proofs.Plain.{plain_put, plain_reserved, plain_acted}
 use Rattle.nested_writer.proofs.stack.WriterStack.hold_plain.Goals as goal
 
 pub overflow_add-number : goal.overflow_add-number
+unfolding Stands
 overflow_add-number c =
     let (start, history, k) = c.requires.stack in
     let s : Stack = stack_of c.self.inside in
@@ -27,6 +28,7 @@ overflow_add-number c =
     omega (arith, c.first_number.ensures, c.count.ensures.count)
 
 pub put_plain-place-requires-clause-last : goal.put_plain-place-requires-clause-last
+unfolding Stands
 put_plain-place-requires-clause-last c =
     let (start, history, k) = c.requires.stack in
     tail_ends_at start (opens_of history) (reserved_records history) (is_wished history) (stack_of c.self.inside) (subst (IsStack start history) (sym c.self.view_is) k).holds
@@ -58,6 +60,7 @@ number_is : (c : goal.After-hold) → (slot_of c).number ≡ next_number (stack_
 number_is c = omega (arith, c.first_number.ensures, c.count.ensures.count)
 
 fill_is : (c : goal.After-hold) → (slot_of c).fill ≡ tail_fill (stack_of c.self.inside)
+unfolding Stands
 fill_is c =
     let (start, history, k) = c.requires.stack in
     c.fill_number-fill.ensures ∙ (subst (IsStack start history) (sym c.self.view_is) k).holds.tail_is.fill_is

@@ -5,6 +5,7 @@ use Rattle.nested_writer.specs.Stack.{Stack, opened}
 use Rattle.nested_writer.specs.Inside.{stack_of, frames_from}
 use Rattle.nested_writer.proofs.Tops.{top_is as top_is'}
 use Rattle.nested_writer.proofs.Allotting.{crowded_after, worn_after, noted_after}
+use Rattle.nested_writer.proofs.Keeping.{left_top}
 use Rattle.nested_writer.proofs.Answering.{crowded_answer, worn_answer, page_answer}
 use Rattle.nested_writer.proofs.stack.WriterStack.note_need.Goals as goal
 
@@ -50,3 +51,13 @@ returns-clause-answered c = λ start history k.
     let closed = ap (λ (x : Stack). x.done) c.self.view_is in
     let pages = ap (λ (x : Stack). x.pages) c.self.view_is in
     page_answer start history c.args.self.now k c.args.top below top_is c.requires.wants (λ full. omega (arith, full, c.len.ensures, c.if-len-self.false, begun, closed, pages)) (omega (arith, c.opened-opened.ensures.begun, c.if-opened-self-ge-LINK_FILLS.false, pages))
+
+pub returns-then-len-self-clause-refused : goal.returns-then-len-self-clause-refused
+returns-then-len-self-clause-refused c =
+    let (below, top_is) = c.requires.top in
+    left_top c.args.self.now c.leave.new.self c.args.top below top_is (c.leave.ensures.after c.args.top below top_is)
+
+pub returns-then-opened-self-ge-LINK_FILLS-clause-refused : goal.returns-then-opened-self-ge-LINK_FILLS-clause-refused
+returns-then-opened-self-ge-LINK_FILLS-clause-refused c =
+    let (below, top_is) = c.requires.top in
+    left_top c.args.self.now c.leave-then-opened-self-ge-LINK_FILLS.new.self c.args.top below top_is (c.leave-then-opened-self-ge-LINK_FILLS.ensures.after c.args.top below top_is)

@@ -10,13 +10,14 @@ use Rattle.nested_writer.specs.declared.frame.Progress.TheVariants.{Reserved}
 use Rattle.nested_writer.specs.Stack.{Stack, tail_fill}
 use Rattle.nested_writer.specs.Inside.{stack_of, frames_from}
 use Rattle.nested_writer.specs.Calls.{HasRecordRoom}
-use Rattle.nested_writer.specs.IsStack.{IsStack}
+use Rattle.nested_writer.specs.IsStack.{IsStack, Stands}
 use Rattle.nested_writer.proofs.Tops.{top_is}
 use Rattle.nested_writer.proofs.Bounds.{tail_ends_at, number_fits}
 use Rattle.nested_writer.proofs.Reserving.{reserved_with}
 use Rattle.nested_writer.proofs.stack.WriterStack.reserve_any.Goals as goal
 
 pub overflow_add-number : goal.overflow_add-number
+unfolding Stands
 overflow_add-number c =
     let (start, history, k) = c.requires.stack in
     let s : Stack = stack_of c.self.inside in
@@ -26,6 +27,7 @@ overflow_add-number c =
     omega (arith, c.first_number.ensures, c.count.ensures.count)
 
 pub put-place-requires-clause-last : goal.put-place-requires-clause-last
+unfolding Stands
 put-place-requires-clause-last c =
     let (start, history, k) = c.requires.stack in
     tail_ends_at start (opens_of history) (reserved_records history) (is_wished history) (stack_of c.self.inside) (subst (IsStack start history) (sym c.self.view_is) k).holds

@@ -1,4 +1,4 @@
-use Rattle.std.proofs.Common.{◌≡◌, ℕ, List, Some, IfOk, length, refl, sym, ◌∙◌, subst}
+use Rattle.std.proofs.Common.{◌≡◌, ℕ, List, Some, IfOk, length, refl, sym, ap, ◌∙◌, subst}
 use Rattle.std.specs.Borrow.{MutBor}
 use Rattle.std.proofs.lemmas.Result.{IfOk-weaker}
 use Rattle.trace_model.specs.Words.{slot_len}
@@ -7,6 +7,7 @@ use Rattle.nested_writer.specs.Calls.{IsTopSlot}
 use Rattle.nested_writer.specs.Next.{pushed_len}
 use Rattle.nested_writer.specs.Lent.{Lent, lent_bytes, with_bytes}
 use Rattle.nested_writer.specs.Lending.{IsLent, with_top}
+use Rattle.ring_frames.specs.Value.{FramesValue}
 use Rattle.ring_frames.specs.Answers.{top_bytes}
 use Rattle.ring_frames.specs.Lending.{LeavesOthers}
 use Rattle.ring_core.specs.Value.{CoreValue, frames_of}
@@ -34,6 +35,8 @@ returns c =
         not_reserved = rw (← c.self.view_is) lends.not_reserved;
         held = rw (← c.self.view_is) lends.held;
         lent = subst (λ (x : CoreValue). IfOk c.top_mut.result (λ (p : MutBor Lent). IsLent x.stack p.now)) c.self.view_is lends.lent;
+        unwritten = subst (λ (x : CoreValue). IfOk c.top_mut.result (λ (p : MutBor Lent). with_lent x p.now ≡ x)) c.self.view_is
+            (IfOk-weaker c.top_mut.result _ _ (λ p same. ap (λ (f : FramesValue). record v { stack = f.stack }) same) lends.unwritten);
         len = subst (λ (x : CoreValue). (len : ℕ) → pushed_len x.stack.frames ≡ Some len → IfOk c.top_mut.result (λ (p : MutBor Lent). length (lent_bytes p.now) ≡ slot_len len)) c.self.view_is lends.len;
         word = lends.word;
         payload = subst (λ (x : CoreValue). IfOk c.top_mut.result (λ (p : MutBor Lent). lent_bytes p.now ≡ top_bytes x.stack x.stack.frames)) c.self.view_is lends.payload;

@@ -6,6 +6,7 @@ use Rattle.nested_writer.specs.declared.stack.allot.Allot.TheVariants.{Fits}
 use Rattle.nested_writer.specs.declared.frame.Purpose.TheVariants.{Close}
 use Rattle.nested_writer.specs.declared.frame.Progress.TheVariants.{Waiting}
 use Rattle.nested_writer.specs.Stack.{opened}
+use Rattle.nested_writer.specs.IsStack.{Stands}
 use Rattle.ring_frames.specs.Value.{FramesValue}
 use Rattle.ring_frames.specs.Inside.{frames_in}
 use Rattle.ring_frames.specs.Steps.{AreSomeFrames, LeavesWithout, IsCloseTop}
@@ -20,6 +21,7 @@ abbrev HasPassed : FramesValue → Type 0
 HasPassed v = (noted : ℕ) × IsCloseTop v noted × (noted ≢ opened v.stack)
 
 pub end_close-requires-clause-stack : goal.end_close-requires-clause-stack
+unfolding Stands
 end_close-requires-clause-stack c =
     let v : FramesValue = frames_in c.self.inside in
     let (n, size, start, s, k) = subst AreSomeFrames (sym c.self.view_is) c.requires.frames_in in

@@ -16,6 +16,7 @@ use Rattle.ring_frames.proofs.Closing.{through_may_end, acted_none}
 use Rattle.ring_frames.proofs.Reserves.{page_noted, refused, fits_slot, fits_close, nothing_found}
 use Rattle.ring_frames.specs.Answers.{KeepsPayloads}
 use Rattle.ring_frames.proofs.Payloads.{allotted_kept, ended_kept, kept_then, zeros_reserved}
+use Rattle.nested_writer.specs.IsStack.{Stands}
 use Rattle.ring_frames.proofs.frames.Frames.reserve.Goals as goal
 
 -- there is a frame, and this one is on top
@@ -37,6 +38,7 @@ returns-in-Ok-clause-step c = λ n size start s reached now.
     c.in-Ok.ensures.slot
 
 pub end_close-requires : goal.end_close-requires
+unfolding Stands
 end_close-requires c =
     let v : FramesValue = frames_in c.self.inside in
     let (n, size, start, s, core) = subst IsFrames (sym c.self.view_is) c.requires.frames in

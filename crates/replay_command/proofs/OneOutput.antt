@@ -11,9 +11,9 @@ use Rattle.script_model.proofs.ScriptReads.{script_reads, fault_reads}
 use Rattle.world_model.specs.World.{World}
 use Rattle.world_model.specs.Printing.{printed_world}
 use Rattle.world_model.proofs.OneWorld.{one_world}
-use Rattle.collector_text.specs.IsPrintOf.{IsPrintOf}
+use Rattle.collector_text.specs.Prints.{IsPrintOf}
 use Rattle.collector_text.proofs.OneText.{one_world_text}
-use Rattle.trace_cli.specs.Commands.{IsPrinting, PrintsReplay, PrintsFault, ReplayGives}
+use Rattle.replay_command.specs.Commands.{IsPrinting, PrintsReplay, PrintsFault, ReplayGives}
 
 -- a script has one world, whose collectors have one text
 one_printing : (script : Script) (asked : Bool) (bytes others : List ℕ) → IsWithinLimits script

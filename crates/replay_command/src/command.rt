@@ -3,13 +3,13 @@ ghost use Rattle.std.specs.Prelude.{◌≡◌, ℕ, ◌∷◌, ◌++◌, [], Lis
 ghost use Rattle.std.specs.List.{AllZip};
 ghost use Rattle.script_model.specs.Script.{ParsesScript};
 ghost use Rattle.world_model.specs.Printing.{Shown, printed_world};
-ghost use Rattle.collector_text.specs.IsPrintOf.{IsPrintOf};
+ghost use Rattle.collector_text.specs.Prints.{IsPrintOf};
 ghost use Rattle.command_io.specs.CommandRun.{IsCommandRun};
 ghost use Rattle.command_io.specs.Output.{bytes_of, status_of};
 ghost use Rattle.trace_script.specs.ScriptFaults.{TellsFirstFault, script_fault_text};
 ghost use Rattle.replay_log.specs.LogTypes.{shown_log};
 ghost use Rattle.script_replay.specs.Replay.{IsHeadline};
-ghost use Rattle.trace_cli.specs.Commands.{IsPrinting, ReplayGives};
+ghost use Rattle.replay_command.specs.Commands.{IsPrinting, ReplayGives};
 
 use collector_text::put_collectors;
 use command_io::{Command, Output, Sink, Source, run_command};
@@ -59,8 +59,13 @@ fn print_replay(alloc: Global, script: Script, log: bool) -> Result<Vec<u8>, NoM
     Ok(text)
 }
 
+<<<<<<< HEAD:crates/trace_cli/src/commands.rt
 /// The line that states a script's fault.
 pub(crate) fn fault_line(alloc: Global, fault: ScriptFault) -> Result<Vec<u8>, NoMemory>
+=======
+/// The line that states a script's fault.
+pub fn fault_line(alloc: Global, fault: ScriptFault) -> Result<Vec<u8>, NoMemory>
+>>>>>>> 737574cf937407fa5a7c321508ad2dca2630833f:crates/replay_command/src/command.rt
     ensures { IfOk result (λ line. line.items ≡ script_fault_text fault ++ 10 ∷ []) }
 {
     let mut line = Vec::new(alloc);
@@ -83,7 +88,7 @@ impl Command for ReplayCommand {
 }
 
 /// The script that a text spells, or its first fault. The text is given back.
-pub(crate) fn read_text(alloc: Global, text: Vec<u8>) -> Result<Script, ScriptFault>
+pub fn read_text(alloc: Global, text: Vec<u8>) -> Result<Script, ScriptFault>
     ensures script { IfOk result (λ script. ParsesScript text.items script) }
     ensures fault { IfErr result (λ fault. TellsFirstFault text.items fault) }
 {

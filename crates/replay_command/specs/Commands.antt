@@ -7,7 +7,7 @@ use Rattle.script_model.specs.Script.{Script, ParsesScript, FirstScriptFault}
 use Rattle.world_model.specs.World.{World, WorldOf}
 use Rattle.world_model.specs.Headline.{IsGenuineWorld}
 use Rattle.world_model.specs.Printing.{Shown, printed_world}
-use Rattle.collector_text.specs.IsPrintOf.{IsPrintOf}
+use Rattle.collector_text.specs.Prints.{IsPrintOf}
 use Rattle.command_io.specs.declared.status.TheConstants.{DONE, REFUSED}
 
 -- These bytes are the printing of the script's world: its log, if it is asked for, and of each collector what the pages

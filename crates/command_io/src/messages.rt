@@ -2,7 +2,8 @@
 ghost use Rattle.std.specs.Prelude.{◌≡◌, ◌≢◌, ◌<◌, ◌≤◌, true, false, MatchOption};
 ghost use Rattle.command_io.specs.Ends.{count_of, has_failed};
 
-use command_io::{END_FAILED, Std, USAGE};
+use crate::ends::Std;
+use crate::status::{END_FAILED, USAGE};
 use std::io::{Read, Write};
 use trace_model::MAX_INPUT;
 

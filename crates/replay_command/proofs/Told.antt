@@ -7,12 +7,12 @@ use Rattle.trace_model.specs.Collection.{IsSame}
 use Rattle.text_model.specs.Log.{LogLine}
 use Rattle.script_model.specs.Script.{Script}
 use Rattle.world_model.specs.Printing.{Shown, printed_world}
-use Rattle.collector_text.specs.IsPrintOf.{IsPrintOf}
+use Rattle.collector_text.specs.Prints.{IsPrintOf}
 use Rattle.collector_text.proofs.OneText.{same_are_told}
 use Rattle.replay_log.specs.declared.line.LogLine as logged
 use Rattle.replay_log.specs.LogTypes.{shown_log}
 use Rattle.script_replay.specs.Replay.{IsHeadline}
-use Rattle.trace_cli.specs.Commands.{IsPrinting}
+use Rattle.replay_command.specs.Commands.{IsPrinting}
 
 pub all_tell : (collectors delivered : List (List Parcel)) (shown : List Shown) → length collectors ≡ length delivered
     → ((collector : ℕ) (kept parcels : List Parcel) → slice_get collectors collector ≡ Some kept → slice_get delivered collector ≡ Some parcels → IsSame kept parcels)
