@@ -3,6 +3,32 @@
 //! A writer can be interrupted by another one at any step: each is a frame, and the one on top goes first. A record is
 //! reserved, its payload written in place, and ended; what was reserved is stated by the history of the frames, and the
 //! open pages hold its last fills (`docs/MODEL.md`).
+//!
+//! Code without loops names no fact of the stack: `new` gives what the calls ask for, and each call gives it again. A
+//! loop names what it keeps, which is `Stands`, and what its calls ask for beside it. So of records that are reserved,
+//! each amid the one before:
+//!
+//! ```text
+//! ghost use Rattle.nested_writer.specs.IsStack.{Stands};
+//!
+//! fn reserve_all(stack: &mut WriterStack, moments: &[u64]) -> Result<(), WriteFault>
+//!     requires stack { Stands stack.old }
+//!     ensures stack { Stands stack.new }
+//! {
+//!     for moment in moments {
+//!         stack.begin(*moment, 4)?;
+//!         stack.allot()?;
+//!     }
+//!     Ok(())
+//! }
+//! ```
+//!
+//! and in `proofs/reserve_all/Invariants.antt`, after its `use` lines:
+//!
+//! ```text
+//! abbrev pub invariant-loop-moment : goal.invariant-loop-moment
+//! invariant-loop-moment l = Stands l.stack
+//! ```
 #![tactic(auto, unfolding(crate::specs::IsStack::Stands))]
 
 mod fault;

@@ -19,8 +19,8 @@ core_of w = record {
   reader = w.reader;
 }
 
--- There are a link, a page and a home for each position; the spare has a home too. The lists have room for these, and no
--- other room is taken.
+-- There are a link, a page and a home for each position; the spare has a home too. The lists have room for these, and
+-- no other room is taken.
 pub record IsInside (w : Inside) : Type 0 where
   pub some_pages : MIN_PAGES ≤ length w.links.items
   pub most_pages : length w.links.items ≤ MAX_PAGES

@@ -3,6 +3,37 @@
 //! Each event is one step of the ring's model: it reads or writes at most one word of the ring, with what belongs to it
 //! in the frame on top or in the reader (`docs/FORMATS.md`, "The ring"). So any interleaving of nested writers and of
 //! the reader is a list of events.
+//!
+//! Code without loops names no fact of the ring: `new` gives what `step` asks for, and `step` gives it again. A loop
+//! names what it keeps, which is `IsReachedCore`, and the size of a page's data if it hands in the bodies of pages. So of the
+//! steps of the frame on top until one of them answers:
+//!
+//! ```text
+//! ghost use Rattle.std.specs.Prelude.{◌≡◌};
+//! ghost use Rattle.ring_core.specs.Steps.{IsReachedCore};
+//!
+//! fn finish(core: &mut Core) -> Answer
+//!     requires ring { IsReachedCore core.old }
+//!     ensures ring { IsReachedCore core.new }
+//!     ensures size { core.new.stack.size ≡ core.old.stack.size }
+//! {
+//!     for made in 0..30 {
+//!         let _made = made;
+//!         match core.step(Event::Step) {
+//!             Answer::Going => {}
+//!             answer => return answer,
+//!         }
+//!     }
+//!     Answer::Going
+//! }
+//! ```
+//!
+//! and in `proofs/finish/Invariants.antt`, after its `use` lines:
+//!
+//! ```text
+//! abbrev pub invariant-loop-made : goal.invariant-loop-made
+//! invariant-loop-made l = IsReachedCore l.core × (l.core.stack.size ≡ l.initial.core.stack.size)
+//! ```
 #![tactic(auto)]
 
 pub mod event;

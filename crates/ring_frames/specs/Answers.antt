@@ -103,8 +103,7 @@ ZerosSlot old result new = (number : RecordNo) (slot : Slot)
     → IsTopSlot new.frames slot
     → bytes_in new slot ≡ replicate slot.place.len 0
 
--- If the frame on top continues or its record is reserved by this answer, it is for a payload of the same length as
--- before.
+-- If the frame on top continues or its record is reserved by this answer, its payload is of the same length as before.
 pub record KeepsTop (result : Answer) (old new : Stack) : Type 0 where
   pub going : result ≡ Going → pushed_len new.frames ≡ pushed_len old.frames
   pub reserved : (number : RecordNo) → result ≡ Reserved number → pushed_len new.frames ≡ pushed_len old.frames

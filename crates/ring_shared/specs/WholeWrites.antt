@@ -51,7 +51,8 @@ pub record IsReserved (shape : Shape) (before : Writing) (moment len : ℕ) (aft
 pub record EndsRecord (old new : WriterValue) : Type 0 where
   pub ended : Writing
   pub how : How
-  pub end : IsCall old.shape old.part (model.ends (top_bytes old.frames.stack old.frames.stack.frames)) (Ended how) ended
+  pub end : IsCall old.shape old.part (model.ends (top_bytes old.frames.stack old.frames.stack.frames)) (Ended how)
+      ended
   pub goes : GoesAway old.shape ended how new.part
   pub others : (frame : Frame) (below : List Frame) → old.part.frames ≡ frame ∷ below → new.part.frames ≡ below
 

@@ -1,5 +1,5 @@
 -- The commands that are kept in fewer bytes: how many they are, one more, and one of them.
-use Rattle.std.proofs.Common.{◌≡◌, ℕ, zero, suc, ◌+◌, List, [], ◌∷◌, ◌++◌, length, Some, refl, sym, ap, ◌∙◌, arith, append-nil, length-append}
+use Rattle.std.proofs.Common.{◌≡◌, ℕ, zero, suc, ◌+◌, List, [], ◌∷◌, ◌++◌, length, Option, Some, None, IfSome, refl, sym, ap, ◌∙◌, arith, append-nil, length-append}
 use Rattle.std.specs.List.{slice_get}
 use Rattle.trace_model.proofs.Elements.{some_is}
 use Rattle.trace_script.specs.declared.kept.KeptLine.{KeptLine}
@@ -81,3 +81,12 @@ pub long_at : (short : List ShortLine) (long : List KeptLine) (index behind : �
     → slice_get (all_lines short long) index ≡ Some line
 long_at short long index behind line is at =
     long_behind (widened_from 0 short) long index behind line (omega (arith, is, length-widened 0 short)) at
+
+-- ---- where it fits
+
+pub if_some : {P Q : ShortLine → Type 0} (found : Option ShortLine)
+    → ((line : ShortLine) → P line → Q line)
+    → IfSome found P
+    → IfSome found Q
+if_some None then holds = tt
+if_some (Some line) then holds = then line holds

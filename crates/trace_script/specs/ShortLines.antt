@@ -1,21 +1,50 @@
 -- The commands of a script that are kept in fewer bytes.
 use Rattle.std.specs.Prelude.{ℕ, suc, ◌+◌, List, [], ◌∷◌, ◌++◌}
+use Rattle.trace_script.specs.declared.order.Order.{Order}
 use Rattle.trace_script.specs.declared.order.Order.TheVariants as order
 use Rattle.trace_script.specs.declared.kept.KeptLine.{KeptLine}
 use Rattle.trace_script.specs.declared.kept_lines.ShortLine.{ShortLine}
 use Rattle.trace_script.specs.declared.kept_lines.ShortLine.TheVariants.{Begin, Step, Finish, Write, Close, StepReader, Take, Wish, Deliver}
 
+-- by how much the number of its line is above its index
+abbrev pub above_of : ShortLine → ℕ
+above_of (Begin cpu above end moment) = above
+above_of (Step cpu above end count) = above
+above_of (Finish cpu above end) = above
+above_of (Write cpu above end moment) = above
+above_of (Close cpu above end) = above
+above_of (StepReader cpu above end count) = above
+above_of (Take cpu above end) = above
+above_of (Wish cpu above end) = above
+above_of (Deliver cpu above end collector fill) = above
+
+-- where its payload ends
+abbrev pub end_of : ShortLine → ℕ
+end_of (Begin cpu above end moment) = end
+end_of (Step cpu above end count) = end
+end_of (Finish cpu above end) = end
+end_of (Write cpu above end moment) = end
+end_of (Close cpu above end) = end
+end_of (StepReader cpu above end count) = end
+end_of (Take cpu above end) = end
+end_of (Wish cpu above end) = end
+end_of (Deliver cpu above end collector fill) = end
+
+-- what it asks for
+abbrev pub order_of : ShortLine → Order
+order_of (Begin cpu above end moment) = order.Begin record { 0 = cpu } moment
+order_of (Step cpu above end count) = order.Step record { 0 = cpu } count
+order_of (Finish cpu above end) = order.Finish record { 0 = cpu }
+order_of (Write cpu above end moment) = order.Write record { 0 = cpu } moment
+order_of (Close cpu above end) = order.Close record { 0 = cpu }
+order_of (StepReader cpu above end count) = order.StepReader record { 0 = cpu } count
+order_of (Take cpu above end) = order.Take record { 0 = cpu }
+order_of (Wish cpu above end) = order.Wish record { 0 = cpu }
+order_of (Deliver cpu above end collector fill) = order.Deliver collector record { 0 = cpu } record { 0 = fill }
+
 -- the command at an index, with numbers of 64 bits
 abbrev pub widened : (index : ℕ) → ShortLine → KeptLine
-widened index (Begin cpu above end moment) = record { number = index + above; end = end; order = order.Begin record { 0 = cpu } moment }
-widened index (Step cpu above end count) = record { number = index + above; end = end; order = order.Step record { 0 = cpu } count }
-widened index (Finish cpu above end) = record { number = index + above; end = end; order = order.Finish record { 0 = cpu } }
-widened index (Write cpu above end moment) = record { number = index + above; end = end; order = order.Write record { 0 = cpu } moment }
-widened index (Close cpu above end) = record { number = index + above; end = end; order = order.Close record { 0 = cpu } }
-widened index (StepReader cpu above end count) = record { number = index + above; end = end; order = order.StepReader record { 0 = cpu } count }
-widened index (Take cpu above end) = record { number = index + above; end = end; order = order.Take record { 0 = cpu } }
-widened index (Wish cpu above end) = record { number = index + above; end = end; order = order.Wish record { 0 = cpu } }
-widened index (Deliver cpu above end collector fill) = record { number = index + above; end = end; order = order.Deliver collector record { 0 = cpu } record { 0 = fill } }
+widened index line = record { number = index + above_of line; end = end_of line; order = order_of line }
 
 -- the commands from an index on
 abbrev pub widened_from : (index : ℕ) → List ShortLine → List KeptLine

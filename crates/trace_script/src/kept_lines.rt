@@ -1,5 +1,5 @@
 //! The commands of a script as they are kept: 16 bytes a command, while its numbers are small.
-ghost use Rattle.std.specs.Prelude.{◌≡◌, ◌+◌, ◌<◌, ◌^◌, ℕ, IfSome};
+ghost use Rattle.std.specs.Prelude.{◌≡◌, ◌+◌, ℕ, IfSome};
 ghost use Rattle.trace_script.specs.ShortLines.{widened};
 
 use crate::kept::KeptLine;
@@ -9,8 +9,8 @@ use std::marker::Model;
 use std::mem::size_of;
 use trace_model::{CpuId, FillNo, Moment, NoMemory};
 
-/// A command as it is kept, while its numbers are small: 16 bytes, without its payload. Each has its CPU; by how much the
-/// number of its line is above its index among the commands; and where its payload ends among the bytes of all payloads.
+/// A command as it is kept, while its numbers are small: 16 bytes, its payload aside. Each has its CPU; by how much the
+/// number of its line is above its index among the commands; and where its payload ends among the bytes of them all.
 #[derive(Clone, Copy, Debug)]
 pub enum ShortLine {
     Begin {
@@ -77,22 +77,84 @@ fn wide_cpu(cpu: u8) -> CpuId
     CpuId(u32::from(cpu))
 }
 
-/// A command of these parts.
-#[inline(always)]
-fn kept(index: usize, above: u16, end: u32, order: Order) -> KeptLine
-    requires { index < 2 ^ 63 }
-    ensures { result ≡ record { number = index + above; end = end; order = order } }
-{
-    KeptLine {
-        number: index as u64 + u64::from(above),
-        end: end as usize,
-        order,
-    }
-}
-
 impl ShortLine {
     ghost use Rattle.std.specs.Prelude.{◌≡◌, ◌<◌, ◌^◌};
-    ghost use Rattle.trace_script.specs.ShortLines.{widened};
+    ghost use Rattle.trace_script.specs.ShortLines.{above_of, end_of, order_of, widened};
+
+    /// By how much the number of its line is above its index.
+    #[inline(always)]
+    fn above(self) -> u16
+        ensures { result ≡ above_of self }
+    {
+        match self {
+            ShortLine::Begin { above, .. } => above,
+            ShortLine::Step { above, .. } => above,
+            ShortLine::Finish { above, .. } => above,
+            ShortLine::Write { above, .. } => above,
+            ShortLine::Close { above, .. } => above,
+            ShortLine::StepReader { above, .. } => above,
+            ShortLine::Take { above, .. } => above,
+            ShortLine::Wish { above, .. } => above,
+            ShortLine::Deliver { above, .. } => above,
+        }
+    }
+
+    /// Where its payload ends.
+    #[inline(always)]
+    fn end(self) -> u32
+        ensures { result ≡ end_of self }
+    {
+        match self {
+            ShortLine::Begin { end, .. } => end,
+            ShortLine::Step { end, .. } => end,
+            ShortLine::Finish { end, .. } => end,
+            ShortLine::Write { end, .. } => end,
+            ShortLine::Close { end, .. } => end,
+            ShortLine::StepReader { end, .. } => end,
+            ShortLine::Take { end, .. } => end,
+            ShortLine::Wish { end, .. } => end,
+            ShortLine::Deliver { end, .. } => end,
+        }
+    }
+
+    /// What it asks for.
+    #[inline(always)]
+    fn order(self) -> Order
+        ensures { result ≡ order_of self }
+    {
+        match self {
+            ShortLine::Begin { cpu, moment, .. } => Order::Begin {
+                cpu: wide_cpu(cpu),
+                moment,
+            },
+            ShortLine::Step { cpu, count, .. } => Order::Step {
+                cpu: wide_cpu(cpu),
+                count,
+            },
+            ShortLine::Finish { cpu, .. } => Order::Finish { cpu: wide_cpu(cpu) },
+            ShortLine::Write { cpu, moment, .. } => Order::Write {
+                cpu: wide_cpu(cpu),
+                moment,
+            },
+            ShortLine::Close { cpu, .. } => Order::Close { cpu: wide_cpu(cpu) },
+            ShortLine::StepReader { cpu, count, .. } => Order::StepReader {
+                cpu: wide_cpu(cpu),
+                count,
+            },
+            ShortLine::Take { cpu, .. } => Order::Take { cpu: wide_cpu(cpu) },
+            ShortLine::Wish { cpu, .. } => Order::Wish { cpu: wide_cpu(cpu) },
+            ShortLine::Deliver {
+                cpu,
+                collector,
+                fill,
+                ..
+            } => Order::Deliver {
+                collector,
+                cpu: wide_cpu(cpu),
+                fill: FillNo(u64::from(fill)),
+            },
+        }
+    }
 
     /// The command at this index, with numbers of 64 bits.
     #[inline(always)]
@@ -100,103 +162,10 @@ impl ShortLine {
         requires { index < 2 ^ 63 }
         ensures { result ≡ widened index self }
     {
-        match self {
-            ShortLine::Begin {
-                cpu,
-                above,
-                end,
-                moment,
-            } => kept(
-                index,
-                above,
-                end,
-                Order::Begin {
-                    cpu: wide_cpu(cpu),
-                    moment,
-                },
-            ),
-            ShortLine::Step {
-                cpu,
-                above,
-                end,
-                count,
-            } => kept(
-                index,
-                above,
-                end,
-                Order::Step {
-                    cpu: wide_cpu(cpu),
-                    count,
-                },
-            ),
-            ShortLine::Finish { cpu, above, end } => kept(
-                index,
-                above,
-                end,
-                Order::Finish { cpu: wide_cpu(cpu) },
-            ),
-            ShortLine::Write {
-                cpu,
-                above,
-                end,
-                moment,
-            } => kept(
-                index,
-                above,
-                end,
-                Order::Write {
-                    cpu: wide_cpu(cpu),
-                    moment,
-                },
-            ),
-            ShortLine::Close { cpu, above, end } => kept(
-                index,
-                above,
-                end,
-                Order::Close { cpu: wide_cpu(cpu) },
-            ),
-            ShortLine::StepReader {
-                cpu,
-                above,
-                end,
-                count,
-            } => kept(
-                index,
-                above,
-                end,
-                Order::StepReader {
-                    cpu: wide_cpu(cpu),
-                    count,
-                },
-            ),
-            ShortLine::Take { cpu, above, end } => kept(
-                index,
-                above,
-                end,
-                Order::Take { cpu: wide_cpu(cpu) },
-            ),
-            ShortLine::Wish { cpu, above, end } => kept(
-                index,
-                above,
-                end,
-                Order::Wish { cpu: wide_cpu(cpu) },
-            ),
-            ShortLine::Deliver {
-                cpu,
-                above,
-                end,
-                collector,
-                fill,
-            } => kept(
-                index,
-                above,
-                end,
-                Order::Deliver {
-                    collector,
-                    cpu: wide_cpu(cpu),
-                    fill: FillNo(u64::from(fill)),
-                },
-            ),
+        KeptLine {
+            number: index as u64 + u64::from(self.above()),
+            end: self.end() as usize,
+            order: self.order(),
         }
     }
 }

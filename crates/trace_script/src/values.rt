@@ -75,7 +75,36 @@ pub fn number_cut(text: &[u8], end: u8) -> Option<NumberCut<'_>>
     None
 }
 
-/// The CPU, one of `cpus`, that the text's beginning names, if a space ends the name. None says nothing of the text.
+/// The number of one digit at the front of a text, if a space ends it. None says nothing of the text.
+#[inline(always)]
+fn digit_cut(text: &[u8]) -> Option<NumberCut<'_>>
+    ensures { IfSome result (λ cut. IsNumberCut text.now 32 cut) }
+{
+    let [byte, end, rest @ ..] = text else {
+        return None;
+    };
+    let digit = byte.wrapping_sub(b'0');
+    if digit > 9 || *end != b' ' {
+        return None;
+    }
+    Some(NumberCut {
+        number: u64::from(digit),
+        rest,
+    })
+}
+
+/// The number at the front of a text, as `number_cut` with a space, sooner where it has one digit.
+#[inline(always)]
+fn cpu_number_cut(text: &[u8]) -> Option<NumberCut<'_>>
+    ensures { IfSome result (λ cut. IsNumberCut text.now 32 cut) }
+{
+    if let Some(cut) = digit_cut(text) {
+        return Some(cut);
+    }
+    number_cut(text, b' ')
+}
+
+/// The CPU, of so many, that the front of a text names, if a space ends the name. None says nothing of the text.
 #[inline(always)]
 pub fn cpu_cut(cpus: u32, text: &[u8]) -> Option<NumberCut<'_>>
     ensures { IfSome result (λ cut. IsCpuCut cpus text.now cut) }
@@ -86,7 +115,7 @@ pub fn cpu_cut(cpus: u32, text: &[u8]) -> Option<NumberCut<'_>>
     if *letter != b'c' {
         return None;
     }
-    let cpu = number_cut(named, b' ')?;
+    let cpu = cpu_number_cut(named)?;
     if cpu.number >= u64::from(cpus) {
         return None;
     }

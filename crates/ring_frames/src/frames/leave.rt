@@ -15,7 +15,8 @@ impl Frames {
     #[inline(always)]
     pub fn end(&mut self) -> Answer
         requires shown { AreSomeFrames self.old }
-        ensures step { MakesPrivate self.old (model.ends (top_bytes self.old.stack self.old.stack.frames)) result self.new }
+        ensures step { MakesPrivate self.old (model.ends (top_bytes self.old.stack self.old.stack.frames)) result
+            self.new }
         ensures payloads { EndsPayload self.old.stack self.new.stack }
     {
         match self.stack.end() {

@@ -57,8 +57,8 @@ impl Writer {
     #[inline(always)]
     pub fn end(&mut self) -> Answer
         requires writer { IsWriter self.old }
-        ensures makes { MakesSome self.old (model.ends (top_bytes self.old.frames.stack self.old.frames.stack.frames)) result
-            self.new }
+        ensures makes { MakesSome self.old (model.ends (top_bytes self.old.frames.stack self.old.frames.stack.frames))
+            result self.new }
         ensures payloads { EndsPayload self.old.frames.stack self.new.frames.stack }
         ensures rooms { result ≡ Answer.Ended Pending → IsOneMore (rooms self.old) (rooms self.new) }
         ensures ring { SameWriter self.old self.new }

@@ -8,7 +8,7 @@ use Rattle.ring_core.proofs.Privately.{made_privately}
 use Rattle.ring_core.proofs.ring.Core.end.Goals as goal
 
 pub end-requires : goal.end-requires
-end-requires c = let (n, size, start, m, core) = subst IsReachedCore (sym c.self.view_is) c.requires.ring in record { core_of = (n, size, start, m, core.shows.frames) }
+end-requires c = let (n, size, start, m, core) = subst IsReachedCore (sym c.self.view_is) c.requires.ring in record { shown = (n, size, start, m, core.shows.frames) }
 
 pub returns-clause-makes : goal.returns-clause-makes
 returns-clause-makes c = subst (λ (x : CoreValue). Makes x (ends (top_bytes x.stack x.stack.frames)) c.end.result (core_of record c.self.inside { frames = c.end.new.self })) c.self.view_is

@@ -7,7 +7,7 @@ use Rattle.ring_core.proofs.Privately.{made_privately}
 use Rattle.ring_core.proofs.ring.Core.push.Goals as goal
 
 pub push-requires : goal.push-requires
-push-requires c = let (n, size, start, m, core) = subst IsReachedCore (sym c.self.view_is) c.requires.ring in record { core_of = (n, size, start, m, core.shows.frames) }
+push-requires c = let (n, size, start, m, core) = subst IsReachedCore (sym c.self.view_is) c.requires.ring in record { shown = (n, size, start, m, core.shows.frames) }
 
 pub returns-clause-makes : goal.returns-clause-makes
 returns-clause-makes c = subst (λ (x : CoreValue). Makes x (pushes c.args.moment c.args.len) c.push.result (core_of record c.self.inside { frames = c.push.new.self })) c.self.view_is

@@ -7,7 +7,7 @@ use Rattle.ring_core.proofs.Privately.{made_privately}
 use Rattle.ring_core.proofs.ring.Core.push_close.Goals as goal
 
 pub push_close-requires : goal.push_close-requires
-push_close-requires c = let (n, size, start, m, core) = subst IsReachedCore (sym c.self.view_is) c.requires.ring in record { core_of = (n, size, start, m, core.shows.frames) }
+push_close-requires c = let (n, size, start, m, core) = subst IsReachedCore (sym c.self.view_is) c.requires.ring in record { shown = (n, size, start, m, core.shows.frames) }
 
 pub returns-clause-makes : goal.returns-clause-makes
 returns-clause-makes c = subst (λ (x : CoreValue). Makes x pushes_close c.push_close.result (core_of record c.self.inside { frames = c.push_close.new.self })) c.self.view_is

@@ -21,7 +21,7 @@ use Rattle.ring_core.proofs.ring.Core.top_mut.Goals as goal
 pub top_mut-requires : goal.top_mut-requires
 top_mut-requires c =
     let (n, size, start, m, core) = subst IsReachedCore (sym c.self.view_is) c.requires.ring in
-    record { core_of = (n, size, start, m, core.shows.frames) }
+    record { shown = (n, size, start, m, core.shows.frames) }
 
 pub returns : goal.returns
 returns c =

@@ -1,4 +1,4 @@
-use Rattle.std.proofs.Common.{◌≡◌, ℕ, ◌+◌, List, length, ap, ◌∙◌, arith}
+use Rattle.std.proofs.Common.{◌≡◌, ◌+◌, List, length, ap, ◌∙◌, arith}
 use Rattle.trace_script.specs.declared.kept.KeptLine.{KeptLine}
 use Rattle.trace_script.specs.ShortLines.{all_lines}
 use Rattle.trace_script.proofs.ShortLineLemmas.{length-all}
