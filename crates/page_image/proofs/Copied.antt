@@ -37,11 +37,12 @@ module _ (bytes body : List ℕ) (outline : Outline) (is : IsOutlined bytes outl
       let cut : take outline.size body ≡ take outline.size (behind_header bytes) = ap (λ (b : List ℕ). take outline.size b) behind in
       cc (counted, cut, long)
 
-  pub reads_image : (page : Contents) → page ≡ page_with outline body → DecodesImage bytes outline.time outline.size (missed_of outline.missed) (records_of_page page)
-  reads_image page made = subst (λ (p : Contents). DecodesImage bytes outline.time outline.size (missed_of outline.missed) (records_of_page p)) (sym (made ∙ is_page_in)) is.reads
-
   pub reads_page : (page : Contents) → page ≡ page_with outline body → outline.time < 2 ^ 64 → IsPage page
   reads_page page made in_time = subst IsPage (sym (made ∙ is_page_in)) (record { reads = is.data_reads; counted = refl; in_time = in_time })
 
-  pub few_records : (page : Contents) → page ≡ page_with outline body → 4 * page.count ≤ length bytes
-  few_records page made = let count = ap (λ (p : Contents). p.count) made in let few = is.few in let there = is.there in omega arith
+module _ (bytes : List ℕ) (outline : Outline) (is : IsOutlined bytes outline) (page : Contents) (page_is : page ≡ page_in bytes outline.time outline.size) where
+  pub reads_image : DecodesImage bytes outline.time outline.size (missed_of outline.missed) (records_of_page page)
+  reads_image = subst (λ (p : Contents). DecodesImage bytes outline.time outline.size (missed_of outline.missed) (records_of_page p)) (sym page_is) is.reads
+
+  pub few_records : 4 * page.count ≤ length bytes
+  few_records = let count = ap (λ (p : Contents). p.count) page_is ∙ sym is.counted in let few = is.few in let there = is.there in omega arith

@@ -2,7 +2,7 @@
 //!
 //! An image is a page as the kernel hands it out: a header of 16 bytes and the data behind it, told in
 //! `docs/FORMATS.md`, "Page image".
-ghost use Rattle.std.specs.Prelude.{◌≡◌, ℕ, ◌*◌, ◌≤◌, ◌↔◌, IfOk, IfErr, length};
+ghost use Rattle.std.specs.Prelude.{◌≡◌, ◌≢◌, ℕ, ◌*◌, ◌≤◌, ◌↔◌, IfOk, IfErr, length};
 ghost use Rattle.trace_model.specs.Faults.{Cause};
 ghost use Rattle.trace_model.specs.Image.{DecodesImage, FirstImageFault, too_short, bad_size, bad_count, bad_word};
 ghost use Rattle.page_image.specs.Contents.{IsPage, records_of_page};
@@ -16,7 +16,8 @@ use crate::page::Page;
 pub(crate) use header::{Commit, HEADER};
 use header::{read_header, read_missed};
 use record_words::WordFault;
-use std::alloc::{AllocError, Global};
+use std::alloc::Global;
+use trace_model::NoMemory;
 
 /// What an image tells of events that were missed in front of its page.
 #[derive(Clone, Copy, Debug, PartialEq, Eq)]
@@ -65,27 +66,33 @@ impl From<WordFault> for ImageFault {
     }
 }
 
-impl From<AllocError> for ImageFault {
+impl From<NoMemory> for ImageFault {
     ghost from_gives = { λ f e. e ≡ MemoryIs };
 
-    fn from(_refused: AllocError) -> ImageFault {
+    fn from(_refused: NoMemory) -> ImageFault {
         ImageFault::NoMemory
     }
 }
 
-/// What an image tells, its bytes not yet copied.
-#[derive(Clone, Copy)]
-struct Outline {
-    time: u64,
-    size: usize,
-    missed: Missed,
-    count: u64,
+/// What an image says, its bytes not copied.
+#[derive(Clone, Copy, Debug)]
+pub struct Outline {
+    /// The time of the page.
+    pub time: u64,
+    /// How many bytes the records take.
+    pub size: usize,
+    /// The events that were missed in front of the page.
+    pub missed: Missed,
+    /// How many records there are.
+    pub count: u64,
 }
 
-/// Reads all of an image in one pass, and copies nothing.
-fn read_outline(bytes: &[u8]) -> Result<Outline, ImageFault>
-    ensures ok { IfOk result (λ outline. IsOutlined bytes.now outline) }
+/// Reads all of a page image of at most `MAX_IMAGE` bytes in one pass, and takes no memory. The faults are looked for
+/// in the order of [`ImageFault`].
+pub fn read_outline(bytes: &[u8]) -> Result<Outline, ImageFault>
+    ensures reads { IfOk result (λ outline. IsOutlined bytes.now outline) }
     ensures fault { IfErr result (λ f. IsImageFault bytes.now f) }
+    ensures no_memory { IfErr result (λ f. f ≢ ImageFault.NoMemory) }
 {
     let header = read_header(bytes)?;
     let (data, behind) = bytes[HEADER..].split_at(header.commit.size);
@@ -99,7 +106,24 @@ fn read_outline(bytes: &[u8]) -> Result<Outline, ImageFault>
     })
 }
 
-/// The image that was outlined. Its body is a copy of the bytes behind the header.
+impl Outline {
+    ghost use Rattle.std.specs.Prelude.{◌≡◌, ◌*◌, ◌≤◌, IfOk, length};
+    ghost use Rattle.page_image.specs.Contents.{IsPage};
+    ghost use Rattle.page_image.specs.Images.{page_in, IsOutlined};
+
+    /// The page of the image that has this outline, with 0 as its first number and its fill. Its body is a copy of the
+    /// bytes behind the header.
+    pub fn page(self, alloc: Global, bytes: &[u8]) -> Result<Page, NoMemory>
+        requires outline { IsOutlined bytes.now self }
+        ensures page { IfOk result (λ page. IsPage page) }
+        ensures contents { IfOk result (λ page. page ≡ page_in bytes.now self.time self.size) }
+    {
+        let body = Vec::from_slice(alloc, &bytes[HEADER..])?;
+        Ok(Page::of_bytes(body, self.time, self.size, self.count))
+    }
+}
+
+/// The image that was outlined.
 fn read(alloc: Global, bytes: &[u8]) -> Result<Image, ImageFault>
     ensures reads { IfOk result (λ image. DecodesImage bytes.now image.time image.size
         (missed_of image.missed) (records_of_page image.page)) }
@@ -109,12 +133,11 @@ fn read(alloc: Global, bytes: &[u8]) -> Result<Image, ImageFault>
     ensures fault { IfErr result (λ f. IsImageFault bytes.now f) }
 {
     let outline = read_outline(bytes)?;
-    let body = Vec::from_slice(alloc, &bytes[HEADER..])?;
     Ok(Image {
         time: outline.time,
         size: outline.size,
         missed: outline.missed,
-        page: Page::of_bytes(body, outline.time, outline.size, outline.count),
+        page: outline.page(alloc, bytes)?,
     })
 }
 

@@ -13,7 +13,7 @@ mod put;
 mod walk;
 
 pub use body::Body;
-pub use image::{Image, ImageFault, Missed, read_image};
+pub use image::{Image, ImageFault, Missed, Outline, read_image, read_outline};
 pub use page::Page;
 pub use record_words::Place;
 pub use walk::{Passed, Reached, step_over_word};

@@ -1,5 +1,5 @@
 //! What stands in front of the data of an image, and the count behind it.
-ghost use Rattle.std.specs.Prelude.{◌≡◌, ℕ, ◌+◌, ◌≤◌, ◌<◌, List, length, drop, IfOk, IfErr};
+ghost use Rattle.std.specs.Prelude.{◌≡◌, ◌≢◌, ℕ, ◌+◌, ◌≤◌, ◌<◌, List, length, drop, IfOk, IfErr};
 ghost use Rattle.trace_model.specs.Image.{from_le64, commit_word, commit_of as commit_written, TellsMissed};
 ghost use Rattle.trace_model.specs.declared.limits.TheConstants.{MAX_SIZE};
 ghost use Rattle.page_image.specs.Images.{missed_of, commit_with, IsCommitWord, HasPartsOf, LacksCount, IsImageFault};
@@ -99,6 +99,7 @@ pub(crate) fn read_header(bytes: &[u8]) -> Result<Header, ImageFault>
     ensures ok { IfOk result (λ header. HasPartsOf bytes.now header) }
     ensures there { IfOk result (λ header. HEADER + header.commit.size ≤ length bytes.now) }
     ensures fault { IfErr result (λ f. IsImageFault bytes.now f) }
+    ensures no_memory { IfErr result (λ f. f ≢ ImageFault.NoMemory) }
 {
     if bytes.len() < HEADER {
         return Err(ImageFault::TooShort);

@@ -1,23 +1,8 @@
-use Rattle.std.proofs.Common.{◌<◌, ◌^◌, ◌∙◌, arith}
-use Rattle.page_image.proofs.Copied.{is_page_in, reads_image, reads_page, few_records, body_limit, body_end}
+use Rattle.page_image.proofs.Copied.{reads_image, few_records}
 use Rattle.page_image.proofs.image.read.Goals as goal
 
-pub of_bytes-requires-clause-end : goal.of_bytes-requires-clause-end
-of_bytes-requires-clause-end c = body_end c.args.bytes.now c.in_ok-body.body.items c.in_ok-outline.outline c.in_ok-outline.ensures.ok c.in_ok-body.ensures.items
-
-pub of_bytes-requires-clause-limit : goal.of_bytes-requires-clause-limit
-of_bytes-requires-clause-limit c = body_limit c.args.bytes.now c.in_ok-body.body.items c.in_ok-outline.outline c.in_ok-outline.ensures.ok c.in_ok-body.ensures.items
-
 pub returns-clause-reads : goal.returns-clause-reads
-returns-clause-reads c = reads_image c.args.bytes.now c.in_ok-body.body.items c.in_ok-outline.outline c.in_ok-outline.ensures.ok c.in_ok-body.ensures.items c.of_bytes.result c.of_bytes.ensures
-
-pub returns-clause-page : goal.returns-clause-page
-returns-clause-page c =
-    let in_time : c.in_ok-outline.outline.time < 2 ^ 64 = omega arith in
-    reads_page c.args.bytes.now c.in_ok-body.body.items c.in_ok-outline.outline c.in_ok-outline.ensures.ok c.in_ok-body.ensures.items c.of_bytes.result c.of_bytes.ensures in_time
-
-pub returns-clause-contents : goal.returns-clause-contents
-returns-clause-contents c = c.of_bytes.ensures ∙ is_page_in c.args.bytes.now c.in_ok-body.body.items c.in_ok-outline.outline c.in_ok-outline.ensures.ok c.in_ok-body.ensures.items
+returns-clause-reads c = reads_image c.args.bytes.now c.in_ok-outline.outline c.in_ok-outline.ensures.reads c.in_ok-page.field-0 c.in_ok-page.ensures.contents
 
 pub returns-clause-few : goal.returns-clause-few
-returns-clause-few c = few_records c.args.bytes.now c.in_ok-body.body.items c.in_ok-outline.outline c.in_ok-outline.ensures.ok c.in_ok-body.ensures.items c.of_bytes.result c.of_bytes.ensures
+returns-clause-few c = few_records c.args.bytes.now c.in_ok-outline.outline c.in_ok-outline.ensures.reads c.in_ok-page.field-0 c.in_ok-page.ensures.contents

@@ -15,8 +15,8 @@ returns-in_err-count-clause-fault c =
     (λ ignored. subst (λ (b : List ℕ). TellsMissed (commit_with header.commit ignored) b (missed_of c.in_ok-missed.missed)) (c.split_at.ensures.back ∙ ap (drop header.commit.size) (take_rest c.args.bytes.now 16)) (c.in_ok-missed.ensures.told ignored))
     (subst (λ (b : List ℕ). IsFirstWordFault b header.time c.in_err-count.field-0.0) (c.split_at.ensures.front ∙ ap (take header.commit.size) (take_rest c.args.bytes.now 16)) c.in_err-count.ensures.fault))
 
-pub returns-clause-ok : goal.returns-clause-ok
-returns-clause-ok c =
+pub returns-clause-reads : goal.returns-clause-reads
+returns-clause-reads c =
     let header = c.in_ok-header.header in
     outlined c.args.bytes.now _ header.commit refl c.in_ok-header.ensures.ok
     (λ ignored. subst (λ (b : List ℕ). TellsMissed (commit_with header.commit ignored) b (missed_of c.in_ok-missed.missed)) (c.split_at.ensures.back ∙ ap (drop header.commit.size) (take_rest c.args.bytes.now 16)) (c.in_ok-missed.ensures.told ignored))
