@@ -1,6 +1,5 @@
 -- An answer and what the bytes are decide each other.
-use Rattle.std.proofs.Common.{◌≡◌, ◌≢◌, ◌⊎◌, inl, inr, ◌↔◌, ℕ, Bool, true, false, List, Result, Ok, Err, IfOk, IfErr, refl, sym, ap, ◌∙◌, subst}
-use Rattle.std.proofs.lemmas.Bool.{false≢true}
+use Rattle.std.proofs.Common.{◌≡◌, ◌⊎◌, inl, inr, ◌↔◌, ℕ, List, Result, Ok, Err, IfOk, IfErr, refl, ap, subst}
 use Rattle.trace_model.specs.Faults.{cut, bad_length, time_overflow}
 use Rattle.trace_model.specs.Image.{too_short, bad_size, bad_count, bad_word}
 use Rattle.trace_model.specs.Parcel.{Parcel}
@@ -11,31 +10,6 @@ use Rattle.page_image.specs.declared.image.ImageFault.TheVariants.{TooShort, Bad
 use Rattle.page_numbers.specs.declared.fault.ParcelFault.{ParcelFault}
 use Rattle.page_numbers.specs.declared.fault.ParcelFault.TheVariants.{Image, NumberOverflow, MissedTooMany, MissedDiffers, BadCpu, NoMemory}
 use Rattle.page_numbers.specs.Faults.{parcel_fault, IsParcelFault}
-
--- refused memory is no other fault
-is_memory : ParcelFault → Bool
-is_memory (Image fault) = false
-is_memory NumberOverflow = false
-is_memory MissedTooMany = false
-is_memory MissedDiffers = false
-is_memory BadCpu = false
-is_memory NoMemory = true
-
-fault_told : Result Parcel ParcelFault → ParcelFault
-fault_told (Ok parcel) = BadCpu
-fault_told (Err fault) = fault
-
-no_cause : (cause : ParcelCause) → is_memory (parcel_fault cause) ≡ false
-unfolding is_memory
-no_cause bad_cpu = refl
-no_cause (bad_image cause) = refl
-no_cause number_overflow = refl
-no_cause missed_too_many = refl
-no_cause missed_differs = refl
-
-cause_no_memory : (r : Result Parcel ParcelFault) (cause : ParcelCause) → r ≡ Err (parcel_fault cause) → r ≡ Err NoMemory → ⊥
-unfolding is_memory fault_told
-cause_no_memory r cause is memory = false≢true (sym (no_cause cause) ∙ ap (λ (x : Result Parcel ParcelFault). is_memory (fault_told x)) (sym is ∙ memory))
 
 -- a fault that is told tells of the cause that is there
 cause_is : (bytes : List ℕ) (cause : ParcelCause) → IsParcelFault bytes (parcel_fault cause) → FirstParcelFault bytes cause
@@ -50,29 +24,29 @@ cause_is bytes number_overflow is = is
 cause_is bytes missed_too_many is = is
 cause_is bytes missed_differs is = is
 
-told_is : (bytes : List ℕ) (told : ParcelFault) (cause : ParcelCause) → told ≢ NoMemory → IsParcelFault bytes told → FirstParcelFault bytes cause → told ≡ parcel_fault cause
-told_is bytes (Image TooShort) cause not f g = ap parcel_fault (FirstParcelFault-unique bytes (bad_image too_short) cause f g)
-told_is bytes (Image BadSize) cause not f g = ap parcel_fault (FirstParcelFault-unique bytes (bad_image bad_size) cause f g)
-told_is bytes (Image BadCount) cause not f g = ap parcel_fault (FirstParcelFault-unique bytes (bad_image bad_count) cause f g)
-told_is bytes (Image (Word (Cut at))) cause not f g = ap parcel_fault (FirstParcelFault-unique bytes (bad_image (bad_word cut at)) cause f g)
-told_is bytes (Image (Word (BadLength at))) cause not f g = ap parcel_fault (FirstParcelFault-unique bytes (bad_image (bad_word bad_length at)) cause f g)
-told_is bytes (Image (Word (TimeOverflow at))) cause not f g = ap parcel_fault (FirstParcelFault-unique bytes (bad_image (bad_word time_overflow at)) cause f g)
-told_is bytes (Image MemoryThere) cause not f g = absurd f
-told_is bytes NumberOverflow cause not f g = ap parcel_fault (FirstParcelFault-unique bytes number_overflow cause f g)
-told_is bytes MissedTooMany cause not f g = ap parcel_fault (FirstParcelFault-unique bytes missed_too_many cause f g)
-told_is bytes MissedDiffers cause not f g = ap parcel_fault (FirstParcelFault-unique bytes missed_differs cause f g)
-told_is bytes BadCpu cause not f g = ap parcel_fault (FirstParcelFault-unique bytes bad_cpu cause f g)
-told_is bytes NoMemory cause not f g = absurd (not refl)
+told_is : (bytes : List ℕ) (told : ParcelFault) (cause : ParcelCause) → IsParcelFault bytes told → FirstParcelFault bytes cause → told ≡ parcel_fault cause
+told_is bytes (Image TooShort) cause f g = ap parcel_fault (FirstParcelFault-unique bytes (bad_image too_short) cause f g)
+told_is bytes (Image BadSize) cause f g = ap parcel_fault (FirstParcelFault-unique bytes (bad_image bad_size) cause f g)
+told_is bytes (Image BadCount) cause f g = ap parcel_fault (FirstParcelFault-unique bytes (bad_image bad_count) cause f g)
+told_is bytes (Image (Word (Cut at))) cause f g = ap parcel_fault (FirstParcelFault-unique bytes (bad_image (bad_word cut at)) cause f g)
+told_is bytes (Image (Word (BadLength at))) cause f g = ap parcel_fault (FirstParcelFault-unique bytes (bad_image (bad_word bad_length at)) cause f g)
+told_is bytes (Image (Word (TimeOverflow at))) cause f g = ap parcel_fault (FirstParcelFault-unique bytes (bad_image (bad_word time_overflow at)) cause f g)
+told_is bytes (Image MemoryThere) cause f g = absurd f
+told_is bytes NumberOverflow cause f g = ap parcel_fault (FirstParcelFault-unique bytes number_overflow cause f g)
+told_is bytes MissedTooMany cause f g = ap parcel_fault (FirstParcelFault-unique bytes missed_too_many cause f g)
+told_is bytes MissedDiffers cause f g = ap parcel_fault (FirstParcelFault-unique bytes missed_differs cause f g)
+told_is bytes BadCpu cause f g = ap parcel_fault (FirstParcelFault-unique bytes bad_cpu cause f g)
+told_is bytes NoMemory cause f g = absurd (DecodesParcel-FirstParcelFault bytes f.0 cause f.1 g)
 
--- where a cause is, it is told, unless memory is refused
-tells_cause : (bytes : List ℕ) (r : Result Parcel ParcelFault) (cause : ParcelCause) → IfOk r (DecodesParcel bytes) → IfErr r (IsParcelFault bytes) → FirstParcelFault bytes cause → r ≢ Err NoMemory → r ≡ Err (parcel_fault cause)
-tells_cause bytes (Ok parcel) cause reads fault is not = absurd (DecodesParcel-FirstParcelFault bytes parcel cause reads is)
-tells_cause bytes (Err told) cause reads fault is not = ap (λ (f : ParcelFault). Err f) (told_is bytes told cause (λ e. not (ap (λ (f : ParcelFault). Err f) e)) fault is)
+-- where a cause is, it is told
+tells_cause : (bytes : List ℕ) (r : Result Parcel ParcelFault) (cause : ParcelCause) → IfOk r (DecodesParcel bytes) → IfErr r (IsParcelFault bytes) → FirstParcelFault bytes cause → r ≡ Err (parcel_fault cause)
+tells_cause bytes (Ok parcel) cause reads fault is = absurd (DecodesParcel-FirstParcelFault bytes parcel cause reads is)
+tells_cause bytes (Err told) cause reads fault is = ap (λ (f : ParcelFault). Err f) (told_is bytes told cause fault is)
 
-pub fault-iff : (bytes : List ℕ) (r : Result Parcel ParcelFault) (cause : ParcelCause) → IfOk r (DecodesParcel bytes) → IfErr r (IsParcelFault bytes) → (r ≡ Err (parcel_fault cause)) ↔ (FirstParcelFault bytes cause × (r ≢ Err NoMemory))
+pub fault-iff : (bytes : List ℕ) (r : Result Parcel ParcelFault) (cause : ParcelCause) → IfOk r (DecodesParcel bytes) → IfErr r (IsParcelFault bytes) → (r ≡ Err (parcel_fault cause)) ↔ FirstParcelFault bytes cause
 fault-iff bytes r cause reads fault = (
-  λ e. (cause_is bytes cause (subst (λ (x : Result Parcel ParcelFault). IfErr x (IsParcelFault bytes)) e fault), cause_no_memory r cause e),
-  λ is. tells_cause bytes r cause reads fault is.0 is.1,
+  λ e. cause_is bytes cause (subst (λ (x : Result Parcel ParcelFault). IfErr x (IsParcelFault bytes)) e fault),
+  λ is. tells_cause bytes r cause reads fault is,
 )
 
 -- a parcel that the bytes read as is told, unless memory is refused

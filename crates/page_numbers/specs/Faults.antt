@@ -3,7 +3,7 @@ use Rattle.std.specs.Prelude.{ℕ, ◌+◌, ◌^◌, ◌<◌, ◌≤◌, List, l
 use Rattle.trace_model.specs.Faults.{cut, bad_length, time_overflow}
 use Rattle.trace_model.specs.Image.{Missed, ImageCause, too_short, bad_size, bad_count, bad_word}
 use Rattle.trace_model.specs.Parcel.{Parcel}
-use Rattle.trace_model.specs.ParcelBytes.{IsParcel, AgreesWith, HasImage, ParcelCause, bad_cpu, bad_image, number_overflow, missed_too_many, missed_differs, FirstParcelFault}
+use Rattle.trace_model.specs.ParcelBytes.{IsParcel, AgreesWith, DecodesParcel, ParcelCause, bad_cpu, bad_image, number_overflow, missed_too_many, missed_differs, FirstParcelFault}
 use Rattle.trace_model.specs.declared.limits.TheConstants.{MAX_CPUS}
 use Rattle.record_words.specs.declared.next.WordFault.TheVariants.{Cut, BadLength, TimeOverflow}
 use Rattle.page_image.specs.declared.image.ImageFault.{ImageFault}
@@ -68,12 +68,12 @@ parcel_fault number_overflow = NumberOverflow
 parcel_fault missed_too_many = MissedTooMany
 parcel_fault missed_differs = MissedDiffers
 
--- the numbers are there, the CPU is known and the image reads
-abbrev pub HasReadableImage : List ℕ → Type 0
-HasReadableImage bytes = (parcel : Parcel) × (told : Missed) × HasImage bytes parcel told
+-- the bytes read as some parcel
+abbrev pub HasReading : List ℕ → Type 0
+HasReading bytes = (parcel : Parcel) × DecodesParcel bytes parcel
 
--- What an answer without a parcel says of the bytes: their first fault, or that memory was refused where the image
--- reads.
+-- What an answer without a parcel says of the bytes: their first fault, or that memory was refused for a parcel that
+-- they read as.
 abbrev pub IsParcelFault : List ℕ → ParcelFault → Type 0
 IsParcelFault bytes (Image TooShort) = FirstParcelFault bytes (bad_image too_short)
 IsParcelFault bytes (Image BadSize) = FirstParcelFault bytes (bad_image bad_size)
@@ -86,4 +86,4 @@ IsParcelFault bytes NumberOverflow = FirstParcelFault bytes number_overflow
 IsParcelFault bytes MissedTooMany = FirstParcelFault bytes missed_too_many
 IsParcelFault bytes MissedDiffers = FirstParcelFault bytes missed_differs
 IsParcelFault bytes BadCpu = FirstParcelFault bytes bad_cpu
-IsParcelFault bytes NoMemory = HasReadableImage bytes
+IsParcelFault bytes NoMemory = HasReading bytes

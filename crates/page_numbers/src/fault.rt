@@ -5,18 +5,19 @@ ghost use Rattle.page_numbers.specs.declared.fault.ParcelFault.TheVariants.{NoMe
 
 use page_image::ImageFault;
 use std::alloc::AllocFailed;
+use trace_model::NoMemory;
 
 /// Why a page can't be a parcel, or bytes can't be read as one. What is looked at first, in its bytes or in a page, is
-/// the CPU, then the image, and then the others in the order in which they stand here.
+/// the CPU, then the image, and then the others in the order in which they are here.
 #[derive(Clone, Copy, Debug, PartialEq, Eq)]
 pub enum ParcelFault {
-    /// The page image has this fault, or there are fewer bytes than 48, which is told before all else.
+    /// The page image has this fault, or there are fewer bytes than 48, which comes before all else.
     Image(ImageFault),
-    /// The number behind the last record's is above 2^64 - 1.
+    /// The number after the last record's is above 2^64 - 1.
     NumberOverflow,
-    /// More numbers are missing in front of the first record's than stand there.
+    /// More numbers are missing before the first record's than there are.
     MissedTooMany,
-    /// The image tells otherwise of missed events than the number that stands in front of it.
+    /// The image states other missed events than the number before it.
     MissedDiffers,
     /// The CPU's number isn't below `MAX_CPUS`.
     BadCpu,
@@ -32,6 +33,14 @@ impl From<ImageFault> for ParcelFault {
             ImageFault::NoMemory => ParcelFault::NoMemory,
             fault => ParcelFault::Image(fault),
         }
+    }
+}
+
+impl From<NoMemory> for ParcelFault {
+    ghost from_gives = { λ f e. e ≡ MemoryIs };
+
+    fn from(_refused: NoMemory) -> ParcelFault {
+        ParcelFault::NoMemory
     }
 }
 

@@ -1,15 +1,9 @@
 //! A page under its numbers, as a parcel holds it. A parcel is seen by its records; the contracts here see the whole
 //! page, also its time, its size and its data.
-ghost use Rattle.std.specs.Prelude.{◌≡◌, ℕ, ◌+◌, ◌^◌, ◌<◌, ◌≤◌, length, IfErr, OnOk};
-ghost use Rattle.trace_model.specs.Image.{Missed};
-ghost use Rattle.trace_model.specs.declared.limits.TheConstants.{MAX_CPUS};
-ghost use Rattle.page_image.specs.Contents.{IsPage, records_of_page};
-ghost use Rattle.page_numbers.specs.Parcels.{parcel_of};
-ghost use Rattle.page_numbers.specs.Faults.{IsRefused, IsRefusedAs};
-
 mod bytes;
 
 use crate::fault::ParcelFault;
+use crate::numbers::check_numbers;
 use page_image::Page;
 use std::alloc::Global;
 use std::sync::Arc;
@@ -47,7 +41,7 @@ impl NumberedPage {
         if cpu.0 >= MAX_CPUS {
             return Err(ParcelFault::BadCpu);
         }
-        check_numbers(&page, missed)?;
+        check_numbers(page.first(), page.count(), missed)?;
         Ok(NumberedPage {
             cpu,
             missed,
@@ -67,24 +61,4 @@ impl NumberedPage {
             page: Arc::try_clone(&self.page)?,
         })
     }
-}
-
-/// Looks whether the page's records have numbers, and whether so many numbers stand in front of them.
-fn check_numbers(page: &Page, missed: u64) -> Result<(), ParcelFault>
-    requires page { IsPage page.now }
-    ensures numbers { OnOk result (page.now.first + length (records_of_page page.now) < 2 ^ 64) }
-    ensures missed { OnOk result (missed ≤ page.now.first) }
-    ensures refused { IfErr result (λ fault. (cpu : ℕ) → cpu < MAX_CPUS
-        → IsRefused (parcel_of cpu page.now missed) fault) }
-    ensures refused_as { IfErr result (λ fault. (cpu : ℕ) (told : Missed) → cpu < MAX_CPUS
-        → IsRefusedAs (parcel_of cpu page.now missed) told fault) }
-{
-    let first = page.first().0;
-    if first.checked_add(page.count()).is_none() {
-        return Err(ParcelFault::NumberOverflow);
-    }
-    if missed > first {
-        return Err(ParcelFault::MissedTooMany);
-    }
-    Ok(())
 }

@@ -1,14 +1,16 @@
 //! The numbers in front of the image of a parcel.
 ghost use Rattle.std.specs.Prelude.{◌≡◌, ℕ, ◌+◌, ◌≤◌, ◌<◌, ◌^◌, ◌++◌, List, length, drop, IfOk, IfErr, IsTrue, OnOk, OnErr, ◌↔◌};
-ghost use Rattle.trace_model.specs.Image.{from_le64, le64};
+ghost use Rattle.trace_model.specs.Image.{from_le64, le64, Missed as MissedTold};
+ghost use Rattle.trace_model.specs.Parcel.{Parcel as ParcelSeen};
 ghost use Rattle.trace_model.specs.ParcelBytes.{HasNumbers, AgreesWith};
 ghost use Rattle.trace_model.specs.declared.limits.TheConstants.{MAX_CPUS};
 ghost use Rattle.page_image.specs.Images.{missed_of};
+ghost use Rattle.page_numbers.specs.Faults.{IsRefused, IsRefusedAs};
 
 use crate::fault::ParcelFault;
 use byteorder::{ByteOrder, LittleEndian};
 use page_image::{ImageFault, Missed};
-use trace_model::{CpuId, MAX_CPUS};
+use trace_model::{CpuId, MAX_CPUS, RecordNo};
 
 /// How many bytes the four numbers take.
 pub(crate) const NUMBERS: usize = 32;
@@ -32,6 +34,23 @@ fn number_at(bytes: &[u8], at: usize) -> u64
     ensures { result ≡ from_le64 (drop at bytes.now) }
 {
     LittleEndian::read_u64(&bytes[at..])
+}
+
+/// Looks whether so many records have numbers from the first one on, and whether so many numbers stand in front of it.
+pub(crate) fn check_numbers(first: RecordNo, count: u64, missed: u64) -> Result<(), ParcelFault>
+    ensures numbers { OnOk result (first.0 + count < 2 ^ 64) }
+    ensures missed { OnOk result (missed ≤ first.0) }
+    ensures refused { IfErr result (λ fault. (parcel : ParcelSeen) (told : MissedTold) → parcel.cpu < MAX_CPUS
+        → parcel.first ≡ first.0 → length parcel.records ≡ count → parcel.missed ≡ missed
+        → IsRefused parcel fault × IsRefusedAs parcel told fault) }
+{
+    if first.0.checked_add(count).is_none() {
+        return Err(ParcelFault::NumberOverflow);
+    }
+    if missed > first.0 {
+        return Err(ParcelFault::MissedTooMany);
+    }
+    Ok(())
 }
 
 /// Reads the numbers of a parcel that has at least an image's header behind them.

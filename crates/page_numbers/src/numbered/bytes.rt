@@ -3,9 +3,9 @@ ghost use Rattle.std.specs.Prelude.{◌≡◌, ◌++◌, OnOk};
 ghost use Rattle.trace_model.specs.Image.{le64};
 
 use crate::fault::ParcelFault;
-use crate::numbered::{NumberedPage, check_numbers};
-use crate::numbers::{NUMBERS, Numbers};
-use page_image::Image;
+use crate::numbered::NumberedPage;
+use crate::numbers::{NUMBERS, Numbers, check_numbers};
+use page_image::Outline;
 use std::alloc::{AllocError, Global};
 use std::sync::Arc;
 use trace_model::{CpuId, FillNo, NoMemory, RecordNo};
@@ -23,40 +23,43 @@ impl NumberedPage {
     ghost use Rattle.trace_model.specs.ParcelBytes.{IsParcel, AgreesWith};
     ghost use Rattle.trace_model.specs.declared.limits.TheConstants.{MAX_CPUS, MAX_SIZE};
     ghost use Rattle.page_image.specs.Contents.{IsPage};
-    ghost use Rattle.page_image.specs.Images.{missed_of};
+    ghost use Rattle.page_image.specs.Images.{missed_of, page_in, IsOutlined};
     ghost use Rattle.page_numbers.specs.Parcels.{parcel_of};
     ghost use Rattle.page_numbers.specs.Faults.{IsRefusedAs};
     ghost use Rattle.page_numbers.specs.Written.{page_under, bytes_of_page};
 
-    /// The page of this image under the numbers in front of it. Memory is asked for behind all faults.
+    /// The page of this image under the numbers in front of it. Memory is asked for after all faults.
     pub(crate) fn of_image(
         alloc: Global,
         cpu: CpuId,
         numbers: Numbers,
-        image: Image,
+        image: &[u8],
+        outline: Outline,
     ) -> Result<NumberedPage, ParcelFault>
-        requires page { IsPage image.page }
+        requires outline { IsOutlined image.now outline }
         requires cpu { cpu.0 < MAX_CPUS }
         ensures cpu { IfOk result (λ numbered. numbered.cpu ≡ cpu) }
-        ensures page { IfOk result (λ numbered. numbered.page.value ≡ page_under image.page numbers) }
+        ensures page { IfOk result (λ numbered.
+            numbered.page.value ≡ page_under (page_in image.now outline.time outline.size) numbers) }
         ensures missed { IfOk result (λ numbered. numbered.missed ≡ numbers.missed) }
         ensures reads { IfOk result (λ numbered. IsPage numbered.page.value) }
-        ensures sound { OnOk result (IsParcel (parcel_of cpu.0 (page_under image.page numbers) numbers.missed)) }
-        ensures agrees { OnOk result (AgreesWith (missed_of image.missed) numbers.missed) }
+        ensures sound { OnOk result (IsParcel
+            (parcel_of cpu.0 (page_under (page_in image.now outline.time outline.size) numbers) numbers.missed)) }
+        ensures agrees { OnOk result (AgreesWith (missed_of outline.missed) numbers.missed) }
         ensures refused { IfErr result (λ fault. IsRefusedAs
-            (parcel_of cpu.0 (page_under image.page numbers) numbers.missed) (missed_of image.missed) fault) }
+            (parcel_of cpu.0 (page_under (page_in image.now outline.time outline.size) numbers) numbers.missed)
+            (missed_of outline.missed) fault) }
     {
-        let page = image
-            .page
-            .numbered(RecordNo(numbers.first), FillNo(numbers.fill));
-        check_numbers(&page, numbers.missed)?;
-        if !numbers.agree_with(image.missed) {
+        let first = RecordNo(numbers.first);
+        check_numbers(first, outline.count, numbers.missed)?;
+        if !numbers.agree_with(outline.missed) {
             return Err(ParcelFault::MissedDiffers);
         }
+        let page = outline.page(alloc, image)?;
         Ok(NumberedPage {
             cpu,
             missed: numbers.missed,
-            page: Arc::new(alloc, page)?,
+            page: Arc::new(alloc, page.numbered(first, FillNo(numbers.fill)))?,
         })
     }
 

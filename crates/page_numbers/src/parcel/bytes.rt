@@ -3,27 +3,26 @@ use crate::fault::ParcelFault;
 use crate::numbered::NumberedPage;
 use crate::numbers::{NUMBERS, read_numbers};
 use crate::parcel::Parcel;
-use page_image::read_image;
+use page_image::read_outline;
 use std::alloc::Global;
 use trace_model::NoMemory;
 
 impl Parcel {
-    ghost use Rattle.std.specs.Prelude.{◌≡◌, ◌≢◌, ◌⊎◌, ◌↔◌, IfOk, IfErr};
+    ghost use Rattle.std.specs.Prelude.{◌≡◌, ◌⊎◌, ◌↔◌, IfOk, IfErr};
     ghost use Rattle.trace_model.specs.Parcel.{Parcel as ParcelSeen};
     ghost use Rattle.trace_model.specs.ParcelBytes.{DecodesParcel, ParcelCause, FirstParcelFault};
-    ghost use Rattle.page_numbers.specs.Faults.{parcel_fault, IsParcelFault, HasReadableImage};
+    ghost use Rattle.page_numbers.specs.Faults.{parcel_fault, IsParcelFault, HasReading};
     ghost use Rattle.page_numbers.specs.Written.{IsWritten};
 
     /// Reads a parcel from its bytes: 32 bytes of numbers, and a page image of at most `MAX_IMAGE` bytes. Memory is
-    /// asked for where the image has a reading: for its page before its records' numbers are looked at, and behind
-    /// all faults for sharing it.
+    /// asked for after all faults, for the page and for sharing it, so refused memory hides no fault.
     pub fn from_bytes(alloc: Global, bytes: &[u8]) -> Result<Parcel, ParcelFault>
         ensures reads { IfOk result (λ parcel. DecodesParcel bytes.now parcel) }
         ensures fault { (cause : ParcelCause) → (result ≡ Err (parcel_fault cause))
-            ↔ (FirstParcelFault bytes.now cause × (result ≢ Err ParcelFault.NoMemory)) }
+            ↔ FirstParcelFault bytes.now cause }
         ensures read_back { (parcel : ParcelSeen) → DecodesParcel bytes.now parcel
             → (result ≡ Ok parcel) ⊎ (result ≡ Err ParcelFault.NoMemory) }
-        ensures no_memory { result ≡ Err ParcelFault.NoMemory → HasReadableImage bytes.now }
+        ensures no_memory { result ≡ Err ParcelFault.NoMemory → HasReading bytes.now }
     {
         Parcel::read(alloc, bytes)
     }
@@ -35,9 +34,10 @@ impl Parcel {
     {
         let numbers = read_numbers(bytes)?;
         let cpu = numbers.cpu()?;
-        let image = read_image(alloc, &bytes[NUMBERS..])?;
+        let image = &bytes[NUMBERS..];
+        let outline = read_outline(image)?;
         Ok(Parcel {
-            numbered: NumberedPage::of_image(alloc, cpu, numbers, image)?,
+            numbered: NumberedPage::of_image(alloc, cpu, numbers, image, outline)?,
         })
     }
 
