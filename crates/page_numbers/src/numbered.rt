@@ -18,7 +18,7 @@ pub(crate) struct NumberedPage {
 }
 
 impl NumberedPage {
-    ghost use Rattle.std.specs.Prelude.{◌≡◌, IfOk, IfErr, OnOk};
+    ghost use Rattle.std.specs.Prelude.{◌≡◌, IfOk, IfErr, OnOk, length};
     ghost use Rattle.trace_model.specs.ParcelBytes.{IsParcel};
     ghost use Rattle.page_image.specs.Contents.{IsPage};
     ghost use Rattle.page_numbers.specs.Parcels.{parcel_of};
@@ -46,6 +46,26 @@ impl NumberedPage {
             cpu,
             missed,
             page: Arc::new(alloc, page)?,
+        })
+    }
+
+    /// A copy of the page that is as long as its data, under these numbers.
+    pub(crate) fn fitted(
+        alloc: Global,
+        cpu: CpuId,
+        page: &Page,
+        missed: u64,
+    ) -> Result<NumberedPage, NoMemory>
+        ensures cpu { IfOk result (λ numbered. numbered.cpu ≡ cpu) }
+        ensures page { IfOk result (λ numbered. numbered.page.value
+            ≡ record page.now { size = length page.now.bytes }) }
+        ensures reads { IfOk result (λ numbered. IsPage page.now → IsPage numbered.page.value) }
+        ensures missed { IfOk result (λ numbered. numbered.missed ≡ missed) }
+    {
+        Ok(NumberedPage {
+            cpu,
+            missed,
+            page: Arc::new(alloc, page.fitted(alloc)?)?,
         })
     }
 

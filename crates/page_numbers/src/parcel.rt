@@ -35,7 +35,7 @@ impl Parcel {
     ghost use Rattle.std.specs.Prelude.{◌≡◌, ℕ, ◌+◌, ◌^◌, ◌<◌, ◌≤◌, ◌↔◌, IsTrue, length, IfOk, IfErr, OnOk};
     ghost use Rattle.trace_model.specs.ParcelBytes.{IsParcel};
     ghost use Rattle.trace_model.specs.declared.limits.TheConstants.{MAX_CPUS};
-    ghost use Rattle.page_image.specs.Contents.{Contents, IsPage};
+    ghost use Rattle.page_image.specs.Contents.{Contents, IsPage, records_of_page};
     ghost use Rattle.page_borrow.specs.Entries.{AllStandInPage};
     ghost use Rattle.page_numbers.specs.Parcels.{parcel_of, entries_of_parcel, IsOfPage, AreAlike, HaveSameRecords};
     ghost use Rattle.page_numbers.specs.Faults.{IsRefused, NumbersOverflow, MissesTooMany};
@@ -64,6 +64,20 @@ impl Parcel {
     {
         Ok(Parcel {
             numbered: NumberedPage::of(alloc, cpu, page, missed)?,
+        })
+    }
+
+    /// A copy of the page as a parcel of this CPU, with so many numbers missing before its records. The copy is as long
+    /// as the page's data, so it has no room that isn't used.
+    pub fn fitted(alloc: Global, cpu: CpuId, page: &Page, missed: u64) -> Result<Parcel, NoMemory>
+        requires page { IsPage page.now }
+        requires cpu { cpu.0 < MAX_CPUS }
+        requires numbers { page.now.first + length (records_of_page page.now) < 2 ^ 64 }
+        requires missed { missed ≤ page.now.first }
+        ensures { IfOk result (λ parcel. parcel ≡ parcel_of cpu.0 page.now missed) }
+    {
+        Ok(Parcel {
+            numbered: NumberedPage::fitted(alloc, cpu, page, missed)?,
         })
     }
 
