@@ -2,7 +2,6 @@
 ghost use Rattle.std.specs.Prelude.{◌≡◌, ◌≤◌, ◌%◌, Some, IfOk, IfSome, length};
 ghost use Rattle.trace_model.specs.declared.limits.TheConstants.{MIN_SIZE, MAX_SIZE};
 
-use crate::parcels::fitted_parcel;
 use page_image::Body;
 use page_numbers::Parcel;
 use ring_shared::{Reader, Take, Writer};
@@ -123,7 +122,7 @@ impl ReaderEnd {
         let body = next_body(alloc, size, body)?;
         let (body, found) = match reader.take(body) {
             Take::Page(page, missed) => {
-                taken.push(fitted_parcel(alloc, cpu, &page, missed)?)?;
+                taken.push(Parcel::fitted(alloc, cpu, &page, missed)?)?;
                 (page.into_body(), Found::Page)
             }
             Take::Empty(_, body) => (body, Found::Empty),

@@ -5,7 +5,6 @@
 #![tactic(auto)]
 
 mod end;
-mod parcels;
 mod settling;
 
 pub use end::{Found, ReaderEnd};

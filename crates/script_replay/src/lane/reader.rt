@@ -1,32 +1,12 @@
 //! The reader of a lane: takes, and its wish.
-ghost use Rattle.std.specs.Prelude.{◌≡◌, ◌+◌, ◌^◌, ◌<◌, ◌≤◌, length, IfOk};
-ghost use Rattle.trace_model.specs.declared.limits.TheConstants.{MAX_CPUS};
-ghost use Rattle.page_image.specs.Contents.{IsPage, records_of_page};
-ghost use Rattle.page_numbers.specs.Parcels.{parcel_of};
-
 use crate::lane::Lane;
 use crate::lane::frames::MOST_STEPS;
 use page_image::{Body, Page};
-use page_numbers::{Parcel, ParcelFault};
+use page_numbers::Parcel;
 use replay_log::{At, LogLine, tell, tell_any};
 use ring_core::{Answer, Event};
 use std::alloc::Global;
 use trace_model::{CpuId, NoMemory};
-
-/// The page as a parcel.
-fn parcel(alloc: Global, cpu: CpuId, page: Page, missed: u64) -> Result<Parcel, NoMemory>
-    requires page { IsPage page }
-    requires known { cpu.0 < MAX_CPUS }
-    requires numbers { page.first + length (records_of_page page) < 2 ^ 64 }
-    requires missed { missed ≤ page.first }
-    ensures { IfOk result (λ parcel. parcel ≡ parcel_of cpu.0 page missed) }
-{
-    match Parcel::of(alloc, cpu, page, missed) {
-        Ok(parcel) => Ok(parcel),
-        Err(ParcelFault::NoMemory) => Err(NoMemory),
-        Err(_) => unreachable!(),
-    }
-}
 
 impl<'a> Lane<'a> {
     ghost use Rattle.std.specs.Prelude.{◌≡◌, ℕ, ◌+◌, ◌^◌, ◌<◌, ◌≤◌, None, IfOk, OnOk, length};
@@ -157,7 +137,7 @@ impl<'a> Lane<'a> {
         requires missed { missed ≤ page.first }
         ensures { OnOk result (KeepsPage cpu.0 page missed self.old self.new) }
     {
-        let parcel = parcel(alloc, cpu, page.fitted(alloc)?, missed)?;
+        let parcel = Parcel::fitted(alloc, cpu, &page, missed)?;
         self.taken.push(parcel)?;
         self.body = Some(page.into_body());
         Ok(())
