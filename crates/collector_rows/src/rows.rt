@@ -72,8 +72,8 @@ fn put(out: &mut String, alloc: Global, answer: &Result<Answer, Refusal>) -> Res
     }
 }
 
-/// Puts what is answered to an event that was refused memory: what the collectors are like then, and what it is answered
-/// when it is carried out once more.
+/// Puts what is answered to an event that was refused memory: what the collectors are like then, and what it is
+/// answered when it is carried out once more.
 fn put_again(
     out: &mut String,
     alloc: Global,

@@ -1,8 +1,18 @@
-//! What collectors keep of parcels: their pages. What they answer is in the text that `collector_rows` reads.
+//! What parcels and collectors keep: pages. What they answer is in the text that `collector_rows` reads.
 use collector::{Added, Collector};
+use page_image::read_image;
 use page_numbers::Parcel;
 use std::process::Abort;
 use std::test::Fail;
+use trace_model::{CpuId, FillNo, RecordNo};
+
+/// A page of 36 bytes with 32 bytes of data, before which one number is missing: its CPU, fill, first number and missed
+/// number, and its image.
+const ONE_OF_36: &[u8] = b"\0\0\0\0\0\0\0\0\x05\0\0\0\0\0\0\0\
+    \x07\0\0\0\0\0\0\0\x01\0\0\0\0\0\0\0\
+    \x02\0\0\0\0\0\0\0\x20\0\0\x80\0\0\0\0\
+    \x07\0\0\0\x02\x02\x02\x02\x02\x02\x02\x02\x02\x02\x02\x02\x02\x02\x02\x02\
+    \x02\x02\x02\x02\x02\x02\x02\x02\x02\x02\x02\x02\0\0\0\0";
 
 /// Numbers 0 and 1: `11111111` at 1, `22222222` at 2.
 const ONES_TWOS: &[u8] = b"\0\0\0\0\0\0\0\0\0\0\0\0\0\0\0\0\
@@ -18,5 +28,23 @@ fn pages_are_shared_and_not_copied(rt: HostRuntime) -> Result<(), Fail> {
     assert!(rt; collector.add(parcel.share()?) == Ok(Added::New) && parcel.sharers() == 2);
     let mut other = Collector::new(rt.alloc());
     assert!(rt; other.merge(&collector) == Ok(()) && parcel.sharers() == 3);
+    Ok(())
+}
+
+/// A parcel has the whole page that it was made of, and so do its shares; a fitted one has as much as its data takes.
+#[test]
+fn a_parcel_is_written_with_its_page(rt: HostRuntime) -> Result<(), Fail> {
+    let (_, image) = ONE_OF_36.split_at(32);
+    let page = read_image(rt.alloc(), image)?
+        .page
+        .numbered(RecordNo(7), FillNo(5));
+    assert!(rt; page.count() == 1);
+    let fitted = Parcel::fitted(rt.alloc(), CpuId(0), &page, 1)?;
+    assert!(rt; fitted.to_bytes(rt.alloc())?.as_slice() == &ONE_OF_36[..80]);
+    let whole = Parcel::of(rt.alloc(), CpuId(0), page, 1)?;
+    assert!(rt; whole.share()?.to_bytes(rt.alloc())?.as_slice() == ONE_OF_36);
+    assert!(rt; whole.has_page_of(&fitted) && whole.sharers() == 1);
+    let read = Parcel::from_bytes(rt.alloc(), ONE_OF_36)?;
+    assert!(rt; read.to_bytes(rt.alloc())?.as_slice() == ONE_OF_36);
     Ok(())
 }
