@@ -79,7 +79,7 @@ not_both ps p c n agree fits r h m = ⊎_elim
     (misses_either ps p c n m))
     (has_either ps p c n r h)
 
--- where the parcel has nothing
+-- if the parcel has nothing
 apart_fits : (ps : List Parcel) (p : Parcel) (c n : ℕ) → ((r : Record) → IsPairOf p c n r → ⊥) → (IsMissingOf p c n → ⊥) → FitsAt ps p c n
 apart_fits ps p c n no_pair not_missing = record {
   one_record = λ r other h pair. absurd (no_pair other pair);
@@ -87,7 +87,7 @@ apart_fits ps p c n no_pair not_missing = record {
   not_taken = λ r m pair. no_pair r pair;
 }
 
--- in front of all that it has
+-- before all that it has
 front_fits : (ps : List Parcel) (p : Parcel) (c n : ℕ) → n + p.missed < p.first → FitsAt ps p c n
 front_fits ps p c n front = apart_fits ps p c n
     (λ r pair. let from = pair_from p c n r pair in omega arith)

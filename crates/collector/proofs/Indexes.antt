@@ -1,4 +1,4 @@
--- What an index tells where its ranges grow, and where those of one CPU change.
+-- What an index states when its ranges grow, and when those of one CPU change.
 use Rattle.std.proofs.Common.{◌≡◌, ◌≢◌, ℕ, ◌<◌, ◌≤◌, ◌↔◌, ◌⊎◌, ⊎_elim, List, [], ◌∷◌, ◌++◌, length, Option, Some, None, MatchOption, refl, sym, ap, ◌∙◌, subst}
 use Rattle.std.specs.Bool.{⊤}
 use Rattle.std.specs.Option.{IfNone, IsSomeAnd}
@@ -26,7 +26,7 @@ pub tells_of : (index : Index) (cpu n : ℕ) (content : Content) (ranges : Range
 tells_of index cpu n content ranges at t = let there = t.at in
     subst (λ (x : Ranges). Tells x n content) (let e : t.ranges ≡ ranges = some_is t.ranges ranges (sym there ∙ at) in e) t.tells
 
--- of a CPU behind the last one nothing is told
+-- of a CPU after the last one nothing is stated
 pub tells_none : (index : Index) (cpu n : ℕ) (content : Content) → slice_get index.cpus.items cpu ≡ None → TellsOf index cpu n content → ⊥
 tells_none index cpu n content none t = none-some t.ranges (sym none ∙ t.at)
 
@@ -42,7 +42,7 @@ pub untold_here_of : (index : Index) (cpu number : ℕ) (ranges : Ranges) (o : O
 untold_here_of index cpu number ranges None at untold = λ content t. untold content (tells_of index cpu number content ranges at t)
 untold_here_of index cpu number ranges (Some content) at untold = untold
 
--- ---- ranges put behind
+-- ---- ranges appended
 
 module _ (old new : Index) (ranges : Ranges) (items_are : new.cpus.items ≡ old.cpus.items ++ ranges ∷ [])
     (untold : (n : ℕ) (content : Content) → Tells ranges n content → ⊥) where
@@ -113,7 +113,7 @@ module _ (old new : Index) (cpu : ℕ) (before after : Ranges) (at : slice_get o
     );
   }
 
--- behind what tells the same
+-- laying ranges over an index that states the same
 pub laid_behind : (old mid new : Index) (cpu low first end parcel : ℕ) → TellSameOf old mid cpu
     → IsLaid (TellsOf mid cpu) (TellsOf new cpu) low first end parcel → IsLaid (TellsOf old cpu) (TellsOf new cpu) low first end parcel
 laid_behind old mid new cpu low first end parcel same laid = record {

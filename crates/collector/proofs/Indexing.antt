@@ -80,7 +80,7 @@ shown_here ps index x cpu number None told untold = record {
   not_missing = λ m. untold Missing (x.misses cpu number m);
 }
 
--- ---- the same told
+-- ---- the same stated
 
 pub indexed_same : (ps : List Parcel) (old new : Index) → IsIndexed ps old → AreAllApart new → ((cpu : ℕ) → TellSameOf old new cpu) → IsIndexed ps new
 indexed_same ps old new x apart same = record {
@@ -221,7 +221,7 @@ module _ (ps : List Parcel) (p : Parcel) (old new : Index) (x : IsIndexed ps old
         (get_pushed ps p m.index m.parcel m.at);
   }
 
--- the same, by what the parcel's calls tell of it
+-- the same, by what the parcel's calls state of it
 pub kept_indexed_at : (ps : List Parcel) (p : Parcel) (old new : Index) → IsIndexed ps old → IsParcel p → Agree (ps ++ p ∷ [])
     → (cpu low first end at : ℕ) → cpu ≡ p.cpu → first ≡ p.first → low + p.missed ≡ p.first → end ≡ p.first + length p.records
     → at ≡ length ps → AreAllApart new → IsLaid (TellsOf old cpu) (TellsOf new cpu) low first end at

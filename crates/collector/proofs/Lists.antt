@@ -96,7 +96,7 @@ module _ {X : Type 0} (find : ℕ → Option X) (top n : ℕ) where
       let b : n + (m - n) ≡ m = omega arith in
       ap (listed_within find n) a ∙ skip_count find (m - n) n (top - m) (λ q from below. none q from (omega arith)) ∙ ap (λ q. listed_within find q (top - m)) b
 
-  -- where there is nothing, the list is empty
+  -- if there is nothing, the list is empty
   pub listed_none : ((q : ℕ) → n ≤ q → q < top → find q ≡ None) → listed_within find n (top - n) ≡ []
   listed_none none =
       let e : top - n ≡ top - n + 0 = omega arith in

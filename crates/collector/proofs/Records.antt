@@ -12,7 +12,7 @@ use Rattle.page_borrow.specs.declared.entries.Entry.{Entry}
 use Rattle.page_borrow.specs.Entries.{told}
 use Rattle.page_borrow.specs.contracts.entries.EntryPartialEq.TheImpl.{eq-value}
 
--- what is left behind k records: none, or the next and what is left behind it
+-- what is left after k records: none, or the next one and what is left after it
 pub drop_at : {A : Type 0} (xs : List A) (k : ℕ) → ((drop k xs ≡ []) × (slice_get xs k ≡ None) × (drop (suc k) xs ≡ []))
     ⊎ ((x : A) × (drop k xs ≡ x ∷ drop (suc k) xs) × (slice_get xs k ≡ Some x))
 drop_at [] zero = inl (refl, refl, refl)
@@ -101,7 +101,7 @@ module _ (p q : Parcel) (n : ℕ) (s t u v : List (ℕ × Record)) (r o : Option
   pub differ_here : option_eq eq-value.it r o ≡ false → record_of p n ≡ record_of q n → ⊥
   differ_here e same = entries_differ r o e (own ∙ ap (option_map (numbered n)) same ∙ sym others)
 
--- what is left behind one call of `next`
+-- what is left after one call of `next`
 pub left_behind : (p : Parcel) (n : ℕ) (s t : List (ℕ × Record)) (r : Option Entry) → p.first ≤ n
     → s ≡ enumerate_from n (drop (n - p.first) p.records) → YieldsFirstBy told (λ (left : List (ℕ × Record)). left) s r t
     → t ≡ enumerate_from (n + 1) (drop (n + 1 - p.first) p.records)

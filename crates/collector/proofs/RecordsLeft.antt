@@ -104,7 +104,7 @@ behind_at zero k rs = ap (slice_get rs) (let e : k ≡ 0 + k = omega arith in e)
 behind_at (suc j) k [] = refl
 behind_at (suc j) k (x ∷ rs) = behind_at j k rs ∙ ap (slice_get (x ∷ rs)) (let e : suc (j + k) ≡ suc j + k = omega arith in e)
 
--- the entries from a number on go on with the records up to where the parcel is shown
+-- the entries from a number on continue with the records up to the end, if the parcel has all numbers up to there
 pub go_on : (ps : List Parcel) → Agree ps → (cpu i n end : ℕ) (p : Parcel) → slice_get ps i ≡ Some p
     → ((m : ℕ) → n ≤ m → m < end → IsIn ps i cpu m) → GoOn ps cpu (enumerate_from n (drop (n - p.first) p.records)) n end
 go_on ps agree cpu i n end p at all k below =
@@ -120,7 +120,7 @@ go_on ps agree cpu i n end p at all k below =
       has_first ps agree cpu (n + k) found.0 record { index = i; parcel = p; at = at; pair = pair },
     )
 
--- an entry that is taken is the record of the number, and the others go on behind it
+-- an entry that is taken is the record of the number, and the others continue after it
 pub record Taken (ps : List Parcel) (cpu : ℕ) (rest : List (ℕ × Record)) (n end : ℕ) (x : ℕ × Record) : Type 0 where
   pub r : Record
   pub is : x ≡ (n, r)
@@ -149,7 +149,7 @@ pub record IsReady (ps : List Parcel) (cpu : ℕ) (left : List (ℕ × Record)) 
   pub goes : GoOnIfAny ps cpu entries number end
   pub same : left ≡ records_left ps cpu number
 
--- what a taken entry was, and where the walk stands behind it
+-- what a taken entry was, and where the walk is after it
 pub record IsStep (ps : List Parcel) (cpu : ℕ) (left rest : List (ℕ × Record)) (number end : ℕ) (x : ℕ × Record) : Type 0 where
   pub first : left ≡ x ∷ records_left ps cpu (number + 1)
   pub goes : GoOnIfAny ps cpu (Some rest) (number + 1) end

@@ -6,7 +6,7 @@ use Rattle.std.proofs.lemmas.Option.{none-some}
 use Rattle.trace_model.proofs.Elements.{some_is}
 use Rattle.collector.specs.Runs.{InRun, AreRuns, with_number, runs_within}
 
--- the same runs, where the same is said of each number
+-- the same runs, if the same holds of each number
 pub same_runs : {P Q : ℕ → Type 0} (runs : List (ℕ × ℕ)) → ((n : ℕ) → P n → Q n) → ((n : ℕ) → Q n → P n) → AreRuns P runs → AreRuns Q runs
 same_runs runs to back r = record {
   forward = r.forward;
@@ -32,7 +32,7 @@ with_apart n r rs e = ap (λ b. cond b ((n, r.1) ∷ rs) ((n, n) ∷ r ∷ rs)) 
 in_behind : (r : ℕ × ℕ) (rs : List (ℕ × ℕ)) (n : ℕ) → InRun rs n → InRun (r ∷ rs) n
 in_behind r rs n h = record { index = suc h.index; run = h.run; at = h.at; from = h.from; to = h.to }
 
--- a number is in the first run or in one behind it
+-- a number is in the first run or in a later one
 in_either : (r : ℕ × ℕ) (rs : List (ℕ × ℕ)) (n : ℕ) → InRun (r ∷ rs) n → ((r.0 ≤ n) × (n ≤ r.1)) ⊎ InRun rs n
 in_either r rs n h = at_index h.index h.run h.at h.from h.to
   where
@@ -40,7 +40,7 @@ in_either r rs n h = at_index h.index h.run h.at h.from h.to
     at_index zero run at from to = let same = some_is r run at in inl (subst (λ (q : ℕ × ℕ). (q.0 ≤ n) × (n ≤ q.1)) (sym same) (from, to))
     at_index (suc k) run at from to = inr record { index = k; run = run; at = at; from = from; to = to }
 
--- a run in front of others that it doesn't touch
+-- a run before others that it doesn't touch
 runs_push : (r : ℕ × ℕ) (rs : List (ℕ × ℕ)) (P : ℕ → Type 0) → r.0 ≤ r.1 → ((b : ℕ × ℕ) → slice_get rs 0 ≡ Some b → suc r.1 < b.0)
     → AreRuns P rs → AreRuns (λ n. ((r.0 ≤ n) × (n ≤ r.1)) ⊎ P n) (r ∷ rs)
 runs_push r rs P up before runs = record {
@@ -61,7 +61,7 @@ runs_push r rs P up before runs = record {
     apart zero a b at next = subst (λ (q : ℕ × ℕ). suc q.1 < b.0) (some_is r a at) (before b next)
     apart (suc k) a b at next = runs.apart k a b at next
 
--- the runs behind the first one, by what is in them
+-- the runs after the first one, by what is in them
 runs_tail : (P : ℕ → Type 0) (r : ℕ × ℕ) (rs : List (ℕ × ℕ)) → AreRuns P (r ∷ rs) → AreRuns (InRun rs) rs
 runs_tail P r rs runs = record {
   forward = λ k run at. runs.forward (suc k) run at;
@@ -71,7 +71,7 @@ runs_tail P r rs runs = record {
 }
 
 module _ (test : ℕ → Bool) (high : ℕ) where
-  -- where a number in front passes, it goes into a run
+  -- if a number before the runs passes, it goes into a run
   with_passing : (n : ℕ) (rs : List (ℕ × ℕ)) → test n ≡ true → n < high → AreRuns (Passes test (suc n) high) rs → AreRuns (Passes test n high) (with_number n rs)
   with_passing n [] passing below runs = same_runs ((n, n) ∷ [])
       (λ m h. ⊎_elim
@@ -163,7 +163,7 @@ runs_skip test (suc k) n count none =
     ap (runs_within test n) a ∙ one_within test n (k + count) false (none n (omega arith) (omega arith))
     ∙ runs_skip test k (suc n) count (λ m from below. none m (omega arith) (omega arith)) ∙ ap (λ m. runs_within test m count) b
 
--- a number that passes, in front of one that doesn't or of the last, is a run
+-- a number that passes, before one that doesn't or as the last, is a run
 alone : (test : ℕ → Bool) (n count : ℕ) → ((m : ℕ) → m ≡ suc n → m < suc n + count → test m ≡ false) → with_number n (runs_within test (suc n) count) ≡ (n, n) ∷ runs_within test (suc n) count
 alone test n count end = at_first (runs_within test (suc n) count) (runs_are test (suc n + count) count (suc n) refl)
   where
@@ -173,7 +173,7 @@ alone test n count end = at_first (runs_within test (suc n) count) (runs_are tes
         let first = runs.of_them r.0 record { index = 0; run = r; at = refl; from = (let e : r.0 ≤ r.0 = omega arith in e); to = runs.forward 0 r refl } in
         with_apart n r rs (λ e. false≢true (sym (end r.0 e first.below) ∙ first.passes))
 
--- numbers that pass, in front of one that doesn't or up to the last, are one run
+-- numbers that pass, before one that doesn't or up to the last, are one run
 pub runs_first : (test : ℕ → Bool) (k n count : ℕ) → ((m : ℕ) → n ≤ m → m < n + suc k → test m ≡ true) → ((m : ℕ) → m ≡ n + suc k → m < n + suc k + count → test m ≡ false)
     → runs_within test n (suc k + count) ≡ (n, n + k) ∷ runs_within test (n + suc k) count
 runs_first test zero n count run end =
@@ -199,7 +199,7 @@ runs_none test n = refl
 -- ---- up to a last number
 
 module _ (test : ℕ → Bool) (top n : ℕ) where
-  -- where none passes, there is no run
+  -- if none passes, there is no run
   pub none_left : ((m : ℕ) → n ≤ m → m < top → test m ≡ false) → runs_within test n (top - n) ≡ []
   none_left none =
       let e : top - n ≡ top - n + 0 = omega arith in

@@ -147,7 +147,7 @@ unknown_fits ps qs cpu n unknown = record {
   not_taken = λ r m h. unknown.no_record r h;
 }
 
--- behind where two are looked at, up to the next number of which something is known there
+-- after the numbers that were compared in both, up to the next number of which something is known there
 pub fit_up_to : (ps qs : List Parcel) (cpu at end next : ℕ) → ((n : ℕ) → n < at → FitTogether ps qs cpu n)
     → ((n : ℕ) → at ≤ n → n < end → FitTogether ps qs cpu n) → ((n : ℕ) → end ≤ n → n < next → IsUnknown qs cpu n)
     → (n : ℕ) → n < next → FitTogether ps qs cpu n

@@ -1,4 +1,4 @@
--- What a change of one range does to what is told.
+-- What a change of one range does to what is stated.
 use Rattle.std.proofs.Common.{◌≡◌, ◌≢◌, ⊎_elim, ℕ, ◌<◌, ◌≤◌, ◌↔◌, false, List, [], ◌∷◌, ◌++◌, Option, Some, None, IsSome, is_some, refl, sym, ap, ◌∙◌, subst, rules, arith}
 use Rattle.std.specs.Ordering.{nat_cmp, is_eq}
 use Rattle.std.specs.Cmp.{nat_cmp_is}
@@ -21,7 +21,7 @@ none_unless : {X : Type 0} (o : Option X) → (IsSome o → ⊥) → o ≡ None
 none_unless None h = refl
 none_unless (Some x) h = absurd (h refl)
 
--- behind the last key up to a number there is none up to it
+-- after the last key up to a number there is none up to it
 pub none_behind_last : {X : Type 0} (m : BTreeMap ℕ X) (number : ℕ) (r t : List (ℕ × X)) (first : ℕ) (x : X)
     → IsRangeOf nat_cmp Unbounded (Included number) m r → r ≡ t ++ (first, x) ∷ []
     → (q : ℕ) → first < q → q ≤ number → get nat_cmp m q ≡ None
@@ -100,7 +100,7 @@ edges_unchanged ranges mid new e keeps = record {
   cuts = λ place cut first span at. keeps.cuts place cut first span (ap (λ es. lookup (is_at (nat_cmp first)) es) (sym e) ∙ at);
 }
 
--- a range without a number, where there was none, leaves them
+-- an empty range at a place that had none leaves them
 pub edges_marked : (ranges : Ranges) (mid new : BTreeMap ℕ Span) (place : ℕ) (empty : Span) → empty.end ≡ place
     → Updates nat_cmp mid new place (Some empty)
     → KeepsEdges ranges record { spans = mid } → KeepsEdges ranges record { spans = new }
@@ -148,9 +148,9 @@ both_laid old ready mid new low first end parcel up on same a b = record {
         → (Tells y n content ↔ Tells z n content) → (Tells x n content ↔ Tells z n content)
     tell_same_at n content f g = ((λ t. g.0 (f.0 t)), (λ t. f.1 (g.1 t)))
 
--- ---- a parcel laid where nothing is told
+-- ---- a parcel laid where nothing is stated
 
--- the same ranges tell the same
+-- the same ranges state the same
 pub keys_tell_same : (old new : Ranges) → ((q : ℕ) → get nat_cmp new.spans q ≡ get nat_cmp old.spans q) → TellSame old new
 keys_tell_same old new same number content = (
   (λ t. record { first = t.first; span = t.span; at = same t.first ∙ t.at; from = t.from; below = t.below; content_is = t.content_is }),
@@ -159,7 +159,7 @@ keys_tell_same old new same number content = (
 
 module _ (old mid : Ranges) (low first end : ℕ) (up : low ≤ first) (on : first ≤ end) (free : IsFree old low end)
     (others : (q : ℕ) → (low < first → q ≢ low) → get nat_cmp mid.spans q ≡ get nat_cmp old.spans q) where
-  -- what stands behind the missing numbers is free still
+  -- what follows the missing numbers is still free
   pub free_behind : (low < first → (span : Span) → get nat_cmp mid.spans low ≡ Some span → span.end ≤ first) → IsFree mid first end
   free_behind ends = record {
     cut = λ f span at lt. ⊎_elim

@@ -20,11 +20,11 @@ pub record IsTakenAndMissingAt (parcels : List Parcel) (cpu number : ℕ) : Type
   pub has : Has parcels cpu number one
   pub misses : Misses parcels cpu number
 
--- of a smaller CPU, or of the same and smaller
+-- of a smaller CPU, or of the same CPU and smaller
 abbrev pub IsInFront : (cpu number other_cpu other : ℕ) → Type 0
 IsInFront cpu number other_cpu other = (cpu < other_cpu) ⊎ ((cpu ≡ other_cpu) × (number < other))
 
--- the parcels aren't at odds under any number in front of this one
+-- the parcels aren't at odds under any number before this one
 pub record AgreeInFront (parcels : List Parcel) (cpu number : ℕ) : Type 0 where
   pub no_clash : (c n : ℕ) → IsInFront c n cpu number → IsClashAt parcels c n → ⊥
   pub none_taken_and_missing : (c n : ℕ) → IsInFront c n cpu number → IsTakenAndMissingAt parcels c n → ⊥

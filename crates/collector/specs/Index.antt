@@ -1,4 +1,4 @@
--- What an index tells of the numbers of each CPU, and how it stands for kept parcels.
+-- What an index states of the numbers of each CPU, and which kept parcels it is the index of.
 use Rattle.std.specs.Prelude.{◌≡◌, ℕ, ◌<◌, ◌≤◌, ◌+◌, ◌↔◌, List, length, Some}
 use Rattle.std.specs.List.{slice_get}
 use Rattle.trace_model.specs.Record.{Record}
@@ -11,7 +11,7 @@ use Rattle.collector.specs.declared.index.Index.{Index}
 use Rattle.collector.specs.Ranges.{Tells, AreApart}
 use Rattle.collector.specs.Sound.{AreSound}
 
--- the ranges of the CPU tell this of the number
+-- the ranges of the CPU state this of the number
 pub record TellsOf (index : Index) (cpu number : ℕ) (content : Content) : Type 0 where
   pub ranges : Ranges
   pub at : slice_get index.cpus.items cpu ≡ Some ranges
@@ -21,7 +21,7 @@ pub record TellsOf (index : Index) (cpu number : ℕ) (content : Content) : Type
 abbrev pub AreAllApart : Index → Type 0
 AreAllApart index = (cpu : ℕ) (ranges : Ranges) → slice_get index.cpus.items cpu ≡ Some ranges → AreApart ranges
 
--- both tell the same of each number of this CPU
+-- both state the same of each number of this CPU
 abbrev pub TellSameOf : Index → Index → ℕ → Type 0
 TellSameOf old new cpu = (number : ℕ) (content : Content)
     → (TellsOf old cpu number content ↔ TellsOf new cpu number content)
@@ -34,7 +34,7 @@ pub record IsIn (parcels : List Parcel) (index cpu number : ℕ) : Type 0 where
   pub from : parcel.first ≤ number
   pub below : number < parcel.first + length parcel.records
 
--- some kept parcel has this record under the number, and the index tells which
+-- some kept parcel has this record under the number, and the index states which
 pub record IsTold (parcels : List Parcel) (index : Index) (cpu number : ℕ) (r : Record) : Type 0 where
   pub kept : ℕ
   pub parcel : Parcel
@@ -42,7 +42,7 @@ pub record IsTold (parcels : List Parcel) (index : Index) (cpu number : ℕ) (r 
   pub at : slice_get parcels kept ≡ Some parcel
   pub pair : IsPairOf parcel cpu number r
 
--- The index tells just what the kept parcels have and miss, and one thing of a number at most.
+-- The index states exactly what the kept parcels have and miss, and at most one thing of a number.
 pub record IsIndexed (parcels : List Parcel) (index : Index) : Type 0 where
   pub sound : AreSound parcels
   pub apart : AreAllApart index

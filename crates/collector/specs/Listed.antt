@@ -34,12 +34,12 @@ abbrev pub first_record : List Parcel → ℕ → ℕ → Option Record
 first_record [] cpu number = None
 first_record (p ∷ parcels) cpu number = first_there (record_under p cpu number) (first_record parcels cpu number)
 
--- what belongs to a number, in front of others
+-- what belongs to a number, before others
 abbrev pub with_found : {X : Type 0} → ℕ → Option X → List (ℕ × X) → List (ℕ × X)
 with_found number None list = list
 with_found number (Some x) list = (number, x) ∷ list
 
--- what belongs to so many numbers, from this one on
+-- what belongs to `count` numbers, from this one on
 unfoldable pub listed_within : {X : Type 0} → (ℕ → Option X) → ℕ → ℕ → List (ℕ × X)
 listed_within find number zero = []
 listed_within find number (suc count) = with_found number (find number) (listed_within find (suc number) count)
@@ -48,9 +48,9 @@ listed_within find number (suc count) = with_found number (find number) (listed_
 abbrev pub records_left : List Parcel → ℕ → ℕ → List (ℕ × Record)
 records_left parcels cpu number = listed_within (first_record parcels cpu) number (2 ^ 64 - 1 - number)
 
--- ---- where a walk stands
+-- ---- where a walk is
 
--- the entries go on with the records of this number and of all behind it up to the end
+-- the entries continue with the records of this number and of all after it up to the end
 abbrev pub GoOn : List Parcel → ℕ → List (ℕ × Record) → ℕ → ℕ → Type 0
 GoOn parcels cpu entries number end = (k : ℕ) → number + k < end
     → (r : Record) × (slice_get entries k ≡ Some (number + k, r)) × (first_record parcels cpu (number + k) ≡ Some r)

@@ -3,12 +3,12 @@ use Rattle.std.specs.Prelude.{◌≡◌, ◌⊎◌, List, [], ◌∷◌, ◌++�
 use Rattle.trace_model.specs.Parcel.{Parcel}
 use Rattle.trace_model.specs.Collection.{IsBelow}
 
--- the parcel is kept behind these where it adds something to them
+-- the parcel is appended to these if it adds something to them
 abbrev pub IsKeptBehind : List Parcel → Parcel → List Parcel → Type 0
 IsKeptBehind old parcel new = (IsBelow (parcel ∷ []) old × (new ≡ old))
     ⊎ ((IsBelow (parcel ∷ []) old → ⊥) × (new ≡ old ++ parcel ∷ []))
 
--- those here, and behind them the others that add something to what stands in front of them, in their order
+-- those here, then the others that add something to those before them, in their order
 abbrev pub IsMerged : List Parcel → List Parcel → List Parcel → Type 0
 IsMerged old [] new = new ≡ old
 IsMerged old (parcel ∷ others) new = (mid : List Parcel) × IsKeptBehind old parcel mid × IsMerged mid others new

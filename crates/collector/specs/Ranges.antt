@@ -1,4 +1,4 @@
--- What ranges tell of the numbers of one CPU.
+-- What ranges state of the numbers of one CPU.
 use Rattle.std.specs.Prelude.{◌≡◌, ℕ, ◌<◌, ◌≤◌, ◌↔◌, Some, None, IsSome}
 use Rattle.std.specs.Ordering.{nat_cmp}
 use Rattle.std.specs.BTreeMap.{get}
@@ -11,7 +11,7 @@ use Rattle.collector.specs.declared.ranges.Ranges.{Ranges}
 abbrev pub HasSpan : Ranges → ℕ → Span → Type 0
 HasSpan ranges first span = get nat_cmp ranges.spans first ≡ Some span
 
--- some range has the number, and tells this of it
+-- some range has the number, and states this of it
 pub record Tells (ranges : Ranges) (number : ℕ) (content : Content) : Type 0 where
   pub first : ℕ
   pub span : Span
@@ -30,16 +30,16 @@ AreApart ranges = (first later : ℕ) (span other : Span)
 abbrev pub IsMarked : Ranges → ℕ → Type 0
 IsMarked ranges number = IsSome (get nat_cmp ranges.spans number)
 
--- no range reaches over this place from in front of it
+-- no range that begins before this place reaches over it
 abbrev pub IsCut : Ranges → ℕ → Type 0
 IsCut ranges place = (first : ℕ) (span : Span) → HasSpan ranges first span → first < place → span.end ≤ place
 
--- no range begins from one place up to another one, or reaches over the first from in front of it
+-- no range begins from one place up to another one, or begins before the first and reaches over it
 pub record IsFree (ranges : Ranges) (low end : ℕ) : Type 0 where
   pub cut : IsCut ranges low
   pub none : (q : ℕ) → low ≤ q → q < end → get nat_cmp ranges.spans q ≡ None
 
--- both tell the same of each number
+-- both state the same of each number
 abbrev pub TellSame : Ranges → Ranges → Type 0
 TellSame old new = (number : ℕ) (content : Content) → (Tells old number content ↔ Tells new number content)
 
@@ -47,13 +47,13 @@ TellSame old new = (number : ℕ) (content : Content) → (Tells old number cont
 abbrev pub IsCopy : Ranges → Ranges → Type 0
 IsCopy ranges copy = copy.spans.entries ≡ ranges.spans.entries
 
--- where a range began, or none reached over, it is so still
+-- a place at which a range began, or over which none reached, is still such a place
 pub record KeepsEdges (old new : Ranges) : Type 0 where
   pub marks : (place : ℕ) → IsMarked old place → IsMarked new place
   pub cuts : (place : ℕ) → IsCut old place → IsCut new place
 
--- Behind a parcel whose missing numbers begin at `low` and whose records are numbered from `first` up to `end`: these
--- numbers are told as its own, and all others as before.
+-- After a parcel is laid whose missing numbers begin at `low` and whose records are numbered from `first` up to `end`:
+-- these numbers are stated as its own, and all others as before.
 pub record IsLaid (old new : ℕ → Content → Type 0) (low first end parcel : ℕ) : Type 0 where
   pub missing : (n : ℕ) → low ≤ n → n < first → new n Missing
   pub missing_alone : (n : ℕ) (content : Content) → low ≤ n → n < first → new n content → content ≡ Missing

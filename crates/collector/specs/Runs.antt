@@ -5,7 +5,7 @@ use Rattle.trace_model.specs.Parcel.{Parcel}
 use Rattle.trace_model.specs.Collection.{Misses}
 use Rattle.trace_model.specs.declared.numbers.RecordNo.{RecordNo}
 
--- some run has the number: it is neither in front of the run's first number nor behind its last
+-- some run has the number: it is neither before the run's first number nor after its last
 pub record InRun (runs : List (ℕ × ℕ)) (number : ℕ) : Type 0 where
   pub index : ℕ
   pub run : ℕ × ℕ
@@ -30,7 +30,7 @@ AreMissingRuns parcels cpu runs = AreRuns (Misses parcels cpu) runs
 
 -- ---- the same, computed
 
--- what a pair of numbers tells
+-- the numbers of a pair
 abbrev pub run_told : RecordNo × RecordNo → ℕ × ℕ
 run_told run = (run.0.0, run.1.0)
 
@@ -40,13 +40,13 @@ is_missed [] cpu number = false
 is_missed (p ∷ parcels) cpu number =
     (eqb cpu p.cpu && (leb p.first (number + p.missed) && ltb number p.first)) || is_missed parcels cpu number
 
--- the runs with one number more, in front of all of them
+-- the runs with one number more, before all of them
 abbrev pub with_number : ℕ → List (ℕ × ℕ) → List (ℕ × ℕ)
 with_number number [] = (number, number) ∷ []
 with_number number (run ∷ runs) =
     cond (eqb run.0 (suc number)) ((number, run.1) ∷ runs) ((number, number) ∷ run ∷ runs)
 
--- the runs of so many numbers, from this one on, that pass the test
+-- the runs of those of `count` numbers, from this one on, that pass the test
 unfoldable pub runs_within : (ℕ → Bool) → ℕ → ℕ → List (ℕ × ℕ)
 runs_within test number zero = []
 runs_within test number (suc count) =

@@ -19,7 +19,7 @@ pub(crate) enum Beside {
     OneKnows,
 }
 
-/// What is known here and there, and up to which number, itself not among them, it is so.
+/// What is known here and there, and the number up to which it is so, itself not among them.
 #[derive(Clone, Copy)]
 pub(crate) struct Both {
     pub(crate) end: u64,
@@ -48,7 +48,7 @@ impl Collector {
     ghost use Rattle.collector.specs.Beside.{IsBeside};
     ghost use Rattle.collector.specs.Shown.{IsUnknown};
 
-    /// What is known here and there of a number of a CPU and of those behind it.
+    /// What is known here and there of a number of a CPU and of those after it.
     pub(crate) fn beside(&self, other: &Collector, cpu: CpuId, number: u64) -> Both
         ensures shown { (n : ℕ) → number ≤ n → n < result.end
             → IsBeside self.now other.now cpu.0 n result.beside }
@@ -85,7 +85,7 @@ impl Collector {
         }
     }
 
-    /// A number from this one on, with none in front of it of which something is known here.
+    /// A number from this one on: of none before it is something known here.
     fn next_known(&self, cpu: CpuId, number: u64) -> u64
         ensures from { number ≤ result }
         ensures unknown { (n : ℕ) → number ≤ n → n < result → IsUnknown self.now cpu.0 n }

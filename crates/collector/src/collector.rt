@@ -1,4 +1,4 @@
-//! A collector: the parcels that it keeps, and where each number stands in them.
+//! A collector: the parcels that it keeps, and in which of them each number is.
 use crate::index::Index;
 use crate::ranges::Stretch;
 use page_numbers::Parcel;
@@ -63,7 +63,7 @@ impl Collector {
         &self.parcels[index]
     }
 
-    /// What is known of a number of a CPU and of those behind it.
+    /// What is known of a number of a CPU and of those after it.
     pub(crate) fn stretch(&self, cpu: CpuId, number: u64) -> Stretch
         ensures here { IsShown self.now cpu.0 number result.content }
         ensures shown { (n : ℕ) → number ≤ n → n < result.end → IsShown self.now cpu.0 n result.content }
@@ -89,14 +89,14 @@ impl Collector {
         Ok(())
     }
 
-    /// A second index that tells the same.
+    /// A second index that states the same.
     pub(crate) fn copied_index(&self) -> Result<Index, NoMemory>
         ensures { IfOk result (λ copy. IsIndexed self.now copy) }
     {
         Ok(self.index.copied()?)
     }
 
-    /// Keeps no more than the first parcels, so many as this index stands for.
+    /// Keeps only the first `count` parcels, of which this is the index.
     pub(crate) fn go_back(&mut self, count: usize, index: Index)
         requires { IsIndexed (take count self.old) index }
         ensures { self.new ≡ take count self.old }

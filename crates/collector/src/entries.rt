@@ -6,7 +6,7 @@ ghost use Rattle.collector.specs.Entries.{record_of};
 use page_borrow::Records;
 use page_numbers::Parcel;
 
-/// The records of a parcel from the one of this number on, which isn't in front of its first.
+/// The records of a parcel from the one of this number on, which isn't before its first.
 pub(crate) fn records_from(parcel: &Parcel, number: u64) -> Records<'_>
     requires { parcel.now.first ≤ number }
     ensures { result ≡ enumerate_from number (drop (number - parcel.now.first) parcel.now.records) }
@@ -18,8 +18,8 @@ pub(crate) fn records_from(parcel: &Parcel, number: u64) -> Records<'_>
     records
 }
 
-/// The first number from `from` on, and in front of `end`, under which two parcels don't have the same record. Where
-/// their pages are alike, as a shared page is to itself, no record is looked at.
+/// The first number from `from` on, and below `end`, under which two parcels don't have the same record. If their pages
+/// are alike, as a shared page is to itself, no record is looked at.
 pub(crate) fn first_difference(parcel: &Parcel, other: &Parcel, from: u64, end: u64) -> Option<u64>
     requires in_parcel { parcel.now.first ≤ from }
     requires in_other { other.now.first ≤ from }

@@ -9,7 +9,7 @@ use crate::ranges::{Content, Ranges, Stretch};
 use std::alloc::Global;
 use trace_model::{CpuId, NoMemory};
 
-/// The ranges of each CPU, in the order of the CPUs. Of a CPU behind the last one nothing is known.
+/// The ranges of each CPU, in the order of the CPUs. Of a CPU after the last one nothing is known.
 #[derive(Drop)]
 pub(crate) struct Index {
     cpus: Vec<Ranges>,
@@ -42,7 +42,7 @@ impl Index {
         })
     }
 
-    /// What is known of a number of a CPU, and of those behind it.
+    /// What is known of a number of a CPU, and of those after it.
     pub(crate) fn stretch(&self, cpu: CpuId, number: u64) -> Stretch
         requires { AreAllApart self.now }
         ensures told { IfSome result.content (λ content. (n : ℕ) → number ≤ n → n < result.end
@@ -62,7 +62,7 @@ impl Index {
         }
     }
 
-    /// Has ranges for a CPU. What is told stays the same.
+    /// Has ranges for a CPU. What is stated stays the same.
     fn grow(&mut self, cpu: usize) -> Result<(), NoMemory>
         requires { AreAllApart self.old }
         ensures apart { AreAllApart self.new }
@@ -75,8 +75,8 @@ impl Index {
         Ok(())
     }
 
-    /// Tells of a CPU's numbers that those from `low` up to `first` are missing, and that those from there up to
-    /// `end` are in the kept parcel at this index, whatever was told of them before.
+    /// States of a CPU's numbers that those from `low` up to `first` are missing, and that those from there up to `end`
+    /// are in the kept parcel at this index, whatever was stated of them before.
     pub(crate) fn lay(
         &mut self,
         cpu: CpuId,

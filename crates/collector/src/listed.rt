@@ -12,7 +12,7 @@ use std::iter::FusedIterator;
 use std::marker::Model;
 use trace_model::CpuId;
 
-/// Entries of one kept parcel, which go on with this number and with all behind it up to the end.
+/// Entries of one kept parcel, which continue with this number and with all after it up to the end.
 #[derive(Drop)]
 struct Kept<'a> {
     entries: Records<'a>,
@@ -56,7 +56,7 @@ fn kept_index(content: Option<Content>) -> Option<usize>
     }
 }
 
-/// The entries of the first record of a CPU from this number on, and of those behind it in its parcel.
+/// The entries of the first record of a CPU from this number on, and of those after it in its parcel.
 fn next_kept(collector: &Collector, cpu: CpuId, number: u64) -> Option<Kept<'_>>
     ensures from { IfSome result (λ kept. number ≤ kept.number) }
     ensures forward { IfSome result (λ kept. kept.number < kept.end) }
@@ -118,7 +118,7 @@ impl<'a> FusedIterator for CpuRecords<'a> {}
 impl Collector {
     ghost use Rattle.collector.specs.Listed.{AreRecordsOf};
 
-    /// The records of a CPU by rising number, each with its bytes where they stand in a kept page.
+    /// The records of a CPU by rising number, each with its bytes as they are in a kept page.
     pub fn records(&self, cpu: CpuId) -> CpuRecords<'_>
         ensures { AreRecordsOf self.now cpu.0 result }
     {

@@ -14,9 +14,9 @@ impl Collector {
     ghost use Rattle.collector.specs.Merged.{IsMerged};
     ghost use Rattle.collector.specs.declared.fault.AddFault.TheVariants.{NoMemory};
 
-    /// Puts the other's records and missing numbers to those here: what comes of it is the least collector above
-    /// both. The other's parcels are shared; those that add something are kept, in their order. Where the two are at
-    /// odds, the least number tells, and nothing has changed. `NoMemory` is answered only if the other has or misses
+    /// Adds the other's records and missing numbers to those here: the result is the least collector above both. The
+    /// other's parcels are shared; those that add something are kept, in their order. If the two are at odds, the fault
+    /// is that of the least number, and nothing has changed. `NoMemory` is answered only if the other has or misses
     /// something that isn't here.
     pub fn merge(&mut self, other: &Collector) -> Result<(), AddFault>
         ensures join { OnOk result (IsLeastUpperBound self.old other.now self.new) }
@@ -50,7 +50,7 @@ impl Collector {
         true
     }
 
-    /// Adds the other's parcels, in their order, with which those here agree. Where memory is refused, some of them are
+    /// Adds the other's parcels, in their order, with which those here agree. If memory is refused, some of them are
     /// added.
     fn add_all(&mut self, other: &Collector) -> Result<(), AddFault>
         requires { Agree (self.old ++ other.now) }
@@ -76,7 +76,7 @@ impl Collector {
         Ok(())
     }
 
-    /// The same for one CPU, where they aren't on those in front of it.
+    /// The same for one CPU, if they aren't at odds on those before it.
     fn look_at_cpu(&self, other: &Collector, cpu: CpuId) -> Result<(), AddFault>
         requires { (c n : ℕ) → c < cpu.0 → n < u64.MAX → FitTogether self.now other.now c n }
         ensures fits { OnOk result ((n : ℕ) → n < u64.MAX → FitTogether self.now other.now cpu.0 n) }

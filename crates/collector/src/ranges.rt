@@ -20,15 +20,15 @@ pub(crate) enum Content {
     Missing,
 }
 
-/// A range of numbers, told by where it ends: its first number is its key.
+/// A range of numbers, given by where it ends: its first number is its key.
 #[derive(Clone, Copy)]
 struct Span {
-    /// The number behind the last one. A range that ends where it begins has no number, and marks a place.
+    /// The number after the last one. A range that ends where it begins has no number, and marks a place.
     end: u64,
     content: Content,
 }
 
-/// What is known of a number, and up to which one, itself not among them, the same is known.
+/// What is known of a number, and the number up to which the same is known, itself not among them.
 #[derive(Clone, Copy)]
 pub(crate) struct Stretch {
     pub(crate) end: u64,
@@ -41,7 +41,7 @@ pub(crate) struct Ranges {
     spans: BTreeMap<u64, Span>,
 }
 
-/// The last range that begins at a number or in front of it.
+/// The last range that begins at a number or before it.
 fn last_up_to(spans: &BTreeMap<u64, Span>, number: u64) -> Option<(u64, Span)>
     ensures there { IfSome result (λ p. get nat_cmp spans.now p.0 ≡ Some p.1) }
     ensures up_to { IfSome result (λ p. p.0 ≤ number) }
@@ -52,7 +52,7 @@ fn last_up_to(spans: &BTreeMap<u64, Span>, number: u64) -> Option<(u64, Span)>
     Some((*first, *span))
 }
 
-/// Where the first range behind a number begins.
+/// Where the first range after a number begins.
 fn first_behind(spans: &BTreeMap<u64, Span>, number: u64) -> Option<u64>
     ensures there { IfSome result (λ first. IsSome (get nat_cmp spans.now first)) }
     ensures behind { IfSome result (λ first. number < first) }
@@ -65,7 +65,7 @@ fn first_behind(spans: &BTreeMap<u64, Span>, number: u64) -> Option<u64>
     Some(*first)
 }
 
-/// Takes out the ranges that begin behind a number and in front of another one.
+/// Removes the ranges that begin after a number and before another one.
 fn clear_between(spans: &mut BTreeMap<u64, Span>, front: u64, end: u64)
     ensures inside { (q : ℕ) → front < q → q < end → get nat_cmp spans.new q ≡ None }
     ensures up_to { (q : ℕ) → q ≤ front → get nat_cmp spans.new q ≡ get nat_cmp spans.old q }
@@ -99,7 +99,7 @@ impl Ranges {
         })
     }
 
-    /// What is known of a number and of those behind it.
+    /// What is known of a number and of those after it.
     pub(crate) fn stretch(&self, number: u64) -> Stretch
         requires { AreApart self.now }
         ensures told { IfSome result.content (λ content. (n : ℕ) → number ≤ n → n < result.end
@@ -122,7 +122,7 @@ impl Ranges {
         }
     }
 
-    /// Cuts in two the range that reaches over a place, if one does. What is told stays the same.
+    /// Cuts in two the range that reaches over a place, if one does. What is stated stays the same.
     fn cut(&mut self, place: u64) -> Result<(), NoMemory>
         requires { AreApart self.old }
         ensures apart { AreApart self.new }
@@ -141,7 +141,7 @@ impl Ranges {
         Ok(())
     }
 
-    /// Has a range begin at a place. What is told stays the same.
+    /// Has a range begin at a place. What is stated stays the same.
     fn mark(&mut self, place: u64) -> Result<(), NoMemory>
         requires { AreApart self.old }
         ensures apart { AreApart self.new }
@@ -161,7 +161,7 @@ impl Ranges {
         Ok(())
     }
 
-    /// Tells this of the numbers from a marked place up to a cut, and of no other number anything new.
+    /// States this of the numbers from a marked place up to a cut, and changes nothing of the others.
     fn set(&mut self, first: u64, end: u64, content: Content)
         requires apart { AreApart self.old }
         requires forward { first ≤ end }
@@ -198,7 +198,7 @@ impl Ranges {
         }
     }
 
-    /// Tells this of numbers that are free.
+    /// States this of numbers that are free.
     fn put(&mut self, first: u64, end: u64, content: Content) -> Result<(), NoMemory>
         requires apart { AreApart self.old }
         requires free { IsFree self.old first end }
@@ -220,7 +220,7 @@ impl Ranges {
         Ok(())
     }
 
-    /// Tells of free numbers what `lay` does.
+    /// States of free numbers what `lay` does.
     fn lay_free(&mut self, low: u64, first: u64, end: u64, parcel: usize) -> Result<(), NoMemory>
         requires apart { AreApart self.old }
         requires low { low ≤ first }
@@ -240,8 +240,8 @@ impl Ranges {
         }
     }
 
-    /// Tells that the numbers from `low` up to `first` are missing, and that those from there up to `end` are in the
-    /// kept parcel at this index, whatever was told of them before.
+    /// States that the numbers from `low` up to `first` are missing, and that those from there up to `end` are in the
+    /// kept parcel at this index, whatever was stated of them before.
     pub(crate) fn lay(
         &mut self,
         low: u64,

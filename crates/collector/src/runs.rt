@@ -26,7 +26,7 @@ impl<'a> Model for MissingRuns<'a> {
     ghost view = { λ r. runs_from r.collector.now r.cpu.0 r.number };
 }
 
-/// Whether this tells that numbers are missing.
+/// Whether this states that numbers are missing.
 fn tells_missing(content: Option<Content>) -> bool
     ensures yes { IsTrue result → content ≡ Some Content.Missing }
     ensures no { IsFalse result → content ≡ Some Content.Missing → ⊥ }

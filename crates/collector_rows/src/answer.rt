@@ -17,7 +17,7 @@ fn put_lines(out: &mut String, lines: &[u8]) -> Result<(), NoMemory> {
     Ok(())
 }
 
-/// Puts what an image tells.
+/// Puts what an image states.
 fn put_image(out: &mut String, image: &Image) -> Result<(), NoMemory> {
     let (time, size, count) = (image.time, image.size, image.page.count());
     write!(out, "time {time} size {size} count {count} missed ")?;
@@ -29,7 +29,7 @@ fn put_image(out: &mut String, image: &Image) -> Result<(), NoMemory> {
     Ok(())
 }
 
-/// Puts what a parcel tells.
+/// Puts what a parcel states.
 fn put_parcel(out: &mut String, parcel: &Parcel) -> Result<(), NoMemory> {
     let (cpu, fill, first) = (parcel.cpu().0, parcel.fill().0, parcel.first().0);
     let (count, missed) = (parcel.count(), parcel.missed());

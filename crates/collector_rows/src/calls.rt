@@ -117,7 +117,7 @@ pub struct Collectors {
 }
 
 impl Collectors {
-    /// So many empty collectors.
+    /// `count` empty collectors.
     pub fn new(alloc: Global, count: usize) -> Result<Collectors, NoMemory> {
         let mut collectors = Vec::new(alloc);
         for _ in 0..count {

@@ -1,9 +1,9 @@
--- Texts that are put one behind the other.
+-- Texts that are put one after the other.
 use Rattle.std.proofs.Common.{◌≡◌, ℕ, ◌+◌, ◌<◌, ◌≤◌, List, [], ◌∷◌, ◌++◌, length, get_or, take, flat_map, refl, sym, ap, ◌∙◌, subst, arith, length-take-le}
 use Rattle.std.specs.List.{AllZip, enumerate_from}
 use Rattle.std.proofs.lemmas.List.{append-nil, flat_map_more, take_all, take_more}
 
--- one behind the others has the number behind theirs
+-- one element after the others has the number after theirs
 pub numbered_behind : {X : Type 0} (n : ℕ) (xs : List X) (x : X)
     → enumerate_from n (xs ++ x ∷ []) ≡ enumerate_from n xs ++ (n + length xs, x) ∷ []
 numbered_behind {X} n [] x =
@@ -16,7 +16,7 @@ numbered_behind {X} n (y ∷ xs) x =
     rw e at rest in
     ap {A = List (ℕ × X)} {B = List (ℕ × X)} (λ ps. (n, y) ∷ ps) below
 
--- the text of one more, numbered by how many stand in front of it
+-- the text of one more, numbered by how many are before it
 pub text_more : {X : Type 0} (f : ℕ × X → List ℕ) (before so_far out : List ℕ) (xs : List X) (x : X) (n : ℕ)
     → length xs ≡ n
     → so_far ≡ before ++ flat_map f (enumerate_from 0 xs) → out ≡ so_far ++ f (n, x)
@@ -45,7 +45,7 @@ zip_more R (w ∷ xs) (z ∷ ys) x y all one = (all.0, zip_more R xs ys x y all.
 
 -- ---- what is put of each
 
--- The text of these stands behind what was there before, of each what is shown of it, numbered from 0.
+-- out is what was there before, then the text of these elements: of each what is shown of it, numbered from 0.
 pub record ArePut (A B : Type 0) (IsShown : A → B → Type 0) (text_of : ℕ × B → List ℕ) (xs : List A) (before out : List ℕ)
     : Type 0 where
   pub shown : List B
@@ -75,7 +75,7 @@ put_more A B IsShown text_of xs i x before so_far out shown inside is put one te
       text = text_more text_of before so_far out put.shown shown i (sym so_many ∙ taken) put.text text;
     }
 
--- behind the last it is the text of all
+-- after the last it is the text of all
 pub put_all : (A B : Type 0) (IsShown : A → B → Type 0) (text_of : ℕ × B → List ℕ) (xs : List A) (i : ℕ)
     (before out : List ℕ) → length xs ≤ i → ArePut A B IsShown text_of (take i xs) before out
     → (shown : List B) × AllZip IsShown xs shown × (out ≡ before ++ flat_map text_of (enumerate_from 0 shown))

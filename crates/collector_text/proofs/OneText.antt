@@ -17,7 +17,7 @@ use Rattle.collector_text.specs.Tells.{Tells, runs_of}
 
 -- ---- runs of the same numbers are the same
 
--- they begin at this number or behind it, rise, and none touches the next
+-- they begin at this number or after it, rise, and none touches the next
 Rise : ℕ → List (ℕ × ℕ) → Type 0
 Rise low [] = ⊤
 Rise low (run ∷ runs) = (low ≤ run.0) × (run.0 ≤ run.1) × Rise (suc (suc run.1)) runs
@@ -74,7 +74,7 @@ first_below low n run runs rise h = ⊎_elim
     (λ (behind : In n runs). let far = above (suc (suc run.1)) n runs rise.2 behind in omega arith)
     h
 
--- the first run doesn't end behind the other's first, which begins no later
+-- the first run doesn't end after the other's first, which begins no later
 end_below : (low : ℕ) (a b : ℕ × ℕ) (xs ys : List (ℕ × ℕ)) → Rise low (a ∷ xs) → b.0 ≤ a.0
     → ((n : ℕ) → In n (b ∷ ys) → In n (a ∷ xs)) → b.1 ≤ a.1
 unfolding Rise In
@@ -88,7 +88,7 @@ end_below low a b xs ys rise begins there = ⊎_elim
     (λ (most : b.1 ≤ a.1). most)
     (cases_lt a.1 b.1)
 
--- what is in the rest of one is in the rest of the other, where the first runs end alike
+-- what is in the rest of one is in the rest of the other, if the first runs end alike
 behind_first : (low : ℕ) (a b : ℕ × ℕ) (xs ys : List (ℕ × ℕ)) → Rise low (a ∷ xs) → a.1 ≡ b.1
     → ((n : ℕ) → In n (a ∷ xs) → In n (b ∷ ys)) → (n : ℕ) → In n xs → In n ys
 unfolding Rise In
@@ -152,7 +152,7 @@ one_runs_text cpu (a ∷ xs) (b ∷ ys) same =
     ap (λ (rs : List (ℕ × ℕ)). flat_map (printed_missing cpu) rs ++ runs_text (cpu + 1) xs) (same 0)
     ∙ ap (λ (text : List ℕ). flat_map (printed_missing cpu) b ++ text) rest
 
--- what tells a collector tells each that is the same
+-- what shows a collector shows each that is the same
 pub same_are_told : (parcels others : List Parcel) (shown : Shown) → IsSame parcels others → Tells parcels shown
     → Tells others shown
 same_are_told parcels others shown same told = record {

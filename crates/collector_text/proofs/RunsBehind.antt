@@ -16,7 +16,7 @@ abbrev pub AreRunsFrom : List Parcel → ℕ → List (List (ℕ × ℕ)) → Ty
 AreRunsFrom parcels cpu [] = ⊤
 AreRunsFrom parcels cpu (of_cpu ∷ runs) = AreMissingRuns parcels cpu of_cpu × AreRunsFrom parcels (suc cpu) runs
 
--- those of the next CPU behind them
+-- those of the next CPU after them
 pub runs_more : (parcels : List Parcel) (cpu : ℕ) (runs : List (List (ℕ × ℕ))) (next : ℕ) (of_next : List (ℕ × ℕ))
     → cpu + length runs ≡ next
     → AreRunsFrom parcels cpu runs → AreMissingRuns parcels next of_next
@@ -27,7 +27,7 @@ runs_more parcels cpu [] next of_next is all one =
 runs_more parcels cpu (of_cpu ∷ runs) next of_next is all one =
     (all.0, runs_more parcels (suc cpu) runs next of_next (omega arith) all.1 one)
 
--- where none is missing there are no runs
+-- if none is missing there are no runs
 no_runs : (parcels : List Parcel) (cpu : ℕ) → ((number : ℕ) → Misses parcels cpu number → ⊥)
     → AreMissingRuns parcels cpu []
 no_runs parcels cpu none = record {
@@ -37,7 +37,7 @@ no_runs parcels cpu none = record {
   whole = λ number missed. absurd (none number missed);
 }
 
--- the runs of each CPU, where none is missing behind the last
+-- the runs of each CPU, if none is missing after the last
 pub each_cpu : (parcels : List Parcel) (first : ℕ) (runs : List (List (ℕ × ℕ))) (k : ℕ) → AreRunsFrom parcels first runs
     → ((cpu number : ℕ) → first + length runs ≤ cpu → Misses parcels cpu number → ⊥)
     → AreMissingRuns parcels (first + k) (runs_of runs k)
@@ -58,7 +58,7 @@ none_far parcels sound cpu number far missed =
     let is = missed.missing.cpu_is in
     omega arith
 
--- the text of the runs of all CPUs below this one stands behind what was there before
+-- out is what was there before, then the text of the runs of all CPUs below this one
 pub record ArePut (parcels : List Parcel) (cpu : ℕ) (before out : List ℕ) : Type 0 where
   pub runs : List (List (ℕ × ℕ))
   pub count : length runs ≡ cpu
@@ -85,7 +85,7 @@ put_more parcels cpu before so_far out of_cpu put one text =
           of_cpu cpu count put.text text;
     }
 
--- where all CPUs are there the runs are those of each
+-- if all CPUs are there the runs are those of each
 pub put_all : (parcels : List Parcel) (before out : List ℕ) (cpu : ℕ) → AreSound parcels → MAX_CPUS ≤ cpu
     → (put : ArePut parcels cpu before out)
     → (k : ℕ) → AreMissingRuns parcels k (runs_of put.runs k)

@@ -1,4 +1,4 @@
--- The texts of collectors, one behind the other.
+-- The texts of collectors, one after the other.
 use Rattle.std.proofs.Common.{◌≡◌, ℕ, ◌+◌, ◌-◌, ◌≤◌, List, [], ◌∷◌, ◌++◌, length, take, drop, flat_map, append_assoc, sym, ap, ◌∙◌, subst, arith, length-drop, length-append}
 use Rattle.std.specs.List.{slice_range}
 use Rattle.std.proofs.lemmas.List.{drop-append-le, drop-drop, take-append-le, take_all}
@@ -14,7 +14,7 @@ use Rattle.world_model.specs.Printing.{Shown, printed_collector, printed_line, p
 use Rattle.collector_text.specs.Tells.{Tells, StandsBetween, runs_of, text_below}
 use Rattle.collector_text.proofs.OneText.{same_are_told}
 
--- the lines and the runs are what stands below a collector's head line
+-- the lines and the runs are what is below a collector's head line
 pub told_below : (parcels : List Parcel) (before middle out : List ℕ) (lines : List Line) → IsListing parcels lines
     → middle ≡ before ++ flat_map printed_line lines
     → (runs : List (List (ℕ × ℕ))) × ((cpu : ℕ) → AreMissingRuns parcels cpu (runs_of runs cpu))
@@ -28,7 +28,7 @@ told_below parcels before middle out lines is text put = (
       ∙ append_assoc before (flat_map printed_line lines) (printed_runs put.0),
 )
 
--- a collector that is the same is told by what is put once more
+-- a collector that is the same is shown by what is put once more
 pub told_again : (others parcels : List Parcel) (before out : List ℕ) (start end : ℕ) → IsSame others parcels
     → StandsBetween others before start end → out ≡ before ++ slice_range before start end
     → (shown : Shown) × Tells parcels shown × (out ≡ before ++ text_below shown)
@@ -40,7 +40,7 @@ told_again others parcels before out start end same stands text = (
 
 -- ---- places in a text
 
--- what stands between two places of a text stands there too where more is put behind it
+-- the bytes between two places of a text are the same when more is appended to it
 pub range_kept : (text more : List ℕ) (start end : ℕ) → start ≤ end → end ≤ length text
     → slice_range (text ++ more) start end ≡ slice_range text start end
 range_kept text more start end forward inside =
@@ -76,7 +76,7 @@ stands_last parcels text out start end begin last (shown, tells, is) =
       is = rw (so_many, is, begin, drop-append_seam text (text_below shown)) (take_all _ _ (omega arith));
     }
 
--- ---- one part behind the other
+-- ---- one part after the other
 
 -- the text between two places, cut at a third one
 pub range_more : (text : List ℕ) (start at behind : ℕ) → start ≤ at → at ≤ behind
@@ -90,7 +90,7 @@ range_more text start at behind low high =
     ∙ take-add (at - start) (behind - at) (drop start text)
     ∙ ap (λ (t : List ℕ). slice_range text start at ++ take (behind - at) t) rest
 
--- the next part stands behind the others
+-- the next part is put after the others
 pub again_more : (text so_far part out : List ℕ) (start at behind : ℕ) → start ≤ at → at ≤ behind
     → behind ≤ length text → so_far ≡ text ++ slice_range text start at
     → part ≡ slice_range so_far at behind → out ≡ so_far ++ part
@@ -103,7 +103,7 @@ again_more text so_far part out start at behind low high inside before of put =
     ∙ append_assoc text (slice_range text start at) (slice_range text at behind)
     ∙ ap (λ (t : List ℕ). text ++ t) (sym (range_more text start at behind low high))
 
--- a head line and what stands below it are a collector's text
+-- a head line and what is below it are a collector's text
 pub told_whole : (parcels : List Parcel) (number : ℕ) (before middle out : List ℕ)
     → middle ≡ before ++ (codes "collector " ++ decimal number ++ line_feed ∷ [])
     → (shown : Shown) × Tells parcels shown × (out ≡ middle ++ text_below shown)

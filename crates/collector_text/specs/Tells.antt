@@ -1,4 +1,4 @@
--- What is printed of a collector tells just what it has and misses.
+-- What is printed of a collector states exactly what it has and misses.
 use Rattle.std.specs.Prelude.{◌≡◌, ℕ, ◌≤◌, List, [], ◌++◌, length, flat_map, Option, Some, None}
 use Rattle.std.specs.List.{slice_get, slice_range}
 use Rattle.trace_model.specs.Parcel.{Parcel}
@@ -11,7 +11,7 @@ abbrev pub or_none : {X : Type 0} → Option (List X) → List X
 or_none None = []
 or_none (Some xs) = xs
 
--- the runs that are told of a CPU, none of one that is behind the last
+-- the runs that are stated of a CPU, none of one after the last
 abbrev pub runs_of : List (List (ℕ × ℕ)) → ℕ → List (ℕ × ℕ)
 runs_of runs cpu = or_none (slice_get runs cpu)
 
@@ -25,7 +25,7 @@ pub record Tells (collector : List Parcel) (shown : Shown) : Type 0 where
 abbrev pub text_below : Shown → List ℕ
 text_below shown = flat_map printed_line shown.lines ++ printed_runs shown.runs
 
--- What tells the collector is printed between these places of the text.
+-- The text between these places states what the collector has and misses.
 pub record StandsBetween (collector : List Parcel) (text : List ℕ) (start end : ℕ) : Type 0 where
   pub shown : Shown
   pub tells : Tells collector shown

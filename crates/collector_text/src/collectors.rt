@@ -17,7 +17,7 @@ use trace_model::NoMemory;
 /// How many bytes of a text are copied at once.
 const PART: usize = 1024;
 
-/// Where a part of a text stands: its bytes from `start` up to `end`.
+/// Where a part of a text is: its bytes from `start` up to `end`.
 #[derive(Clone, Copy, Debug, PartialEq, Eq)]
 pub struct Span {
     pub start: usize,
@@ -63,8 +63,8 @@ fn put_again(alloc: Global, out: &mut Vec<u8>, span: Span) -> Result<(), NoMemor
 }
 
 /// The text of a collector below its head line: a line for each record, by time, and one for each run of missing
-/// numbers. Of an earlier collector that stands in a part of the text; where both have and miss the same, that part is
-/// put once more. On an error a part of that may be put.
+/// numbers. The text of an earlier collector, if there is one, is at `span`; if both have and miss the same, it is put
+/// once more. On an error a part of the new text may be put.
 fn put_below(
     alloc: Global,
     out: &mut Vec<u8>,
@@ -109,9 +109,9 @@ fn put_whole(
 }
 
 /// Puts the text of a collector under this number: a line `collector K`, below it a line for each of its records, by
-/// time, and a line for each run of a CPU's missing numbers, by rising CPU and number. Answers where what stands below
-/// the first line is. Of an earlier collector that is at `span`; where both have and miss the same, it is copied. If
-/// memory is refused, the text is as before.
+/// time, and a line for each run of a CPU's missing numbers, by rising CPU and number. Returns the place of all that is
+/// below the first line. The text of an earlier collector is at `span`; if both have and miss the same, it is copied.
+/// If memory is refused, the text is as before.
 pub fn put_collector(
     alloc: Global,
     out: &mut Vec<u8>,

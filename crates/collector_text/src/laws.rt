@@ -8,7 +8,7 @@ ghost use Rattle.text_model.specs.Log.{LogLine};
 ghost use Rattle.world_model.specs.Printing.{Shown, printed_collector, printed_world};
 ghost use Rattle.collector_text.specs.Tells.{Tells, StandsBetween};
 
-/// What tells a collector tells each collector that is the same, and all that tells it has one text. So what is printed
+/// The text of a collector is also that of each collector that is the same, and it is the only one. So what is printed
 /// of a world is one text too.
 pub fn texts_are_one()
     ensures alike { (parcels others : List Parcel) (shown : Shown) →
@@ -21,7 +21,7 @@ pub fn texts_are_one()
         printed_world asked log shown ≡ printed_world asked log other }
 {}
 
-/// What is printed of a collector stands where it is when more text is put behind it.
+/// What is printed of a collector stays where it is when more text is appended.
 pub fn texts_stay()
     ensures { (parcels : List Parcel) (text more : List ℕ) (start end : ℕ) →
         StandsBetween parcels text start end → StandsBetween parcels (text ++ more) start end }

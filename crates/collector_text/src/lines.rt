@@ -14,7 +14,7 @@ use text_values::put_payload;
 use time_merge::{Line, listing};
 use trace_model::NoMemory;
 
-/// As many bytes as the numbers of a line take at most, each with a space behind it.
+/// As many bytes as the numbers of a line take at most, each with a space after it.
 const FRONT: usize = 64;
 
 /// Puts the number in decimal and a space, so that they end here, and answers where they begin.
@@ -30,7 +30,7 @@ fn put_in_front(buffer: &mut [u8; FRONT], number: u64, end: usize) -> usize
     write_digits(number, buffer, end - 1)
 }
 
-/// The numbers of a line, with a space behind each.
+/// The numbers of a line, with a space after each.
 #[inline(always)]
 fn put_front(out: &mut Vec<u8>, line: &Line<'_>) -> Result<(), NoMemory>
     ensures text { OnOk result (out.new.items ≡ out.old.items ++ (decimal line.now.cpu.0

@@ -63,7 +63,7 @@ pub record WritesOutputPrefix (gives : List ℕ → List ℕ → ℕ → Type 0)
   pub output : IsOutput gives unread left bytes status
   pub written : AppendsPrefix contents contents_after bytes
 
--- at most MAX_INPUT bytes were read, and the line that tells that memory was refused was written
+-- at most MAX_INPUT bytes were read, and the line that reports the refusal of memory was written
 pub record WritesMemoryLine (unread left contents contents_after : Option (List ℕ)) : Type 0 where
   pub taken : TakesAtMost MAX_INPUT unread left
   pub written : Appends contents contents_after MEMORY_LINE
@@ -85,25 +85,25 @@ pub record IsCommandRun (gives : List ℕ → List ℕ → ℕ → Type 0)
     : Type 0 where
   -- of the source at most the limit and one chunk are read
   pub bounded : count_after ≤ count + MAX_INPUT + READ_CHUNK
-  -- no other exit status comes
+  -- there is no other exit status
   pub one_of : (status ≡ DONE) ⊎ (status ≡ REFUSED) ⊎ (status ≡ NO_MEMORY) ⊎ (status ≡ END_FAILED)
   -- 0 and 1: all of the source was read and all of an output for it was written, which has this status
   pub finished : (status ≡ DONE) ⊎ (status ≡ REFUSED) → WritesOutput gives unread left contents contents_after status
   -- 3, for refused memory: nothing but the line for that was written
   pub no_memory : status ≡ NO_MEMORY → WritesMemoryLine unread left contents contents_after
-  -- 4 comes wherever a read failed, and then nothing was written
+  -- 4 if a read failed, and then nothing was written
   pub read_fault : read_failed ≡ true → (status ≡ END_FAILED) × WritesNothing contents contents_after write_failed
-  -- and wherever a write failed, and then a beginning of what was to be written is there, and not all
+  -- and if a write failed, and then a beginning of what was to be written is there, and not all
   pub write_fault : write_failed ≡ true
       → (status ≡ END_FAILED)
       × (WritesOutputPrefix gives unread left contents contents_after
       ⊎ WritesMemoryPrefix unread left contents contents_after)
-  -- and wherever more was read than may be, of a source that had given nothing before, and then nothing was written
+  -- and if more was read than may be, of a source that had given nothing before, and then nothing was written
   pub long_fault : count ≡ 0 → MAX_INPUT < count_after
       → (status ≡ END_FAILED)
       × TakesMoreThan MAX_INPUT unread left count_after
       × WritesNothing contents contents_after write_failed
-  -- else 4 comes only where an output for the source has it, and then all of that was written
+  -- else 4 only if an output for the source has it, and then all of that was written
   pub end_fault : status ≡ END_FAILED
       → (read_failed ≡ true) ⊎ (write_failed ≡ true)
       ⊎ (TakesMoreThan MAX_INPUT unread left count_after × WritesNothing contents contents_after write_failed)

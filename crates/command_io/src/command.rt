@@ -1,5 +1,5 @@
-//! What every command does with its two ends: it reads all of its source, makes its output of that text
-//! as a whole, and writes it to the sink. Nothing is written before the output stands.
+//! What every command does with its two ends: it reads all of its source, makes its output of that text as a whole, and
+//! writes it to the sink. Nothing is written before the output is complete.
 ghost use Rattle.std.specs.Prelude.{◌≡◌, ℕ, ◌+◌, ◌<◌, ◌≤◌, ◌↔◌, ⊤, false, true, List, Err, IfOk};
 ghost use Rattle.std.specs.Io.KnownBytes.{Appends};
 ghost use Rattle.command_io.specs.CommandRun.{AppendsPrefix, IsCommandRun, IsOutput, TakesAtMost, TakesMoreThan};
@@ -22,7 +22,7 @@ pub trait Command {
     // What has to hold of it before, as that threads may share what it holds.
     ghost ready: { Self → Type 0 } = { λ _. ⊤ };
 
-    /// The output for a text. The text is handed over, so that it can be given back before the output is made.
+    /// The output for a text. The call owns the text, so that its memory can be given back before the output is made.
     fn output(&self, alloc: Global, text: Vec<u8>) -> Result<Output, NoMemory>
         requires { ready self.now }
         ensures { IfOk result (λ output. gives self.now text.items (bytes_of output) (status_of output)) };
@@ -54,7 +54,7 @@ fn output_for<C: Command, R: Source>(
     }
 }
 
-// Writes these bytes and gives this status, or 4 where a write fails.
+// Writes these bytes and gives this status, or 4 if a write fails.
 fn print<W: Sink>(writer: &mut W, bytes: &[u8], status: u8) -> u8
     requires { W.failed writer.old ≡ false }
     ensures written { W.failed writer.new ≡ false
@@ -69,8 +69,7 @@ fn print<W: Sink>(writer: &mut W, bytes: &[u8], status: u8) -> u8
     }
 }
 
-/// Tells that memory was refused: writes [`MEMORY_LINE`]. Gives the exit status 3, or 4 where a write
-/// fails.
+/// Reports that memory was refused: writes [`MEMORY_LINE`]. Gives the exit status 3, or 4 if a write fails.
 pub fn print_memory_line<W: Sink>(writer: &mut W) -> u8
     requires { W.failed writer.old ≡ false }
     ensures written { W.failed writer.new ≡ false
@@ -83,8 +82,8 @@ pub fn print_memory_line<W: Sink>(writer: &mut W) -> u8
     print(writer, &MEMORY_LINE, NO_MEMORY)
 }
 
-/// Reads all of the reader and writes the command's output for it. The exit status is the output's, 3
-/// where memory was refused, and 4 where a read or a write failed or the input was too long.
+/// Reads all of the reader and writes the command's output for it. The exit status is the output's, 3 if memory was
+/// refused, and 4 if a read or a write failed or the input was too long.
 pub fn run_command<C: Command, R: Source, W: Sink>(
     command: &C,
     alloc: Global,

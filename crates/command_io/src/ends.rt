@@ -15,15 +15,15 @@ use std::io::{Read, Write};
 
 /// What a command reads from.
 pub trait Source {
-    // The bytes that it has not given yet, where they are known.
+    // The bytes that it has not given yet, if they are known.
     ghost remaining: { Self → Option (List ℕ) };
     // Whether a read has failed so far.
     ghost failed: { Self → Bool };
     // How many bytes it has given so far; the count stops at 2^64 - 1.
     ghost count: { Self → ℕ };
 
-    /// Reads some bytes into the front of `buf` and answers how many: 0 at the end, or for an
-    /// empty `buf`. Behind a read that failed there is no other.
+    /// Reads some bytes into the beginning of `buf` and returns their number: 0 at the end, or for an empty `buf`.
+    /// After a read that failed there is no other.
     fn read(&mut self, buf: &mut [u8]) -> io::Result<usize>
         requires { failed self.old ≡ false }
         ensures bound { ReadsAtMost result buf.new }
@@ -34,13 +34,13 @@ pub trait Source {
 
 /// What a command writes to.
 pub trait Sink {
-    // The bytes that it has taken, where they are known.
+    // The bytes that it has taken, if they are known.
     ghost contents: { Self → Option (List ℕ) };
     // Whether a write has failed so far.
     ghost failed: { Self → Bool };
 
-    /// Takes some bytes from the front of `buf` and answers how many. Taking none of one or more
-    /// bytes is a failure, as an `Err` is. Behind a write that failed there is no other.
+    /// Takes some bytes from the beginning of `buf` and returns their number. Taking none of one or more bytes is a
+    /// failure, as an `Err` is. After a write that failed there is no other.
     fn write(&mut self, buf: &[u8]) -> io::Result<usize>
         requires { failed self.old ≡ false }
         ensures bound { WritesAtMost result buf.now }

@@ -49,8 +49,8 @@ impl Output {
 #[derive(Clone, Copy, Debug, PartialEq, Eq)]
 pub struct OutputFault;
 
-/// Writes the whole text, in order. After a fault a beginning of it is written, and not all; nothing
-/// more is written behind the first fault.
+/// Writes the whole text, in order. After a fault a beginning of it is written, and not all; nothing more is written
+/// after the first fault.
 pub fn write_all<W: Sink>(writer: &mut W, text: &[u8]) -> Result<(), OutputFault>
     requires { W.failed writer.old ≡ false }
     ensures all { OnOk result (Appends (W.contents writer.old) (W.contents writer.new) text.now) }

@@ -21,7 +21,7 @@ name_of_matches app words m same has =
     let named : subcommand_name_of m ≡ name (subcommand_rows_of m) = elim (out-ArgMatches m).subcommand as (λ found. option_map (λ b. (out-SubCommand (box_value b)).name.now) found ≡ option_map (λ p. p.0) (subcommand_rows found)) [ None ↦ refl | Some found ↦ refl ] in
     named ∙ ap name ((has (ap is_simple same)).1) ∙ ap (λ (a : App). name (subcommand_of a words)) same
 
--- they have the flag that stands among the words
+-- they have the flag that is among the words
 pub flag_of_matches : (app : App) (words : List Text) (m : ArgMatches) → app ≡ command_line → HasMatchesOf app words m → flag_text (subcommand_rows_of m) ≡ log_text words
 unfolding log_text
 flag_of_matches app words m same has =

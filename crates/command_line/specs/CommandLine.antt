@@ -38,7 +38,7 @@ names_command words = option_map (λ p. p.0) (subcommand_of command_line words)
 abbrev pub flag_text : Option (Text × List Row) → Option Text
 flag_text matched = option_and_then (λ p. one_of (codes "log") p.1) matched
 
--- whether `--log` stands among the words behind the command, as text: `true` or `false`
+-- whether `--log` is among the words after the command, as text: `true` or `false`
 unfoldable pub log_text : List Text → Option Text
 log_text words = flag_text (subcommand_of command_line words)
 
@@ -48,8 +48,8 @@ name_of (Replay log) = codes "replay"
 name_of Run = codes "run"
 name_of Dump = codes "dump"
 
--- What the program makes of its words: the command and the flag that the parse finds, where it accepts the
--- words; else, or where it finds no command, the usage line. Memory is refused at any of them.
+-- What the program makes of its words: the command and the flag that the parse finds, if it accepts the words; if it
+-- doesn't, or finds no command, the usage line. Memory is refused at any of them.
 pub record IsCallOf (words : List Text) (result : Result Call CallFault) : Type 0 where
   pub accepted : (call : Call) → result ≡ Ok call → IsAccepted words
   pub named : (call : Call) → result ≡ Ok call → names_command words ≡ Some (name_of call)

@@ -11,7 +11,7 @@ use std::alloc::AllocError;
 /// What the command line asks for.
 #[derive(Clone, Copy, Debug, PartialEq, Eq)]
 pub enum Call {
-    /// `tracering replay`, with the log where `--log` is given.
+    /// `tracering replay`, with the log if `--log` is given.
     Replay { log: bool },
     /// `tracering run`.
     Run,

@@ -60,7 +60,7 @@ fn parse_words<S: AsStr>(alloc: Global, words: &[S]) -> Result<Call, CallFault>
 
 /// What these words ask for. The first is the program's own name, whatever it is.
 pub fn call_of<S: AsStr>(alloc: Global, words: &[S]) -> Result<Call, CallFault>
-    // Memory aside, it is what the parse of the words finds.
+    // Except that memory may be refused, it is what the parse of the words finds.
     ensures call { IsCallOf (map S.text words.now) result }
 
     // Such as the words of the program, its command and the flag.

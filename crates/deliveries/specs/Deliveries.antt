@@ -14,7 +14,7 @@ AreRising parcels = (j k : ℕ) (earlier later : Parcel)
     → slice_get parcels k ≡ Some later
     → earlier.fill < later.fill
 
--- what a collector keeps behind a parcel that was added: the parcel too, where it adds something
+-- what a collector keeps after a parcel was added: the parcel too, if it adds something
 abbrev pub Adds : Added → (old : List Parcel) → Parcel → (new : List Parcel) → Type 0
 Adds New old parcel new = (IsBelow (parcel ∷ []) old → ⊥) × (new ≡ old ++ parcel ∷ [])
 Adds Known old parcel new = IsBelow (parcel ∷ []) old × (new ≡ old)

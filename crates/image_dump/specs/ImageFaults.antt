@@ -14,8 +14,8 @@ word_fault_text (Cut at) = image_fault_text (bad_word cut at)
 word_fault_text (BadLength at) = image_fault_text (bad_word bad_length at)
 word_fault_text (TimeOverflow at) = image_fault_text (bad_word time_overflow at)
 
--- The text of a fault, what stands around it in its line aside. That memory was refused is no fault of the
--- image, and has no such text.
+-- The text of a fault, without the rest of its line. The refusal of memory is no fault of the image, and has no such
+-- text.
 abbrev pub reader_fault_text : ImageFault → List ℕ
 reader_fault_text TooShort = image_fault_text too_short
 reader_fault_text BadSize = image_fault_text bad_size

@@ -27,7 +27,7 @@ fn put_missed(out: &mut Vec<u8>, missed: Missed) -> Result<(), NoMemory>
     Ok(())
 }
 
-/// The line of a record as it stands in its page.
+/// The line of a record as it is in its page.
 fn put_entry(out: &mut Vec<u8>, entry: Entry) -> Result<(), NoMemory>
     ensures { OnOk result (out.new.items ≡ out.old.items ++ printed_image_record (told entry.entry).1) }
 {
@@ -69,7 +69,7 @@ pub(crate) fn print_image(alloc: Global, image: &Image) -> Result<Vec<u8>, NoMem
     Ok(text)
 }
 
-/// What is wrong, and the offset of the word where it is.
+/// What is wrong, and the offset of the word that is wrong.
 fn put_with_offset(out: &mut Vec<u8>, name: &[u8], at: usize) -> Result<(), NoMemory>
     ensures { OnOk result (out.new.items ≡ out.old.items ++ (name.now ++ codes " at " ++ decimal at)) }
 {
@@ -90,7 +90,7 @@ fn put_word_fault(out: &mut Vec<u8>, fault: WordFault) -> Result<(), NoMemory>
     Ok(())
 }
 
-/// What is wrong with an image. That memory was refused isn't, and gives `NoMemory`.
+/// The fault of an image. The refusal of memory is none, and gives `NoMemory`.
 fn put_image_fault(out: &mut Vec<u8>, fault: ImageFault) -> Result<(), NoMemory>
     ensures text { OnOk result (out.new.items ≡ out.old.items ++ reader_fault_text fault) }
     ensures no_memory { OnOk result (fault ≢ ImageFault.NoMemory) }
@@ -105,7 +105,7 @@ fn put_image_fault(out: &mut Vec<u8>, fault: ImageFault) -> Result<(), NoMemory>
     Ok(())
 }
 
-/// The line that tells an image's fault. There is none for refused memory, which gives `NoMemory`.
+/// The line that states an image's fault. There is none for refused memory, which gives `NoMemory`.
 pub(crate) fn print_image_fault(alloc: Global, fault: ImageFault) -> Result<Vec<u8>, NoMemory>
     ensures text { IfOk result (λ line.
         line.items ≡ codes "image: " ++ reader_fault_text fault ++ 10 ∷ []) }

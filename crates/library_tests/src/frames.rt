@@ -1,4 +1,4 @@
-//! What a stack does by itself, which no exchange with a ring can tell: the rows of a ring are in the text that
+//! What a stack does by itself, which no exchange with a ring can show: the rows of a ring are in the text that
 //! `ring_rows` reads.
 ghost use Rattle.std.specs.Prelude.{IfOk};
 ghost use Rattle.nested_writer.specs.IsStack.{Stands};
@@ -26,7 +26,7 @@ fn nothing_is_written_under_a_frame(rt: HostRuntime) -> Result<(), Fail> {
     Ok(())
 }
 
-/// A record that is written alone leaves no frame, so that the next one is written too; a frame can stand again then.
+/// A record that is written alone leaves no frame, so that the next one is written too; a frame can be put back then.
 #[test]
 fn a_record_written_alone_leaves_no_frame(rt: HostRuntime) -> Result<(), Fail> {
     let mut stack = WriterStack::new(rt.alloc(), 2, 32)?;

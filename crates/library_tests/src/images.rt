@@ -1,4 +1,4 @@
-//! Images written and read, with their bytes written out: the header on one line, what stands behind it on the next.
+//! Images written and read, with their bytes written out: the header on one line, the bytes after it on the next.
 ghost use Rattle.std.specs.Prelude.{IfOk};
 ghost use Rattle.page_image.specs.Contents.{IsPage};
 
@@ -8,8 +8,8 @@ use std::process::Abort;
 use std::test::Fail;
 use trace_model::{FillNo, MAX_IMAGE, MAX_SIZE, MIN_SIZE, MOMENT_LIMIT, NoMemory, RecordNo};
 
-/// The size of a page, the moment and the payload of its one record, how many events were missed in front of it, what
-/// its image tells of them, and the image.
+/// The size of a page, the moment and the payload of its one record, how many events were missed before it, what its
+/// image states of them, and the image.
 const IMAGES: &[(usize, u64, &[u8], u64, Missed, &[u8])] = &[
     (
         32,
@@ -59,7 +59,7 @@ fn page_of(
     Ok(page)
 }
 
-/// Compares the reading of these bytes with a page, and with what is told of missed events.
+/// Compares the reading of these bytes with a page, and with what is stated of missed events.
 fn compare(
     rt: &(impl Abort + AllocGlobal),
     bytes: &[u8],

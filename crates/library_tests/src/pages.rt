@@ -18,14 +18,14 @@ const ROOM: usize = 256;
 #[derive(Clone, Copy)]
 struct Given(u64, &'static [u8]);
 
-/// Writes a payload at the front of its slot.
+/// Writes a payload at the beginning of its slot.
 fn write(slot: &mut [u8], payload: &[u8])
     requires { length payload.now ≤ length slot.old }
 {
     slot[..payload.len()].copy_from_slice(payload);
 }
 
-/// Adds a record behind one of moment `prev`, and writes its payload.
+/// Adds a record after one of moment `prev`, and writes its payload.
 fn add(rt: &impl Abort, page: &mut Page, prev: u64, given: Given)
     requires page { IsPage page.old }
     requires last { IfSome (moment_of_last (records_of_page page.old)) (λ last. last ≡ prev) }
@@ -80,7 +80,7 @@ const FAR_APART: &[Given] = &[Given(3, b"\x11\x22\x33\x44\x55"), Given(134_217_7
 const FAR_APART_DATA: &[u8] = b"\x02\0\0\0\x11\x22\x33\x44\x55\0\0\0\
     \x7e\0\0\0\x01\0\0\0\x01\0\0\0\0\0\0\0";
 
-/// Compares what the page of those records tells of itself.
+/// Compares what the page of those records states of itself.
 fn compare(rt: &impl Abort, page: &Page, size: usize) {
     assert!(rt; page.data() == FAR_APART_DATA);
     assert!(rt; page.time() == 3 && page.end() == 28 && page.count() == 2 && page.size() == size);

@@ -8,7 +8,7 @@ use trace_model::MOMENT_LIMIT;
 /// How long the buffer is that a record is put into, in bytes.
 const ROOM: usize = 128;
 
-/// The delta of a record, whether it is the first of its page, the length of its payload, the bytes in front of that,
+/// The delta of a record, whether it is the first of its page, the length of its payload, the bytes before the payload,
 /// and how many bytes the record takes.
 const RECORDS: &[(u64, bool, usize, &[u8], usize)] = &[
     (5, false, 4, b"\xa1\0\0\0", 8),
@@ -19,7 +19,7 @@ const RECORDS: &[(u64, bool, usize, &[u8], usize)] = &[
     (134_217_731, true, 4, b"\x01\0\0\0", 8),
 ];
 
-/// Compares the bytes in front of a record's payload.
+/// Compares the bytes before a record's payload.
 fn compare(rt: &impl Abort, out: &[u8], head: &[u8]) {
     assert!(rt; head.len() <= out.len());
     assert!(rt; &out[..head.len()] == head);

@@ -58,7 +58,7 @@ module _ (old now next : LineWriter) where
 
 -- ---- the line at a place
 
--- the line of one of the places, and what it is behind
+-- the line of one of the places, with which the lines before it continue
 pub record IsNextLine (commands : List (ℕ × Command)) (lines : List Command) (index place : ℕ) : Type 0 where
   pub line : Command
   pub at : IsLineAt commands place line

@@ -1,7 +1,6 @@
 -- The lists of places, one line after the other.
 use Rattle.std.proofs.Common.{◌≡◌, ℕ, ◌+◌, ◌<◌, Bool, true, false, List, [], ◌∷◌, ◌++◌, take, Some, None, refl, sym, ap, ◌∙◌, subst, append-nil}
-use Rattle.std.specs.Prelude.{if◌then◌else◌, nat_eq, slice_set, Vec}
-use Rattle.std.specs.declared.alloc.Global.{Global}
+use Rattle.std.specs.Prelude.{if◌then◌else◌, nat_eq, slice_set}
 use Rattle.std.specs.List.{slice_get, AllZip}
 use Rattle.std.proofs.lemmas.Bool.{eq-eqb, ne_eqb}
 use Rattle.std.proofs.lemmas.List.{take_more}
@@ -101,24 +100,24 @@ module _ (commands : List (ℕ × Command)) (index : ℕ) (line : ℕ × Command
       subst (AllZip (IsLineAt commands) (places ++ index ∷ [])) (sym next)
       (all_zipped_more (IsLineAt commands) places (Lines cpu) index line.1 are (line.0, at))
 
-  pub none_more : (lists : List (Vec ℕ Global))
+  pub none_more : (lists : List (List ℕ))
       → IsWriterOf line.1 None
       → ArePlaced commands index lists
       → ArePlaced commands (index + 1) lists
-  none_more lists of are = λ cpu places here. stays cpu places.items (of cpu) (are cpu places here)
+  none_more lists of are = λ cpu places here. stays cpu places (of cpu) (are cpu places here)
 
-  pub one_more : (lists : List (Vec ℕ Global)) (of : CpuId) (old new : Vec ℕ Global)
+  pub one_more : (lists : List (List ℕ)) (of : CpuId) (old new : List ℕ)
       → IsWriterOf line.1 (Some of)
       → slice_get lists of.0 ≡ Some old
-      → new.items ≡ old.items ++ index ∷ []
+      → new ≡ old ++ index ∷ []
       → ArePlaced commands index lists
       → ArePlaced commands (index + 1) (slice_set lists of.0 new)
   one_more lists of old new is there more are = λ cpu places here. dite (ℕ_discrete cpu of.0)
       (λ e. let now : new ≡ places = some_is new places
       (sym (get_set_here lists of.0 new (slice_get_within lists of.0 old there))
       ∙ subst (λ (k : ℕ). slice_get (slice_set lists of.0 new) k ≡ Some places) e here) in
-      subst (λ (l : List ℕ). AllZip (IsLineAt commands) l (More cpu)) (sym more ∙ ap (λ (v : Vec ℕ Global). v.items) now)
-      (grows cpu old.items (is cpu ∙ eq-eqb of.0 cpu (sym e))
+      subst (λ (l : List ℕ). AllZip (IsLineAt commands) l (More cpu)) (sym more ∙ now)
+      (grows cpu old (is cpu ∙ eq-eqb of.0 cpu (sym e))
       (are cpu old (ap (slice_get lists) e ∙ there))))
-      (λ ne. stays cpu places.items (is cpu ∙ ne_eqb of.0 cpu (λ e. ne (sym e)))
+      (λ ne. stays cpu places (is cpu ∙ ne_eqb of.0 cpu (λ e. ne (sym e)))
       (are cpu places (sym (get_set_other lists of.0 cpu new ne) ∙ here)))

@@ -77,7 +77,7 @@ module _ (shape : Shape) (before : Writing) (result : Answer) (after : Writing) 
       (closing_of shape.pages shape.size shape.start c.answer (writer_in before) (writer_in after)
       (call_of shape before pushes_close result after c))
 
--- ---- what the answer tells
+-- ---- what the answer means
 
 told_pushed : (size : ℕ) (a : Answer) (told : model.Answer) → Tells size a told → told ≡ pushed → a ≢ answer.Pushed → ⊥
 told_pushed size answer.Pushed told t is not = not refl
@@ -96,7 +96,7 @@ told_pushed size (answer.Wished fill) told t is not = let z : ⊥ = cc in z
 pushed_told : (size : ℕ) (a : Answer) (told : model.Answer) → Tells size a told → a ≡ answer.Pushed → told ≡ pushed
 pushed_told size a told t is = subst (λ (x : Answer). Tells size x told) is t
 
--- ---- the writer behind it
+-- ---- the writer after it
 
 module _ (old : LineWriter) (is : IsLineWriter old) (v : WriterValue) (event : Event) (payload : List ℕ)
     (result : Answer) (makes : MakesSome old.writer event result v)

@@ -61,7 +61,7 @@ pub record CallsTop (old new : LineWriter) : Type 0 where
 
 -- ---- lines
 
--- so many calls, of this kind, lead from one to the other
+-- calls of this kind, some or none, lead from one to the other
 pub record Makes
     (calls : (n size start : ℕ) → Writer → List (List ℕ) → Writer → List (List ℕ) → Type 0) (old new : LineWriter)
     : Type 0 where

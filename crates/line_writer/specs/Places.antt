@@ -1,6 +1,5 @@
--- Whose line a command is, and where the lines of each CPU's writer stand among the commands.
-use Rattle.std.specs.Prelude.{◌≡◌, ℕ, nat_eq, false, List, take, Option, Some, None, Vec}
-use Rattle.std.specs.declared.alloc.Global.{Global}
+-- Whose line a command is, and where the lines of each CPU's writer are among the commands.
+use Rattle.std.specs.Prelude.{◌≡◌, ℕ, nat_eq, false, List, take, Option, Some, None}
 use Rattle.std.specs.List.{slice_get, AllZip}
 use Rattle.trace_model.specs.declared.numbers.CpuId.{CpuId}
 use Rattle.script_model.specs.Script.{Command}
@@ -13,8 +12,8 @@ abbrev pub IsWriterOf : Command → Option CpuId → Type 0
 IsWriterOf command None = (cpu : ℕ) → writer_line cpu command ≡ false
 IsWriterOf command (Some of) = (cpu : ℕ) → writer_line cpu command ≡ nat_eq of.0 cpu
 
--- each CPU's list has the places of its writer lines among so many of the commands
-abbrev pub ArePlaced : List (ℕ × Command) → (count : ℕ) → List (Vec ℕ Global) → Type 0
-ArePlaced commands count lists = (cpu : ℕ) (places : Vec ℕ Global)
+-- each CPU's list has the places of its writer lines among the first `count` commands
+abbrev pub ArePlaced : List (ℕ × Command) → (count : ℕ) → List (List ℕ) → Type 0
+ArePlaced commands count lists = (cpu : ℕ) (places : List ℕ)
     → slice_get lists cpu ≡ Some places
-    → AllZip (IsLineAt commands) places.items (writer_lines cpu (commands_of (take count commands)))
+    → AllZip (IsLineAt commands) places (writer_lines cpu (commands_of (take count commands)))

@@ -1,4 +1,4 @@
--- The calls for a frame, amid them.
+-- A part of the calls for a frame.
 use Rattle.std.specs.Prelude.{◌≡◌, ℕ, ◌-◌, ◌≤◌, List, length}
 use Rattle.trace_model.specs.Steps.{Exchange}
 use Rattle.line_model.specs.WriterCalls.{TopCalls}
@@ -6,7 +6,7 @@ use Rattle.ring_shared.specs.Value.{SameWriter}
 use Rattle.line_writer.specs.declared.frames.LineWriter.{LineWriter}
 use Rattle.line_writer.specs.LineWriters.{writer_in, payloads_of, IsLineWriter}
 
--- so many calls were made for the frame that was on top of so many
+-- `count` calls were made for the frame that was on top of a stack of `depth` frames
 pub record IsAmid (depth count : ℕ) (old new : LineWriter) : Type 0 where
   pub is : IsLineWriter new
   pub same : SameWriter old.writer new.writer

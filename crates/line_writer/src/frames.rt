@@ -14,7 +14,7 @@ fn is_pushed(answer: Answer) -> bool
     matches!(answer, Answer::Pushed)
 }
 
-/// Puts the payload to the front of the slot, and zeros behind it.
+/// Puts the payload to the beginning of the slot, and zeros after it.
 fn put_padded(slot: &mut [u8], payload: &[u8])
     requires { length payload.now ≤ length slot.old }
     ensures { slot.new ≡ payload.now ++ replicate (length slot.old - length payload.now) 0 }
@@ -28,7 +28,7 @@ fn put_padded(slot: &mut [u8], payload: &[u8])
 #[derive(Drop)]
 pub(crate) struct LineWriter<'a> {
     pub(crate) writer: Writer,
-    /// Those of frames that are popped are left behind.
+    /// Those of frames that are popped aren't removed.
     payloads: [&'a [u8]; MAX_FRAMES],
 }
 
@@ -89,7 +89,7 @@ impl<'a> LineWriter<'a> {
         true
     }
 
-    /// A record of this moment and payload is written whole, above the frames that stand; or it is refused, and no
+    /// A record of this moment and payload is written whole, above the frames on the stack; or it is refused, and no
     /// frame of it is left.
     #[inline(always)]
     pub(crate) fn write_whole(&mut self, moment: u64, payload: &[u8])

@@ -11,8 +11,10 @@ mod gate;
 mod lines;
 mod obeying;
 mod passing;
+mod places;
 
 pub use end::WriterEnd;
 pub use gate::{Gate, OpenGate, Who};
 pub use lines::lines_by_cpu;
 pub use obeying::obey_lines;
+pub use places::Places;

@@ -1,11 +1,11 @@
 //! Which lines of a script are those of a CPU's writer.
-ghost use Rattle.std.specs.Prelude.{◌≡◌, ℕ, [], Vec, vec_len, Some, IfOk, All};
-ghost use Rattle.std.specs.declared.alloc.Global.{Global};
+ghost use Rattle.std.specs.Prelude.{◌≡◌, ℕ, List, [], vec_len, Some, IfOk, All};
 ghost use Rattle.std.specs.List.{slice_get};
 ghost use Rattle.trace_script.specs.ScriptTypes.{shown_command};
 ghost use Rattle.line_writer.specs.Obeying.{AreLinesOf};
 ghost use Rattle.line_writer.specs.Places.{IsWriterOf};
 
+use crate::places::Places;
 use std::alloc::Global;
 use trace_model::{CpuId, NoMemory};
 use trace_script::{Command, Script};
@@ -27,23 +27,23 @@ fn writer_of(command: Command) -> Option<CpuId>
     }
 }
 
-/// So many lists without places.
-fn new_lists(alloc: Global, count: usize) -> Result<Vec<Vec<usize>>, NoMemory>
+/// `count` lists without places.
+fn new_lists(alloc: Global, count: usize) -> Result<Vec<Places>, NoMemory>
     ensures count { IfOk result (λ lists. vec_len lists ≡ count) }
-    ensures new { IfOk result (λ lists. All (λ places. places.items ≡ []) lists.items) }
+    ensures new { IfOk result (λ lists. All (λ places. places ≡ []) lists.items) }
 {
     let mut lists = Vec::new(alloc);
     while lists.len() < count {
-        lists.push(Vec::new(alloc))?;
+        lists.push(Places::new(alloc))?;
     }
     Ok(lists)
 }
 
 /// For each CPU the places of its writer lines among the script's commands, in order.
-pub fn lines_by_cpu(alloc: Global, script: &Script) -> Result<Vec<Vec<usize>>, NoMemory>
+pub fn lines_by_cpu(alloc: Global, script: &Script) -> Result<Vec<Places>, NoMemory>
     ensures count { IfOk result (λ lists. vec_len lists ≡ script.now.cpus) }
-    ensures lines { IfOk result (λ lists. (cpu : ℕ) (places : Vec ℕ Global)
-        → slice_get lists.items cpu ≡ Some places → AreLinesOf cpu script.now.commands places.items) }
+    ensures lines { IfOk result (λ lists. (cpu : ℕ) (places : List ℕ)
+        → slice_get lists.items cpu ≡ Some places → AreLinesOf cpu script.now.commands places) }
 {
     let mut lists = new_lists(alloc, script.cpus() as usize)?;
     let commands = script.commands();

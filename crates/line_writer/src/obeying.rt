@@ -12,6 +12,7 @@ ghost use Rattle.line_writer.specs.Obeying.{AreLinesOf, Obeys};
 use crate::end::WriterEnd;
 use crate::frames::LineWriter;
 use crate::gate::Gate;
+use crate::places::Places;
 use trace_model::{CpuId, FillNo};
 use trace_script::{Command, Script};
 
@@ -55,7 +56,7 @@ fn obey_line<'a, G: Gate>(
 fn obey_places<'a, G: Gate>(
     lane: &mut LineWriter<'a>,
     script: &'a Script,
-    places: &[usize],
+    places: &Places,
     cpu: CpuId,
     gate: &G,
 ) -> Result<(), FillNo>
@@ -65,19 +66,20 @@ fn obey_places<'a, G: Gate>(
     ensures shut { IfErr result (λ fill. G.answers gate.now who.Writer cpu.0 fill.0 false) }
 {
     let commands = script.commands();
-    for place in places {
-        obey_line(lane, gate, cpu, commands.line(*place).command)?;
+    for index in 0..places.len() {
+        let place = places.place(index);
+        obey_line(lane, gate, cpu, commands.line(place).command)?;
     }
     Ok(())
 }
 
-/// Obeys the lines of a CPU's writer, which stand at these places of the script, on a new ring; then finishes the
-/// frames that are left, the top one first. After each fill that the writer closes, the gate is asked: the fill at
-/// which it didn't let the writer pass ends this at once.
+/// Obeys the lines of a CPU's writer, which are at these places of the script, on a new ring; then finishes the frames
+/// that are left, the top one first. After each fill that the writer closes, the gate is asked: the fill at which it
+/// didn't let the writer pass ends this at once.
 pub fn obey_lines<G: Gate>(
     end: WriterEnd,
     script: &Script,
-    places: &[usize],
+    places: &Places,
     cpu: CpuId,
     gate: &G,
 ) -> Result<WriterEnd, FillNo>

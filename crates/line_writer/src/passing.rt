@@ -9,7 +9,7 @@ impl<'a> LineWriter<'a> {
     ghost use Rattle.line_writer.specs.declared.gate.Who.TheVariants as who;
     ghost use Rattle.line_writer.specs.LineWriters.{IsLineWriter, CallsTop, MakesLine, FinishesRest};
 
-    /// Asks the gate for each fill that was closed since so many were: the first one at which it is shut.
+    /// Asks the gate for each fill that was closed since `done` were: the first one at which it is shut.
     #[inline(always)]
     fn pass_closed<G: Gate>(&self, gate: &G, cpu: CpuId, done: u64) -> Result<(), FillNo>
         ensures { IfErr result (λ fill. G.answers gate.now who.Writer cpu.0 fill.0 false) }
@@ -35,7 +35,7 @@ impl<'a> LineWriter<'a> {
         self.pass_closed(gate, cpu, done)
     }
 
-    /// A line `s`: at most so many calls for the frame on top, as long as it is on the stack.
+    /// A line `s`: at most `count` calls for the frame on top, as long as it is on the stack.
     pub(crate) fn step<G: Gate>(&mut self, gate: &G, cpu: CpuId, count: u64) -> Result<(), FillNo>
         requires is { IsLineWriter self.old }
         requires some { 1 ≤ count }

@@ -138,7 +138,7 @@ crowded_right n size c event after step = refusal_true n size c event (refused c
 pub worn_right : (n size start : ℕ) (c : Core) (event : Event) (after : Core) → IsRingKept n size start c → Step n size c event (refused worn) after → (c.opened + n ≡ LINK_FILLS) × (c.opened ≡ c.done + n → ⊥)
 worn_right n size start c event after r step = let (last, some) = refusal_true n size c event (refused worn) after step in let fits = r.links.fits in (omega arith, some)
 
--- the HEADER is owed by a move that stands
+-- the HEADER is still to be stored by a move of the head that is not finished
 owed_by : (n : ℕ) (links : List Link) (order : List ℕ) (head : ℕ) (frames : List Frame) (f page fill : ℕ) → LinkKept n links order head frames f → link_into n links f ≡ normal_link page fill → f ≡ head → (lost : ℕ) × (suc lost ≡ head) × Stands frames (lost + n)
 owed_by n links order head frames f page fill (is_normal e owed) at here = owed here
 owed_by n links order head frames f page fill (is_header e is) at here = absurd (normal_ne_header page fill (page_at n order f) f (sym at ∙ e))
@@ -148,7 +148,7 @@ module _ (n size start : ℕ) (c : Core) (r : IsRingKept n size start c) where
   pub passed_below : (f : ℕ) → f ≤ c.head → ArePassed n start c f
   passed_below f le g low high = (is_ring n size start c r).lost g low (omega arith)
 
-  -- a move of the head that stands is in the reader's way
+  -- an unfinished move of the head is in the reader's way
   in_the_way : (lost fill : ℕ) → Stands c.frames (lost + n) → fill ≤ c.head → c.reader.hint ≤ fill → IsInTheWay n start c fill
   in_the_way lost fill st le low = let (u, sum, below, open_yet, at) = owned_by n c r.links (lost + n) st in
       let same : u ≡ lost = omega arith in record {

@@ -15,7 +15,7 @@ link_stays n links order head frames frames' f stays (is_normal e owed) = is_nor
 link_stays n links order head frames frames' f stays (is_header e here) = is_header e here
 link_stays n links order head frames frames' f stays (is_update lost sum e st) = is_update lost sum e (stays f st)
 
--- other frames, in which the same UPDATEs stand
+-- other frames, which own the same UPDATEs
 pub restacked : (n : ℕ) (c : Core) (frames : List Frame) (held : List Held) (history : List Action) → LinksKept n c → FramesKept n c.links c.order c.head c.done c.opened frames → MoversDiffer frames
     → ((f : ℕ) → Stands c.frames f → Stands frames f)
     → LinksKept n (record c { frames = frames; held = held; history = history })
@@ -64,7 +64,7 @@ module _ (n : ℕ) (c : Core) (frame : Frame) (below : List Frame) (k : LinksKep
   pub popped : (held : List Held) (history : List Action) → owned_update frame.phase ≡ None → LinksKept n (record c { frames = below; held = held; history = history })
   popped held history none = restacked n c below held history k below_kept below_differ (λ f st. ⊎_elim (λ at. absurd (none_some (sym none ∙ at))) (λ b. b) (stands_top f st))
 
--- what a frame that has left knows, where it closes fills or looks for a wish
+-- what a frame that has left knows, if it closes fills or looks for a wish
 pub knows_closing : (n : ℕ) (c : Core) → LinksKept n c → PhaseKept n c.links c.order c.head c.done c.opened (closing_phase c)
 knows_closing n c k = let behind = k.done_lt in
     cond_both ((c.done + 1) == c.opened) wishing releasing (PhaseKept n c.links c.order c.head c.done c.opened)

@@ -1,4 +1,4 @@
--- A frame that nothing interrupts comes to its end: each of its steps lowers its rank.
+-- A frame that nothing interrupts has an end: each of its steps lowers its rank.
 use Rattle.std.proofs.Common.{◌≡◌, ◌≢◌, ℕ, suc, ◌+◌, ◌-◌, ◌*◌, ◌<◌, ◌≤◌, Bool, true, false, List, [], ◌∷◌, ◌++◌, length, get_or, Option, Some, None, refl, sym, ap, ◌∙◌, subst, arith, length-append}
 use Rattle.std.specs.Prelude.{if◌then◌else◌, ◌==◌}
 use Rattle.std.proofs.lemmas.Bool.{cond_both, eq-eqb, eqb-true, ne_eqb}
@@ -67,7 +67,7 @@ opened_tail h =
     ∙ ap (λ (k : ℕ). get_or (cut_from 0 (cuts ++ length xs ∷ []) xs) k []) (let long = length-append cuts (length xs ∷ []) in let e : length (cuts ++ length xs ∷ []) ≡ suc (length cuts) = omega arith in e)
     ∙ opened_last 0 cuts xs
 
--- ---- a frame that leaves, or begins anew
+-- ---- a frame that leaves, or begins again
 
 leave_le : (n : ℕ) (c : Core) (frame : Frame) (below : List Frame) (payload : Option (List ℕ)) → length (after_leave c frame below payload).frames ≡ suc (length below) → frame_rank n (after_leave c frame below payload) ≤ 3 * (c.opened - c.done) + (wish_rank c + 1)
 leave_le n c frame [] payload same = let low = closing_le n c left in
@@ -77,7 +77,7 @@ leave_le n c frame [] payload same = let low = closing_le n c left in
     closing n c le = cond_both ((c.done + 1) == c.opened) wishing releasing (λ (p : Phase). 3 * (c.opened - c.done) + phase_rank n (after_leave c frame [] payload) left p ≤ 3 * (c.opened - c.done) + (wish_rank c + 1)) (λ _. omega arith) (λ _. omega arith)
 leave_le n c frame (next ∷ below) payload same = absurd (let wrong : suc (length below) ≡ suc (suc (length below)) = same in omega arith)
 
--- what a frame that begins anew has before it, where an idle one has at most i, and one that closes fills at most w
+-- what a frame that begins again has before it, if an idle one has at most i, and one that closes fills at most w
 abbrev pub anew_rank : ℕ → ℕ → FrameState → ℕ
 anew_rank i w waiting = i
 anew_rank i w (reserved number) = 15

@@ -1,4 +1,4 @@
--- What a frame knows in its phase: how it comes to know it, and that it stays so where links are set.
+-- What a frame knows in its phase: how it gets to know it, and that it stays so if links are set.
 use Rattle.std.proofs.Common.{◌≡◌, ◌≢◌, ℕ, suc, ◌+◌, ◌%◌, ◌<◌, ◌≤◌, List, [], ◌∷◌, length, get_or, set, Option, Some, None, refl, sym, ap, ◌∙◌, subst, inl, inr, arith}
 use Rattle.std.specs.Prelude.{unwrap_or}
 use Rattle.std.proofs.lemmas.List.{get_or-set_other}
@@ -202,7 +202,7 @@ pub map_frames : (n : ℕ) (links links' : List Link) (order order' : List ℕ) 
 map_frames n links links' order order' head head' done done' opened opened' [] step k = tt
 map_frames n links links' order order' head head' done done' opened opened' (frame ∷ below) step k = (step frame.phase k.0, map_frames n links links' order order' head head' done done' opened opened' below step k.1)
 
--- the same, where none of the frames has set the UPDATE at the position of fill f
+-- the same, if none of the frames has set the UPDATE at the position of fill f
 pub map_others : (n : ℕ) (links links' : List Link) (order order' : List ℕ) (head head' done done' opened opened' f : ℕ) (frames : List Frame)
     → (Stands frames f → ⊥)
     → ((phase : Phase) → (owned_update phase ≡ Some f → ⊥) → PhaseKept n links order head done opened phase → PhaseKept n links' order' head' done' opened' phase)
@@ -212,13 +212,13 @@ map_others n links links' order order' head head' done done' opened opened' f []
 map_others n links links' order order' head head' done done' opened opened' f (frame ∷ below) none step k =
     (step frame.phase (λ is. none (inl is)) k.0, map_others n links links' order order' head head' done done' opened opened' f below (λ st. none (inr st)) step k.1)
 
--- an UPDATE that stands is one of the frames' own
+-- an UPDATE that is set is one of the frames' own
 pub stands_owned : (n : ℕ) (links : List Link) (order : List ℕ) (head done opened : ℕ) (frames : List Frame) (f : ℕ) → FramesKept n links order head done opened frames → Stands frames f → Owned n links order head done f
 stands_owned n links order head done opened [] f k st = absurd st
 stands_owned n links order head done opened (frame ∷ below) f k (inl is) = k.0.moves f is
 stands_owned n links order head done opened (frame ∷ below) f k (inr st) = stands_owned n links order head done opened below f k.1 st
 
--- what the reader knows stays so, where what it has seen does
+-- what the reader knows stays so, if what it has seen does
 pub map_reader : (n : ℕ) (links links' : List Link) (order : List ℕ) (spare_link : Link) (head head' done done' hint : ℕ) (phase : ReaderPhase) → done ≤ done'
     → ((page fill : ℕ) → HasSeen n links head hint page fill → HasSeen n links' head' hint page fill)
     → ReaderKept n links order spare_link head done hint phase

@@ -53,7 +53,7 @@ why_stays n taken taken' opened opened' frames frames' f takes le passes (inl t)
 why_stays n taken taken' opened opened' frames frames' f takes le passes (inr (inl more)) = inr (inl (omega arith))
 why_stays n taken taken' opened opened' frames frames' f takes le passes (inr (inr (sum, p))) = ⊎_elim (λ more. inr (inl (omega arith))) (λ (e, q). inr (inr (sum ∙ e, q))) (passes p)
 
--- the top frame's part of it, where it goes on or leaves
+-- the top frame's part of it, if it goes on or leaves
 pub passing_on : (frame : Frame) (below frames : List Frame) (f : ℕ) → ((page : ℕ) → passed_spot frame.phase ≡ Some (spot f page) → Passing frames f) → (Passing below f → Passing frames f) → Passing (frame ∷ below) f → Passing frames f
 passing_on frame below frames f top rest (inl (page, at)) = top page at
 passing_on frame below frames f top rest (inr p) = rest p

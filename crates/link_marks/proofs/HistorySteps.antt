@@ -23,7 +23,7 @@ use Rattle.link_marks.proofs.Histories.{pushed_waiting, pushed_reserved, pushed_
 
 -- ---- the state of a frame, by its phase
 
--- the frame on top is in a phase of its state, and stands alone where it has left
+-- the frame on top is in a phase of its state, and it is alone if it has left
 pub top_agrees : (c : Core) (frame : Frame) (below : List Frame) → StackKept c → c.frames ≡ frame ∷ below → MayBeIn frame.kind frame.state frame.phase × (frame.state ≡ left → below ≡ [])
 top_agrees c frame below s top = let a = subst FramesAgree top s.agree in (a.0, a.1)
 
@@ -60,11 +60,11 @@ module _ (n start : ℕ) (c : Core) (frame : Frame) (below : List Frame) (h : Hi
   pub stack_reserved : (number : ℕ) → frame.state ≡ reserved number → (writer_after c.history).stack ≡ pushed_frame frame.kind (reserved number) ∷ pushed_frames below
   stack_reserved number has = top_stack ∙ pushed_reserved frame (pushed_frames below) number has
 
-  -- behind a frame that has left no frame stands
+  -- below a frame that has left there is none
   pub stack_empty : frame.state ≡ left → below ≡ [] → (writer_after c.history).stack ≡ []
   stack_empty gone alone = top_stack ∙ pushed_left frame (pushed_frames below) gone ∙ ap pushed_frames alone
 
-  -- the fills that are passed stay so, where the frame on top goes on or leaves
+  -- the fills that are passed stay so, if the frame on top goes on or leaves
   lost_on : (frames : List Frame) → ((page : ℕ) → passed_spot frame.phase ≡ Some (spot c.opened page) → Passing frames c.opened) → (Passing below c.opened → Passing frames c.opened)
       → HistoryKept n start c → (f : ℕ) → start ≤ f → f < c.head → WhyPassed n c.reader.taken c.opened frames f
   lost_on frames passes rest k f low high = why_stays n c.reader.taken c.reader.taken c.opened c.opened c.frames frames f (λ t. t) (omega arith)
@@ -225,7 +225,7 @@ module _ (n size start : ℕ) (c : Core) (frame : Frame) (below : List Frame) (k
     window = inl (refl, refl);
   }
 
-  -- while the frame closes fills, or looks for a wish, no frame stands
+  -- while the frame closes fills, or looks for a wish, no frame is on the writer's stack
   pub rest_releasing : frame.phase ≡ releasing → (writer_after c.history).stack ≡ []
   rest_releasing same = let a = top_agrees c frame below s top in let gone = releasing_left frame.kind frame.state (subst (MayBeIn frame.kind frame.state) same a.0) in
       stack_empty n start c frame below h top gone (a.1 gone)

@@ -26,7 +26,7 @@ pub mod UnreadRest
 pub mod SettledRest
 -- the stack of frames
 pub mod StackSteps
--- runs of the window, answers, links that stand once, packed histories
+-- runs of the window, answers, links that occur once, packed histories
 pub mod WindowRuns
 pub mod ToldSteps
 pub mod AnswersRight
@@ -37,7 +37,7 @@ pub mod PackedSteps
 pub mod PackedRuns
 pub mod TakenHoldRecords
 pub mod RecordCounts
--- where a reserved record lies, and what its end writes
+-- where a reserved record is, and what its end writes
 pub mod Payloads
 -- the step as a function: it gives the steps and no others; the head and the count of closed fills move by it
 pub mod StepFunction

@@ -1,4 +1,4 @@
--- Which fill a link speaks of, where it is one of the ring's.
+-- Which fill a link states, if it is one of the ring's.
 use Rattle.std.proofs.Common.{◌≡◌, ℕ, suc, ◌+◌, ◌%◌, ◌<◌, ◌≤◌, List, get_or, sym, ap, ◌∙◌, mod-lt, arith}
 use mathlib.Core.Logic.{dite}
 use native.Mathlib.Decide.{ℕ_discrete}
@@ -10,19 +10,19 @@ use Rattle.link_marks.proofs.Positions.{at_position, link_turn}
 use Rattle.link_marks.proofs.FramePhases.{normal_ne_header, normal_ne_update, header_ne_update, Owned, stands_owned}
 
 module _ (n : ℕ) (links : List Link) (order : List ℕ) (head : ℕ) (frames : List Frame) where
-  -- a NORMAL tells the fill at whose position it stands
+  -- a NORMAL states the fill at whose position it is
   pub normal_tells : (f page fill : ℕ) → LinkKept n links order head frames f → link_into n links f ≡ normal_link page fill → (fill ≡ f) × (page ≡ page_at n order f)
   normal_tells f page fill (is_normal e owed) at = let same = sym at ∙ e in (ap (λ (l : Link). l.fill) same, ap (λ (l : Link). l.page) same)
   normal_tells f page fill (is_header e here) at = absurd (normal_ne_header page fill (page_at n order f) f (sym at ∙ e))
   normal_tells f page fill (is_update lost sum e st) at = absurd (normal_ne_update page fill (page_at n order f) lost (sym at ∙ e))
 
-  -- a HEADER tells the head
+  -- a HEADER states the head
   pub header_tells : (f page fill : ℕ) → LinkKept n links order head frames f → link_into n links f ≡ header_link page fill → (fill ≡ f) × (f ≡ head) × (page ≡ page_at n order f)
   header_tells f page fill (is_normal e owed) at = absurd (normal_ne_header (page_at n order f) f page fill (sym e ∙ at))
   header_tells f page fill (is_header e here) at = let same = sym at ∙ e in (ap (λ (l : Link). l.fill) same, here, ap (λ (l : Link). l.page) same)
   header_tells f page fill (is_update lost sum e st) at = absurd (header_ne_update page fill (page_at n order f) lost (sym at ∙ e))
 
-  -- an UPDATE tells the fill that was lost there
+  -- an UPDATE states the fill that was lost there
   pub update_tells : (f page lost : ℕ) → LinkKept n links order head frames f → link_into n links f ≡ update_link page lost → (lost + n ≡ f) × (page ≡ page_at n order f) × Stands frames f
   update_tells f page lost (is_normal e owed) at = absurd (normal_ne_update (page_at n order f) f page lost (sym e ∙ at))
   update_tells f page lost (is_header e here) at = absurd (header_ne_update (page_at n order f) f page lost (sym e ∙ at))
@@ -33,21 +33,21 @@ module _ (n : ℕ) (c : Core) (k : LinksKept n c) where
   pub owned_by : (f : ℕ) → Stands c.frames f → Owned n c.links c.order c.head c.done f
   owned_by f st = stands_owned n c.links c.order c.head c.done c.opened c.frames f k.frames st
 
-  -- the fill to open, where its position is free
+  -- the fill to open, if its position is free
   pub normal_inside : (f page : ℕ) → c.head ≤ f → f ≤ c.head + n → link_into n c.links f ≡ normal_link page f → (f < c.head + n) × (page ≡ page_at n c.order f)
   normal_inside f page low high at = let some_pages = k.some_pages in dite (ℕ_discrete f (c.head + n))
       (λ e. let told = normal_tells n c.links c.order c.head c.frames c.head page f (k.each c.head (omega arith) (omega arith)) (sym (link_turn n c.links c.head) ∙ ap (link_into n c.links) (sym e) ∙ at) in
       let is : f ≡ c.head = told.0 in absurd (omega arith))
       (λ ne. let within : f < c.head + n = omega arith in (within, (normal_tells n c.links c.order c.head c.frames f page f (k.each f low within) at).1))
 
-  -- the fill to open, where the head was moved on from its position
+  -- the fill to open, if the head was moved on from its position
   pub update_inside : (f page lost : ℕ) → c.head ≤ f → f ≤ c.head + n → lost + n ≡ f → link_into n c.links f ≡ update_link page lost → (f < c.head + n) × (page ≡ page_at n c.order f)
   update_inside f page lost low high sum at = let some_pages = k.some_pages in dite (ℕ_discrete f (c.head + n))
       (λ e. let told = update_tells n c.links c.order c.head c.frames c.head page lost (k.each c.head (omega arith) (omega arith)) (sym (link_turn n c.links c.head) ∙ ap (link_into n c.links) (sym e) ∙ at) in
       let is : lost + n ≡ c.head = told.0 in absurd (omega arith))
       (λ ne. let within : f < c.head + n = omega arith in (within, (update_tells n c.links c.order c.head c.frames f page lost (k.each f low within) at).1))
 
-  -- the fill to open, where the ring is full: its position is the head's
+  -- the fill to open, if the ring is full: its position is the head's
   pub header_inside : (f page lost : ℕ) → c.head < f → f ≤ c.head + n → lost + n ≡ f → link_into n c.links f ≡ header_link page lost → (lost ≡ c.head) × (page ≡ page_at n c.order c.head) × (link_into n c.links c.head ≡ header_link page lost)
   header_inside f page lost low high sum at = let some_pages = k.some_pages in dite (ℕ_discrete f (c.head + n))
       (λ e. let here = sym (link_turn n c.links c.head) ∙ ap (link_into n c.links) (sym e) ∙ at in
@@ -66,7 +66,7 @@ module _ (n : ℕ) (c : Core) (k : LinksKept n c) where
   fill_at f = let some_pages = k.some_pages in let (g, low, high, at) = at_position c.head n (f % n) (mod-lt f (omega arith)) in
       (g, low, high, ap (λ (i : ℕ). get_or c.links i (normal_link 0 0)) at, k.each g low high)
 
-  -- behind a closed head the link is NORMAL
+  -- after a closed head the link is NORMAL
   pub behind_closed : c.head < c.done → link_into n c.links (suc c.head) ≡ normal_link (page_at n c.order (suc c.head)) (suc c.head)
   behind_closed closed = let some_pages = k.some_pages in from (k.each (suc c.head) (omega arith) (omega arith))
     where

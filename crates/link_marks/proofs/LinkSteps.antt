@@ -121,7 +121,7 @@ module _ (n size : ℕ) (c : Core) (frame : Frame) (below : List Frame) (k : Lin
       let (open_yet, inside, page_is) = kept.passed noted page refl in let (x, y, z, small) = kept.noted noted refl in
       subst (LinksKept n) (sym is) (after_begin_kept n (with_new_tail c page) frame.kind frame.state frame below (begun_kept n c page k (omega arith) (omega arith)) top (ap owned_update same))
 
-  -- one that closes fills owns no UPDATE, and stands alone
+  -- one that closes fills owns no UPDATE, and is alone
   stands_none : below ≡ [] → frame.phase ≡ releasing → (f : ℕ) → Stands c.frames f → ⊥
   stands_none alone same f st = ⊎_elim (λ e. none_some (sym (ap owned_update same) ∙ e)) (λ b. subst (λ (fs : List Frame). Stands fs f) alone b) (stands_top n c frame below k top f st)
 

@@ -23,7 +23,7 @@ use Rattle.link_marks.specs.KeptHistory.{HistoryKept}
 use Rattle.link_marks.specs.KeptContents.{ContentsKept, OpenPagesKept, OtherPagesAt, OtherPagesKept}
 use Rattle.link_marks.proofs.HistorySteps.{rest_releasing}
 
--- the number behind the last record that a page holds
+-- the number after the last record that a page holds
 abbrev pub end_of : Held → ℕ
 end_of h = h.first + length h.records
 

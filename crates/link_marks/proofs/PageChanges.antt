@@ -88,7 +88,7 @@ module _ (n start : ℕ) (order : List ℕ) (spare : ℕ) (held : List Held) (cu
         ∙ finished_fill number payload cuts xs (f - start) (omega arith);
   }
 
-  -- the head is taken: its page is the spare, and the spare stands at its position, both empty
+  -- the head is taken: its page is the spare, and the spare is at its position, both empty
   pub pages_swapped : (page : ℕ) → 2 ≤ n → page ≡ page_at n order head → opened ≤ head + n → PagesKept n start (set order (head % n) spare) (set (set held spare nothing) page nothing) cuts xs (head + 1) opened
   pages_swapped page two is within = let from_start = k.from_start in record {
     begun = k.begun;

@@ -81,7 +81,7 @@ partition_lost start h head expected taken from low r p = record {
   below = λ k t at. let high = p.below k t at in omega arith;
 }
 
--- what was taken, with the head behind it
+-- what was taken, and the head after it
 fills_taken : (start : ℕ) (h : List Action) (head : ℕ) (taken : List Taken) (t : Taken) → t.fill ≡ head → IsFillOf start h t → AreFillsOf start h taken → ((k : ℕ) (u : Taken) → slice_get taken k ≡ Some u → u.fill < head) → AreFillsOf start h (taken ++ t ∷ [])
 fills_taken start h head taken t here f fs below = record {
   each = λ k u at. ⊎_elim (λ old. fs.each k u old) (λ (last, same). subst (IsFillOf start h) same f) (get_snoc taken t u k at);
@@ -94,7 +94,7 @@ fills_taken start h head taken t here f fs below = record {
       (get_snoc taken t b k at_k);
 }
 
--- the records up to the end of a fill: some of those in front of it, what was lost behind them, and its own
+-- the records up to the end of a fill: some of those before it, what was lost after them, and its own
 records_taken : (xs fill records : List Reservation) (before lost : List Record) (first next count : ℕ) → count ≡ next → take next xs ≡ take first xs ++ fill → take first (map as_record xs) ≡ before ++ lost → records ≡ fill
     → before ++ (lost ++ map as_record records) ≡ take count (map as_record xs)
 records_taken xs fill records before lost first next count len up split same =

@@ -7,7 +7,7 @@ use Rattle.link_marks.specs.KeptPartition.{covered_total}
 use Rattle.link_marks.proofs.FramePhases.{none_some}
 use Rattle.std.specs.List.{slice_get}
 
--- one piece more behind the others, where there was no rest
+-- one piece more after the others, if there was no rest
 pub partition_snoc : (records : List Record) (pieces : List Piece) (lost : List Record) (p : Piece) → IsPartition records pieces [] → length lost ≡ p.skipped → IsPartition (records ++ (lost ++ p.records)) (pieces ++ p ∷ []) []
 partition_snoc records [] lost p partition size = (lost, [], size, ap (λ (l : List Record). l ++ (lost ++ p.records)) partition ∙ ap (λ (l : List Record). lost ++ l) (sym (append-nil p.records)), refl)
 partition_snoc records (q ∷ pieces) lost p (skipped, behind, is, cut, partition) size = (
@@ -18,7 +18,7 @@ partition_snoc records (q ∷ pieces) lost p (skipped, behind, is, cut, partitio
   partition_snoc behind pieces lost p partition size,
 )
 
--- a rest behind all pieces
+-- a rest after all pieces
 pub partition_rest : (records : List Record) (pieces : List Piece) (rest : List Record) → IsPartition records pieces [] → IsPartition (records ++ rest) pieces rest
 partition_rest records [] rest partition = ap (λ (l : List Record). l ++ rest) partition
 partition_rest records (q ∷ pieces) rest (skipped, behind, is, cut, partition) = (

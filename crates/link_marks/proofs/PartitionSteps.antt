@@ -41,7 +41,7 @@ module _ (n start : ℕ) (c : Core) (k : LinksKept n c) (t : ContentsKept n star
   partition_begun kind (reserved number) frame below = q
   partition_begun kind left frame below = q
 
-  -- behind the fill that is begun, a close frame leaves
+  -- after the fill that is begun, a close frame leaves
   partition_closes : PartitionAt start ((c.history ++ open_fill ∷ []) ++ leave None ∷ []) c.head c.reader.expected c.reader.taken
   partition_closes = partition_more start (c.history ++ open_fill ∷ []) (leave None) c.head c.reader.expected c.reader.taken
       (let low = counted in omega (arith, ap (length {A = ℕ}) (opens_of-open_fill c.history), length-append (opens_of c.history) (length (reserved_records c.history) ∷ [])))

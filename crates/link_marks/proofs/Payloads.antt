@@ -1,4 +1,4 @@
--- A record that a frame has reserved lies in one open page; and the end of a record writes that page alone.
+-- A record that a frame has reserved is in one open page; and the end of a record writes that page alone.
 use Rattle.std.proofs.Common.{◌≡◌, ◌≢◌, ◌⊎◌, ⊎_elim, ℕ, zero, suc, ◌+◌, ◌-◌, ◌<◌, ◌≤◌, List, [], ◌∷◌, length, get_or, map, Option, Some, refl, sym, ap, ◌∙◌, subst, inl, inr, arith}
 use Rattle.std.specs.List.{slice_get}
 use Rattle.std.proofs.lemmas.Bool.{cond-true, cond-false, le-ltb, lt-ltb}
@@ -67,7 +67,7 @@ pub reserved_differ : ReservedDiffer
 reserved_differ n size start c j k number one other r at_j at_k is_j is_k =
     one_has (reserved_records c.history) c.frames j k number one other r.stack.agree (subst (AreOpen (reserved_records c.history)) r.history.stack (numbers_open c.history r.history.allowed)) at_j at_k is_j is_k
 
--- ---- where the record lies
+-- ---- where the record is
 
 -- a page is one of these, or none of them
 one_of : (pages : List ℕ) (page : ℕ) → ((i : ℕ) × (i < length pages) × (get_or pages i 0 ≡ page)) ⊎ ((i : ℕ) → i < length pages → get_or pages i 0 ≢ page)
@@ -123,7 +123,7 @@ module _ (n size start : ℕ) (c : Core) (r : IsRingKept n size start c) (number
         alone = alone;
       }
     where
-      -- of two fills that hold the number one would end in front of the other
+      -- of two fills that hold the number one would end before the other
       same_fill : (j : ℕ) → j ≤ length (opens_of c.history) → get_or (0 ∷ opens_of c.history) j 0 ≤ number → number < get_or (0 ∷ opens_of c.history) j 0 + length (get_or (cut_from 0 (opens_of c.history) (reserved_records c.history)) j []) → j ≡ lies.fill
       same_fill j within low high = let low' = lies.first_le in let high' = lies.number_lt in dite (ℕ_discrete j lies.fill) (λ e. e)
           (λ ne. dite (dec_le (suc j) lies.fill)
@@ -195,7 +195,7 @@ same_top one other below below' e = some_frame one other (ap (λ (fs : List Fram
 no_top : (frame : Frame) (below : List Frame) → frame ∷ below ≢ []
 no_top frame below e = cc
 
--- the number that the frame leaves behind
+-- the number that the frame reserved
 own_is : (kind : Kind) (state : FrameState) (moment len number : ℕ) → kind ≡ for_record moment len → state ≡ reserved number → own_number kind state ≡ Some number
 own_is kind state moment len number kind_is state_is = (λ i. own_number (kind_is i) (state_is i))
 

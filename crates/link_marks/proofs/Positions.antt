@@ -1,4 +1,4 @@
--- Fills and positions: of n fills in a row just one lies at each of n positions.
+-- Fills and positions: of n fills in a row exactly one is at each of n positions.
 use Rattle.std.proofs.Common.{◌≡◌, ◌≢◌, ℕ, zero, suc, ◌+◌, ◌%◌, ◌<◌, ◌≤◌, List, length, get_or, set, refl, sym, ap, ◌∙◌, mod-lt, mod-eq_of_lt, arith}
 use Rattle.std.proofs.Math.Nat.{add-mod_right}
 use Rattle.std.proofs.lemmas.List.{get_or-set_same, get_or-set_other}

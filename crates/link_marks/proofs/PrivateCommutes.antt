@@ -15,9 +15,9 @@ use Rattle.link_marks.proofs.OtherPageSteps.{ended_empty}
 use Rattle.link_marks.proofs.PrivateSteps.{private_state, private_result, changes_privately, ReaderWords, read_state, held_reserved, TurnsAlike, private_step_there, private_read}
 use Rattle.link_marks.proofs.SeatPages.{IsHeadTaken, head_taken, open_not_spare, open_not_head, result_pages}
 
--- ---- a step of the reader, and the same behind private steps
+-- ---- a step of the reader, and the same after private steps
 
--- the head, where it is closed, has its contents
+-- the head, if it is closed, has its contents
 abbrev HeadHolds : ℕ → Core → List Held → Type 0
 HeadHolds n c held = c.head < c.done → get_or held (page_at n c.order c.head) empty_page ≡ get_or c.held (page_at n c.order c.head) empty_page
 

@@ -15,7 +15,7 @@ use Rattle.link_marks.specs.Seats.{PhaseIsPrivate, TopIsPrivate, IsPrivate, Word
 abbrev pub private_state : Core → List Frame → List Action → List Held → Core
 private_state c frames history held = record c { frames = frames; history = history; held = held }
 
--- The state behind a private step: as it was; with a frame pushed; or the frame on top has reserved, goes on, or
+-- The state after a private step: as it was; with a frame pushed; or the frame on top has reserved, goes on, or
 -- leaves.
 pub data PrivateResult (c after : Core) : Type 0 where
   stays : after ≡ c → PrivateResult c after
@@ -130,7 +130,7 @@ read_state words turned c = record c {
 abbrev pub held_reserved : List Held → ℕ → Reservation → List Held
 held_reserved held page r = slice_set held page record { first = (slice_index_or held page empty_page).first; records = (slice_index_or held page empty_page).records ++ r ∷ [] }
 
--- it is one whether the pages' contents change before a private step or behind it
+-- it is the same whether the pages' contents change before a private step or after it
 pub record TurnsAlike (turned : List Held → List Held) (c : Core) : Type 0 where
   pub ended : (number : Option ℕ) (payload : Option (List ℕ)) → turned (map (held_with_payload number payload) c.held) ≡ map (held_with_payload number payload) (turned c.held)
   pub reserved : (r : Reservation) → turned (held_reserved c.held (tail_page c) r) ≡ held_reserved (turned c.held) (tail_page c) r

@@ -72,7 +72,7 @@ after_begin_advances n c for_close waiting frame below room stack = leave_advanc
 after_begin_advances n c kind (reserved number) frame below room stack = record { room = room; advance = (tt, stack) }
 after_begin_advances n c kind left frame below room stack = record { room = room; advance = (closing_advances n c, stack) }
 
--- A free position that a frame sees: it isn't one whose UPDATE stands.
+-- A free position that a frame sees: it isn't one whose UPDATE is still set.
 pub free_marked : (n : ℕ) (c : Core) (noted page lost : ℕ) → LinksKept n c → noted ≡ c.opened → link_into n c.links noted ≡ normal_link page noted → lost + n ≡ noted → IsMarked n c.links c.head lost
 free_marked n c noted page lost k now at sum =
     let unread = k.head_le in let behind = k.done_lt in let within = k.opened_le in

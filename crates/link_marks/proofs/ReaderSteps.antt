@@ -76,7 +76,7 @@ pub load_done_kept : (n : ℕ) (c after : Core) (page fill : ℕ) (answer : Answ
 load_done_kept n c after page fill answer k seen (finds_none le a is) = subst (LinksKept n) (sym is) (saw_kept n c loading_link k tt)
 load_done_kept n c after page fill answer k seen (finds_closed below a is) = subst (LinksKept n) (sym is) (saw_kept n c (storing_link page fill) k (seen, below))
 
--- the link that leads to the fill behind a closed one
+-- the link that leads to the fill after a closed one
 next_fits : (n : ℕ) (c : Core) (fill : ℕ) → LinksKept n c → fill < c.done → FitsRing n (next_header n c fill)
 next_fits n c fill k closed = let some_pages = k.some_pages in let behind = k.done_lt in let fits = k.fits in
     (k.apart.each (suc fill % n) (mod-lt (suc fill) (omega arith)), omega arith)
@@ -110,7 +110,7 @@ swapped_apart n order spare position page a low is =
           (λ ne. ne (a.differ i position below low (sym (there i ne) ∙ same ∙ is)));
     }
 
--- where the page at the position of the head changes, behind which the frames' fills lie
+-- the page at the position of the head changes, and the frames' fills are after the head
 reorder_phase : (n : ℕ) (links : List Link) (order : List ℕ) (head done opened spare : ℕ) (phase : Phase) → 2 ≤ n → head < done → PhaseKept n links order head done opened phase
     → PhaseKept n links (set order (head % n) spare) head done opened phase
 reorder_phase n links order head done opened spare phase some closed k = record {
@@ -187,7 +187,7 @@ module _ (n : ℕ) (c : Core) (page : ℕ) (k : LinksKept n c) (closed : c.head 
       (page_else c.head n c.order f c.head c.spare (omega arith) (omega arith) (omega arith) (omega arith) (λ e. omega arith))
       (k.each f (omega arith) (omega arith))))
 
-  -- the link behind the head, which the spare's will be
+  -- the link after the head, which the spare's will be
   behind_fits : FitsRing n (link_into n c.links (suc c.head))
   behind_fits = let some_pages = k.some_pages in let behind = k.done_lt in let fits = k.fits in
       subst (FitsRing n) (sym (behind_closed n c k closed)) (k.apart.each (suc c.head % n) (mod-lt (suc c.head) (omega arith)), omega arith)

@@ -1,4 +1,4 @@
--- Which links a step sets, and over which: their ages only rise, so none stands twice.
+-- Which links a step sets, and over which: their ages only rise, so none occurs twice.
 use Rattle.std.proofs.Common.{◌≡◌, ◌≢◌, ℕ, suc, ◌+◌, ◌%◌, ◌<◌, ◌≤◌, ◌⊎◌, List, [], ◌∷◌, length, get_or, Some, refl, sym, ap, ◌∙◌, subst, inl, inr, ⊎_elim, mod-lt, arith, length-set}
 use Rattle.std.proofs.lemmas.List.{get_or-set_other}
 use mathlib.Core.Logic.{dite}
@@ -241,7 +241,7 @@ page_of l m e = ap (λ (x : Link). x.page) e
 fill_of : (l m : Link) → l ≡ m → l.fill ≡ m.fill
 fill_of l m e = ap (λ (x : Link). x.fill) e
 
--- where the head's link is NORMAL, no HEADER stands
+-- if the head's link is NORMAL, there is no HEADER
 no_header : (n : ℕ) (c : Core) (k : LinksKept n c) (page fill : ℕ) → link_into n c.links c.head ≡ normal_link page fill → (g other_page other_fill : ℕ) → link_into n c.links g ≢ header_link other_page other_fill
 no_header n c k page fill waits g other_page other_fill at = let (a, p, position) = header_at n c k g other_page other_fill at in
     normal_ne_header page fill other_page other_fill (sym waits ∙ same_position n c.links c.head g position ∙ at)

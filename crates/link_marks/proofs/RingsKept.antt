@@ -143,7 +143,7 @@ module _ (n size start : ℕ) (c : Core) (r : IsRingKept n size start c) where
   }
 
 -- The fills that the reader took, and the records lost between, are a partition of the committed records up to
--- the number that the reader expects; behind that is the rest.
+-- the number that the reader expects; after that comes the rest.
 pub taken_partition_at : (n size start : ℕ) (c : Core) → IsRingKept n size start c → IsPartition (committed_records c.history) (pieces_of c.reader.taken) (map as_record (drop c.reader.expected (take (length (reserved_records (settled_prefix c.history))) (reserved_records c.history))))
 taken_partition_at n size start c r =
     let e : ℕ = c.reader.expected in
@@ -177,7 +177,7 @@ ring_step n size start c event answer after r step = record {
   partition = partition_step n size start c event answer after r.links r.history r.contents r.closed r.partition step;
 }
 
--- a run with one more step behind it
+-- a run with one more step after it
 pub run_snoc : (n size : ℕ) (c s after : Core) (front : List Exchange) (x : Exchange) → Run n size c front s → Step n size s x.event x.answer after → Run n size c (front ++ x ∷ []) after
 run_snoc n size c s after [] x run step = (after, subst (λ (y : Core). Step n size y x.event x.answer after) (sym run) step, refl)
 run_snoc n size c s after (y ∷ front) x (between, first, run) step = (between, first, run_snoc n size between s after front x run step)

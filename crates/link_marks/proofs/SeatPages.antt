@@ -42,7 +42,7 @@ module _ (n : ℕ) (c : Core) (k : LinksKept n c) (o : OpenPagesKept n c) where
   pub open_not_spare : (i : ℕ) → i < length c.open_pages → get_or c.open_pages i 0 ≢ c.spare
   open_not_spare i low e = let some_pages = k.some_pages in k.apart.spare_differs ((c.done + i) % n) (mod-lt (c.done + i) (omega arith)) (sym (o.each i low) ∙ e)
 
-  -- the head, where it is closed, lies on none of them
+  -- the head, if it is closed, is on none of them
   pub open_not_head : (i : ℕ) → i < length c.open_pages → c.head < c.done → get_or c.open_pages i 0 ≢ page_at n c.order c.head
   open_not_head i low closed e = let some_pages = k.some_pages in let within = k.opened_le in let count = o.count in
       pages_differ n c.order c.spare c.head (c.done + i) c.head (omega arith) k.apart (omega arith) (omega arith) (omega arith) (omega arith) (λ same. omega arith) (sym (o.each i low) ∙ e)

@@ -59,7 +59,7 @@ module _ (n : ℕ) (links links' : List Link) (order : List ℕ) (head head' don
   all_moved [] kept all = tt
   all_moved (frame ∷ below) (facts, kept) (sees, all) = (moved frame.phase facts sees, all_moved below kept all)
 
--- the head goes on: it was a round of fills behind, at most
+-- the head goes on: it was at most a round of fills before the one to open
 passes_head : (n : ℕ) (c : Core) (links' : List Link) → LinksKept n c → Holds n c.opened c.links links' c.head (c.head + 1)
 passes_head n c links' k noted page begun still e = let within = k.opened_le in absurd (omega arith)
 
@@ -89,7 +89,7 @@ begun_sees n for_close waiting c frame below all = left_sees n c.links c.head c 
 begun_sees n kind (reserved number) c frame below all = (tt, all)
 begun_sees n kind left c frame below all = (closing_sees n c.links c.head c, all)
 
--- the state behind has these frames
+-- the state after the step has these frames
 become : (n : ℕ) (after next : Core) → after ≡ next → FramesSee n next → FramesSee n after
 become n after next is all = subst (FramesSee n) (sym is) all
 

@@ -1,5 +1,5 @@
--- What is left of the committed records where no frame stands and no closed fill is unread: those in the tail, and none
--- is skipped in front of them.
+-- What is left of the committed records if the stack is empty and no closed fill is unread: those in the tail, and none
+-- is skipped before them.
 use Rattle.std.proofs.Common.{◌≡◌, ⊎_elim, inl, inr, ℕ, zero, suc, ◌+◌, ◌-◌, ◌<◌, ◌≤◌, List, [], ◌∷◌, ◌++◌, length, take, drop, map, flat_map, get_or, Some, refl, ap, ◌∙◌, subst, arith, append-nil, length-append, length-take-le}
 use Rattle.std.proofs.lemmas.Bool.{cases_lt}
 use Rattle.std.proofs.lemmas.List.{length-map}
@@ -59,7 +59,7 @@ joined_last {A = A} (xs ∷ more) i e = let here : i ≡ length more = omega ari
     ∙ ap (λ (k : ℕ). get_or (xs ∷ more) k []) (let e : length more ≡ length (xs ∷ more) - 1 = omega arith in e)
 
 module _ (n size start : ℕ) (c : Core) (r : IsRingKept n size start c) (at_rest : c.frames ≡ []) (all_read : c.head ≡ c.done) where
-  -- the fill in front of the head was taken, since none that near may be lost
+  -- the fill before the head was taken, since none that near may be lost
   last_taken : start < c.head → IsTaken c (c.head - 1)
   last_taken some =
       let some_pages = r.links.some_pages in let alone = r.stack.at_rest at_rest in
@@ -72,7 +72,7 @@ module _ (n size start : ℕ) (c : Core) (r : IsRingKept n size start c) (at_res
   abbrev xs : List Reservation
   xs = reserved_records c.history
 
-  -- the next fill's first record stands behind those of a fill
+  -- the next fill's first record comes after those of a fill
   next_first : (i : ℕ) → i < length cuts → get_or (0 ∷ cuts) (suc i) 0 ≡ get_or (0 ∷ cuts) i 0 + length (get_or (fills_of c.history) i [])
   next_first i low =
       let rising = r.contents.rising in

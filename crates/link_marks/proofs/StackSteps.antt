@@ -175,7 +175,7 @@ few_stand n size start c r = r.stack.few
 pub closed_at_rest : (n size start : ℕ) (c : Core) → IsRingKept n size start c → c.frames ≡ [] → c.done + 1 ≡ c.opened
 closed_at_rest n size start c r none = r.stack.at_rest none
 
--- what is said of a frame that stands at this place
+-- what holds of a frame that is at this place of the stack
 abbrev StandsAt : List Frame → ℕ → Frame → Type 0
 StandsAt frames k frame = (frame.state ≡ left → k + 1 ≡ length frames) × (frame.phase ≡ releasing → frame.state ≡ left) × (frame.phase ≡ wishing → frame.state ≡ left)
 

@@ -173,7 +173,7 @@ abbrev pub steps_of : ℕ → ℕ → Core → List Frame → Option Outcome
 steps_of n size c [] = gives (refused no_frame) c
 steps_of n size c (frame ∷ below) = frame_of n size c frame below frame.phase
 
--- the end of a frame that has reserved, where the payload has its length
+-- the end of a frame that has reserved, if the payload has its length
 abbrev pub full_end : Core → Frame → List Frame → List ℕ → Kind → Option Outcome
 full_end c frame below payload (for_record moment len) = if slot_len (length payload) == slot_len len then gives (end_answer below) (after_leave c frame below (Some payload)) else None
 full_end c frame below payload for_close = None

@@ -11,7 +11,7 @@ use Rattle.trace_model.specs.Ring.{ReaderPhase, loading_link, loading_done, stor
 use Rattle.trace_model.specs.Steps.{Event, pushes, pushes_close, steps, ends, reads, wishes, Answer, GoesOn, NeedsPage, BeginsAnew, ReserveStep, reserves, finds_nothing, is_crowded, is_worn, notes, LookStep, look_late, sees_free, sees_header, sees_update, ClaimStep, claim_late, claims, claim_fails, NextStep, next_late, sees_normal, sees_other, MarkStep, mark_late, marks, mark_fails, ClearStep, clears, OpenStep, open_late, opens, ReleaseStep, releases, releases_last, IsGranted, WishStep, grants, closes_more, goes_away, IdleStep, FrameStep, LoadStep, loads_header, loads_update, loads_owed, loads_passed, LoadDoneStep, finds_none, finds_closed, SwapStep, swaps, swap_fails, ReadStep, IsTooLong, all_stand, has_no_room, comes_late, Step, push_step, push_refused, close_step, close_refused, frame_step, frame_lacks, end_step, end_lacks, end_early, read_step, wish_step, Exchange, Run}
 use Rattle.link_marks.proofs.StepFunction.{Outcome, same_mark, same_link, anew, needs_page, record_len, close_of, reserve_of, look_at, look_of, claim_of, next_at, next_of, mark_at, mark_of, clear_of, open_of, release_of, is_empty, is_granted, wish_of, idle_of, frame_of, load_at, read_of, too_long_for, push_of, close_push_of, steps_of, full_end, end_in, end_of, step_of, Ran, behind, run_of}
 
--- what an outcome says, where there is one
+-- what an outcome says, if there is one
 abbrev pub Sound : (Answer → Core → Type 0) → Option Outcome → Type 0
 Sound P None = Unit {0}
 Sound P (Some o) = P o.answer o.after

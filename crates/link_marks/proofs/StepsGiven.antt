@@ -149,7 +149,7 @@ module _ (n : ℕ) (c : Core) (k : LinksKept n c) where
       (λ more. given_if (nat_le n (suc l.fill)) _ _ (λ s. tt) (λ s. let less = leb-false n (suc l.fill) s in let ne = eqb-false l.fill c.reader.hint e in absurd (ne (turn (omega arith)))))
       (λ s. let less = ltb-false c.reader.hint l.fill s in let ne = eqb-false l.fill c.reader.hint e in ne (omega arith)))
     where
-      -- the fill is the hint, or a whole turn behind it
+      -- the fill is the hint, or a whole turn after it
       behind : link_into n c.links c.reader.hint ≡ normal_link (link_into n c.links c.reader.hint).page (link_into n c.links c.reader.hint).fill
           → (c.reader.hint ≤ (link_into n c.links c.reader.hint).fill) × ((link_into n c.links c.reader.hint).fill < n → (link_into n c.links c.reader.hint).fill ≡ c.reader.hint)
       behind at = let some_pages = k.some_pages in let hint = k.hint_le in let l = link_into n c.links c.reader.hint in

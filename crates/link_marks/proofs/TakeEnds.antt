@@ -1,4 +1,4 @@
--- A take comes to its answer where nothing comes between: each of its steps lowers its rank.
+-- A take gets its answer if nothing comes between: each of its steps lowers its rank.
 use Rattle.std.proofs.Common.{◌≡◌, ℕ, suc, ◌+◌, ◌-◌, ◌*◌, ◌%◌, ◌<◌, ◌≤◌, min, get_or, refl, sym, ap, ◌∙◌, subst, mod-lt, arith}
 use Rattle.std.proofs.Math.Nat.{min-le_left, min-le_right, le-min}
 use mathlib.Core.Logic.{dite}
@@ -15,7 +15,7 @@ module _ (n size : ℕ) (c : Core) (k : LinksKept n c) where
   old : (phase : ReaderPhase) → c.reader.phase ≡ phase → reader_rank n c ≡ reader_phase_rank n c phase
   old phase same = ap (reader_phase_rank n c) same
 
-  -- a fill at the position of the reader's hint, and above that, lies a round above it at least
+  -- a fill at the position of the reader's hint, and above that, is at least a round above it
   round_above : (g : ℕ) → g % n ≡ c.reader.hint % n → c.reader.hint < g → c.reader.hint + n ≤ g
   round_above g at above = dite (dec_le (c.reader.hint + n) g)
       (λ le. le)

@@ -1,4 +1,4 @@
--- Every run of a ring is a run of its window: each step is told by deeds.
+-- Every run of a ring is a run of its window: each step is described by deeds.
 use Rattle.std.proofs.Common.{◌≡◌, ℕ, ◌+◌, ◌<◌, ◌≤◌, List, [], ◌∷◌, ◌++◌, None, Some, refl, sym, ap, ◌∙◌, subst, arith, append_assoc, append-nil}
 use Rattle.trace_model.specs.History.{Action, push, push_close, open_fill, reserve, leave, wished}
 use Rattle.trace_model.proofs.NextAction.{settled_at_rest}
@@ -151,7 +151,7 @@ leads_run n size start c after [] r run = subst (Leads n c) run (no_deed n c c r
 leads_run n size start c after (x ∷ exchanges) r (between, step, run) = leads_on n c between after (leads_step n size start c x.event x.answer between r.links r.stack r.history step)
     (leads_run n size start between after exchanges (ring_step n size start c x.event x.answer between r step) run)
 
--- deeds that tell a state, and those that lead on from there, tell the later one
+-- deeds that describe a state, and those that lead on from there, describe the later one
 told_on : (n start : ℕ) (c after : Core) (deeds : List Deed) → IsToldBy n start c deeds → (x : Leads n c after) → IsToldBy n start after (deeds ++ x.deeds)
 told_on n start c after deeds t x = record {
   actions = actions-append deeds x.deeds ∙ ap (λ (h : List Action). h ++ actions_of x.deeds) t.actions ∙ sym x.actions;
@@ -163,7 +163,7 @@ told_on n start c after deeds t x = record {
 pub run_extends : (n size start : ℕ) (c after : Core) (exchanges : List Exchange) (deeds : List Deed) → IsRingKept n size start c → IsToldBy n start c deeds → Run n size c exchanges after → (more : List Deed) × IsToldBy n start after (deeds ++ more)
 run_extends n size start c after exchanges deeds r told run = let x = leads_run n size start c after exchanges r run in (x.deeds, told_on n start c after deeds told x)
 
--- a new ring is told by no deeds
+-- a new ring is described by no deeds
 start_told : (n start : ℕ) (c : Core) → IsStart n start c → IsToldBy n start c []
 start_told n start c s = record {
   actions = sym s.history;

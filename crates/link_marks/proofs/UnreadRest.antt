@@ -1,4 +1,4 @@
--- What is left of the committed records behind those that the reader took or the ring lost.
+-- What is left of the committed records after those that the reader took or the ring lost.
 use Rattle.std.proofs.Common.{◌≡◌, ℕ, ◌+◌, ◌-◌, ◌≤◌, List, [], ◌++◌, length, take, drop, map, sym, ap, ◌∙◌, subst, arith, length-take-le}
 use Rattle.std.proofs.lemmas.List.{take-append-drop, map-append, drop-drop, length-map, length-drop, take_all}
 use Rattle.trace_model.specs.Record.{Record}

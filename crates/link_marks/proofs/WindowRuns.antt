@@ -52,7 +52,7 @@ has_cases x f xs (suc i, low, at) = inr (i, omega arith, at)
 pub has_none : {P : Type 0} (f : ℕ) → Contains [] f → P
 has_none f (i, low, at) = absurd (omega arith)
 
--- what was taken or lost lies from the head on
+-- what was taken or lost is from the head on
 taken_from_head : (head f : ℕ) (deeds : List Deed) → Contains (fills_taken head deeds) f → head ≤ f
 taken_from_head head f [] has = has_none f has
 taken_from_head head f (acts a ∷ deeds) has = taken_from_head head f deeds has
@@ -106,7 +106,7 @@ lost_closed n history w after (takes ∷ deeds) f run has = let (x, y, z, u) = l
 lost_closed n history w after (loses ∷ deeds) f run has = let may = run.0.0 in let full = run.0.1 in let r = run_rises n history (window_after w lost_one) after deeds run.1 in let a = r.head in let b = r.done in let c = r.opened in
     ⊎_elim (λ e. (omega arith, omega arith, omega arith, omega arith)) (λ more. let (x, y, z, u) = lost_closed n history (window_after w lost_one) after deeds f run.1 more in (omega arith, y, z, u)) (has_cases w.head f (fills_lost (w.head + 1) deeds) has)
 
--- ---- two runs, one behind the other
+-- ---- two runs, one after the other
 
 pub actions-append : (deeds more : List Deed) → actions_of (deeds ++ more) ≡ actions_of deeds ++ actions_of more
 actions-append [] more = refl

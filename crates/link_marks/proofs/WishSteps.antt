@@ -186,7 +186,7 @@ frame_wish n size c frame below wishing answer after (grants alone granted a is)
 frame_wish n size c frame below wishing answer after (closes_more alone denied more a is) = wish_is c after _ is refl
 frame_wish n size c frame below wishing answer after (goes_away alone denied last a is) = wish_is c after _ is refl
 
--- the wish stays, or is the one behind what the reader has seen
+-- the wish stays, or is the one after what the reader has seen
 wish_moves : (n size : ℕ) (c : Core) (event : Event) (answer : Answer) (after : Core) → Step n size c event answer after → (after.wish ≡ c.wish) ⊎ (after.wish ≡ c.reader.seen + 1)
 wish_moves n size c event answer after (push_step moment len e few fits early a is) = inl (wish_is c after _ is refl)
 wish_moves n size c event answer after (push_refused moment len why e refused a is) = inl (wish_is c after _ is refl)

@@ -1,4 +1,4 @@
--- The record of an outermost frame that has no fill to close stands on the page that the reader wishes for.
+-- The record of an outermost frame that has no fill to close is on the page that the reader wishes for.
 use Rattle.std.proofs.Common.{◌≡◌, ℕ, ◌+◌, ◌-◌, ◌<◌, ◌≤◌, List, [], length, get_or, sym, ap, ◌∙◌, subst, arith}
 use Rattle.std.specs.List.{slice_get}
 use Rattle.trace_model.specs.History.{Reservation, reserved_records}

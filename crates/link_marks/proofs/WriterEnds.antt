@@ -1,4 +1,4 @@
--- A frame of a running ring comes to its end: each of its steps lowers its rank, whatever the reader does in between.
+-- A frame of a running ring has an end: each of its steps lowers its rank, whatever the reader does in between.
 use Rattle.std.proofs.Common.{◌≡◌, ◌≢◌, ℕ, suc, ◌+◌, ◌-◌, ◌*◌, ◌<◌, ◌≤◌, Bool, List, [], ◌∷◌, ◌++◌, length, Option, None, refl, sym, ap, ◌∙◌, subst, arith}
 use Rattle.std.specs.Prelude.{if◌then◌else◌, ◌==◌, nat_lt}
 use Rattle.std.proofs.lemmas.Bool.{cond_both, lt-ltb, le-ltb}
@@ -55,7 +55,7 @@ grant_held (r ∷ records) holds = refl
 closing_le : (n passed opened : ℕ) (history : List Action) (c : Core) (state : FrameState) → own_rank n passed opened history state (closing_phase c) ≤ grant_rank (tail_of history) + 1
 closing_le n passed opened history c state = cond_both ((c.done + 1) == c.opened) wishing releasing (λ (p : Phase). own_rank n passed opened history state p ≤ grant_rank (tail_of history) + 1) (λ _. omega arith) (λ _. omega arith)
 
--- ---- a frame that leaves, or begins anew
+-- ---- a frame that leaves, or begins again
 
 leave_le : (n passed : ℕ) (c : Core) (frame : Frame) (below : List Frame) (payload : Option (List ℕ)) → length (after_leave c frame below payload).frames ≡ suc (length below) → rank_in n passed (after_leave c frame below payload) ≤ 3 * (c.opened - c.done) + 13
 leave_le n passed c frame [] payload same =
@@ -80,7 +80,7 @@ module _ (n size start : ℕ) (c : Core) (frame : Frame) (below : List Frame) (r
   old : (phase : Phase) → frame.phase ≡ phase → rank_in n passed c ≡ 3 * (c.opened - c.done) + own_rank n passed c.opened c.history frame.state phase
   old phase same = ap (writer_rank n passed c.done c.opened c.history) top ∙ ap (λ (p : Phase). 3 * (c.opened - c.done) + own_rank n passed c.opened c.history frame.state p) same
 
-  -- the state behind has a lower rank than the phase
+  -- the state after the step has a lower rank than the phase
   sinks : (after next : Core) (phase : Phase) → frame.phase ≡ phase → rank_in n knows next < 3 * (c.opened - c.done) + own_rank n passed c.opened c.history frame.state phase → after ≡ next → rank_in n knows after < rank_in n passed c
   sinks after next phase same less is = subst (λ (a : Core). rank_in n knows a < rank_in n passed c) (sym is) (subst (λ (m : ℕ). rank_in n knows next < m) (sym (old phase same)) less)
 
@@ -141,7 +141,7 @@ module _ (n size start : ℕ) (c : Core) (frame : Frame) (below : List Frame) (r
       sinks after _ (claiming noted page) same (let less : 3 * (c.opened - c.done) + (state_rank frame.state + late_rank noted c.opened + 8) < 3 * (c.opened - c.done) + (state_rank frame.state + late_rank noted c.opened + 11) = omega arith in less) is
   claim_lowers noted page answer after same past stays (claim_fails now other a is) = let once = look_once n knows noted (past now) in goes after (claiming noted page) (looking noted) same (omega arith) is
 
-  -- behind the look at the next link
+  -- after the look at the next link
   next_less : (role : Role) (noted page m : ℕ) → 6 < m → own_rank n knows c.opened c.history frame.state (after_next role noted page) < state_rank frame.state + late_rank noted c.opened + m
   next_less owner noted page m less = omega arith
   next_less helper noted page m less = omega arith

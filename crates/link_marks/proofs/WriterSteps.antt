@@ -195,7 +195,7 @@ begun_kept n c page k room small = record {
   reader = k.reader;
 }
 
--- ---- the release of a fill: the frame stands alone
+-- ---- the release of a fill: the frame is alone
 
 pub released_kept : (n : ℕ) (c : Core) (frames : List Frame) → LinksKept n c → c.done + 1 < c.opened → ((f : ℕ) → Stands c.frames f → ⊥) → FramesKept n c.links c.order c.head (c.done + 1) c.opened frames → MoversDiffer frames
     → LinksKept n (record (with_released c) { frames = frames })

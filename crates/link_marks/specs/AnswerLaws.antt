@@ -8,7 +8,7 @@ use Rattle.trace_model.specs.Window.{IsCrowded}
 use Rattle.trace_model.specs.Steps.{Event, steps, Answer, NeedsPage, refused, empty, moving, swapped, Step}
 use Rattle.link_marks.specs.RingKept.{IsRingKept}
 
--- each fill from the first to this one was taken, or lost with a whole round of fills begun behind it
+-- each fill from the first to this one was taken, or lost with a whole round of fills begun after it
 abbrev pub ArePassed : ℕ → ℕ → Core → ℕ → Type 0
 ArePassed n start c f = (g : ℕ) → start ≤ g → g < f → IsTaken c g ⊎ (g + n ≤ c.opened)
 
@@ -22,8 +22,8 @@ pub record IsInNeed (n size : ℕ) (c : Core) : Type 0 where
   pub about : top.phase ≡ idle
   pub needs : NeedsPage size c top.kind
 
--- such a frame is refused as crowded where no page is released; and where one is, as worn where the tail is the
--- last fill that may be begun: the one a round behind the next has no number
+-- such a frame is refused as crowded if no page is released; and if one is, as worn if the tail is the
+-- last fill that may be begun: the one a round after the next has no number
 abbrev pub RefusalsAreDue : Type 0
 RefusalsAreDue = (n size : ℕ) (c : Core) (answer : Answer) (after : Core)
     → Step n size c steps answer after
@@ -57,8 +57,8 @@ EmptyIsRight = (n size start : ℕ) (c : Core) (event : Event) (done : ℕ) (aft
     × (after.reader.seen ≡ done)
     × (after.head ≡ done)
 
--- A move of the head stands in the reader's way: all fills below this one are passed, which is no less than
--- the reader knew; and the UPDATE of just one frame stands.
+-- A move of the head is in the reader's way: all fills below this one are passed, which is at least
+-- the reader's hint; and the UPDATE of exactly one frame is set.
 pub record IsInTheWay (n start : ℕ) (c : Core) (fill : ℕ) : Type 0 where
   pub passed : ArePassed n start c fill
   pub fill_le : fill ≤ c.head

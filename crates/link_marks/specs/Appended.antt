@@ -36,7 +36,7 @@ abbrev pub IsRefusedPage : Answer → Type 0
 IsRefusedPage answer = (answer ≡ refused crowded) ⊎ (answer ≡ refused worn)
 
 -- A record frame that waits: it reserves, under the number of records before it; or it is refused, and leaves without
--- a record; or it begins a fill, and goes on; or it just goes on.
+-- a record; or it begins a fill, and goes on; or it only goes on.
 pub data RecordAppends (c : Core) (phase : Phase) (answer : Answer) (actions : List Action) : Type 0 where
   record_reserved :
       answer ≡ reserved_as (length (reserved_records c.history))
@@ -97,7 +97,7 @@ pub data LeftAppends (n : ℕ) (c : Core) (phase : Phase) (answer : Answer) (act
       → actions ≡ []
       → LeftAppends n c phase answer actions
 
--- one that has reserved is told its number again
+-- one that has reserved gets its number again as its answer
 abbrev pub FrameAppends : ℕ → Core → Kind → FrameState → Phase → List Frame → Answer → List Action → Type 0
 FrameAppends n c (for_record moment len) waiting phase below answer actions = RecordAppends c phase answer actions
 FrameAppends n c for_close waiting phase below answer actions = CloseAppends c phase below answer actions

@@ -1,5 +1,5 @@
 -- Worked examples of a ring: what is asked of a new one, event by event, and what it answers. docs/MODEL.md
--- tells them as tables.
+-- shows them as tables.
 use Rattle.std.specs.Prelude.{◌≡◌, ℕ, List, [], ◌∷◌, ◌++◌, length, map, replicate, Some}
 use Rattle.trace_model.specs.Record.{Record}
 use Rattle.trace_model.specs.History.{Reservation, committed_records}
@@ -20,7 +20,7 @@ pushing_close = record { event = pushes_close; answer = pushed } ∷ []
 abbrev pub stepping : List Answer → List Exchange
 stepping answers = map (λ answer. record { event = steps; answer = answer }) answers
 
--- so many times the frame goes on, and then it answers this
+-- the frame goes on this many times, and then it answers this
 abbrev pub after_going : ℕ → Answer → List Answer
 after_going count answer = replicate count going ++ answer ∷ []
 
@@ -53,7 +53,7 @@ at moment bytes = record { moment = moment; bytes = bytes }
 abbrev pub held_records : List Record → List Reservation
 held_records records = map (λ r. record { moment = r.moment; len = length r.bytes; bytes = Some r.bytes }) records
 
--- a take's answer: the fill, the number of its first record, how many were missed in front of it, and its
+-- a take's answer: the fill, the number of its first record, how many were missed before it, and its
 -- records
 abbrev pub taken_as : (fill first missed : ℕ) → List Record → Answer
 taken_as fill first missed records = swapped record {
@@ -81,8 +81,8 @@ writing_for_wish moment payload number =
     ++ ending payload full
     ++ stepping (after_going 4 gone)
 
--- a record that is written on a new page, where a position is free: it notes the need, looks, opens the page
--- and reserves; and closes the page in front
+-- a record that is written on a new page, if a position is free: it notes the need, looks, opens the page
+-- and reserves; and closes the page before
 abbrev pub writing_on_free : (moment : ℕ) → List ℕ → (number : ℕ) → List Exchange
 writing_on_free moment payload number =
     pushing moment (length payload)
@@ -103,7 +103,7 @@ writing_over_head moment payload number =
 abbrev pub closing_above : List Exchange
 closing_above = pushing_close ++ stepping (going ∷ going ∷ gone ∷ [])
 
--- the same with none below it: it closes the page in front, and finds no wish
+-- the same with none below it: it closes the page before, and finds no wish
 abbrev pub closing : List Exchange
 closing = pushing_close ++ stepping (after_going 4 gone)
 
@@ -158,7 +158,7 @@ inner_reserves_first =
 abbrev pub InnerReservesFirst : Type 0
 InnerReservesFirst = IsExample 2 32 inner_reserves_first (at 20 (four 187) ∷ at 20 (four 170) ∷ [])
 
--- In a full ring a third frame notes its need, looks, and claims the head; there it stands still, and two
+-- In a full ring a third frame notes its need, looks, and claims the head; there it halts, and two
 -- takes meet its UPDATE and the HEADER that it owes. It looks at the next link and marks it: a take finds
 -- that head not closed. It clears its UPDATE, opens the page, reserves, ends and closes: a take gets the
 -- second record, and one was missed.
@@ -178,7 +178,7 @@ HaltedHeadMove = IsExample 2 32 halted_head_move (at 1 (all 1) ∷ at 2 (all 2) 
 -- In a full ring of four pages a frame claims the head and is interrupted. A second frame helps: it finds the
 -- UPDATE, looks at the next link, marks it, and opens the page. A third moves the head on, and opens the next
 -- one. Then the first finds the next link passed, clears its UPDATE, finds that fills were begun, and begins
--- anew: it moves the head on too. It closes three pages. Four takes: the first goes from link to link to the
+-- again: it moves the head on too. It closes three pages. Four takes: the first goes from link to link to the
 -- head, and three records were missed.
 abbrev pub helpers_at_the_head : List Exchange
 helpers_at_the_head =
@@ -199,7 +199,7 @@ HelpersAtTheHead =
     IsExample 4 32 helpers_at_the_head
     (at 1 (all 1) ∷ at 2 (all 2) ∷ at 3 (all 3) ∷ at 4 (all 4) ∷ at 6 (all 6) ∷ at 7 (all 7) ∷ at 7 (all 5) ∷ [])
 
--- The reader has seen the HEADER of fill 0 on page 0 and stands still, while two records are written over the
+-- The reader has seen the HEADER of fill 0 on page 0 and halts, while two records are written over the
 -- head: now that page is the head again, of fill 2. The reader's swap fails; it goes on to the head, takes fill
 -- 2, and two records were missed.
 abbrev pub late_swap : List Exchange

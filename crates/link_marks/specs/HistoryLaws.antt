@@ -14,14 +14,14 @@ use Rattle.link_marks.specs.Appended.{Appends}
 
 -- ---- histories
 
--- An event appends to what the frames did the actions that its answer tells, and nothing else.
+-- An event appends to what the frames did the actions that its answer states, and nothing else.
 abbrev pub StepsAppend : Type 0
 StepsAppend = (n size start : ℕ) (c : Core) (event : Event) (answer : Answer) (after : Core)
     → IsRingKept n size start c
     → Step n size c event answer after
     → (actions : List Action) × (after.history ≡ c.history ++ actions) × Appends n c event answer actions
 
--- By the state in front of the event, and its answer, these are just one list.
+-- By the state before the event, and its answer, these are one list only.
 abbrev pub AppendedIsOne : Type 0
 AppendedIsOne = (n : ℕ) (c : Core) (event : Event) (answer : Answer) (some others : List Action)
     → Appends n c event answer some
@@ -32,12 +32,12 @@ AppendedIsOne = (n : ℕ) (c : Core) (event : Event) (answer : Answer) (some oth
 abbrev pub RunsAreHistories : Type 0
 RunsAreHistories = (n size start : ℕ) (c : Core) → IsRingKept n size start c → IsHistory c.history
 
--- and it is packed in its pages: each fill has room in one, and a fill is begun only behind one that isn't
+-- and it is packed in its pages: each fill has room in one, and a fill is begun only after one that isn't
 -- empty, for a record that doesn't fit, by a close frame, or for the reader's wish
 abbrev pub RunsArePacked : Type 0
 RunsArePacked = (n size start : ℕ) (c : Core) → IsRingKept n size start c → IsPacked c.history size
 
--- each record takes 8 bytes at least, and so many fills were begun: so many records at most were reserved
+-- each record takes 8 bytes at least, so the begun fills bound the number of reserved records
 abbrev pub RecordsAreFew : Type 0
 RecordsAreFew = (n size start : ℕ) (c : Core)
     → IsRingKept n size start c
@@ -61,7 +61,7 @@ TakenHoldRecords = (n size start : ℕ) (c : Core) → IsRingKept n size start c
 -- ---- the partition
 
 -- the fills that the reader took are, with the records that were lost between, the committed records up to a
--- rest; and each has as its first number the count of all records in front of it
+-- rest; and each has as its first number the count of all records before it
 abbrev pub TakenPartitionCommitted : Type 0
 TakenPartitionCommitted = (n size start : ℕ) (c : Core)
     → IsRingKept n size start c
@@ -80,9 +80,9 @@ TakenAreFills = (n size start : ℕ) (c : Core)
 abbrev pub records_from : List Action → ℕ → List Reservation
 records_from history fills = flat_map (λ fill. fill) (drop fills (fills_of history))
 
--- Behind the pieces that the reader took stand the records of the fills that were lost since. Then comes the
--- rest: what lies behind the last fill that was taken or lost, from the head's first number on. With no frame
--- standing that is all of the unread fills: those from the head on, the tail among them.
+-- After the pieces that the reader took come the records of the fills that were lost since. Then comes the
+-- rest: what is after the last fill that was taken or lost, from the head's first number on. If the stack is
+-- empty, that is all of the unread fills: those from the head on, the tail among them.
 pub record IsRest (start : ℕ) (c : Core) (lost rest : List Record) : Type 0 where
   pub partition : IsPartition (committed_records c.history) (pieces_of c.reader.taken) (lost ++ rest)
   pub behind : length (committed_records c.history) ≡ first_of_fill c.history start c.head + length rest
@@ -94,8 +94,8 @@ RestIsUnread = (n size start : ℕ) (c : Core)
     → IsRingKept n size start c
     → (lost rest : List Record) × IsRest start c lost rest
 
--- With no frame standing, and no closed fill unread, the rest is what stands in the tail, and nothing is skipped in
--- front of it.
+-- If the stack is empty, and no closed fill is unread, the rest is what is in the tail, and nothing is skipped
+-- before it.
 abbrev pub TailIsTheRest : Type 0
 TailIsTheRest = (n size start : ℕ) (c : Core)
     → IsRingKept n size start c

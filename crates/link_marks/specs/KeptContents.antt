@@ -18,7 +18,7 @@ Holds n start order held cuts records f =
     slice_index_or held (page_at n order f) empty_page ≡ cut_fill start cuts records f
 
 -- The fills are as many as are begun, each page has room for one, and those that are begun and not taken or
--- lost stand in their pages.
+-- lost are in their pages.
 pub record PagesKept (n start : ℕ) (order : List ℕ) (held : List Held) (cuts : List ℕ) (records : List Reservation)
     (head opened : ℕ)
     : Type 0 where

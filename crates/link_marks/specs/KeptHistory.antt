@@ -15,7 +15,7 @@ Passing (frame ∷ below) f = ((page : ℕ) × (passed_spot frame.phase ≡ Some
 abbrev pub TakenIn : List Taken → ℕ → Type 0
 TakenIn taken f = (k : ℕ) × (t : Taken) × (slice_get taken k ≡ Some t) × (t.fill ≡ f)
 
--- A fill that is passed was taken; or it was lost, and a whole round of fills is begun behind it, or all but
+-- A fill that is passed was taken; or it was lost, and a whole round of fills is begun after it, or all but
 -- the last of it, which a frame is about to open.
 abbrev pub WhyPassed : ℕ → List Taken → ℕ → List Frame → ℕ → Type 0
 WhyPassed n taken opened frames f =
@@ -27,7 +27,7 @@ LostKept n start taken head opened frames = (f : ℕ)
     → f < head
     → WhyPassed n taken opened frames f
 
--- the frames kept the discipline of the stack, which is the frames that stand and haven't left; and what was
+-- the frames kept the discipline of the stack, which is the frames that haven't left; and what was
 -- passed was taken, or lost in a full ring
 pub record HistoryKept (n start : ℕ) (c : Core) : Type 0 where
   pub allowed : IsHistory c.history

@@ -24,7 +24,7 @@ pub record Spot : Type 0 where
 abbrev pub spot : ℕ → ℕ → Spot
 spot fill page = record { fill = fill; page = page }
 
--- the fill and its page, where the frame has found the head moved on from that position
+-- the fill and its page, if the frame has found the head moved on from that position
 abbrev pub passed_spot : Phase → Option Spot
 passed_spot idle = None
 passed_spot (looking o) = None
@@ -36,7 +36,7 @@ passed_spot (opening o page) = Some (spot o page)
 passed_spot releasing = None
 passed_spot wishing = None
 
--- the fill and the next page, where the frame is about to set the HEADER
+-- the fill and the next page, if the frame is about to set the HEADER
 abbrev pub marking_spot : Phase → Option Spot
 marking_spot idle = None
 marking_spot (looking o) = None
@@ -61,8 +61,8 @@ clearing_fill releasing = None
 clearing_fill wishing = None
 
 -- What a frame knows in its phase. noted: the fill to open was the next one, and some page was released.
--- passed: the position of that fill is free but for an UPDATE. moves: its own UPDATE stands. marks: the next
--- link, where it waits for its HEADER, is the one that was seen. clears: it doesn't wait for it any more.
+-- passed: the position of that fill is free but for an UPDATE. moves: its own UPDATE is set. marks: the next
+-- link, if it waits for its HEADER, is the one that was seen. clears: it doesn't wait for it any more.
 pub record PhaseKept (n : ℕ) (links : List Link) (order : List ℕ) (head done opened : ℕ) (phase : Phase)
     : Type 0 where
   pub noted : (o : ℕ)
@@ -94,8 +94,8 @@ FramesKept n links order head done opened (frame ∷ below) =
     PhaseKept n links order head done opened frame.phase
     × FramesKept n links order head done opened below
 
--- The link into the position of a fill from the head on: it tells that fill, and at the head a NORMAL only
--- while a move of the head stands; it is the HEADER at the head; or an UPDATE that stands.
+-- The link into the position of a fill from the head on: it states that fill, and at the head a NORMAL only
+-- while a move of the head is unfinished; it is the HEADER at the head; or an UPDATE that a frame owns.
 pub data LinkKept (n : ℕ) (links : List Link) (order : List ℕ) (head : ℕ) (frames : List Frame) (f : ℕ)
     : Type 0 where
   is_normal :
@@ -130,12 +130,12 @@ ReaderKept n links order spare_link head done hint (swapping page fill) =
     × (fill < done)
     × (spare_link ≡ header_link (page_at n order (suc fill)) (suc fill))
 
--- the link tells one of the n + 1 pages, and a fill that has a number
+-- the link states one of the n + 1 pages, and a fill that has a number
 abbrev pub FitsRing : ℕ → Link → Type 0
 FitsRing n l = (l.page < n + 1) × (l.fill < LINK_FILLS)
 
 -- What every step keeps of links, counts, frames and the reader, who has seen no more fills closed than are, and
--- wishes for none but the one behind those.
+-- wishes for none but the one after those.
 pub record LinksKept (n : ℕ) (c : Core) : Type 0 where
   pub some_pages : MIN_PAGES ≤ n
   pub positions : length c.links ≡ n

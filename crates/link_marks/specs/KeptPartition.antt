@@ -5,7 +5,7 @@ use Rattle.trace_model.specs.History.{Action, reserved_records, as_record}
 use Rattle.trace_model.specs.Partition.{Piece, IsPartition, covered_count, first_of}
 use Rattle.trace_model.specs.Ring.{Taken, Core, first_of_fill, AreFillsOf}
 
--- a taken fill as a piece: what was lost in front of it, and its records
+-- a taken fill as a piece: what was lost before it, and its records
 abbrev pub piece_of : Taken → Piece
 piece_of t = record { skipped = t.skipped; records = map as_record t.held.records }
 
@@ -17,13 +17,13 @@ abbrev pub covered_total : List Piece → ℕ
 covered_total [] = 0
 covered_total (p ∷ pieces) = covered_count p + covered_total pieces
 
--- each taken fill has as its first number the count of all records in front of it
+-- each taken fill has as its first number the count of all records before it
 abbrev pub HaveFirsts : List Taken → Type 0
 HaveFirsts taken = (k : ℕ) (t : Taken)
     → slice_get taken k ≡ Some t
     → first_of (pieces_of taken) k ≡ Some t.held.first
 
--- The reader expects no number behind the head's first one; and the records in front of that number are,
+-- The reader expects no number above the head's first one; and the records below that number are,
 -- in order, those that it took and those that were lost between. What it took are fills of the history, from
 -- below the head.
 pub record PartitionAt (start : ℕ) (history : List Action) (head expected : ℕ) (taken : List Taken)

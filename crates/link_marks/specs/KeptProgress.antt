@@ -5,13 +5,13 @@ use Rattle.trace_model.specs.Links.{Link, normal_link}
 use Rattle.trace_model.specs.Frames.{Phase, idle, looking, claiming, looking_next, marking, clearing, opening, releasing, wishing, Frame}
 use Rattle.trace_model.specs.Ring.{Core, link_into}
 
--- the fill behind a lost one doesn't wait for its HEADER any more
+-- the fill after a lost one doesn't wait for its HEADER any more
 abbrev pub IsMarked : ℕ → List Link → ℕ → ℕ → Type 0
 IsMarked n links head lost =
     (lost < head) × ((seen : ℕ) → link_into n links (suc lost) ≢ normal_link seen (suc lost))
 
--- a frame that looks behind the head has a whole round of fills behind it; one that begins a fill at the position of
--- a lost one has seen the next one marked
+-- a frame that looks at the next link is to open a fill after a whole round of them; one that begins a fill at the
+-- position of a lost one has seen the next one marked
 abbrev pub PhaseAdvances : ℕ → List Link → ℕ → Phase → Type 0
 PhaseAdvances n links head idle = Unit {0}
 PhaseAdvances n links head (looking o) = Unit {0}

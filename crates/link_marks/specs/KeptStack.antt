@@ -24,7 +24,7 @@ FramesAgree (frame ∷ below) =
     × (frame.state ≡ left → below ≡ [])
     × FramesAgree below
 
--- No more than MAX_FRAMES frames stand, and they agree; where none stands, all fills that are begun are closed but
+-- At most MAX_FRAMES frames are on the stack, and they agree; if it is empty, all fills that are begun are closed but
 -- the tail.
 pub record StackAt (done opened : ℕ) (frames : List Frame) : Type 0 where
   pub few : length frames ≤ MAX_FRAMES

@@ -35,7 +35,7 @@ LinksStandOnce = (n size start : ℕ) (c between after : Core) (exchanges more :
     → link_into n between.links f ≢ link_into n c.links f
     → link_into n after.links f ≢ link_into n c.links f
 
--- a HEADER tells the head, and just one position has it
+-- a HEADER states the head, and exactly one position has it
 abbrev pub OneHeader : Type 0
 OneHeader = (n size start : ℕ) (c : Core) (f g page other_page fill other_fill : ℕ)
     → IsRingKept n size start c
@@ -43,11 +43,11 @@ OneHeader = (n size start : ℕ) (c : Core) (f g page other_page fill other_fill
     → link_into n c.links g ≡ header_link other_page other_fill
     → (fill ≡ c.head) × (other_fill ≡ fill) × (other_page ≡ page) × (g % n ≡ f % n)
 
--- no HEADER stands
+-- there is no HEADER
 abbrev pub NoHeader : ℕ → Core → Type 0
 NoHeader n c = (g page fill : ℕ) → link_into n c.links g ≢ header_link page fill
 
--- A HEADER is set for the head, over the NORMAL of the same page and fill: by a frame, where none stands; or
+-- A HEADER is set for the head, over the NORMAL of the same page and fill: by a frame, if there is none; or
 -- by the reader, with whose swap the one of the fill before is gone.
 pub record IsHeaderSet (n : ℕ) (c : Core) (event : Event) (after : Core) (f page fill : ℕ) : Type 0 where
   pub waited : link_into n c.links f ≡ normal_link page fill
@@ -97,7 +97,7 @@ UpdatesAreClaimed = (n size start : ℕ) (c : Core) (event : Event) (answer : An
     → IsClaimed n c event after f page lost
 
 -- An UPDATE of a lost fill is cleared by the frame that owns it, to the NORMAL of the fill to open; and before
--- that the HEADER behind the lost fill was set: it stands, or the head has moved on from there.
+-- that the HEADER after the lost fill was set: it is still there, or the head has moved on.
 pub record IsCleared (n : ℕ) (c : Core) (event : Event) (after : Core) (f page lost : ℕ) : Type 0 where
   pub by_frame : event ≡ steps
   pub top : Frame

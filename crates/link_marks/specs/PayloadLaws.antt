@@ -12,7 +12,7 @@ HoldsNumber c page number =
     ((contents_of c page).first ≤ number)
     × (number < (contents_of c page).first + length (contents_of c page).records)
 
--- A record that a frame has reserved lies in just one page: that of an open fill, begun and not closed; and it has no
+-- A record that a frame has reserved is in exactly one page: that of an open fill, begun and not closed; and it has no
 -- bytes yet.
 pub record LiesOpen (n : ℕ) (c : Core) (number : ℕ) : Type 0 where
   pub fill : ℕ

@@ -1,5 +1,5 @@
 -- How far the frame on top is from being gone, and a take from its answer: numbers that each of their steps lowers,
--- where nothing comes between. So both come to an end. docs/FORMATS.md, "Writer frames" and "The reader".
+-- if nothing comes between. So both have an end. docs/FORMATS.md, "Writer frames" and "The reader".
 use Rattle.std.specs.Prelude.{◌≡◌, ℕ, ◌+◌, ◌-◌, ◌*◌, ◌<◌, ◌≤◌, min, None, Bool, true, false, if◌then◌else◌, ◌==◌, List, [], ◌∷◌, length}
 use Rattle.trace_model.specs.History.{Reservation}
 use Rattle.trace_model.specs.Packing.{tail_of}
@@ -17,7 +17,7 @@ state_rank waiting = 20
 state_rank (reserved number) = 20
 state_rank left = 0
 
--- a frame that noted another number of begun fills begins anew
+-- a frame that noted another number of begun fills begins again
 abbrev pub late_rank : (noted opened : ℕ) → ℕ
 late_rank noted opened = if noted == opened then 0 else 20
 
@@ -68,7 +68,7 @@ frame_rank n c = 3 * (c.opened - c.done) + top_rank n c c.frames
 abbrev pub frame_limit : ℕ → ℕ
 frame_limit n = 3 * n + 52
 
--- the frame on top, which hasn't reserved, makes a step and stands behind it: it is nearer to its end
+-- the frame on top, which hasn't reserved, makes a step and stays on the stack: it is nearer to its end
 abbrev pub StepsComeToAnEnd : Type 0
 StepsComeToAnEnd = (n size start : ℕ) (c : Core) (frame : Frame) (below : List Frame) (answer : Answer) (after : Core)
     → IsRingKept n size start c
@@ -94,7 +94,7 @@ FramesAreNearTheirEnd = (n size start : ℕ) (c : Core) → IsRingKept n size st
 
 -- ---- the reader
 
--- how many fills the reader is behind the head, as far as one load of a link tells
+-- how many fills the reader is from the head, as far as one load of a link shows
 abbrev pub distance : ℕ → Core → ℕ
 distance most c = min (c.head + 1 - c.reader.hint) most
 
@@ -112,7 +112,7 @@ reader_rank n c = reader_phase_rank n c c.reader.phase
 abbrev pub reader_limit : ℕ → ℕ
 reader_limit n = 4 * n + 14
 
--- a take that goes on behind a step is nearer to its answer
+-- a take that goes on after a step is nearer to its answer
 abbrev pub TakesComeToAnAnswer : Type 0
 TakesComeToAnAnswer = (n size start : ℕ) (c : Core) (after : Core)
     → IsRingKept n size start c

@@ -4,7 +4,7 @@ use Rattle.trace_model.specs.declared.limits.TheConstants.{MIN_PAGES, LINK_FILLS
 use Rattle.trace_model.specs.Ring.{Core, IsStart}
 use Rattle.trace_model.specs.Steps.{Exchange, Run}
 
--- The ring has pages enough, and behind the first fill a round of fills has numbers.
+-- The ring has pages enough, and a round of fills after the first one has numbers.
 pub record MayStart (n start : ℕ) : Type 0 where
   pub some_pages : MIN_PAGES ≤ n
   pub numbers_left : start + 1 + n ≤ LINK_FILLS

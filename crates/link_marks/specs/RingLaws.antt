@@ -19,7 +19,7 @@ StartIsKept = (n size start : ℕ) (c : Core) → MayStart n start → IsStart n
 abbrev pub StartHasWindow : Type 0
 StartHasWindow = (n start : ℕ) (c : Core) → IsStart n start c → window_of c ≡ first_window start
 
--- every step keeps it, whatever frames stand and whatever UPDATEs they own
+-- every step keeps it, whatever frames are on the stack and whatever UPDATEs they own
 abbrev pub StepsKeepRing : Type 0
 StepsKeepRing = (n size start : ℕ) (c : Core) (event : Event) (answer : Answer) (after : Core)
     → IsRingKept n size start c
@@ -39,11 +39,11 @@ ReachedIsRing = (n size start : ℕ) (c : Core) → IsReached n size start c →
 
 -- ---- the stack of frames
 
--- no more than MAX_FRAMES frames stand
+-- at most MAX_FRAMES frames are on the stack
 abbrev pub FewFramesStand : Type 0
 FewFramesStand = (n size start : ℕ) (c : Core) → IsRingKept n size start c → length c.frames ≤ MAX_FRAMES
 
--- a frame that has left, which alone closes fills and looks for a wish, stands at the bottom
+-- a frame that has left, which alone closes fills and looks for a wish, is at the bottom
 abbrev pub OnlyTheBottomHasLeft : Type 0
 OnlyTheBottomHasLeft = (n size start : ℕ) (c : Core) (k : ℕ) (frame : Frame)
     → IsRingKept n size start c
@@ -52,7 +52,7 @@ OnlyTheBottomHasLeft = (n size start : ℕ) (c : Core) (k : ℕ) (frame : Frame)
     × (frame.phase ≡ releasing → frame.state ≡ left)
     × (frame.phase ≡ wishing → frame.state ≡ left)
 
--- and where no frame stands, all fills that are begun are closed but the tail
+-- and if the stack is empty, all fills that are begun are closed but the tail
 abbrev pub AllIsClosedAtRest : Type 0
 AllIsClosedAtRest = (n size start : ℕ) (c : Core)
     → IsRingKept n size start c
@@ -67,7 +67,7 @@ NewRingIsOne = (n start : ℕ)
     → 1 ≤ n
     → (c : Core) × IsStart n start c × ((other : Core) → IsStart n start other → other ≡ c)
 
--- the payload that ends a frame which has reserved takes just the slot that it was given; nothing is asked of
+-- the payload that ends a frame which has reserved takes exactly the slot that it was given; nothing is asked of
 -- any other event
 abbrev pub MayAsk : Core → Event → Type 0
 MayAsk c (pushes moment len) = Unit {0}

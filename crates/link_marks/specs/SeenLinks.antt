@@ -6,7 +6,7 @@ use Rattle.trace_model.specs.Frames.{Phase, idle, looking, claiming, looking_nex
 use Rattle.trace_model.specs.Ring.{Core, link_into}
 use Rattle.link_marks.specs.Reached.{IsReached}
 
--- The page that it saw has room in a word. The head that it is about to claim is a whole round of fills behind; while
+-- The page that it saw has room in a word. The head that it is about to claim is a whole round of fills earlier; while
 -- that is the head, its HEADER is still there.
 abbrev pub HasSeenLink : (n : ℕ) → List Link → (head : ℕ) → Phase → Type 0
 HasSeenLink n links head idle = Unit {0}

@@ -1,4 +1,4 @@
--- A run of a ring, told as deeds: which fills they take, and which they lose.
+-- A run of a ring, as deeds: which fills they take, and which they lose.
 -- docs/FORMATS.md, "The ring".
 use Rattle.std.specs.Prelude.{◌≡◌, ℕ, ◌+◌, List, [], ◌∷◌, map}
 use Rattle.trace_model.specs.Window.{Deed, acts, closes, takes, loses, actions_of, WindowRun}

@@ -11,7 +11,7 @@ use Rattle.link_marks.specs.ToldRuns.{fills_taken, fills_lost, IsToldBy}
 
 -- ---- steps
 
--- A happening as the state shows it. Where a fill is begun, the history has one more open_fill; where one is taken,
+-- A happening as the state shows it. If a fill is begun, the history has one more open_fill; if one is taken,
 -- it is the head, and the last page that the reader took; and else a happening changes neither.
 abbrev pub IsShown : Core → Core → Happening → Type 0
 IsShown c after opened_one = IsPrefix (c.history ++ open_fill ∷ []) after.history × (after.reader ≡ c.reader)
@@ -23,7 +23,7 @@ IsShown c after took_one =
     × (after.reader.taken ≡ c.reader.taken ++ t ∷ [])
 IsShown c after lost_one = (after.history ≡ c.history) × (after.reader ≡ c.reader)
 
--- The happening takes the window of one state to that of another, where it may, and is shown there.
+-- The happening takes the window of one state to that of another if it may, and is shown there.
 pub record Happened (n : ℕ) (c : Core) (what : Happening) (after : Core) : Type 0 where
   pub step : WindowStep n c.history (window_of c) what (window_of after)
   pub shown : IsShown c after what
@@ -33,7 +33,7 @@ abbrev pub WindowStays : Core → Core → Type 0
 WindowStays c after = (window_of after ≡ window_of c) × (after.reader.taken ≡ c.reader.taken)
 
 -- every step leaves the window and what was taken as they were, or is one step of the window: a fill is begun
--- where a position is free; or the oldest begun one is closed, where each push has its leave; or the head is
+-- only if a position is free; or the oldest begun one is closed, and each push has its leave; or the head is
 -- taken, closed; or the head is lost, closed and in a full ring
 abbrev pub StepsMoveWindow : Type 0
 StepsMoveWindow = (n size start : ℕ) (c : Core) (event : Event) (answer : Answer) (after : Core)
@@ -70,7 +70,7 @@ LossesNeedAFullRing = (n size start : ℕ) (c : Core) (event : Event) (answer : 
     → Step n size c event answer after
     → (after.head ≡ c.head) ⊎ (HeadIsTaken c answer after ⊎ HeadIsLost n c after)
 
--- no fill is closed; or the oldest one is, where each push has its leave
+-- no fill is closed; or the oldest one is, and each push has its leave
 abbrev pub ClosesNeedNoFrame : Type 0
 ClosesNeedNoFrame = (n size start : ℕ) (c : Core) (event : Event) (answer : Answer) (after : Core)
     → IsRingKept n size start c
@@ -79,8 +79,8 @@ ClosesNeedNoFrame = (n size start : ℕ) (c : Core) (event : Event) (answer : An
 
 -- ---- runs
 
--- every run of steps from a new ring is a run of its window: deeds, each allowed where it stands, tell what
--- the frames did, where the window is now, and which fills the reader took
+-- every run of steps from a new ring is a run of its window: deeds, each allowed at its point, determine what
+-- the frames did, the window as it is now, and which fills the reader took
 abbrev pub RunsMoveWindow : Type 0
 RunsMoveWindow = (n size start : ℕ) (c : Core)
     → IsReached n size start c
@@ -124,7 +124,7 @@ TakenAreClosed = (n start : ℕ) (c : Core) (deeds : List Deed) (f : ℕ)
     → Contains (fills_taken start deeds) f
     → (start ≤ f) × (f < c.head) × (f < c.done)
 
--- so had one that was lost; and a whole round of fills is begun behind it
+-- so had one that was lost; and a whole round of fills is begun after it
 abbrev pub LostAreClosed : Type 0
 LostAreClosed = (n start : ℕ) (c : Core) (deeds : List Deed) (f : ℕ)
     → IsToldBy n start c deeds

@@ -8,7 +8,7 @@ use Rattle.trace_model.specs.Steps.{Event, ends, wishes, Answer, gone, full, emp
 use Rattle.link_marks.specs.RingKept.{IsRingKept}
 use Rattle.link_marks.specs.WindowLaws.{HeadIsLost}
 
--- the reader wishes for the fill behind those that it has seen closed, which is begun and no later than the first
+-- the reader wishes for the fill after those that it has seen closed, which is begun and no later than the first
 -- that isn't closed; and all else stays
 abbrev pub WishesAreHeld : Type 0
 WishesAreHeld = (n size start : ℕ) (c : Core) (answer : Answer) (after : Core)
@@ -32,7 +32,7 @@ GoneHasLooked = (n size : ℕ) (c : Core) (event : Event) (answer : Answer) (aft
     × (c.wish ≡ c.done + 1 → (tail_of c.history ≡ []) ⊎ (LINK_FILLS ≤ c.opened + n))
 
 -- So a wish for the first fill that isn't closed is answered by the next outermost end that finds a record in the
--- tail, the last fill aside: where the last frame is gone and the fill isn't closed yet, there was none, or it is that.
+-- tail, the last fill aside: if the last frame is gone and the fill isn't closed yet, there was none, or it is that.
 abbrev pub WishesAreAnswered : Type 0
 WishesAreAnswered = (n size start : ℕ) (c before : Core) (exchanges : List Exchange)
     (event : Event) (answer : Answer) (after : Core)
@@ -44,7 +44,7 @@ WishesAreAnswered = (n size start : ℕ) (c before : Core) (exchanges : List Exc
     → after.frames ≡ []
     → (c.done < before.done) ⊎ ((tail_of before.history ≡ []) ⊎ (LINK_FILLS ≤ before.opened + n))
 
--- and where the tail holds a record when a frame stands, the fill is closed when none stands any more
+-- and if the tail holds a record while a frame is on the stack, the fill is closed when the stack is empty again
 abbrev pub WishedTailsAreClosed : Type 0
 WishedTailsAreClosed = (n size start : ℕ) (c after : Core) (exchanges : List Exchange)
     → IsRingKept n size start c
@@ -56,7 +56,7 @@ WishedTailsAreClosed = (n size start : ℕ) (c after : Core) (exchanges : List E
     → after.frames ≡ []
     → c.done < after.done
 
--- And the end's own record is on that page, where the frame has no fill to close before: it is in the tail, which
+-- And the end's own record is on that page if the frame has no fill to close before: it is in the tail, which
 -- is the first fill that isn't closed.
 abbrev pub EndsOnTheWishedPage : Type 0
 EndsOnTheWishedPage = (n size start : ℕ) (c : Core) (payload : List ℕ) (after : Core) (frame : Frame) (number : ℕ)
@@ -68,9 +68,9 @@ EndsOnTheWishedPage = (n size start : ℕ) (c : Core) (payload : List ℕ) (afte
     → (first_of_fill c.history start c.done ≤ number)
     × (number < first_of_fill c.history start c.done + length (tail_of c.history))
 
--- A wish right behind an answer that nothing closed is unread loses no fill: it is for the fill behind those that
--- were closed there; where a frame grants it, no fill is lost until the next one is begun, which is so behind a ring
--- that isn't full.
+-- A wish right after an answer that nothing closed is unread loses no fill: it is for the fill after those that
+-- were closed there; if a frame grants it, no fill is lost until the next one is begun, as the ring isn't
+-- full.
 abbrev pub WishBehindEmptyLosesNone : Type 0
 WishBehindEmptyLosesNone = (n size start : ℕ) (c empty_at granted_at between : Core) (done : ℕ)
     (event last_event : Event) (exchanges more : List Exchange) (last_answer : Answer) (after : Core)

@@ -16,12 +16,12 @@ use Rattle.link_marks.specs.RingKept.{IsRingKept}
 abbrev pub look_rank : (n passed noted : ℕ) → ℕ
 look_rank n passed noted = if nat_lt noted (passed + n) then 10 else 12
 
--- a page is needed only behind records
+-- a page is needed only after records
 abbrev pub need_rank : List Reservation → ℕ
 need_rank [] = 16
 need_rank (r ∷ records) = 34
 
--- a wish is granted only behind records
+-- a wish is granted only after records
 abbrev pub grant_rank : List Reservation → ℕ
 grant_rank [] = 0
 grant_rank (r ∷ records) = 12
@@ -57,8 +57,8 @@ rank_in n passed c = writer_rank n passed c.done c.opened c.history c.frames
 abbrev pub writer_limit : ℕ → ℕ
 writer_limit n = 3 * n + 52
 
--- The frame on top, which hasn't reserved, makes a step and stands behind it: it is nearer to its end. All fills below
--- the first number were known to be passed before it looked, and all below the second one are behind its step; a claim
+-- The frame on top, which hasn't reserved, makes a step and stays on the stack: it is nearer to its end. All fills
+-- below the first number were known to be passed before it looked, and all below the second one after its step; a claim
 -- makes that of the fill that is lost.
 abbrev pub WriterStepsComeToAnEnd : Type 0
 WriterStepsComeToAnEnd = (n size start : ℕ) (c : Core) (frame : Frame) (below : List Frame) (answer : Answer)
@@ -78,7 +78,7 @@ WritersAreNearTheirEnd = (n size start passed : ℕ) (c : Core)
     → IsRingKept n size start c
     → rank_in n passed c ≤ writer_limit n
 
--- A frame that is about to claim the head has seen its HEADER: where it stands there no more, the head was moved on.
+-- A frame that is about to claim the head has seen its HEADER: if it is there no more, the head was moved on.
 abbrev pub ClaimsFailBehindTheHead : Type 0
 ClaimsFailBehindTheHead = (n size start : ℕ) (c : Core) (frame : Frame) (below : List Frame) (noted page lost : ℕ)
     → IsReached n size start c

@@ -96,14 +96,14 @@ SwapIgnoresTheFill = IsWrongStep 2 32 to_late_swap with_late_swap
 
 -- ---- an inner end publishes
 
--- a nested frame has reserved and ended, and another has begun a page, while the outermost one stands
+-- a nested frame has reserved and ended, and another has begun a page, while the outermost one is on the stack
 abbrev pub to_inner_end : List Exchange
 to_inner_end =
     pushing 10 4 ++ stepping (reserved_as 0 ∷ [])
     ++ pushing 20 4 ++ stepping (reserved_as 1 ∷ []) ++ ending (four 187) pending
     ++ closing_above
 
--- the page in front is closed
+-- the page before is closed
 abbrev pub with_page_closed : Core → Core
 with_page_closed c = record c { done = c.done + 1 }
 

@@ -1,4 +1,4 @@
-//! Link words: which page of a ring stands at a position, in which fill, and whether it is the head.
+//! Link words: which page of a ring is at a position, in which fill, and whether it is the head.
 //!
 //! The laws of the ring that these links make are the contracts of the functions of `laws`.
 #![tactic(auto)]

@@ -17,7 +17,7 @@ const FILL_UNIT: u64 = 65_536;
 /// What a link says of the page that it leads to.
 #[derive(Clone, Copy, Debug, PartialEq, Eq)]
 pub enum Mark {
-    /// Nothing is told of the page.
+    /// Nothing is stated of the page.
     Normal,
     /// The page is the head: the oldest one that is neither taken nor lost.
     Header,
@@ -25,7 +25,7 @@ pub enum Mark {
     Update,
 }
 
-/// A link into a position: the page that stands there, and the fill that the mark speaks of.
+/// A link into a position: the page that is there, and the fill that the mark refers to.
 #[derive(Clone, Copy, Debug, PartialEq, Eq)]
 pub struct Link {
     /// What the link says of the page.
@@ -78,7 +78,7 @@ impl Link {
     }
 }
 
-/// The link that tells nothing of the page.
+/// The link that states nothing of the page.
 pub fn normal(page: u16, fill: u64) -> Link
     ensures { link_of result ≡ normal_link page fill }
 {
@@ -111,8 +111,8 @@ pub fn update(page: u16, fill: u64) -> Link
     }
 }
 
-/// The link into a position of a new ring of so many, whose first fill has the number `start`: each leads to the page
-/// of its number, and the first fill is the head.
+/// The link into a position of a new ring with `positions` of them, whose first fill has the number `start`: each leads
+/// to the page of its number, and the first fill is the head.
 pub fn first_link(position: u16, positions: u64, start: u64) -> Link
     requires position { position < positions }
     requires most { positions ≤ MAX_PAGES }

@@ -1,4 +1,4 @@
--- What an answer of allot tells of the fills that a history leaves.
+-- What an answer of allot states of the fills that a history leaves.
 use Rattle.std.proofs.Common.{◌≡◌, ◌≢◌, ℕ, ◌<◌, ◌⊎◌, ◌+◌, List, [], ◌∷◌, ◌++◌, length, Option, Some, None, Result, Ok, Err, subst, refl, sym, ap, ◌∙◌, inl, inr, arith}
 use Rattle.trace_model.specs.declared.limits.TheConstants.{LINK_FILLS}
 use Rattle.trace_model.specs.History.{Action, Reservation, reservation_for, reserved_records}
@@ -63,7 +63,7 @@ module _ (start : ℕ) (h : List Action) (s : Stack) (k : IsStack start h s) whe
   pub close_has_its_fill : (noted : ℕ) → (WantsPage s Close (Through noted) → ⊥) → HasItsFill s h Close (Through noted)
   close_has_its_fill noted not = empty_or (λ some same. not (some, same))
 
-  -- ---- by the frames that stand
+  -- ---- by the frames on the stack
 
   module _ (top : Frame) (below : List Frame) (top_is : s.frames ≡ top ∷ below) where
     answered : (result : Result Allot WriteFault) → IsAnsweredTop s h top result → IsAnswered s h s.frames result

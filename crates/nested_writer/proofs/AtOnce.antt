@@ -47,7 +47,7 @@ use Rattle.nested_writer.proofs.Ending.{ended}
 
 -- ---- the page
 
--- What a record put behind those of a page leaves, with this payload in its slot.
+-- What a record put after those of a page leaves, with this payload in its slot.
 pub record IsPutWith (tail tail' : Contents) (prev moment len : ℕ) (part : List ℕ) (place : Place) : Type 0 where
   pub page : IsPage tail → IsPage tail'
   pub records : IsPage tail → records_of_page tail' ≡ records_of_page tail ++ record { moment = moment; bytes = part } ∷ []
@@ -65,7 +65,7 @@ pub record IsPutWith (tail tail' : Contents) (prev moment len : ℕ) (part : Lis
   pub len_is : place.len ≡ slot_len len
   pub fills : length part ≡ slot_len len
 
--- bytes up to the end, written anew and then as they were
+-- bytes up to the end, overwritten and then as they were
 written_back : (bytes other : List ℕ) (start len : ℕ) → start + len ≡ length bytes → length other ≡ len → overwritten (overwritten bytes start other) start (bytes_at start len bytes) ≡ bytes
 written_back bytes other start len end same =
     same_lists _ _ (search (rules, places)) (λ k d h. grind (arith, places))
@@ -108,7 +108,7 @@ module _ (tail tail' : Contents) (prev moment len : ℕ) (part : List ℕ) (plac
     len_is = p.len_is;
   }
 
-  -- the payload stands in its place
+  -- the payload is in its place
   pub part_at : bytes_at place.start place.len tail'.bytes ≡ part
   part_at =
       let r : Record = record { moment = moment; bytes = part } in
@@ -130,7 +130,7 @@ module _ (tail tail' : Contents) (prev moment len : ℕ) (part : List ℕ) (plac
 pub padded_twice : (payload : List ℕ) → padded (padded payload) ≡ padded payload
 padded_twice payload = padded_whole (padded payload) (ap slot_len (length-padded payload) ∙ slot_len-slot_len (length payload) ∙ sym (length-padded payload))
 
--- a record gets the same bytes by payloads that only differ in the zeros behind them
+-- a record gets the same bytes by payloads that only differ in the zeros after them
 same_padded : (number : ℕ) (p q : List ℕ) (xs : List Reservation) → padded p ≡ padded q → records_with_payload (Some number) (Some p) xs ≡ records_with_payload (Some number) (Some q) xs
 same_padded number p q [] same = refl
 same_padded zero p q (x ∷ xs) same = ap (λ (b : List ℕ). let r : Reservation = record x { bytes = Some b } in r ∷ xs) same
@@ -164,7 +164,7 @@ left_alike start h s moment len number below p q same stack fills k =
 pub fits_page : (size len : ℕ) → (IsTooLong size len → ⊥) → encoded_len len 0 true ≤ size
 fits_page size len fits = dite (dec_le (encoded_len len 0 true) size) (λ low. low) (λ past. absurd (fits (inr (omega arith))))
 
--- a frame that has left may stand where none does
+-- a frame that has left may be put on an empty stack
 pub stands_again : (start : ℕ) (h : List Action) (s : Stack) (moment len : ℕ) → s.frames ≡ [] → MayStand s moment len → IsStack start h s → IsStack start h (with_left s moment len)
 stands_again start h s moment len none may k = record {
   keeps = k.keeps;
@@ -261,7 +261,7 @@ module _ (start : ℕ) (h : List Action) (s : Stack) (moment : ℕ) (payload : L
       subst (λ (fs : List Frame). IsStack start (h ++ actions) (record s { tail = tail'; frames = fs; last_moment = raised })) (sym none)
       (goes_again start (h ++ actions) after has_left refl refl is_written)
 
--- where no frame stands, none is below
+-- if the stack is empty, no frame is below
 pub none_below : (top : Option Frame) (items : List Frame) → frames_from top items ≡ [] → items ≡ []
 none_below None items e = e
 none_below (Some top) items e = cc

@@ -1,4 +1,4 @@
--- A record frame that is ended: its record gets the bytes that stand in its slot.
+-- A record frame that is ended: its record gets the bytes in its slot.
 use Rattle.std.proofs.Common.{◌≡◌, ℕ, zero, suc, ◌+◌, ◌-◌, ◌<◌, ◌≤◌, ltb, Bool, List, [], ◌∷◌, ◌++◌, length, get_or, take, drop, map, Option, Some, None, IfSome, refl, sym, ap, ◌∙◌, subst, arith, length-append, length-drop, length-take-le}
 use Rattle.std.specs.List.{slice_get}
 use Rattle.std.proofs.lemmas.Bool.{cond-true, cond-false, le-ltb, lt-ltb}
@@ -41,7 +41,7 @@ use Rattle.nested_writer.proofs.Leaving.{frames_left, pushed_after_leave}
 
 -- ---- fills lie apart
 
--- behind a fill begins the next one
+-- after a fill the next one begins
 fill_ends : (cuts : List ℕ) (xs : List Reservation) (i : ℕ) → i < length cuts → IsRising 0 cuts (length xs) → get_or (0 ∷ cuts) i 0 + length (get_or (cut_from 0 cuts xs) i []) ≡ get_or (0 ∷ cuts) (suc i) 0
 fill_ends cuts xs i low rising =
     let here = first_below 0 cuts (length xs) i (omega arith) rising in
@@ -49,7 +49,7 @@ fill_ends cuts xs i low rising =
     let whole = ap length (fill_behind 0 cuts xs i low rising) in
     omega (arith, whole, length-append (take (get_or (0 ∷ cuts) i 0) xs) (get_or (cut_from 0 cuts xs) i []), length-take-le (get_or (0 ∷ cuts) i 0) xs here, length-take-le (get_or (0 ∷ cuts) (suc i) 0) xs next)
 
--- a number stands in one fill alone
+-- a number is in one fill only
 apart_below : (cuts : List ℕ) (xs : List Reservation) (i j number : ℕ) → IsRising 0 cuts (length xs) → i < j → j ≤ length cuts → number < get_or (0 ∷ cuts) i 0 + length (get_or (cut_from 0 cuts xs) i []) → get_or (0 ∷ cuts) j 0 ≤ number → ⊥
 apart_below cuts xs i j number rising low inside before behind =
     let ends = fill_ends cuts xs i (omega arith) rising in
@@ -94,7 +94,7 @@ place_inside time bytes k start len fill h place =
 
 -- ---- a page
 
--- the page of a fill, where the record of this number gets the bytes that stand in its slot, on the page of that fill
+-- the page of a fill, if the record of this number gets the bytes in its slot, on the page of that fill
 page_finished : (size fill : ℕ) (cuts : List ℕ) (xs : List Reservation) (index : ℕ) (page : Contents) (number : ℕ) (payload : List ℕ) (home : ℕ) (lies : Contents) (start len : ℕ) → IsRising 0 cuts (length xs) → index ≤ length cuts → home ≤ length cuts
     → (index ≡ home → page ≡ lies)
     → lies.first ≡ get_or (0 ∷ cuts) home 0

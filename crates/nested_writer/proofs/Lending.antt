@@ -18,7 +18,7 @@ use Rattle.nested_writer.specs.Lending.{with_slot}
 use Rattle.nested_writer.proofs.Ending.{open_page_is}
 use Rattle.nested_writer.specs.IsStack.{IsOpenPage, is_tail, is_older, LiesOpen, StandsAt, FramesStand, IsStack}
 
--- its record lies open
+-- its record is in an open page
 pub slot_lies : (start : ℕ) (h : List Action) (s : Stack) (slot : Slot) → IsTopSlot s.frames slot → IsStack start h s → (len : ℕ) × LiesOpen s.done s.older s.tail (reserved_records h) len slot
 slot_lies start h s slot is k = by_frames s.frames is k.holds.frames_are
   where
@@ -26,7 +26,7 @@ slot_lies start h s slot is k = by_frames s.frames is k.holds.frames_are
     by_frames [] none st = absurd none
     by_frames (top ∷ below) has st = let (moment, len, kind, lies) = subst (StandsAt s.size s.done s.older s.tail (opens_of h) (reserved_records h) (is_wished h) (kind_of top.purpose)) has st.1 in (len, lies)
 
--- a page that isn't the tail is an older one, at the place that its fill tells
+-- a page that isn't the tail is an older one, at the place that its fill states
 pub record IsOlder (s : Stack) (slot : Slot) (page : Contents) : Type 0 where
   pub from : s.done ≤ slot.fill
   pub inside : slot.fill - s.done < length s.older
@@ -49,7 +49,7 @@ in_older s slot part page other at =
     ap (λ (p : Contents). let t : Stack = record s { older = slice_set s.older (slot.fill - s.done) (with_payload p slot.place.start part) } in t) (sym (get_or_from_slice_get s.older (slot.fill - s.done) page s.tail at))
     ∙ sym (cond-false (eqb slot.fill s.tail.fill) _ _ (ne_eqb slot.fill s.tail.fill other))
 
--- what stands there is as long as the slot
+-- what is there is as long as the slot
 pub lent_len : (start : ℕ) (h : List Action) (s : Stack) (slot : Slot) (page : Contents) → IsTopSlot s.frames slot → IsOpenPage s.done s.older s.tail slot.fill page → IsStack start h s
     → length (slice_range page.bytes slot.place.start (slot.place.start + slot.place.len)) ≡ slot.place.len
 lent_len start h s slot page is there k =

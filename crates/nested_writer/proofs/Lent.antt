@@ -67,7 +67,7 @@ pub has_slot : (frames : List Frame) (slot : Slot) → IsTopSlot frames slot →
 has_slot [] slot is lacks = is
 has_slot (top ∷ below) slot is lacks = subst HasNoSlot is lacks
 
--- a record frame was pushed for the length that its kind tells
+-- a record frame was pushed for the length that its kind states
 len_is : (purpose : Purpose) (len moment' len' : ℕ) → len_of purpose ≡ Some len → kind_of purpose ≡ for_record moment' len' → len ≡ len'
 len_is (Record moment len'') len moment' len' is kind = let same : for_record moment len'' ≡ for_record moment' len' = kind in let lens : len'' ≡ len' = cc in sym (some_is len'' len is) ∙ lens
 len_is Close len moment' len' is kind = absurd (let e = is in cc)
@@ -95,7 +95,7 @@ older_none s top page none = no_items (older_with s top page) (sym (older_long s
 
 -- ---- what is lent
 
--- the page of the slot, in which its place lies
+-- the page of the slot, which contains its place
 pub record HasPage (s : Stack) (slot : Slot) : Type 0 where
   pub page : Contents
   pub there : IsOpenPage s.done s.older s.tail slot.fill page
@@ -109,7 +109,7 @@ module _ (start : ℕ) (h : List Action) (s : Stack) (slot : Slot) (is : IsTopSl
     within = place-within lies.page.bytes slot.place.start slot.place.len lies.place.place;
   }
 
-  -- of the tail, where its fill is that of the slot
+  -- of the tail, if its fill is that of the slot
   pub tail_within : slot.fill ≡ s.tail.fill → slot.place.start + slot.place.len ≤ length s.tail.bytes
   tail_within same = let found = slot_page in
       subst (λ (p : Contents). slot.place.start + slot.place.len ≤ length p.bytes)
@@ -158,7 +158,7 @@ module _ (start : ℕ) (h : List Action) (s : Stack) (slot : Slot) (is : IsTopSl
   pub slot_word : 4 ≤ slot.place.len
   slot_word = let (len, lies) = slot_lies start h s slot is k in let word = slot_len_ge_four len in let long = lies.fills_slot in omega arith
 
--- the bytes that are put over others stand there
+-- the bytes that are put over others are there
 pub overwritten_there : (bytes : List ℕ) (start len : ℕ) (part : List ℕ) → length part ≡ len → start + len ≤ length bytes → bytes_at start len (take (length bytes) (overwritten bytes start part)) ≡ part
 overwritten_there bytes start len part long within =
     let more : ℕ = length bytes - start in

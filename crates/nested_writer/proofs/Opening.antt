@@ -50,7 +50,7 @@ page_stays size fill cuts records index page low q = record {
   holds = subst (HoldsRecords page.time page.bytes) (sym (opened_before 0 cuts records index low)) q.holds;
 }
 
--- an element of a list with one more behind it
+-- an element of a list with one more after it
 get_in_longer : (xs : List Contents) (y : Contents) (k : ℕ) (x : Contents) → slice_get (xs ++ y ∷ []) k ≡ Some x → (slice_get xs k ≡ Some x) ⊎ ((k ≡ length xs) × (y ≡ x))
 get_in_longer [] y zero x at = inr (refl, some_is y x at)
 get_in_longer [] y (suc k) x at = absurd (none-some x at)

@@ -32,7 +32,7 @@ plain_room s moment len p =
     let far = p.far in
     subst (λ (b : Bool). length s.tail.bytes + encoded_len len (max moment s.last_moment - s.last_moment) b ≤ s.size) (sym p.behind) (omega arith)
 
--- put behind the others, it is reserved
+-- put after the others, it is reserved
 module _ (s : Stack) (pushed : Pushed) (p : IsPlainTop s pushed) (tail' : Contents) (place : Place) (number fill : ℕ) where
   abbrev waits : Frame
   waits = record { purpose = Record pushed.moment pushed.len; progress = Waiting None }

@@ -1,4 +1,4 @@
--- Pages that are handed out where no frame stands but one that has left, and what they hold.
+-- Pages that are passed out while the stack is empty but for a frame that has left, and what they hold.
 use Rattle.std.proofs.Common.{◌≡◌, ◌≢◌, ℕ, zero, suc, ◌+◌, ◌-◌, ◌<◌, ◌≤◌, true, List, [], ◌∷◌, length, get_or, take, drop, map, replicate, Option, Some, None, IfSome, refl, sym, ap, ◌∙◌, subst, arith}
 use Rattle.std.specs.Prelude.{All, IsSomeAnd, unwrap_or}
 use Rattle.std.proofs.lemmas.List.{take_all, take-map, drop-map}
@@ -28,7 +28,7 @@ use Rattle.nested_writer.proofs.Reserving.{tail_some}
 use Rattle.nested_writer.proofs.Leaving.{left_is}
 use Rattle.nested_writer.proofs.Dropping.{oldest}
 
--- ---- records where no frame stands
+-- ---- records if the stack is empty
 
 whole_prefix : (h : List Action) → (writer_after h).stack ≡ [] → settled_prefix h ≡ h
 whole_prefix h none = let settled : is_settled h ≡ true = rw none refl in whole_front (length h) h (omega arith) settled
@@ -75,7 +75,7 @@ records_read [] (s ∷ fill) all written = absurd all
 records_read (r ∷ records) [] all written = absurd all
 records_read (r ∷ records) (s ∷ fill) all written = λ i. record_read r s all.0 (All-head IsWritten s fill written) i ∷ records_read records fill all.1 (All-tail IsWritten s fill written) i
 
--- ---- a page of an open fill, where no frame stands
+-- ---- a page of an open fill, if the stack is empty
 
 module _ (size start : ℕ) (h : List Action) (fill : ℕ) (page : Contents) (keeps : IsHistory h) (none : (writer_after h).stack ≡ []) (p : IsPageOf size fill (opens_of h) (reserved_records h) (fill - start) page) where
   abbrev its : List Reservation
@@ -153,7 +153,7 @@ module _ (start : ℕ) (h : List Action) (s : Stack) (page : Contents) (older : 
       some_counted [] some = absurd (some refl)
       some_counted (x ∷ l) some = omega arith
 
--- ---- the tail, where no frame stands
+-- ---- the tail, if the stack is empty
 
 no_top : (top : Option Frame) (below : List Frame) → frames_from top below ≡ [] → top ≡ None
 no_top None below e = refl

@@ -34,7 +34,7 @@ use Rattle.nested_writer.proofs.Standing.{as_many, frames_on, all_before}
 
 -- ---- the last fill
 
--- the records up to the last cut and those behind it are all
+-- the records up to the last cut and those after it are all
 tail_count-from : (from : ℕ) (cuts : List ℕ) (xs : List Reservation) → IsRising from cuts (length xs) → get_or (from ∷ cuts) (length cuts) 0 + length (get_or (cut_from from cuts xs) (length cuts) []) ≡ length xs
 tail_count-from from [] xs r = omega (arith, length-drop from xs)
 tail_count-from from (cut ∷ cuts) xs r = tail_count-from cut cuts xs r.1
@@ -71,7 +71,7 @@ last_moment-push (x ∷ y ∷ xs) r = last_moment-push (y ∷ xs) r
 
 -- ---- the record that is put
 
--- What a record put behind those of a page leaves.
+-- What a record put after those of a page leaves.
 pub record IsPut (tail tail' : Contents) (prev moment len : ℕ) (place : Place) : Type 0 where
   pub page : IsPage tail → IsPage tail'
   pub records : IsPage tail → records_of_page tail' ≡ records_of_page tail ++ record { moment = moment; bytes = replicate (slot_len len) 0 } ∷ []

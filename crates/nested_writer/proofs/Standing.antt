@@ -1,4 +1,4 @@
--- How frames keep standing where what is around them changes.
+-- What holds of frames stays so if what is around them changes.
 use Rattle.std.proofs.Common.{◌≡◌, ℕ, ◌+◌, ◌<◌, ◌≤◌, Bool, List, [], ◌∷◌, length, Option, Some, None, IfSome, ap, ◌∙◌, arith}
 use Rattle.std.proofs.lemmas.Option.{none-some, slice_get_within}
 use Rattle.trace_model.specs.History.{Reservation}
@@ -13,7 +13,7 @@ use Rattle.nested_writer.specs.declared.frame.Frame.{Frame}
 use Rattle.nested_writer.specs.Stack.{kind_of, state_of}
 use Rattle.nested_writer.specs.IsStack.{LiesOpen, IsNoted, StandsAt, AreBefore, FramesStand}
 
--- what a frame noted, where more fills are begun
+-- what a frame noted, after more fills are begun
 noted_later : (o o' : ℕ) (noted : Option ℕ) → o ≤ o' → IsNoted o noted → IsNoted o' noted
 noted_later o o' None le n = tt
 noted_later o o' (Some k) le n = omega arith

@@ -22,7 +22,7 @@ pub top_is : (top : Option Frame) (items : List Frame) (f : Frame) (below : List
 top_is None items f below first e = absurd (let none = sym (first refl) ∙ e in cc)
 top_is (Some g) items f below first e = (ap Some (first_is g f items below e), rest_is g f items below e)
 
--- one that tried nothing yet is told by what it was pushed with
+-- one that tried nothing yet is determined by what it was pushed with
 pub told_by : (phase : Phase) (pushed : Pushed) (noted : Option ℕ) (slot : Slot) (other : Frame) (moment len : ℕ) → (phase ≡ Other → other ≢ record { purpose = Record moment len; progress = Waiting None }) → frame_told phase pushed noted slot other ≡ Some record { purpose = Record moment len; progress = Waiting None } → ◌≡◌ {A = Purpose} (Record pushed.moment pushed.len) (Record moment len)
 told_by Idle pushed noted slot other moment len apart e = cc
 told_by Waits pushed noted slot other moment len apart e = ap (λ (f : Frame). f.purpose) (same_Some _ _ e)

@@ -15,7 +15,7 @@ use Rattle.nested_writer.specs.Stack.{Stack, opened}
 use Rattle.nested_writer.specs.Calls.{with_progress, after_leave, IsReserved}
 use Rattle.nested_writer.specs.IsStack.{IsStack}
 
--- what is in the history of a stack, is in that of the other one with these actions behind
+-- if a history is that of the one stack, then with these actions after it, it is that of the other
 abbrev pub HasActed : Stack → List Action → Stack → Type 0
 HasActed s actions after = (start : ℕ) (history : List Action)
     → IsStack start history s
@@ -44,7 +44,7 @@ HasFit s top below Close (Through noted) place after =
     (place.len ≡ 0) × (after ≡ with_progress s top below (Through noted)) × HasActed s [] after
 HasFit s top below purpose (Left noted) place after = ⊥
 
--- One that is refused for want of a page leaves without a record; one that needs a page notes so many fills.
+-- One that is refused for want of a page leaves without a record; one that needs a page notes how many fills are begun.
 abbrev pub IsAllottedTop : Stack → Frame → List Frame → Result Allot WriteFault → Stack → Type 0
 IsAllottedTop s top below (Ok (Fits place)) after = HasFit s top below top.purpose top.progress place after
 IsAllottedTop s top below (Ok NeedsPage) after =

@@ -1,4 +1,4 @@
--- What an answer of allot tells of the fills that a history leaves.
+-- What an answer of allot states of the fills that a history leaves.
 use Rattle.std.specs.Prelude.{◌≡◌, ◌≢◌, ℕ, ◌+◌, ◌<◌, ◌⊎◌, List, [], ◌∷◌, length, Option, Some, None, Result, Ok, Err}
 use Rattle.trace_model.specs.declared.limits.TheConstants.{LINK_FILLS}
 use Rattle.trace_model.specs.History.{Action, reservation_for, reserved_records}
@@ -15,12 +15,12 @@ use Rattle.nested_writer.specs.declared.frame.Frame.{Frame}
 use Rattle.nested_writer.specs.Stack.{Stack, opened, next_number}
 use Rattle.nested_writer.specs.Calls.{IsUnchanged, HasLeft, IsCrowded, IsWorn}
 
--- the record that a frame was pushed for fits behind those of the tail
+-- the record that a frame was pushed for fits after those of the tail
 abbrev pub FitsTail : Stack → List Action → (moment len : ℕ) → Type 0
 FitsTail s history moment len =
     FitsBehind s.size (tail_of history) (reservation_for moment len (reserved_records history))
 
--- a fill was begun since so many were noted
+-- a fill was begun since this number of them was noted
 abbrev pub IsBegunSince : Stack → Option ℕ → Type 0
 IsBegunSince s None = ⊥
 IsBegunSince s (Some noted) = noted ≢ opened s

@@ -10,16 +10,16 @@ use Rattle.nested_writer.specs.declared.frame.Progress.TheVariants.{Left}
 use Rattle.nested_writer.specs.Stack.{Stack}
 use Rattle.nested_writer.specs.Calls.{HasRecordRoom}
 
--- A record of this moment, for a payload of len bytes, may be written, so that its frame may stand.
+-- A record of this moment, for a payload of len bytes, may be written, so its frame may be on the stack.
 abbrev pub MayStand : Stack → (moment len : ℕ) → Type 0
 MayStand s moment len = (IsTooLong s.size len → ⊥) × (moment < MOMENT_LIMIT)
 
--- No frame stands, and a record of this moment, for a payload of len bytes, may be written and has room in the tail.
+-- The stack is empty, and a record of this moment, for a payload of len bytes, may be written and has room in the tail.
 abbrev pub FitsAtOnce : Stack → (moment len : ℕ) → Type 0
 FitsAtOnce s moment len =
     (s.frames ≡ []) × (IsTooLong s.size len → ⊥) × (moment < MOMENT_LIMIT) × HasRecordRoom s moment len
 
--- the page with a record of this moment behind the others, of which the last has the moment prev, and zeros up to the
+-- the page with a record of this moment after the others, of which the last has the moment prev, and zeros up to the
 -- end of its slot
 abbrev pub page_with : Contents → (prev moment : ℕ) → List ℕ → Contents
 page_with page prev moment payload = record page {
@@ -45,7 +45,7 @@ with_left s moment len = record s {
 abbrev pub with_record : Stack → (moment : ℕ) → List ℕ → Stack
 with_record s moment payload = with_left (with_written s moment payload) moment (length payload)
 
--- No frame stands, and the record comes in the short form behind another one, at no earlier moment.
+-- The stack is empty, and the record comes in the short form after another one, at no earlier moment.
 pub record IsPlain (s : Stack) (moment len : ℕ) : Type 0 where
   pub none : s.frames ≡ []
   pub some : 1 ≤ len

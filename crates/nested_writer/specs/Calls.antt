@@ -18,7 +18,7 @@ use Rattle.nested_writer.specs.Stack.{Stack, opened, tail_fill, next_number}
 abbrev pub with_frame : Stack → Frame → Stack
 with_frame s f = record s { frames = f ∷ s.frames }
 
--- the frame on top has come so far, over these
+-- the frame on top has this progress, over these
 abbrev pub with_progress : Stack → Frame → List Frame → Progress → Stack
 with_progress s top below progress = record s { frames = record top { progress = progress } ∷ below }
 
@@ -30,7 +30,7 @@ frames_after_leave top (next ∷ below) = next ∷ below
 abbrev pub after_leave : Stack → Frame → List Frame → Stack
 after_leave s top below = record s { frames = frames_after_leave top below }
 
--- the bottom frame, which has left, was asked to close the tail when so many fills were begun
+-- the bottom frame, which has left, was asked to close the tail when this number of fills was begun
 abbrev pub asked_frames : List Frame → Option ℕ → List Frame
 asked_frames [] noted = []
 asked_frames (bottom ∷ below) noted = record bottom { progress = Left noted } ∷ below
@@ -72,18 +72,18 @@ HasNoSlot (Through noted) = Unit {0}
 HasNoSlot (Reserved slot) = ⊥
 HasNoSlot (Left noted) = Unit {0}
 
--- only the bottom frame stands, ended or refused
+-- only the bottom frame is on the stack, ended or refused
 abbrev pub IsAtBottom : List Frame → Type 0
 IsAtBottom [] = ⊥
 IsAtBottom (f ∷ []) = HasLeft f.progress
 IsAtBottom (f ∷ next ∷ below) = ⊥
 
--- how many bytes the tail's data has once a record of this moment is put behind the others
+-- how many bytes the tail's data has once a record of this moment is put after the others
 abbrev pub end_with : Stack → (moment len : ℕ) → ℕ
 end_with s moment len =
     length s.tail.bytes + encoded_len len (max moment s.last_moment - s.last_moment) (is_blank s.tail.bytes)
 
--- No page was added since: so many fills were begun when it was noted first.
+-- No page was added since: the noted number of begun fills is still the number of them.
 abbrev pub IsUnchanged : Stack → Option ℕ → Type 0
 IsUnchanged s None = Unit {0}
 IsUnchanged s (Some noted) = noted ≡ opened s
@@ -128,7 +128,7 @@ MayAddPage s (top ∷ below) = HasNoted s top.progress
 abbrev pub HasRecordRoom : Stack → (moment len : ℕ) → Type 0
 HasRecordRoom s moment len = end_with s moment len ≤ s.size
 
--- the record of the frame on top is put behind those of the tail, its payload at this place, and nothing else changes
+-- the record of the frame on top is put after those of the tail, its payload at this place, and nothing else changes
 pub record IsReserved (s : Stack) (top : Frame) (below : List Frame) (moment len : ℕ) (place : Place) (after : Stack)
     : Type 0 where
   pub bytes : after.tail.bytes
@@ -145,17 +145,17 @@ pub record IsReserved (s : Stack) (top : Frame) (below : List Frame) (moment len
         } ∷ below;
       }
 
--- a frame stands on top that has reserved no record
+-- the frame on top has reserved no record
 abbrev pub LacksSlot : List Frame → Type 0
 LacksSlot [] = ⊥
 LacksSlot (top ∷ below) = HasNoSlot top.progress
 
--- the record of the frame on top stands here
+-- this is the slot of the frame on top
 abbrev pub IsTopSlot : List Frame → Slot → Type 0
 IsTopSlot [] slot = ⊥
 IsTopSlot (top ∷ below) slot = top.progress ≡ Reserved slot
 
--- the slot of the frame on top, where its record is reserved
+-- the slot of the frame on top, if its record is reserved
 abbrev pub slot_of : Progress → Option Slot
 slot_of (Waiting noted) = None
 slot_of (Through noted) = None

@@ -23,12 +23,12 @@ abbrev pub MayEndTop : List Frame → Type 0
 MayEndTop [] = ⊥
 MayEndTop (top ∷ below) = MayEnd top.progress
 
--- a frame stands on top that may not be ended
+-- there is a frame on top, and it may not be ended
 abbrev pub MayNotEndTop : List Frame → Type 0
 MayNotEndTop [] = ⊥
 MayNotEndTop (top ∷ below) = MayEnd top.progress → ⊥
 
--- A record frame leaves with the bytes that stand in its slot, a close frame without a record.
+-- A record frame leaves with the bytes in its slot, a close frame without a record.
 abbrev pub HasEnded : Stack → Progress → Stack → Type 0
 HasEnded s (Waiting noted) after = ⊥
 HasEnded s (Through noted) after = HasActed s (leave None ∷ []) after

@@ -23,9 +23,9 @@ shown w = record {
   last_moment = w.last_moment;
 }
 
--- There is room for all pages and frames, and no other room is taken; where no frame stands, all fills but the tail
--- are released; the next fill has a number; a payload of the plain length has room on an empty page; and up to the plain
--- end the tail has room for any record in the short form.
+-- There is room for all pages and frames, and no other room is taken; if the stack is empty, all fills but the tail
+-- are released; the next fill has a number; a payload of the plain length has room on an empty page; and up to the
+-- plain end the tail has room for any record in the short form.
 pub record IsWriterStack (w : Inside) : Type 0 where
   pub some_pages : MIN_PAGES ≤ w.pages
   pub most_pages : w.pages ≤ MAX_PAGES

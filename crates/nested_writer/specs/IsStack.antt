@@ -27,14 +27,14 @@ pub record IsPageOf (size fill : ℕ) (cuts : List ℕ) (records : List Reservat
   pub first_is : page.first ≡ slice_index_or (0 ∷ cuts) index 0
   pub holds : HoldsRecords page.time page.bytes (slice_index_or (cut_from 0 cuts records) index [])
 
--- the page of an open fill: the tail, or an older one; so many fills are closed
+-- the page of an open fill: the tail, or an older one; the fills below done are closed
 pub data IsOpenPage (done : ℕ) (older : List Contents) (tail : Contents) (fill : ℕ) (page : Contents) : Type 0 where
   is_tail : fill ≡ done + length older → page ≡ tail → IsOpenPage done older tail fill page
   is_older : (k : ℕ) → fill ≡ done + k → slice_get older k ≡ Some page → IsOpenPage done older tail fill page
 
 -- ---- frames
 
--- A reserved record lies in the page of an open fill, and its bytes aren't told yet.
+-- A reserved record is in the page of an open fill, and its bytes aren't known yet.
 pub record LiesOpen (done : ℕ) (older : List Contents) (tail : Contents) (records : List Reservation)
     (len : ℕ) (slot : Slot)
     : Type 0 where
@@ -52,8 +52,8 @@ pub record LiesOpen (done : ℕ) (older : List Contents) (tail : Contents) (reco
 abbrev pub IsNoted : ℕ → Option ℕ → Type 0
 IsNoted opened noted = IfSome noted (λ o. o ≤ opened)
 
--- How a frame stands that has come so far: what it noted is true; and where that is the number of begun fills, it still
--- needs the next one. A close frame reserves nothing, and a reserved record lies open.
+-- What holds of a frame with this progress: what it noted is true; and if that is the number of begun fills, it still
+-- needs the next one. A close frame reserves nothing, and a reserved record is in an open page.
 abbrev pub StandsAt : (size done : ℕ) → List Contents → Contents → List ℕ → List Reservation → (found : Bool) → Kind
     → Progress
     → Type 0
@@ -79,8 +79,8 @@ AreBefore number [] = Unit {0}
 AreBefore number (f ∷ below) =
     IfSome (number_of (state_of f.progress)) (λ earlier. earlier < number) × AreBefore number below
 
--- Of these frames, the top first, each could be pushed, and stands as above; they reserved in the order in which they
--- stand; and none has left but the one at the bottom.
+-- Of these frames, the top first, each could be pushed, and meets the condition above; they reserved in the order of
+-- their places on the stack; and none has left but the one at the bottom.
 abbrev pub FramesStand : (size done : ℕ) → List Contents → Contents → List ℕ → List Reservation → (found : Bool)
     → List Frame
     → Type 0

@@ -40,21 +40,21 @@ with_top s payload = record s {
   tail = tail_with s (top_slot s.frames) payload.page;
 }
 
--- the older pages end with the last page behind the result in place of that of this index
+-- the older pages end with the last page of the result in place of that of this index
 abbrev pub LendsPage : MutBor OlderPages → ℕ → MutBor Lent → Fml
 LendsPage older index result =
     Lends older_rows.the_row payload_rows.the_row older result
     (λ payload. record older.now { pages = slice_set older.now.pages index payload.page })
 
--- the payload ends with its bytes set to the last ones behind the result
+-- the payload ends with its bytes set to the last ones of the result
 abbrev pub LendsBytes : MutBor Lent → MutBor (List ℕ) → Fml
 LendsBytes payload result = Lends payload_rows.the_row (Array u8 0) payload result (with_bytes payload.now)
 
--- where the result is a payload, the stack ends with the last value behind it; else nothing changes
+-- if the result is a payload, the stack ends with the last value of it; else nothing changes
 abbrev pub LendsTop : MutBor Stack → Result (MutBor Lent) WriteFault → Fml
 LendsTop stack result = LendsIfOk stack_rows.the_row payload_rows.the_row stack result (with_top stack.now) stack.now
 
--- The payload is that of the frame on top: it lies in the page of an open fill, at the place that the frame has
+-- The payload is that of the frame on top: it is in the page of an open fill, at the place that the frame has
 -- reserved. And the stack with bytes in the payload is that with these in the slot.
 pub record IsLent (s : Stack) (payload : Lent) : Type 0 where
   pub slot : Slot

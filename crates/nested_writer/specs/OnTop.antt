@@ -1,4 +1,4 @@
--- The frame on top, as the fields tell it.
+-- The frame on top, as the fields show it.
 use Rattle.std.specs.Prelude.{◌≡◌, ◌≢◌, ◌≤◌, ℕ, Option, Some, None}
 use Rattle.record_words.specs.declared.format.TheConstants.{SHORT_LIMIT}
 use Rattle.nested_writer.specs.declared.frame.Frame.{Frame}

@@ -1,4 +1,4 @@
--- What a record that is put behind those of an open page makes of the page.
+-- What a record that is put after those of an open page makes of the page.
 use Rattle.std.specs.Prelude.{◌≡◌, ℕ, ◌+◌, ◌-◌, if◌then◌else◌, List, [], ◌∷◌, ◌++◌, length}
 use Rattle.trace_model.specs.Words.{encoding, encoded_len, slot_len}
 use Rattle.trace_model.specs.Reading.{EndsInRecord, IsPlaceIn}
@@ -6,7 +6,7 @@ use Rattle.trace_model.specs.Overwriting.{IsPlaceOf}
 use Rattle.record_words.specs.declared.put.Place.{Place}
 use Rattle.page_image.specs.Contents.{Contents, IsPage, is_blank, records_of_page}
 
--- The new page is the old one with a record of this moment behind the others, for a payload of len bytes, with these
+-- The new page is the old one with a record of this moment after the others, for a payload of len bytes, with these
 -- bytes in its slot, which is at this place; prev is the moment of the last record.
 pub record HasPut (old new : Contents) (prev moment len : ℕ) (slot : List ℕ) (at : Place) : Type 0 where
   pub page : IsPage old → IsPage new

@@ -1,4 +1,4 @@
--- What a page holds that is handed out of a writer's stack.
+-- What a page holds that a writer's stack passes out.
 use Rattle.std.specs.Prelude.{◌≡◌, ℕ, All, List, take, drop, map}
 use Rattle.trace_model.specs.History.{Action, IsWritten, as_record, committed_records}
 use Rattle.trace_model.specs.Ring.{Held}

@@ -1,4 +1,4 @@
--- Lists of calls on a writer's stack, and what holds behind them.
+-- Lists of calls on a writer's stack, and what holds after them.
 use Rattle.std.specs.Prelude.{◌≡◌, ℕ, List, [], ◌∷◌, length, Some, Result}
 use Rattle.trace_model.specs.History.{Action, push, push_close, open_fill, reserve, leave, wished}
 use Rattle.trace_model.specs.Packing.{IsPacked}
@@ -33,7 +33,7 @@ pub data IsCall (s after : Stack) : Type 0 where
       → IsCall s after
   is_refused : after ≡ s → IsCall s after
 
--- one call behind the other, with the stacks that they leave
+-- one call after the other, with the stacks that they leave
 abbrev pub IsRun : Stack → List Stack → Stack → Type 0
 IsRun s [] after = after ≡ s
 IsRun s (next ∷ more) after = IsCall s next × IsRun next more after

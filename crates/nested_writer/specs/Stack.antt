@@ -8,7 +8,7 @@ use Rattle.nested_writer.specs.declared.frame.Progress.{Progress}
 use Rattle.nested_writer.specs.declared.frame.Progress.TheVariants.{Waiting, Through, Reserved, Left}
 use Rattle.nested_writer.specs.declared.frame.Frame.{Frame}
 
--- A stack over the open pages of a ring of so many pages of this data size: how many fills are closed; the pages of
+-- A stack over the open pages of a ring of `pages` pages of this data size: how many fills are closed; the pages of
 -- the fills that are begun and not closed, the oldest first and the tail apart; the frames, the top first; and the
 -- moment of the last record that was reserved.
 pub record Stack : Type 0 where
@@ -43,7 +43,7 @@ blank_page size first fill = record {
   bytes = [];
 }
 
--- a new stack: no frame stands over one page, which is empty
+-- a new stack: it is empty, over one page, which is empty
 abbrev pub new_stack : (pages size start : ℕ) → Stack
 new_stack pages size start = record {
   pages = pages;

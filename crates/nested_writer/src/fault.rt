@@ -3,7 +3,7 @@
 /// Why a write, or a step of its frame, is refused. Where several hold, the first of these is answered.
 #[derive(Clone, Copy, Debug, PartialEq, Eq)]
 pub enum WriteFault {
-    /// As many frames stand on the writer's stack as can: `MAX_FRAMES`.
+    /// As many frames are on the writer's stack as can be: `MAX_FRAMES`.
     TooDeep,
     /// The payload doesn't fit a page.
     TooLong,
@@ -11,9 +11,9 @@ pub enum WriteFault {
     LateMoment,
     /// A page is needed, and none is released: as many fills are begun and not closed as the ring has pages.
     Crowded,
-    /// A page is needed, and the tail is the last fill that may be begun, so that links can tell their fills.
+    /// A page is needed, and the tail is the last fill that may be begun, so that links can state their fills.
     Worn,
-    /// No frame stands.
+    /// The stack is empty.
     NoFrame,
     /// The frame has reserved nothing, or was ended or refused.
     NotReserved,

@@ -11,7 +11,7 @@ pub enum Purpose {
         /// The payload's length in bytes.
         len: usize,
     },
-    /// To leave the tail page, where that holds a record.
+    /// To leave the tail page if that holds a record.
     Close,
 }
 
@@ -24,18 +24,18 @@ pub struct Pushed {
     pub len: usize,
 }
 
-/// A reserved record: its number, and where its payload lies, in which fill.
+/// A reserved record: its number, its fill, and where its payload is.
 #[derive(Clone, Copy, Debug)]
 pub struct Slot {
     /// The record's number.
     pub number: u64,
-    /// The fill in whose page it stands.
+    /// The fill in whose page it is.
     pub fill: u64,
-    /// Where its payload lies in that page.
+    /// The place of its payload in that page.
     pub place: Place,
 }
 
-/// How far a frame has come. A number of begun fills is noted when it is told that a page is needed: as long as it is
+/// How far a frame has come. The number of begun fills is noted when a page is found to be needed: as long as it is
 /// the number of begun fills, no page was added since.
 #[derive(Clone, Copy, Debug)]
 pub enum Progress {
@@ -51,7 +51,7 @@ pub enum Progress {
     Left(Option<u64>),
 }
 
-/// A frame that stands on the stack.
+/// A frame on the stack.
 #[derive(Clone, Copy, Debug)]
 pub struct Frame {
     /// What it was pushed for.

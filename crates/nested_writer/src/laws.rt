@@ -1,4 +1,4 @@
-//! What holds of a writer's stack behind any list of calls.
+//! What holds of a writer's stack after any list of calls.
 ghost use Rattle.nested_writer.specs.Runs.{RunsHoldLastFills};
 
 /// After any list of calls, refused ones among them, the open pages hold the last fills of the reserved records of a

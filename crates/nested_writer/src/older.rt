@@ -29,7 +29,7 @@ impl Model for Older {
 }
 
 impl Older {
-    /// None, with room for so many.
+    /// None, with room for `room` of them.
     pub(crate) fn new(alloc: Global, room: usize) -> Result<Older, AllocError>
         ensures none { IfOk result (λ older. older.pages ≡ []) }
         ensures room { IfOk result (λ older. older.room ≡ room) }

@@ -19,7 +19,7 @@ use trace_model::{FillNo, RecordNo};
 #[derive(Debug, Drop)]
 pub struct Payload {
     page: Page,
-    /// Where it lies in the page; in a page that lends none, anywhere.
+    /// Its place in the page; in a page that lends none, any place.
     place: Place,
 }
 

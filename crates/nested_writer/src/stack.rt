@@ -37,7 +37,7 @@ pub struct WriterStack {
     /// The longest payload, of at most `SHORT_LIMIT` bytes, of which a record has room on an empty page, whatever its
     /// length.
     plain_len: usize,
-    /// How far the tail may be filled for any record in the short form to have room behind it; 0 where none has.
+    /// How far the tail may be filled for any record in the short form to have room after it; 0 if none has.
     plain_end: usize,
 }
 

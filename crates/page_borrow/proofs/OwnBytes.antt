@@ -1,4 +1,4 @@
--- Each record of a page that reads stands at its place, and its bytes are those that stand there.
+-- Each record of a page that reads is at its place, and its bytes are those that are there.
 use Rattle.std.proofs.Common.{◌≡◌, ◌⊎◌, inl, inr, ℕ, zero, suc, ◌+◌, ◌-◌, List, [], ◌∷◌, ◌++◌, length, length-append, take, drop, Some, refl, sym, ap, ◌∙◌, subst, ⊎_elim, arith}
 use Rattle.std.specs.List.{enumerate_from, slice_get}
 use Rattle.std.proofs.lemmas.Option.{none-some}
@@ -12,7 +12,7 @@ use Rattle.trace_model.proofs.Places.{records_of-count}
 use Rattle.page_image.specs.Contents.{Contents, IsPage, records_of_page}
 use Rattle.page_borrow.specs.Entries.{entries_of, AllStandInPage}
 
--- among words behind others, the one that holds the record of this index
+-- among words after others, the one that holds the record of this index
 record HoldsRecord (time : ℕ) (before words : List Word) (index : ℕ) (r : Record) : Type 0 where
   front : List Word
   word : Word
@@ -30,11 +30,11 @@ one_or_none time before (padding delta skipped) = inr refl
 one_or_none time before (time_extend delta) = inr refl
 one_or_none time before (time_stamp stamp) = inr refl
 
--- the word in front holds it
+-- the word at the front holds it
 held-here : (time : ℕ) (before words : List Word) (w : Word) (r : Record) → IsData w → record { moment = moment_after time (before ++ w ∷ []); bytes = payload_of w } ≡ r → HoldsRecord time before (w ∷ words) 0 r
 held-here time before words w r is same = record { front = []; word = w; behind = words; split = refl; holds = is; count = refl; bytes_are = sym (ap (λ (s : Record). s.bytes) same) }
 
--- a word behind the one in front does
+-- a word after the one at the front does
 held-behind : (time : ℕ) (before words : List Word) (w : Word) (index : ℕ) (r : Record) → HoldsRecord time (before ++ w ∷ []) words index r → HoldsRecord time before (w ∷ words) (length (records_at time before w) + index) r
 held-behind time before words w index r found = record {
   front = w ∷ found.front;
@@ -46,7 +46,7 @@ held-behind time before words w index r found = record {
   bytes_are = found.bytes_are;
 }
 
--- an element is the first, or one behind it
+-- an element is the first, or one after it
 first_or_behind : {X : Type 0} (x y : X) (xs : List X) (index : ℕ) → slice_get (x ∷ xs) index ≡ Some y → ((index ≡ 0) × (x ≡ y)) ⊎ ((k : ℕ) × (index ≡ 1 + k) × (slice_get xs k ≡ Some y))
 first_or_behind x y xs zero at = inl (refl, some_is x y at)
 first_or_behind x y xs (suc k) at = inr (k, omega arith, at)
@@ -74,7 +74,7 @@ unnumbered number [] index entry at = absurd (none-some entry at)
 unnumbered number (r ∷ records) zero entry at = ap (λ (e : ℕ × Record). Some e.1) (some_is (number, r) entry at)
 unnumbered number (r ∷ records) (suc k) entry at = unnumbered (number + 1) records k entry at
 
--- the records of a page that reads stand in it
+-- the records of a page that reads are in it
 pub all-stand : (page : Contents) → IsPage page → AllStandInPage page (entries_of page)
 all-stand page is index entry at =
     let reads = is.reads in

@@ -1,4 +1,4 @@
-//! The records of a page, one by one, as they stand in it.
+//! The records of a page, one by one, as they are in it.
 use page_image::{Reached, step_over_word};
 use std::iter::FusedIterator;
 use std::marker::Model;
@@ -21,7 +21,7 @@ pub struct Records<'a> {
     reached: Reached,
     /// The number of the next record.
     number: u64,
-    /// The number behind the last record's.
+    /// The number after the last record's.
     end: u64,
 }
 
@@ -41,7 +41,7 @@ impl<'a> Records<'a> {
     ghost use Rattle.std.specs.Prelude.{◌≡◌, ◌*◌, ◌≤◌};
     ghost use Rattle.page_borrow.specs.Entries.{entries_left};
 
-    /// The records of these bytes from where a walk over them has come to, numbered from `number` to `end - 1`.
+    /// The records of these bytes from where a walk over them has got to, numbered from `number` to `end - 1`.
     pub(crate) fn new(bytes: &'a [u8], reached: Reached, number: u64, end: u64) -> Records<'a>
         requires { 4 * reached.count ≤ reached.at }
         ensures { result ≡ entries_left bytes.now reached number end }

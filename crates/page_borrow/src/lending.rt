@@ -10,8 +10,8 @@ ghost use Rattle.page_borrow.specs.Entries.{entries_of, AllStandInPage};
 use crate::entries::Records;
 use page_image::{Page, Place};
 
-/// The records of a page in their order, numbered from its first number on, each with its bytes where they stand
-/// in the page. There must be numbers for as many records as the page counts.
+/// The records of a page in their order, numbered from its first number on, each with its bytes in place.
+/// There must be numbers for as many records as the page counts.
 pub fn records(page: &Page) -> Records<'_>
     requires { page.now.first + page.now.count < 2 ^ 64 }
     ensures records { IsPage page.now → result ≡ entries_of page.now }

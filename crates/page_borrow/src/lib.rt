@@ -1,4 +1,4 @@
-//! What a page lends: its records, each as an entry whose bytes stand in the page, and a payload to be written.
+//! What a page lends: its records, each as an entry whose bytes are in the page, and a payload to be written.
 //!
 //! Nothing is copied, and the borrow checker sees to it that no entry and no slot outlives its page.
 #![tactic(auto)]

@@ -5,7 +5,7 @@ use Rattle.std.proofs.lemmas.Bool.{lt-ltb}
 use borrow.Rule.Slice.PartMut.{put_mid}
 use Rattle.trace_model.specs.Words.{encoding, bytes_of_word, data_word, time_extend, joined}
 
--- after a write at the front of what lies behind the first end bytes
+-- after a write at the front of what follows the first end bytes
 pub take-put_behind : (body part encoded rest : List ℕ) (end n k : ℕ) → end ≤ length body → n ≡ end + length encoded → part ≡ encoded ++ rest → take n (put_mid end k body part) ≡ take end body ++ encoded
 take-put_behind body part encoded rest end n k within n_is part_is =
     let front_len : length (take end body) ≡ end = omega (arith, length-take end body) in
@@ -22,7 +22,7 @@ encoding-one delta word_delta false payload delta_is small =
     ap (λ (t : Bool). joined (cond t (data_word delta payload ∷ []) (time_extend delta ∷ data_word 0 payload ∷ []))) (lt-ltb delta (2 ^ 27) (omega arith))
     ∙ append-nil (bytes_of_word (data_word delta payload)) ∙ ap (λ (d : ℕ). bytes_of_word (data_word d payload)) (sym delta_is)
 
--- after a write behind the first end bytes that begins with that word
+-- after a write after the first end bytes that begins with that word
 pub take-put_one : (body part payload : List ℕ) (end n k size delta word_delta : ℕ) (first : Bool) → end ≤ length body → n ≡ end + size → size ≤ length part → take size part ≡ bytes_of_word (data_word word_delta payload) → word_delta ≡ cond first 0 delta → word_delta < 2 ^ 27
     → take n (put_mid end k body part) ≡ take end body ++ encoding delta first payload
 take-put_one body part payload end n k size delta word_delta first within n_is long front delta_is small =

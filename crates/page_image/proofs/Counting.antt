@@ -1,4 +1,4 @@
--- One word more behind those that are read, and where the reading ends.
+-- One word more after those that are read, and where the reading ends.
 use Rattle.std.proofs.Common.{◌≡◌, ◌≢◌, inl, inr, ℕ, ◌+◌, ◌*◌, ◌^◌, ◌<◌, ◌≤◌, false, List, [], ◌∷◌, ◌++◌, length, drop, Some, None, refl, sym, ap, ◌∙◌, subst, arith, append_assoc, append-nil, length-append, length-drop}
 use Rattle.std.proofs.lemmas.List.{drop_all}
 use Rattle.std.proofs.lemmas.List.Concat.{flat_map-append}
@@ -28,7 +28,7 @@ read-start bytes time reached at moment count = record {
   count_is = count;
 }
 
--- a word that stands behind those read, with the moment and the number of records behind it
+-- a word that follows those read, with the moment and the number of records after it
 read-push : (bytes : List ℕ) (time : ℕ) (words : List Word) (reached : Reached) (w : Word) (next moment count : ℕ) → HasRead bytes time words reached → StandsAt bytes reached.at next w → (MovesTime w → moment < 2 ^ 64)
     → moment ≡ moment_after time (words ++ w ∷ []) → count ≡ length (records_of time (words ++ w ∷ [])) → HasRead bytes time (words ++ w ∷ []) (record { at = next; moment = moment; count = count })
 read-push bytes time words reached w next moment count is here fits moment_is count_is =

@@ -22,7 +22,7 @@ use Rattle.page_image.specs.Images.{missed_of, behind_header, data_in, behind_da
 
 -- ---- the header
 
--- two numbers in front are a header
+-- two numbers at the front are a header
 pub header_from : (bytes : List ℕ) (time word : ℕ) (told : CommitTold) → AreBytes bytes → 16 ≤ length bytes → time ≡ from_le64 bytes → word ≡ from_le64 (drop 8 bytes) → (w : IsCommitWord word told) → HasHeader bytes time (commit_with told w.ignored) (behind_header bytes)
 header_from bytes time word told small long time_is word_is w =
     let behind : List ℕ = drop 8 bytes in
@@ -60,7 +60,7 @@ counted_from behind told number ignored small missed stored long number_is = (
 
 -- ---- the words
 
--- what is told of missed events where these parts are read
+-- what is stated of missed events if these parts are read
 abbrev pub TellsOf : List ℕ → Header → Missed → Type 0
 TellsOf bytes header missed = (ignored : ℕ) → TellsMissed (commit_with header.commit ignored) (behind_data bytes header.commit.size) missed
 
@@ -111,14 +111,14 @@ ReadsAs bytes image = DecodesImage bytes image.time image.size (missed_of image.
 no_fault : (bytes : List ℕ) (fault : ImageCause) → IsReadable bytes → FirstImageFault bytes fault → ⊥
 no_fault bytes fault r f = DecodesImage-FirstImageFault bytes r.0 r.1 r.2 r.3 fault r.4 f
 
--- the fault that tells of a cause
+-- the fault that names a cause
 fault_of : ImageCause → ImageFault
 fault_of too_short = TooShort
 fault_of bad_size = BadSize
 fault_of bad_count = BadCount
 fault_of (bad_word cause at) = Word (word_fault cause at)
 
--- a fault that is told tells of the cause that is there
+-- a fault that is reported names the cause that is there
 told_is : (bytes : List ℕ) (told : ImageFault) (cause : ImageCause) → IsImageFault bytes told → FirstImageFault bytes cause → told ≡ fault_of cause
 unfolding fault_of
 told_is bytes TooShort cause f g = ap fault_of (FirstImageFault-unique bytes too_short cause f g)
@@ -129,12 +129,12 @@ told_is bytes (Word (BadLength at)) cause f g = ap fault_of (FirstImageFault-uni
 told_is bytes (Word (TimeOverflow at)) cause f g = ap fault_of (FirstImageFault-unique bytes (bad_word time_overflow at) cause f g)
 told_is bytes NoMemory cause f g = absurd (no_fault bytes cause f g)
 
--- where a fault is, it is told
+-- if there is a fault, it is reported
 tells_cause : (bytes : List ℕ) (r : Result Image ImageFault) (cause : ImageCause) → IfOk r (λ image. ReadsAs bytes image) → IfErr r (λ f. IsImageFault bytes f) → FirstImageFault bytes cause → r ≡ Err (fault_of cause)
 tells_cause bytes (Ok image) cause reads fault is = absurd (DecodesImage-FirstImageFault bytes image.time image.size (missed_of image.missed) (records_of_page image.page) cause reads is)
 tells_cause bytes (Err told) cause reads fault is = ap (λ (f : ImageFault). Err f) (told_is bytes told cause fault is)
 
--- what is told is
+-- what is reported is there
 is_told : (bytes : List ℕ) (r : Result Image ImageFault) (told : ImageFault) → IfErr r (λ f. IsImageFault bytes f) → r ≡ Err told → IsImageFault bytes told
 is_told bytes r told fault e = subst (λ (x : Result Image ImageFault). IfErr x (λ f. IsImageFault bytes f)) e fault
 

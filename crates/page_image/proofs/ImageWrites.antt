@@ -6,7 +6,7 @@ use Rattle.trace_model.specs.Image.{le64, commit_word, commit_of, stored_count, 
 use Rattle.trace_model.proofs.ImageParts.{length-le64}
 use Rattle.trace_model.proofs.Images.{length-image_of}
 
--- all that stands in front of the zeros
+-- all that comes before the zeros
 abbrev parts : ℕ → List ℕ → List ℕ → ℕ → List ℕ
 parts time contents stored word = le64 time ++ (le64 word ++ (contents ++ stored))
 
@@ -14,14 +14,14 @@ length-parts : (time : ℕ) (contents stored : List ℕ) (word : ℕ) → length
 length-parts time contents stored word =
     omega (arith, length-append (le64 time) (le64 word ++ (contents ++ stored)), length-append (le64 word) (contents ++ stored), length-append contents stored, length-le64 time, length-le64 word)
 
--- with zeros behind them they are the image
+-- with zeros after them they are the image
 parts-zeros : (time : ℕ) (contents stored zeros : List ℕ) (word : ℕ) → parts time contents stored word ++ zeros ≡ le64 time ++ (le64 word ++ (contents ++ (stored ++ zeros)))
 parts-zeros time contents stored zeros word =
     append_assoc (le64 time) (le64 word ++ (contents ++ stored)) zeros
     ∙ ap (λ (b : List ℕ). le64 time ++ b) (append_assoc (le64 word) (contents ++ stored) zeros)
     ∙ ap (λ (b : List ℕ). le64 time ++ (le64 word ++ b)) (append_assoc contents stored zeros)
 
--- what is stored behind the data fits in the page
+-- what is stored after the data fits in the page
 stored_fits : (time : ℕ) (contents : List ℕ) (missed size : ℕ) → length contents ≤ size → length contents + length (stored_count contents missed size) ≤ size
 stored_fits time contents missed size fits =
     let stored : List ℕ = stored_count contents missed size in
@@ -33,7 +33,7 @@ stored_fits time contents missed size fits =
     let front = length-parts time contents stored word in
     omega arith
 
--- the parts one behind the other, and zeros up to the size
+-- the parts one after the other, and zeros up to the size
 pub written-image_of : (time missed size len : ℕ) (contents empty one two three four final : List ℕ) → empty ≡ [] → one ≡ empty ++ to_le_bytes w64 time → two ≡ one ++ to_le_bytes w64 (commit_word (commit_of contents missed size)) → three ≡ two ++ contents
     → four ≡ three ++ stored_count contents missed size → len ≡ length four → final ≡ take (16 + size) four ++ replicate (16 + size - len) 0 → length contents ≤ size → final ≡ image_of time contents missed size
 unfolding le64
@@ -52,7 +52,7 @@ written-image_of time missed size len contents empty one two three four final no
     ∙ (λ i. parts time contents stored word ++ replicate (zeros i) 0)
     ∙ parts-zeros time contents stored (replicate (size - length contents - length stored) 0) word
 
--- what stands behind the data
+-- what follows the data
 pub behind-image_of : (time : ℕ) (contents : List ℕ) (missed size : ℕ) → drop (16 + length contents) (image_of time contents missed size) ≡ stored_count contents missed size ++ replicate (size - length contents - length (stored_count contents missed size)) 0
 behind-image_of time contents missed size =
     let word : ℕ = commit_word (commit_of contents missed size) in

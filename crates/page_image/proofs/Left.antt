@@ -17,13 +17,13 @@ use Rattle.page_image.proofs.Sought.{no_word_at_fault}
 
 -- ---- one word more
 
--- a word behind which the moment fits
+-- a word after which the moment fits
 held-fits : (moment m : ℕ) (w : Word) (words : List Word) → moment_behind moment w ≡ m → m < 2 ^ 64 → records_held moment (w ∷ words) ≡ record_held m w ++ records_held m words
 held-fits moment m w words is fits =
     cond-true (ltb (moment_behind moment w) (2 ^ 64)) _ _ (lt-ltb (moment_behind moment w) (2 ^ 64) (subst (λ (n : ℕ). n < 2 ^ 64) (sym is) fits))
     ∙ ap (λ (n : ℕ). record_held n w ++ records_held n words) is
 
--- a word behind which it doesn't
+-- a word after which it doesn't
 held-overflows : (moment : ℕ) (w : Word) (words : List Word) → 2 ^ 64 ≤ moment_behind moment w → records_held moment (w ∷ words) ≡ []
 held-overflows moment w words past = cond-false (ltb (moment_behind moment w) (2 ^ 64)) _ _ (le-ltb (moment_behind moment w) (2 ^ 64) past)
 
@@ -41,7 +41,7 @@ data-held moment (padding delta skipped) is = absurd is
 data-held moment (time_extend delta) is = absurd is
 data-held moment (time_stamp time) is = absurd is
 
--- the word that stands here, and what is left behind it
+-- the word that is here, and what is left after it
 left-word : (bytes : List ℕ) (reached behind : Reached) (w : Word) → StandsAt bytes reached.at behind.at w → moment_behind reached.moment w ≡ behind.moment → behind.moment < 2 ^ 64
     → records_left bytes reached ≡ record_held behind.moment w ++ records_left bytes behind
 left-word bytes reached behind w here is fits =
@@ -67,15 +67,15 @@ left-padding bytes reached behind here is fits = left-word bytes reached behind 
 
 -- ---- an end
 
--- no word stands here
+-- there is no word here
 pub left-none : (bytes : List ℕ) (reached : Reached) → word_at_front (drop reached.at bytes) ≡ None → records_left bytes reached ≡ []
 left-none bytes reached none = ap (records_held reached.moment) (words_in-none (drop reached.at bytes) none)
 
--- what stands here has a fault
+-- what is here has a fault
 pub left-fault : (bytes : List ℕ) (reached : Reached) (fault : WordFault) → IsFaultAt bytes reached.at fault → records_left bytes reached ≡ []
 left-fault bytes reached fault here = left-none bytes reached (no_word_at_fault bytes reached.at fault here)
 
--- behind the word that stands here the moment doesn't fit
+-- after the word that is here the moment doesn't fit
 left-overflow : (bytes : List ℕ) (reached : Reached) (w : Word) (next : ℕ) → StandsAt bytes reached.at next w → 2 ^ 64 ≤ moment_behind reached.moment w → records_left bytes reached ≡ []
 left-overflow bytes reached w next here past =
     ap (records_held reached.moment) (words_in-found (drop reached.at bytes) w (drop next bytes) here.found) ∙ held-overflows reached.moment w (words_in (drop next bytes)) past
@@ -89,7 +89,7 @@ left-late_extend bytes reached delta next here past = left-overflow bytes reache
 
 -- ---- the front of a page
 
--- the moment behind one word more
+-- the moment after one word more
 behind-push : (time : ℕ) (front : List Word) (w : Word) → moment_behind (moment_after time front) w ≡ moment_after time (front ++ w ∷ [])
 behind-push time front (short_data delta payload) = sym (moment_after-push time front (short_data delta payload) refl)
 behind-push time front (long_data delta payload) = sym (moment_after-push time front (long_data delta payload) refl)
@@ -97,7 +97,7 @@ behind-push time front (padding delta skipped) = sym (moment_after-push time fro
 behind-push time front (time_extend delta) = sym (moment_after-push time front (time_extend delta) refl)
 behind-push time front (time_stamp stamp) = let e = moment_after-stamp time front stamp in omega arith
 
--- it fits 64 bits, where each moment to which a word moves the time does
+-- it fits 64 bits if each moment to which a word moves the time does
 fits-push : (time : ℕ) (front : List Word) (w : Word) → IsWord w → (MovesTime w → moment_after time (front ++ w ∷ []) < 2 ^ 64) → moment_after time front < 2 ^ 64 → moment_after time (front ++ w ∷ []) < 2 ^ 64
 fits-push time front (short_data delta payload) is moved fits = moved tt
 fits-push time front (long_data delta payload) is moved fits = moved tt
@@ -112,7 +112,7 @@ held-at time front (padding delta skipped) = refl
 held-at time front (time_extend delta) = refl
 held-at time front (time_stamp stamp) = refl
 
--- with the moment in front of them, words hold the records that they read as behind these others
+-- with the moment before them, words hold the records that they read as after these others
 held-behind : (time : ℕ) (front words : List Word) → FitsTime time (front ++ words) → AllByRecursion IsWord words → moment_after time front < 2 ^ 64 → records_held (moment_after time front) words ≡ records_behind time front words
 held-behind time front [] in_time each fits = refl
 held-behind time front (w ∷ words) in_time each fits =

@@ -1,4 +1,4 @@
--- A part of a body written anew, as a page's data sees it.
+-- A part of a body overwritten, as a page's data sees it.
 use Rattle.std.proofs.Common.{◌≡◌, ℕ, ◌+◌, ◌-◌, ◌≤◌, List, [], ◌∷◌, ◌++◌, length, take, drop, refl, sym, ap, ◌∙◌, subst, arith, rules}
 use Rattle.std.proofs.lemmas.List.{same_lists, places, take_all}
 use Rattle.trace_model.specs.Record.{Record}
@@ -34,7 +34,7 @@ moment_of_last-replaced [] (r ∷ behind) m old new = refl
 moment_of_last-replaced (r ∷ []) behind m old new = moment_of_last-replaced [] behind m old new
 moment_of_last-replaced (r ∷ (s ∷ front)) behind m old new = moment_of_last-replaced (s ∷ front) behind m old new
 
--- the moment of the last record is the same if a payload is written anew
+-- the moment of the last record is the same if a payload is overwritten
 pub last_stays : (bytes : List ℕ) (time start len : ℕ) (new : List ℕ) → IsPlaceIn bytes start len → length new ≡ len → moment_of_last (records_in time bytes) ≡ moment_of_last (records_in time (overwritten bytes start new))
 last_stays bytes time start len new p fills =
     ap (λ (ws : List Word). moment_of_last (records_of time ws)) (words_in-IsPlaceIn bytes start len p)
@@ -50,7 +50,7 @@ is_blank-as_long [] (b ∷ others) same = absurd (omega arith)
 is_blank-as_long (a ∷ bytes) [] same = absurd (omega arith)
 is_blank-as_long (a ∷ bytes) (b ∷ others) same = refl
 
--- a payload of the right length written anew
+-- a payload of the right length overwritten
 pub payload_written : (page : Contents) (start len : ℕ) (part : List ℕ) → IsPlaceIn page.bytes start len → length part ≡ len → PayloadWritten page start part
 payload_written page start len part p fills =
     let bytes : List ℕ = page.bytes in

@@ -1,4 +1,4 @@
--- A record put behind those of a page.
+-- A record put after those of a page.
 use Rattle.std.proofs.Common.{◌≡◌, ℕ, ◌+◌, ◌-◌, ◌%◌, ◌^◌, ◌<◌, ◌≤◌, Bool, true, false, cond, leb, ltb, nat_eq, List, [], ◌∷◌, ◌++◌, length, Option, Some, IfSome, refl, sym, ap, ◌∙◌, subst, ⊎_elim, arith, append_assoc, length-append}
 use Rattle.std.specs.List.{AllByRecursion}
 use Rattle.std.proofs.lemmas.List.{append-nil}
@@ -17,7 +17,7 @@ use Rattle.page_image.specs.Contents.{Contents, IsPage, records_of_page, is_blan
 use Rattle.std.proofs.Math.Dec.{eqb-suc-zero}
 use Rattle.page_image.proofs.Blank.{records_in-blank}
 
--- what stands in front of the data that is written
+-- what comes before the data that is written
 written_front : ℕ → Bool → List Word
 written_front delta true = []
 written_front delta false = cond (ltb delta (2 ^ 27)) [] (time_extend delta ∷ [])
@@ -59,7 +59,7 @@ last_place bytes front w start len whole each holds len_is end_is = record {
   len_is = len_is;
 }
 
--- the place of the payload that was written behind whole words
+-- the place of the payload that was written after whole words
 place_behind : (bytes : List ℕ) (words : List Word) (delta : ℕ) (first : Bool) (payload : List ℕ) (start : ℕ) → bytes ≡ joined words → AllByRecursion IsWord (words ++ written_words delta first payload) → start + length payload ≡ length (bytes ++ encoding delta first payload) → IsPlaceIn (bytes ++ encoding delta first payload) start (length payload)
 place_behind bytes words delta first payload start whole each end_is =
     let d : ℕ = written_delta delta first in
@@ -97,7 +97,7 @@ ends_at byte bytes time prev ends behind = ⊎_elim
     subst Q (sym push) (has_last (records_of time last.0) _ prev (subst P push behind)))
     ends.last
 
--- the moment of the record that is written behind words
+-- the moment of the record that is written after words
 moment_there : (time delta : ℕ) (words : List Word) → moment_after time (words ++ written_front delta false) + written_delta delta false ≡ moment_after time words + delta
 unfolding written_front written_delta
 moment_there time delta words = by_test (ltb delta (2 ^ 27))
@@ -120,7 +120,7 @@ newest_behind bytes words time delta moment first payload whole each there =
     ∙ moment_of_last-push (records_of time front) record { moment = moment_after time front + delta_of (data_word d payload); bytes = payload_of (data_word d payload) }
     ∙ ap (λ (m : ℕ). Some m) (ap (λ (n : ℕ). moment_after time front + n) (data_word-delta d payload) ∙ there)
 
--- What the data becomes when a record with this payload is put behind it: where it ends, and where the payload lies.
+-- What the data becomes when a record with this payload is put after it: its end, and the payload's place.
 pub record PutEnd (bytes : List ℕ) (prev moment : ℕ) (payload : List ℕ) : Type 0 where
   pub ends : EndsInRecord (bytes ++ encoding (moment - prev) (is_blank bytes) payload)
   pub place : (start : ℕ) → start + length payload ≡ length (bytes ++ encoding (moment - prev) (is_blank bytes) payload) → IsPlaceIn (bytes ++ encoding (moment - prev) (is_blank bytes) payload) start (length payload)
@@ -184,7 +184,7 @@ fits_either : (first : Bool) (time moment old : ℕ) → time ≡ cond first mom
 fits_either true time moment old time_is small page = omega arith
 fits_either false time moment old time_is small page = omega arith
 
--- no payload lies in no bytes
+-- no payload is in no bytes
 no_place : (number start len : ℕ) → IsPlaceOf [] number start len → ⊥
 no_place number start len there =
     let p = there.place in

@@ -15,13 +15,13 @@ use Rattle.record_words.specs.declared.next.WordFault.{WordFault}
 use Rattle.record_words.specs.declared.next.WordFault.TheVariants.{Cut, BadLength, TimeOverflow}
 use Rattle.record_words.specs.Next.{StandsAt, DataAt, IsFaultAt}
 
--- at a fault no word stands
+-- at a fault there is no word
 pub no_word_at_fault : (bytes : List ℕ) (at : ℕ) (fault : WordFault) → IsFaultAt bytes at fault → word_at_front (drop at bytes) ≡ None
 no_word_at_fault bytes at (Cut named) h = h.none_found
 no_word_at_fault bytes at (BadLength named) h = h.none_found
 no_word_at_fault bytes at (TimeOverflow named) h = absurd h
 
--- the words that stand in front of this offset
+-- the words that are before this offset
 pub record ReadUpTo (bytes : List ℕ) (at : ℕ) : Type 0 where
   pub front : List Word
   pub whole : bytes ≡ joined front ++ drop at bytes
@@ -42,20 +42,20 @@ ReadUpTo-step bytes at next w read stands = record {
   at_is = let size = ap length (joined-push read.front w) ∙ length-append (joined read.front) (bytes_of_word w) in omega (arith, stands.next_is, read.at_is);
 }
 
--- The words in front of this offset were read, and the place isn't there: it is of a word that stands here or
+-- The words before this offset were read, and the place isn't there: it is of a word that is here or
 -- later.
 pub record IsAhead (bytes : List ℕ) (start len at : ℕ) : Type 0 where
   pub read : ReadUpTo bytes at
   pub ahead : IsPlaceIn bytes start len → at + 4 ≤ start
 
--- a payload has a word's head in front of it
+-- a payload has a word's head before it
 place_ge_four : (bytes : List ℕ) (start len : ℕ) → IsPlaceIn bytes start len → 4 ≤ start
 place_ge_four bytes start len p = let at = place-start bytes start len p in let head = head_of_ge p.word p.holds in omega arith
 
 pub IsAhead-start : (bytes : List ℕ) (start len : ℕ) → IsAhead bytes start len 0
 IsAhead-start bytes start len = record { read = ReadUpTo-start bytes; ahead = λ p. (let h = place_ge_four bytes start len p in omega arith) }
 
--- a place that is ahead is this word's payload, or behind it
+-- a place that is ahead is this word's payload, or after it
 here_or_behind : (bytes : List ℕ) (start len at next : ℕ) (w : Word) → IsAhead bytes start len at → StandsAt bytes at next w → IsPlaceIn bytes start len
     → (next + 4 ≤ start) ⊎ (IsData w × (len ≡ length (payload_of w)) × (start + len ≡ next))
 here_or_behind bytes start len at next w sought stands p =
@@ -87,7 +87,7 @@ IsAhead-record bytes start len at delta found next sought stands other = record 
       (here_or_behind bytes start len at next stands.word sought stands.at_offset p);
 }
 
--- where no word stands, there is no such place
+-- if there is no word, there is no such place
 pub IsAhead-none : (bytes : List ℕ) (start len at : ℕ) → IsAhead bytes start len at → word_at_front (drop at bytes) ≡ None → IsPlaceIn bytes start len → ⊥
 IsAhead-none bytes start len at sought none p =
     let read = sought.read in

@@ -18,25 +18,25 @@ use Rattle.page_image.specs.declared.image.header.Header.{Header}
 use Rattle.page_image.specs.declared.image.header.TheConstants.{HEADER, NUMBER, STORED}
 use Rattle.page_image.specs.Contents.{Contents}
 
--- what the answer tells of missed events
+-- what the answer states of missed events
 abbrev pub missed_of : Told → Missed
 missed_of NoneTold = none
 missed_of Unknown = unknown
 missed_of (Count events) = counted events
 
--- the bytes behind the header
+-- the bytes after the header
 abbrev pub behind_header : List ℕ → List ℕ
 behind_header bytes = drop HEADER bytes
 
--- the data of the size that is stated, and what stands behind it
+-- the data of the size that is stated, and what follows it
 abbrev pub data_in : List ℕ → ℕ → List ℕ
 data_in bytes size = take size (behind_header bytes)
 
 abbrev pub behind_data : List ℕ → ℕ → List ℕ
 behind_data bytes size = drop size (behind_header bytes)
 
--- The page in an image: as large as the bytes behind the header, its data of the stated size, its records
--- counted; its first number and its fill are 0, since an image doesn't tell them.
+-- The page in an image: as large as the bytes after the header, its data of the stated size, its records
+-- counted; its first number and its fill are 0, since an image doesn't state them.
 abbrev pub page_in : List ℕ → ℕ → ℕ → Contents
 page_in bytes time size = record {
   time = time;
@@ -84,7 +84,7 @@ pub record IsCommitWord (word : ℕ) (told : CommitTold) : Type 0 where
   pub size_fits : told.size < STORED
   pub ignored_fits : ignored < 2 ^ 32
 
--- the image has the parts that this header tells
+-- the image has the parts that this header states
 pub record HasPartsOf (bytes : List ℕ) (header : Header) : Type 0 where
   pub ignored : ℕ
   pub parts :
@@ -98,7 +98,7 @@ pub record LacksCount (told : CommitTold) (behind : List ℕ) : Type 0 where
   pub stored : told.is_stored ≡ true
   pub no_room : length behind < NUMBER
 
--- the image reads, and this is told of it
+-- the image reads, and this is stated of it
 pub record IsOutlined (bytes : List ℕ) (outline : Outline) : Type 0 where
   pub reads :
       DecodesImage bytes outline.time outline.size (missed_of outline.missed)

@@ -12,11 +12,11 @@ use Rattle.page_image.specs.contracts.page.Page.{the_row}
 abbrev pub with_payload : Contents → ℕ → List ℕ → Contents
 with_payload page start part = record page { bytes = take (length page.bytes) (overwritten page.bytes start part) }
 
--- the page ends with the payload from start on set to the last bytes behind the result
+-- the page ends with the payload from start on set to the last bytes of the result
 abbrev pub LendsPayload : MutBor Contents → ℕ → MutBor (List ℕ) → Fml
 LendsPayload page start result = Lends the_row (Array u8 0) page result (with_payload page.now start)
 
--- What a payload written anew makes of its page: it still reads, the one record has these bytes, and all
+-- What an overwritten payload makes of its page: it still reads, the one record has these bytes, and all
 -- others are as they were, in their places.
 pub record PayloadWritten (page : Contents) (start : ℕ) (part : List ℕ) : Type 0 where
   pub bytes : (with_payload page start part).bytes ≡ overwritten page.bytes start part

@@ -1,4 +1,4 @@
-//! The bytes behind a page.
+//! The bytes of a page.
 ghost use Rattle.std.specs.Prelude.{◌≡◌, ◌≤◌, ◌%◌, length, replicate, IfOk};
 
 use std::alloc::{AllocError, Global};

@@ -1,6 +1,6 @@
 //! Page images, read.
 //!
-//! An image is a page as the kernel hands it out: a header of 16 bytes and the data behind it, told in
+//! An image is a page as the kernel gives it to its readers: a header of 16 bytes and the data after it, specified in
 //! `docs/FORMATS.md`, "Page image".
 ghost use Rattle.std.specs.Prelude.{◌≡◌, ◌≢◌, ℕ, ◌*◌, ◌≤◌, ◌↔◌, IfOk, IfErr, length};
 ghost use Rattle.trace_model.specs.Faults.{Cause};
@@ -19,14 +19,14 @@ use record_words::WordFault;
 use std::alloc::Global;
 use trace_model::NoMemory;
 
-/// What an image tells of events that were missed in front of its page.
+/// What an image states of events that were missed before its page.
 #[derive(Clone, Copy, Debug, PartialEq, Eq)]
 pub enum Missed {
     /// None were.
     None,
-    /// Some were. How many isn't told.
+    /// Some were, and the number isn't stated.
     Unknown,
-    /// So many were.
+    /// This many were.
     Count(u64),
 }
 
@@ -37,7 +37,7 @@ pub struct Image {
     pub time: u64,
     /// How many bytes the records take.
     pub size: usize,
-    /// The events that were missed in front of the page.
+    /// The events that were missed before the page.
     pub missed: Missed,
     /// The page itself, with 0 as its first number and its fill.
     pub page: Page,
@@ -48,9 +48,9 @@ pub struct Image {
 pub enum ImageFault {
     /// There are fewer bytes than a header has.
     TooShort,
-    /// The size that is stated is above the number of bytes behind the header, or the image is too long.
+    /// The size that is stated is above the number of bytes after the header, or the image is too long.
     BadSize,
-    /// A count of missed events is stated, and there are no eight bytes for it behind the records.
+    /// A count of missed events is stated, and there are no eight bytes for it after the records.
     BadCount,
     /// The first fault of the records. Its offset counts from the end of the header.
     Word(WordFault),
@@ -81,7 +81,7 @@ pub struct Outline {
     pub time: u64,
     /// How many bytes the records take.
     pub size: usize,
-    /// The events that were missed in front of the page.
+    /// The events that were missed before the page.
     pub missed: Missed,
     /// How many records there are.
     pub count: u64,
@@ -112,7 +112,7 @@ impl Outline {
     ghost use Rattle.page_image.specs.Images.{page_in, IsOutlined};
 
     /// The page of the image that has this outline, with 0 as its first number and its fill. Its body is a copy of the
-    /// bytes behind the header.
+    /// bytes after the header.
     pub fn page(self, alloc: Global, bytes: &[u8]) -> Result<Page, NoMemory>
         requires outline { IsOutlined bytes.now self }
         ensures page { IfOk result (λ page. IsPage page) }
@@ -142,9 +142,9 @@ fn read(alloc: Global, bytes: &[u8]) -> Result<Image, ImageFault>
 }
 
 /// Reads a page image of at most `MAX_IMAGE` bytes. The faults are looked for in the order of
-/// [`ImageFault`], and memory is asked for once, where the image has a reading.
+/// [`ImageFault`], and memory is asked for once, if the image has a reading.
 ///
-/// The page has as its size the number of bytes behind the header. Bytes behind the records and the count of
+/// The page has as its size the number of bytes after the header. Bytes after the records and the count of
 /// missed events are kept in its body and mean nothing.
 pub fn read_image(alloc: Global, bytes: &[u8]) -> Result<Image, ImageFault>
     ensures reads { IfOk result (λ image. DecodesImage bytes.now image.time image.size

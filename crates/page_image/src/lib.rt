@@ -1,6 +1,6 @@
 //! Pages of a trace ring: a header and the data that holds the records.
 //!
-//! The layout is that of the kernel's `struct buffer_data_page`, told in `docs/FORMATS.md`.
+//! The layout is that of the kernel's `struct buffer_data_page`, specified in `docs/FORMATS.md`.
 #![tactic(auto)]
 
 mod body;

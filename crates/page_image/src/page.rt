@@ -1,4 +1,4 @@
-//! A page: the records of one fill, as they stand in its body.
+//! A page: the records of one fill, as they are in its body.
 mod alike;
 mod fitted;
 mod header;
@@ -79,8 +79,8 @@ impl Page {
         }
     }
 
-    /// Adds a record of this moment with a zeroed payload behind the others, where it must fit, and answers where
-    /// its payload lies: `len` bytes, rounded up to whole words and at least one word. `prev` is the moment of the
+    /// Adds a record of this moment with a zeroed payload after the others; it must fit. The answer is where
+    /// its payload is: `len` bytes, rounded up to whole words and at least one word. `prev` is the moment of the
     /// last record, if there is one, and not above `moment`.
     #[inline(always)]
     pub fn put(&mut self, prev: u64, moment: u64, len: usize) -> Place
@@ -165,7 +165,7 @@ impl Page {
         self.put_as(Records::Plain, prev, moment, len)
     }
 
-    /// Whether no record stands in the page; none of these may be put there but behind another one.
+    /// Whether the page is empty; no records of the kind `Plain` may be put into an empty page.
     #[inline(always)]
     fn is_first(&self, records: Records) -> bool
         requires behind { records ≡ Plain → is_blank self.now.bytes ≡ false }
@@ -231,8 +231,8 @@ impl Page {
         place
     }
 
-    /// Adds a record of this moment and payload behind the others, where it must fit, and answers where its payload
-    /// lies: what `put` does, and then the payload written at the front of its place. `prev` is that of `put`.
+    /// Adds a record of this moment and payload after the others; it must fit. The answer is where its payload
+    /// is. This is what `put` does, and then the payload written at the front of its place. `prev` is that of `put`.
     #[inline(always)]
     pub fn put_payload(&mut self, prev: u64, moment: u64, payload: &[u8]) -> Place
         requires room { length self.old.bytes
@@ -306,7 +306,7 @@ impl Page {
         body.slice_mut(place.start..place.start + place.len)
     }
 
-    /// The bytes at this place, which lies within the data, to be written. All other bytes of the page stay as they
+    /// The bytes at this place, which is within the data, to be written. All other bytes of the page stay as they
     /// are.
     #[inline(always)]
     pub fn part_mut(&mut self, place: Place) -> &mut [u8]

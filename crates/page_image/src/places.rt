@@ -7,7 +7,7 @@ ghost use Rattle.trace_model.specs.Reading.{IsPlaceIn};
 use crate::page::Page;
 use record_words::{Place, Word, next_word};
 
-/// Whether a record's payload lies at this place of the data. The words are read from the front, up to the
+/// Whether a record's payload is at this place of the data. The words are read from the front, up to the
 /// place, an ending padding or a fault.
 fn is_payload(data: &[u8], place: Place) -> bool
     ensures every { IsPlaceIn «data».now place.start place.len → IsTrue result }
@@ -42,7 +42,7 @@ fn is_payload(data: &[u8], place: Place) -> bool
 impl Page {
     ghost use Rattle.page_image.specs.Contents.{IsPage};
 
-    /// Whether a record's payload lies at this place.
+    /// Whether a record's payload is at this place.
     pub fn is_place(&self, place: Place) -> bool
         ensures every { IsPlaceIn self.now.bytes place.start place.len → IsTrue result }
         ensures exact { IsPage self.now

@@ -1,4 +1,4 @@
-//! A record written behind others.
+//! A record written after others.
 ghost use Rattle.std.specs.Prelude.{◌≡◌, ◌+◌, ◌≤◌, ◌<◌, ◌++◌, ◌⊎◌, true, false, length, take, replicate, if◌then◌else◌};
 ghost use Rattle.trace_model.specs.Words.{encoded_len, encoding, padded, slot_len};
 ghost use Rattle.trace_model.specs.declared.limits.TheConstants.{MOMENT_LIMIT};
@@ -16,7 +16,7 @@ fn delta_in_words(delta: u64, first: bool) -> u64
     if first { 0 } else { delta }
 }
 
-/// `put_behind`, whatever the record's form, and however little room is left behind it.
+/// `put_behind`, whatever the record's form, and however little room is left after it.
 #[inline(never)]
 fn put_any(body: &mut [u8], end: usize, delta: u64, first: bool, len: usize) -> Place
     requires length { len ≤ MAX_PAYLOAD }
@@ -34,8 +34,8 @@ fn put_any(body: &mut [u8], end: usize, delta: u64, first: bool, len: usize) -> 
     }
 }
 
-/// Writes a record with a zeroed payload behind the first `end` bytes, and answers where the payload lies. The
-/// record ends where its payload does. What stands behind it may be lost.
+/// Writes a record with a zeroed payload after the first `end` bytes, and answers where the payload is. The
+/// record ends where its payload does. What follows it may be lost.
 #[inline(always)]
 pub(crate) fn put_behind(body: &mut [u8], end: usize, delta: u64, first: bool, len: usize) -> Place
     requires length { len ≤ MAX_PAYLOAD }
@@ -63,7 +63,7 @@ pub(crate) fn put_behind(body: &mut [u8], end: usize, delta: u64, first: bool, l
 pub(crate) enum Records {
     /// Any that have room.
     Any,
-    /// Those that are as nearly all are: in the short form, behind another one, and far enough from the page's end for
+    /// Those that are as nearly all are: in the short form, after another one, and far enough from the page's end for
     /// any such record.
     Plain,
 }
@@ -124,7 +124,7 @@ pub(crate) fn put_behind_as(
     }
 }
 
-/// Writes a record with this payload behind the first `end` bytes, and answers where the payload lies. The record
+/// Writes a record with this payload after the first `end` bytes, and answers where the payload is. The record
 /// ends where its payload does.
 #[inline(always)]
 pub(crate) fn put_payload_behind(

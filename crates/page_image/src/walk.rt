@@ -9,8 +9,8 @@ ghost use Rattle.page_image.specs.Walk.{HasRead, HasPassed, records_at_place, re
 use crate::page::Page;
 use record_words::{Place, Word, WordFault, next_word};
 
-/// How far the words are read: up to this offset in bytes, with the moment there and how many records stand in
-/// front of it.
+/// How far the words are read: up to this offset in bytes, with the moment there and how many records are
+/// before it.
 #[derive(Clone, Copy, Debug)]
 pub struct Reached {
     pub at: usize,
@@ -18,7 +18,7 @@ pub struct Reached {
     pub count: u64,
 }
 
-/// A word that was stepped over: where its payload lies, if it is a record's, and how far the words are read then.
+/// A word that was stepped over: its payload's place, if it is a record's, and how far the words are read then.
 /// The record's moment is the one reached.
 #[derive(Clone, Copy, Debug)]
 pub struct Passed {
@@ -26,7 +26,7 @@ pub struct Passed {
     pub behind: Reached,
 }
 
-/// Where a walk begins: in front of the first word of a page with this time.
+/// Where a walk begins: before the first word of a page with this time.
 pub(crate) fn start(time: u64) -> Reached
     ensures at { result.at ≡ 0 }
     ensures moment { result.moment ≡ time }
@@ -49,8 +49,8 @@ fn later_moment(moment: u64, delta: u64, at: usize) -> Result<u64, WordFault>
     moment.checked_add(delta).ok_or(WordFault::TimeOverflow(at))
 }
 
-/// Steps over one word more of the data of a page. Where the data ends with a padding, whatever follows, there is
-/// none; where no word can be read, its fault is told.
+/// Steps over one word more of the data of a page. If the data ends with a padding, whatever follows, there is
+/// none; if no word can be read, its fault is reported.
 #[inline(always)]
 pub fn step_over_word(data: &[u8], reached: Reached) -> Result<Option<Passed>, WordFault>
     requires inside { reached.at < length «data».now }

@@ -11,7 +11,7 @@ use Rattle.page_numbers.specs.declared.fault.ParcelFault.{ParcelFault}
 use Rattle.page_numbers.specs.declared.fault.ParcelFault.TheVariants.{Image, NumberOverflow, MissedTooMany, MissedDiffers, BadCpu, NoMemory}
 use Rattle.page_numbers.specs.Faults.{parcel_fault, IsParcelFault}
 
--- a fault that is told tells of the cause that is there
+-- a fault that is reported names the cause that is there
 cause_is : (bytes : List ℕ) (cause : ParcelCause) → IsParcelFault bytes (parcel_fault cause) → FirstParcelFault bytes cause
 cause_is bytes bad_cpu is = is
 cause_is bytes (bad_image too_short) is = is
@@ -38,7 +38,7 @@ told_is bytes MissedDiffers cause f g = ap parcel_fault (FirstParcelFault-unique
 told_is bytes BadCpu cause f g = ap parcel_fault (FirstParcelFault-unique bytes bad_cpu cause f g)
 told_is bytes NoMemory cause f g = absurd (DecodesParcel-FirstParcelFault bytes f.0 cause f.1 g)
 
--- where a cause is, it is told
+-- if there is a cause, it is reported
 tells_cause : (bytes : List ℕ) (r : Result Parcel ParcelFault) (cause : ParcelCause) → IfOk r (DecodesParcel bytes) → IfErr r (IsParcelFault bytes) → FirstParcelFault bytes cause → r ≡ Err (parcel_fault cause)
 tells_cause bytes (Ok parcel) cause reads fault is = absurd (DecodesParcel-FirstParcelFault bytes parcel cause reads is)
 tells_cause bytes (Err told) cause reads fault is = ap (λ (f : ParcelFault). Err f) (told_is bytes told cause fault is)
@@ -49,7 +49,7 @@ fault-iff bytes r cause reads fault = (
   λ is. tells_cause bytes r cause reads fault is,
 )
 
--- a parcel that the bytes read as is told, unless memory is refused
+-- a parcel that the bytes read as is answered, unless memory is refused
 pub reading_told : (bytes : List ℕ) (r : Result Parcel ParcelFault) (parcel : Parcel) → IfOk r (DecodesParcel bytes) → IfErr r (IsParcelFault bytes) → DecodesParcel bytes parcel → (r ≡ Ok parcel) ⊎ (r ≡ Err NoMemory)
 reading_told bytes (Ok read) parcel reads fault is = inl (ap (λ (p : Parcel). Ok p) (DecodesParcel-unique bytes read parcel reads is))
 reading_told bytes (Err NoMemory) parcel reads fault is = inr refl

@@ -18,7 +18,7 @@ contents_fit time contents missed size whole =
       length-le64 word,
     )
 
--- what is told of an answer with bytes, put together
+-- what holds of an answer with bytes, put together
 pub each_told : {A E : Type 0} (r : Result A E) (P : A → Type 0) (Q R : Type 0) (S : A → Type 0) → IfOk r P → OnOk r Q → OnOk r R → ((x : A) → P x → Q → R → S x) → IfOk r S
 each_told (Ok x) P Q R S one two three then = then x one two three
 each_told (Err e) P Q R S one two three then = tt

@@ -19,7 +19,7 @@ pub record NumbersOverflow (parcel : Parcel) : Type 0 where
   pub cpu_known : parcel.cpu < MAX_CPUS
   pub past : 2 ^ 64 ≤ parcel.first + length parcel.records
 
--- they fit, and more are missing in front of the first one than stand there
+-- they fit, and more are missing before the first one than there are
 pub record MissesTooMany (parcel : Parcel) : Type 0 where
   pub cpu_known : parcel.cpu < MAX_CPUS
   pub numbers_fit : parcel.first + length parcel.records < 2 ^ 64
@@ -34,8 +34,8 @@ IsRefused parcel MissedDiffers = ⊥
 IsRefused parcel BadCpu = MAX_CPUS ≤ parcel.cpu
 IsRefused parcel NoMemory = IsParcel parcel
 
--- why what would be this parcel, read from an image that tells this of missed events, is refused: the numbers in front
--- of the image tell otherwise, or one of those; memory is refused only if nothing else is wrong
+-- why what would be this parcel, read from an image that states this of missed events, is refused: the numbers before
+-- the image state otherwise, or one of those; memory is refused only if nothing else is wrong
 abbrev pub IsRefusedAs : Parcel → Missed → ParcelFault → Type 0
 IsRefusedAs parcel told (Image fault) = ⊥
 IsRefusedAs parcel told NumberOverflow = NumbersOverflow parcel

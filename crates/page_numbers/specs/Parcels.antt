@@ -5,7 +5,7 @@ use Rattle.trace_model.specs.Record.{Record}
 use Rattle.trace_model.specs.Parcel.{Parcel}
 use Rattle.page_image.specs.Contents.{Contents, records_of_page, HaveSameData}
 
--- the parcel that a page is, under this CPU and with so many numbers missing in front of its records
+-- the parcel that a page is, under this CPU and with this many numbers missing before its records
 abbrev pub parcel_of : ℕ → Contents → ℕ → Parcel
 parcel_of cpu page missed = record {
   cpu = cpu;

@@ -19,7 +19,7 @@ pub record IsWritten (parcel : Parcel) (bytes : List ℕ) : Type 0 where
   pub limit : size ≤ MAX_SIZE
   pub reads : Decodes contents time parcel.records
 
--- a page that was read under the numbers in front of it
+-- a page that was read under the numbers before it
 abbrev pub page_under : Contents → Numbers → Contents
 page_under page numbers = record page { first = numbers.first; fill = numbers.fill }
 

@@ -8,10 +8,10 @@ use std::alloc::AllocFailed;
 use trace_model::NoMemory;
 
 /// Why a page can't be a parcel, or bytes can't be read as one. What is looked at first, in its bytes or in a page, is
-/// the CPU, then the image, and then the others in the order in which they are here.
+/// the CPU, then the image, and then the others in the order in which they are listed here.
 #[derive(Clone, Copy, Debug, PartialEq, Eq)]
 pub enum ParcelFault {
-    /// The page image has this fault, or there are fewer bytes than 48, which comes before all else.
+    /// The page image has this fault, or there are fewer bytes than 48, which is reported before all else.
     Image(ImageFault),
     /// The number after the last record's is above 2^64 - 1.
     NumberOverflow,

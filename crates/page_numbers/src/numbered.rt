@@ -9,7 +9,7 @@ use std::alloc::Global;
 use std::sync::Arc;
 use trace_model::{CpuId, MAX_CPUS, NoMemory};
 
-/// A taken page, shared, its CPU, and how many numbers are missing in front of its records.
+/// A taken page, shared, its CPU, and how many numbers are missing before its records.
 #[derive(Debug, Drop)]
 pub(crate) struct NumberedPage {
     pub(crate) cpu: CpuId,

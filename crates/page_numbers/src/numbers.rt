@@ -1,4 +1,4 @@
-//! The numbers in front of the image of a parcel.
+//! The numbers before the image of a parcel.
 ghost use Rattle.std.specs.Prelude.{◌≡◌, ℕ, ◌+◌, ◌≤◌, ◌<◌, ◌^◌, ◌++◌, List, length, drop, IfOk, IfErr, IsTrue, OnOk, OnErr, ◌↔◌};
 ghost use Rattle.trace_model.specs.Image.{from_le64, le64, Missed as MissedTold};
 ghost use Rattle.trace_model.specs.Parcel.{Parcel as ParcelSeen};
@@ -18,7 +18,7 @@ pub(crate) const NUMBERS: usize = 32;
 /// The fewest bytes of a parcel: its numbers, and an image without data.
 const MIN_PARCEL: usize = 48;
 
-/// The numbers of a parcel, as they stand in its bytes.
+/// The numbers of a parcel, as they are in its bytes.
 #[derive(Clone, Copy)]
 pub(crate) struct Numbers {
     cpu: u64,
@@ -36,7 +36,7 @@ fn number_at(bytes: &[u8], at: usize) -> u64
     LittleEndian::read_u64(&bytes[at..])
 }
 
-/// Looks whether so many records have numbers from the first one on, and whether so many numbers stand in front of it.
+/// Looks whether `count` records have numbers from the first one on, and whether there are `missed` numbers before it.
 pub(crate) fn check_numbers(first: RecordNo, count: u64, missed: u64) -> Result<(), ParcelFault>
     ensures numbers { OnOk result (first.0 + count < 2 ^ 64) }
     ensures missed { OnOk result (missed ≤ first.0) }
@@ -53,7 +53,7 @@ pub(crate) fn check_numbers(first: RecordNo, count: u64, missed: u64) -> Result<
     Ok(())
 }
 
-/// Reads the numbers of a parcel that has at least an image's header behind them.
+/// Reads the numbers of a parcel that has at least an image's header after them.
 pub(crate) fn read_numbers(bytes: &[u8]) -> Result<Numbers, ParcelFault>
     ensures numbers { IfOk result (λ numbers. HasNumbers bytes.now numbers.cpu numbers.fill numbers.first
         numbers.missed (drop NUMBERS bytes.now)) }
@@ -87,7 +87,7 @@ impl Numbers {
         }
     }
 
-    /// Whether the image tells of missed events what the last number does.
+    /// Whether the image states of missed events what the last number does.
     pub(crate) fn agree_with(self, told: Missed) -> bool
         ensures { IsTrue result ↔ AgreesWith (missed_of told) self.missed }
     {

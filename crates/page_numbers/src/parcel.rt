@@ -1,4 +1,4 @@
-//! A parcel, and what it tells.
+//! A parcel, and what it states.
 mod bytes;
 
 use crate::fault::ParcelFault;
@@ -40,7 +40,7 @@ impl Parcel {
     ghost use Rattle.page_numbers.specs.Parcels.{parcel_of, entries_of_parcel, IsOfPage, AreAlike, HaveSameRecords};
     ghost use Rattle.page_numbers.specs.Faults.{IsRefused, NumbersOverflow, MissesTooMany};
 
-    /// The page as a parcel of this CPU, with so many numbers missing in front of its records. Where it is refused, the
+    /// The page as a parcel of this CPU, with `missed` numbers missing before its records. If it is refused, the
     /// page is dropped.
     pub fn of(alloc: Global, cpu: CpuId, page: Page, missed: u64) -> Result<Parcel, ParcelFault>
         requires page { IsPage page }
@@ -111,7 +111,7 @@ impl Parcel {
         self.numbered.page.count()
     }
 
-    /// How many numbers are missing in front of the first record's.
+    /// How many numbers are missing before the first record's.
     pub fn missed(&self) -> u64
         ensures missed { result ≡ self.now.missed }
         ensures in_front { result ≤ self.now.first }
@@ -119,8 +119,7 @@ impl Parcel {
         self.numbered.missed
     }
 
-    /// The records in their order, numbered from the first number on, each with its bytes where they stand in the
-    /// page.
+    /// The records in their order, numbered from the first number on, each with its bytes in place.
     pub fn records(&self) -> Records<'_>
         ensures entries { result ≡ entries_of_parcel self.now }
         ensures own_bytes { (page : Contents) × IsOfPage self.now page × AllStandInPage page result }

@@ -19,7 +19,8 @@ const MISSED: u64 = 1 << 31;
 
 const COUNTED: u64 = 1 << 30;
 
-// What an image is made of. Of its header and of the count after its data only these many bytes may be there.
+// The parts of an image. Only the first `header` bytes of its header are there, and the first `counted` of the count
+// after its data.
 #[derive(Drop)]
 struct Made {
     header: usize,
@@ -78,7 +79,7 @@ fn random_image(alloc: Global, numbers: &mut Numbers) -> Result<Made, Fail> {
     })
 }
 
-// The bytes of an image of so much data. The high half of its commit is the count's, since nobody looks at it.
+// The bytes of an image of `size` bytes of data. The high half of its commit is the count's, since nobody looks at it.
 fn image_of(alloc: Global, made: &Made, size: u64, flags: u64) -> Result<Vec<u8>, Fail> {
     let commit = size | flags | (made.count & 0xffff_ffff_0000_0000);
     let mut image = made.time.to_le_bytes().to_vec(alloc)?;

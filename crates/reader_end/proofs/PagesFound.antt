@@ -1,4 +1,4 @@
--- A page that was taken, once its parcel stands behind the others.
+-- A page that was taken, when its parcel is appended to the others.
 use Rattle.std.proofs.Common.{◌≡◌, ℕ, [], ◌∷◌, ◌++◌, ap, ◌∙◌}
 use Rattle.trace_model.specs.Parcel.{Parcel}
 use Rattle.trace_model.specs.Ring.{Taken}

@@ -21,7 +21,7 @@ pub record IsNoneFound (before after : ReaderEndValue) : Type 0 where
   pub empty_at : after.reader.empty_at ≡ Some done
   pub taken_are : after.taken ≡ before.taken
 
--- nothing was taken, and the next take goes on
+-- nothing was taken, and the next take continues where this one stopped
 pub record IsPutOff (before after : ReaderEndValue) : Type 0 where
   pub fill : ℕ
   pub is : IsSentAway before.reader.shape before.reader.part fill after.reader.part

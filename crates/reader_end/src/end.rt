@@ -9,8 +9,8 @@ use std::alloc::Global;
 use std::marker::Model;
 use trace_model::{CpuId, NoMemory};
 
-/// The reader's end of a CPU's ring, and all parcels that it took, in order. Its calls hand it on by value, so that a
-/// thread's result tells all of it.
+/// The reader's end of a CPU's ring, and all parcels that it took, in order. Its calls take it and return it by value,
+/// so that a thread's result has all of it.
 #[derive(Drop)]
 pub struct ReaderEnd {
     cpu: CpuId,
@@ -51,7 +51,7 @@ pub enum Found {
     Page,
     /// No closed fill is unread.
     Empty,
-    /// A move of the head stands in the way, or the take has made as many steps as it may.
+    /// A move of the head isn't finished, or the take has made as many steps as it may.
     Moving,
 }
 
@@ -102,7 +102,7 @@ impl ReaderEnd {
     }
 
     /// Takes the oldest page that is closed and unread, if there is one, and keeps its records as one parcel more, in
-    /// as many bytes as they take. Where memory is refused, the end is dropped whole.
+    /// as many bytes as they take. If memory is refused, the end is dropped whole.
     pub fn take(self, alloc: Global) -> Result<(ReaderEnd, Found), NoMemory>
         ensures same { IfOk result (λ r. SameRing self.reader r.0.reader) }
         ensures cpu { IfOk result (λ r. r.0.cpu ≡ self.cpu) }

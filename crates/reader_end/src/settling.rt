@@ -9,8 +9,8 @@ use ring_shared::Writer;
 use run_audit::Ledger;
 use std::alloc::Global;
 
-/// Joins the two ends of a ring: its ledger is the ring, settled, and the parcels that the reader took. No frame of the
-/// writer stands, and the last take found that all closed fills are taken or lost (`has_all`).
+/// Joins the two ends of a ring: its ledger is the ring, settled, and the parcels that the reader took. The writer has
+/// no frame on its stack, and the last take found that all closed fills are taken or lost (`has_all`).
 pub fn settle(alloc: Global, writer: Writer, end: ReaderEnd) -> Ledger
     requires writer { IsWriter writer }
     requires one_ring { end.reader.table ≡ writer.table }

@@ -11,7 +11,7 @@ use Rattle.record_words.specs.Copies.{HasFront}
 pub chunk_len : (payload : List ℕ) (at : ℕ) → at + 16 ≤ length payload → length (chunk at 16 payload) ≡ 16
 chunk_len payload at within = let left = length-drop at payload in length-take-le 16 (drop at payload) (omega arith)
 
--- a chunk at the front of what lies behind the first bytes, which are the payload's
+-- a chunk at the front of what follows the first bytes, which are the payload's
 pub chunk_front : (out payload : List ℕ) (at n : ℕ) → length payload ≤ length out → at + 16 ≤ length payload → at ≤ n → HasFront n payload out → HasFront (at + 16) payload (put_chunk at out (chunk at 16 payload))
 chunk_front out payload at n room within near front =
     let before : take at out ≡ take at payload = sym (take-take at n out near) ∙ ap (take at) front ∙ take-take at n payload near in
@@ -20,7 +20,7 @@ chunk_front out payload at n room within near front =
     ∙ ap (λ (xs : List ℕ). xs ++ take 16 (drop at payload)) before
     ∙ sym (take-add at 16 payload)
 
--- what stands behind the payload stays
+-- what follows the payload stays
 pub chunk_behind : (out part : List ℕ) (at n : ℕ) → n ≤ length out → at + 16 ≤ n → length part ≡ 16 → drop n (put_chunk at out part) ≡ drop n out
 chunk_behind out part at n room within size =
     let front : List ℕ = take at out ++ part in
@@ -33,7 +33,7 @@ chunk_behind out part at n room within size =
     ∙ ap (drop (n - (at + 16))) (drop_at front (drop (at + 16) out) (length front) refl)
     ∙ drop-drop (n - (at + 16)) (at + 16) out ∙ ap (λ (m : ℕ). drop m out) (let on : at + 16 + (n - (at + 16)) ≡ n = omega arith in on)
 
--- where the whole payload is at the front, and what is behind it stays, it is put there
+-- if the whole payload is at the front, and what follows it stays, it is put there
 pub front_puts : (old new payload : List ℕ) → HasFront (length payload) payload new → take (length payload) payload ≡ payload → drop (length payload) new ≡ drop (length payload) old → Puts old new payload
 front_puts old new payload front whole behind =
     sym (take-append-drop (length payload) new) ∙ ap (λ (xs : List ℕ). xs ++ drop (length payload) new) (front ∙ whole) ∙ ap (λ (xs : List ℕ). payload ++ xs) behind

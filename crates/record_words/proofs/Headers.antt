@@ -1,4 +1,4 @@
--- The words in front of a payload, and two writes one behind the other.
+-- The words before a payload, and two writes one after the other.
 use Rattle.std.proofs.Common.{◌≡◌, ℕ, ◌+◌, ◌-◌, ◌*◌, ◌/◌, ◌≤◌, ◌<◌, ◌^◌, Bool, true, false, cond, leb, List, [], ◌∷◌, ◌++◌, length, take, drop, replicate, suc, refl, sym, ap, ◌∙◌, arith, length-append, append_assoc, length-drop}
 use Rattle.std.proofs.lemmas.List.{take_at, drop_at, drop-drop, append-nil, drop_all, take_rest, length-replicate}
 use Rattle.std.proofs.lemmas.Bool.{le-leb, lt-leb, true≢false}
@@ -10,7 +10,7 @@ pub length-le32 : (n : ℕ) → length (le32 n) ≡ 4
 unfolding le32
 length-le32 n = refl
 
--- a write at the front, and then one of as many bytes as the part behind it has
+-- a write at the front, and then one of as many bytes as the part after it has
 pub puts_part : (old mid a b : List ℕ) (n k : ℕ) → n ≡ length a → k ≡ length b → Puts old mid a → Puts old (put_mid n k mid b) (a ++ b)
 puts_part old mid a b n k n_is k_is first =
     let front : take n mid ≡ a = ap (take n) first ∙ take_at a (drop (length a) old) n (sym n_is) in
@@ -18,7 +18,7 @@ puts_part old mid a b n k n_is k_is first =
     let rest : drop k (drop n mid) ≡ drop (length (a ++ b)) old = ap (drop k) behind ∙ drop-drop k (length a) old ∙ ap (λ (i : ℕ). drop i old) (ap (λ (i : ℕ). length a + i) k_is ∙ sym (length-append a b)) in
     ap (λ (xs : List ℕ). xs ++ (b ++ drop k (drop n mid))) front ∙ ap (λ (xs : List ℕ). a ++ (b ++ xs)) rest ∙ sym (append_assoc a b _)
 
--- a write at the front, and then one at the front of all that is behind it
+-- a write at the front, and then one at the front of all that follows it
 pub puts_behind : (old mid part a b : List ℕ) (n k : ℕ) → n ≡ length a → k ≡ length mid - n → Puts old mid a → Puts (take k (drop n mid)) part b → Puts old (put_mid n k mid part) (a ++ b)
 puts_behind old mid part a b n k n_is k_is first second =
     let front : take n mid ≡ a = ap (take n) first ∙ take_at a (drop (length a) old) n (sym n_is) in

@@ -1,4 +1,4 @@
--- From what stands at the front of the bytes behind an offset to what a read there answers.
+-- From what is at the front of the bytes from an offset on to what a read there answers.
 use Rattle.std.proofs.Common.{◌≡◌, ℕ, ◌+◌, ◌-◌, ◌*◌, ◌%◌, ◌^◌, ◌<◌, ◌≤◌, ◌⊎◌, ◌↔◌, inl, inr, ⊎_elim, true, false, List, length, take, drop, Some, Result, Ok, Err, IsOk, IfOk, IfErr, refl, sym, ap, ◌∙◌, subst, arith, length-append, length-drop, length-take-le}
 use Rattle.std.proofs.lemmas.List.{drop-drop}
 use Rattle.std.proofs.lemmas.Bool.{false≢true, cases_lt}
@@ -39,7 +39,7 @@ faulty_short bytes at head counts past =
 pub faulty_few : (bytes : List ℕ) (at : ℕ) → at < length bytes → length bytes < at + 4 → FaultyAt bytes at at cut
 faulty_few bytes at some few = faulty bytes at cut (inl (inl (omega (arith, length-drop at bytes), omega (arith, length-drop at bytes))))
 
--- a word that the plain reader finds stands there
+-- a word that the plain reader finds is there
 stands : (bytes : List ℕ) (at next : ℕ) (word : Word) → AreBytes bytes → at ≤ length bytes → next ≤ length bytes → word_at_front (drop at bytes) ≡ Some (word, drop next bytes) → StandsAt bytes at next word
 stands bytes at next word small start within found =
     let read = word_at_front-found (drop at bytes) word (drop next bytes) (AreBytes-drop at bytes small) found in
@@ -58,7 +58,7 @@ behind_two bytes at = ap (drop 4) (behind_head bytes at) ∙ drop-drop 4 (at + 4
 drop_on : (bytes : List ℕ) (k start next : ℕ) → start + k ≡ next → drop k (drop start bytes) ≡ drop next bytes
 drop_on bytes k start next is = drop-drop k start bytes ∙ ap (λ (n : ℕ). drop n bytes) is
 
--- a data word that the plain reader finds, whose payload lies between these offsets
+-- a data word that the plain reader finds, whose payload is between these offsets
 data_at : (bytes : List ℕ) (at delta start next : ℕ) (word : Word) → AreBytes bytes → at ≤ length bytes → start ≤ next → next ≤ length bytes
     → word_at_front (drop at bytes) ≡ Some (word, drop next bytes) → IsData word → delta_of word ≡ delta → payload_of word ≡ take (next - start) (drop start bytes)
     → DataAt bytes at delta (record { start = start; len = next - start }) next
@@ -133,7 +133,7 @@ ending_read bytes at head is none =
     let ends = HasEnding-from_head (drop at bytes) (omega (arith, length-drop at bytes)) is none in
     record { ends = ends; none_found = front-ending (drop at bytes) ends }
 
--- ---- an answer and what stands there decide each other
+-- ---- an answer and what is there decide each other
 
 front_of : (bytes : List ℕ) (at : ℕ) (told : Told) → IsRead bytes at told → HasWord (drop at bytes) ⊎ HasEnding (drop at bytes)
 front_of bytes at (Data delta place next) read = inl (HasWord-some (drop at bytes) read.word (drop next bytes) read.at_offset.found)
@@ -163,7 +163,7 @@ BadLength-iff bytes at (Err (Cut named)) read fault = (λ e. cc, λ is. let same
 BadLength-iff bytes at (Err (BadLength named)) read fault = (λ e. fault.fault, λ is. ap (λ (n : ℕ). Err (BadLength n)) fault.offset)
 BadLength-iff bytes at (Err (TimeOverflow named)) read fault = absurd fault
 
--- where the number behind the first four bytes can't be read
+-- if the number after the first four bytes can't be read
 pub from_no_number : (bytes : List ℕ) (at : ℕ) (f : WordFault) → at + 4 ≤ length bytes → StatesLength (drop at bytes) ⊎ HasHighBits (drop at bytes) → f ≡ Cut at → (at + 8 ≤ length bytes → false ≡ true) → IsFaultAt bytes at f
 from_no_number bytes at f head needs is never =
     let short : length bytes < at + 8 = ⊎_elim (λ less. less) (λ more. absurd (false≢true (never more))) (cases_lt (length bytes) (at + 8)) in

@@ -1,4 +1,4 @@
--- What a read of one word answers, and the word that it tells of.
+-- What a read of one word answers, and the word that it states.
 use Rattle.std.specs.Prelude.{◌≡◌, ℕ, ◌+◌, ◌<◌, ◌≤◌, List, ◌++◌, length, take, drop, Some, None}
 use Rattle.trace_model.specs.Words.{Word, padding, time_extend, time_stamp, bytes_of_word, IsWord, delta_of}
 use Rattle.trace_model.specs.Reading.{word_at_front, IsData, payload_of}
@@ -9,7 +9,7 @@ use Rattle.record_words.specs.declared.next.Word.TheVariants.{Data, Pad, End, Ex
 use Rattle.record_words.specs.declared.next.WordFault.{WordFault}
 use Rattle.record_words.specs.declared.next.WordFault.TheVariants.{Cut, BadLength, TimeOverflow}
 
--- at offset `at` of the bytes stands this word, and what follows it at offset `next`
+-- this word is at offset `at` of the bytes, and what follows it at offset `next`
 pub record StandsAt (bytes : List ℕ) (at next : ℕ) (word : Word) : Type 0 where
   pub is_word : IsWord word
   pub stands : drop at bytes ≡ bytes_of_word word ++ drop next bytes
@@ -18,7 +18,7 @@ pub record StandsAt (bytes : List ℕ) (at next : ℕ) (word : Word) : Type 0 wh
   pub behind : at < next
   pub within : next ≤ length bytes
 
--- a record, whose payload lies in this place and ends where the next word stands
+-- a record, whose payload is in this place and ends where the next word begins
 pub record DataAt (bytes : List ℕ) (at delta : ℕ) (place : Place) (next : ℕ) : Type 0 where
   pub word : Word
   pub at_offset : StandsAt bytes at next word
@@ -39,7 +39,7 @@ pub record EndingAt (bytes : List ℕ) (at : ℕ) : Type 0 where
   pub ends : HasEnding (drop at bytes)
   pub none_found : word_at_front (drop at bytes) ≡ None
 
--- what stands at this offset is what the answer tells
+-- what is at this offset is what the answer states
 abbrev pub IsRead : List ℕ → ℕ → Told → Type 0
 IsRead bytes at (Data delta place next) = DataAt bytes at delta place next
 IsRead bytes at (Pad next) = PaddingAt bytes at next

@@ -3,11 +3,11 @@ use Rattle.std.specs.Prelude.{◌≡◌, ℕ, ◌+◌, ◌/◌, if◌then◌else
 use Rattle.trace_model.specs.Words.{le32, first_word}
 use Rattle.record_words.specs.declared.format.TheConstants.{SHORT_LIMIT}
 
--- new is old with these bytes at its front, and the same behind them
+-- new is old with these bytes at its front, and the same after them
 abbrev pub Puts : List ℕ → List ℕ → List ℕ → Type 0
 Puts old new bytes = new ≡ bytes ++ drop (length bytes) old
 
--- what stands in front of a payload of slot bytes
+-- what comes before a payload of slot bytes
 abbrev pub data_header : ℕ → ℕ → List ℕ
 data_header delta slot =
     if nat_le slot SHORT_LIMIT then first_word (slot / 4) delta else first_word 0 delta ++ le32 (slot + 4)

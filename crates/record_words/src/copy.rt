@@ -42,7 +42,7 @@ fn copy_chunks(out: &mut [u8], payload: &[u8])
     copy_chunk(out, payload, last);
 }
 
-/// Copies what stands between the first chunk, which is copied, and the last one, by five chunks. Each begins no later
+/// Copies what is between the first chunk, which is copied, and the last one, by five chunks. Each begins no later
 /// than the one before it ends, or where the last one does.
 #[inline(always)]
 fn copy_middle(out: &mut [u8], payload: &[u8])
@@ -61,7 +61,7 @@ fn copy_middle(out: &mut [u8], payload: &[u8])
     copy_chunk(out, payload, last - CHUNK);
 }
 
-/// Copies the chunk that stands so far from the front.
+/// Copies the chunk at this distance from the front.
 #[inline(always)]
 fn copy_chunk(out: &mut [u8], payload: &[u8], at: usize)
     requires room { length payload.now ≤ length out.old }

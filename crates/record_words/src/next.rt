@@ -8,10 +8,10 @@ use crate::format::{EXTEND_FROM, LEAST_LENGTH, PADDING, TIME_EXTEND, TIME_STAMP}
 use crate::put::Place;
 use byteorder::{ByteOrder, LittleEndian};
 
-/// A word of the data of a page. `next` is the offset behind it, in bytes.
+/// A word of the data of a page. `next` is the offset after it, in bytes.
 #[derive(Clone, Copy, Debug, PartialEq, Eq)]
 pub enum Word {
-    /// A record: by how much it moves the time, and where its payload lies.
+    /// A record: by how much it moves the time, and where its payload is.
     Data {
         delta: u64,
         place: Place,
@@ -55,7 +55,7 @@ fn number_at(data: &[u8], at: usize) -> u32
     LittleEndian::read_u32(&data[at..])
 }
 
-/// The number that stands behind the first four bytes of the word at `at`.
+/// The number after the first four bytes of the word at `at`.
 fn number_behind(data: &[u8], at: usize) -> Result<u32, WordFault>
     requires { at + 4 ≤ length «data».now }
     ensures number { IfOk result (λ n. n ≡ number_behind (drop at «data».now)) }
@@ -68,7 +68,7 @@ fn number_behind(data: &[u8], at: usize) -> Result<u32, WordFault>
     Ok(number_at(data, at + 4))
 }
 
-/// The offset behind the word at `at`, which states its length.
+/// The offset after the word at `at`, which states its length.
 fn end_of_stated(data: &[u8], at: usize) -> Result<usize, WordFault>
     requires head { at + 4 ≤ length «data».now }
     requires states { StatesLength (drop at «data».now) }
@@ -86,7 +86,7 @@ fn end_of_stated(data: &[u8], at: usize) -> Result<usize, WordFault>
     Ok(at + 4 + len)
 }
 
-/// The record whose payload lies between these offsets.
+/// The record whose payload is between these offsets.
 fn record_between(delta: u32, start: usize, next: usize) -> Word
     requires { start ≤ next }
     ensures { result ≡ Word.Data delta (record { start = start; len = next - start }) next }
@@ -101,7 +101,7 @@ fn record_between(delta: u32, start: usize, next: usize) -> Word
     }
 }
 
-/// The record at `at`, whose length stands behind its first four bytes.
+/// The record at `at`, whose length is after its first four bytes.
 fn long_record(data: &[u8], at: usize, delta: u32) -> Result<Word, WordFault>
     requires head { at + 4 ≤ length «data».now }
     requires type_is { type_at_front (drop at «data».now) ≡ 0 }
@@ -130,7 +130,7 @@ fn short_record(data: &[u8], at: usize, words: u32, delta: u32) -> Result<Word, 
     Ok(record_between(delta, start, start + len))
 }
 
-/// The padding at `at`, whose length stands behind its first four bytes.
+/// The padding at `at`, whose length is after its first four bytes.
 fn padding(data: &[u8], at: usize) -> Result<Word, WordFault>
     requires head { at + 4 ≤ length «data».now }
     requires type_is { type_at_front (drop at «data».now) ≡ PADDING }
@@ -201,9 +201,9 @@ fn word_at(data: &[u8], at: usize, first: u32) -> Result<Word, WordFault>
 }
 
 /// Reads the word at offset `at` of the data of a page, in bytes. A record's payload isn't copied: its
-/// place is told.
+/// place is stated.
 ///
-/// The answer is `Cut` where the data ends within the word, and `BadLength` where the word states a
+/// The answer is `Cut` if the data ends within the word, and `BadLength` if the word states a
 /// length that none can have. A word with both faults is `BadLength`, unless the data ends within its
 /// first four bytes or within the stated length itself.
 #[inline(always)]

@@ -9,7 +9,7 @@ use crate::format::{EXTEND_FROM, MAX_PAYLOAD, SHORT_LIMIT, TIME_EXTEND};
 use crate::size::slot_len;
 use byteorder::{ByteOrder, LittleEndian};
 
-/// Where a payload lies in the data of a page: its first byte and its length, in bytes.
+/// Where a payload is in the data of a page: its first byte and its length, in bytes.
 #[derive(Clone, Copy, Debug, PartialEq, Eq)]
 pub struct Place {
     pub start: usize,
@@ -28,7 +28,7 @@ fn put_word(out: &mut [u8], type_len: u32, delta: u32)
     LittleEndian::write_u32(out, type_len + 32 * delta);
 }
 
-/// Puts a 32-bit number at the front, which stands behind a first word.
+/// Puts a 32-bit number at the front, which follows a first word.
 #[tactic(auto, unfolding(trace_model::specs::Words::le32))]
 #[inline(always)]
 fn put_number(out: &mut [u8], number: u32)
@@ -48,7 +48,7 @@ fn put_extend(out: &mut [u8], delta: u64)
     put_number(&mut out[4..], (delta / EXTEND_FROM) as u32);
 }
 
-/// Puts what stands in front of a payload of `slot` bytes at the front, and answers how many bytes that takes.
+/// Puts what comes before a payload of `slot` bytes at the front, and answers how many bytes that takes.
 fn put_header(out: &mut [u8], delta: u32, slot: usize) -> usize
     requires delta_fits { delta < EXTEND_FROM }
     requires limit { slot ≤ MAX_PAYLOAD }
@@ -80,8 +80,8 @@ fn put_data(out: &mut [u8], delta: u32, slot: usize) -> Place
     Place { start, len: slot }
 }
 
-/// Writes the words of a record and a zeroed payload at the front of `out`, where it must fit, and answers
-/// where the payload lies: `len` bytes, rounded up to whole words and at least one word. All bytes behind
+/// Writes the words of a record and a zeroed payload at the front of `out`, which must have room for them, and answers
+/// where the payload is: `len` bytes, rounded up to whole words and at least one word. All bytes after
 /// the record stay as they were.
 ///
 /// `delta` is the time since the record before it on the page. The first record of a page has none: its
@@ -110,7 +110,7 @@ pub fn put_record(out: &mut [u8], delta: u64, first: bool, len: usize) -> Place
 }
 
 /// Writes the word of a record in the short form and a zeroed payload of `slot` bytes at the front of `out`. What
-/// stands behind the record is lost, as far as the longest such record would reach: so few stores serve each length.
+/// follows the record is lost, as far as the longest such record would reach: so few stores serve each length.
 #[inline(always)]
 pub fn put_short(out: &mut [u8], delta: u32, slot: usize)
     requires delta_fits { delta < EXTEND_FROM }
@@ -180,8 +180,8 @@ fn put_any_payload(out: &mut [u8], delta: u64, first: bool, payload: &[u8]) -> u
     8 + put_padded_data(&mut out[8..], 0, payload)
 }
 
-/// Writes the words of a record, its payload and the zeros that fill its slot at the front of `out`, where it must
-/// fit, and answers how many bytes that takes. All bytes behind the record stay as they were.
+/// Writes the words of a record, its payload and the zeros that fill its slot at the front of `out`, which must have
+/// room for them, and answers how many bytes that takes. All bytes after the record stay as they were.
 ///
 /// `delta` is that of `put_record`.
 #[inline(always)]

@@ -11,7 +11,7 @@ use nested_writer::WriteFault;
 use ring_frames::Answer;
 use trace_model::{CpuId, NoMemory};
 
-/// Where a line of a script stands, and whose ring it is for.
+/// Where a line of a script is, and whose ring it is for.
 #[derive(Clone, Copy, Debug)]
 pub struct At {
     /// The number of the line among all lines of the text, from 1.
@@ -59,7 +59,7 @@ fn log_line(at: At, answer: &Answer) -> Option<LogLine>
     }
 }
 
-/// Puts what is logged of a ring's answer behind the log.
+/// Appends to the log what is logged of a ring's answer.
 #[inline(never)]
 pub fn tell_any(at: At, answer: &Answer, log: &mut Vec<LogLine>) -> Result<(), NoMemory>
     ensures { OnOk result ((size : ℕ) (told : model.Answer) → Tells size answer.now told

@@ -2,8 +2,8 @@
 use nested_writer::WriteFault;
 use trace_model::{CpuId, FillNo, RecordNo};
 
-/// A line of the log, told by the number of the script's line. Small fields stand first, so that a line takes no more
-/// than 40 bytes.
+/// A line of the log, given by the number of the script's line. Small fields come first, so that a line takes at most
+/// 40 bytes.
 #[derive(Clone, Copy, Debug, PartialEq, Eq)]
 pub enum LogLine {
     /// A writer of this CPU was refused.
@@ -12,8 +12,8 @@ pub enum LogLine {
         cpu: CpuId,
         line: u64,
     },
-    /// A page of this CPU was taken: which fill it was, the number of its first record, how many
-    /// records it has, and how many records were missed in front of them.
+    /// A page of this CPU was taken: which fill it was, the number of its first record, how many records it has, and
+    /// how many records were missed before them.
     Taken {
         count: u16,
         cpu: CpuId,

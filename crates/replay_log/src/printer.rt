@@ -38,7 +38,7 @@ fn put_fault(out: &mut Vec<u8>, fault: WriteFault) -> Result<(), NoMemory>
     Ok(())
 }
 
-/// The front of a line: the number of the script's line, and a CPU.
+/// The beginning of a line: the number of the script's line, and a CPU.
 fn put_front(out: &mut Vec<u8>, line: u64, cpu: CpuId) -> Result<(), NoMemory>
     ensures text { OnOk result (out.new.items ≡ out.old.items ++ line_text line cpu.0) }
     ensures behind { IsPrefix out.old.items out.new.items }
@@ -47,7 +47,7 @@ fn put_front(out: &mut Vec<u8>, line: u64, cpu: CpuId) -> Result<(), NoMemory>
     put_named(out, b" c", u64::from(cpu.0))
 }
 
-/// What there is to tell of a page that was taken.
+/// What is printed of a page that was taken.
 fn put_taken(
     out: &mut Vec<u8>,
     fill: FillNo,
@@ -65,7 +65,7 @@ fn put_taken(
     Ok(())
 }
 
-/// A delivery: the number of the script's line, whom it was for, and what it brought.
+/// A delivery: the number of the script's line, the collector, and what became of it there.
 fn put_delivery(
     out: &mut Vec<u8>,
     line: u64,

@@ -30,7 +30,7 @@ use Rattle.ring_frames.proofs.Tops.{topped}
 use Rattle.ring_core.proofs.Stepped.{kept_of, stepped}
 use Rattle.ring_core.proofs.Homes.{get_set_other}
 
--- ---- a frame that begins anew
+-- ---- a frame that begins again
 
 begin_result : (c : Core) (kind : Kind) (state : FrameState) (frame : Frame) (below : List Frame) → c.frames ≡ frame ∷ below → PrivateResult c (model.after_begin kind state c frame below)
 begin_result c (for_record moment len) waiting frame below top = goes_on frame below idle refl
@@ -96,7 +96,7 @@ module _ (n size start : ℕ) (v : CoreValue) (c : Core) (core : IsCore n size s
       let (body, there, wide) = core.shows.free f (omega arith) high in
       (body, others f ne ∙ there, wide)
 
-  -- what is left of the step is that the frame on top begins anew
+  -- what is left of the step is that the frame on top begins again
   pub begun : (result : Answer) (new : FramesValue) → OpensFill (frames_of v) result new → IsStep n size start c model.steps result (record (with_frames v new) { homes = slice_set v.homes page None })
   begun result new fill = let s = core.shows in let top = topped n size start (frames_of v) c s.frames some in
       let tail : Core = model.with_new_tail c page in

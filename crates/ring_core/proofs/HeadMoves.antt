@@ -36,7 +36,7 @@ use Rattle.ring_core.proofs.Stepped.{kept_of}
 use Rattle.ring_frames.proofs.Tops.{topped}
 use Rattle.ring_core.proofs.PhaseMoves.{shows_moved, shows_phase, top_steps}
 
--- ---- the fill that a link tells, at the position of the fill to open
+-- ---- the fill that a link states, at the position of the fill to open
 
 module _ (n : ℕ) (c : Core) (k : LinksKept n c) (r : ProgressKept n c) (noted : ℕ) (now : noted ≡ c.opened) where
   -- a NORMAL at the head waits for the HEADER, and then a position is free
@@ -160,7 +160,7 @@ module _ (n size start : ℕ) (v : CoreValue) (c : Core) (core : IsCore n size s
       let t = topped n size start (frames_of v) c core.shows.frames some in let frame : Frame = t.frame in let below : List Frame = t.below in
       subst (PhaseAdvances n c.links c.head) (t.phase_is ∙ at) (subst (FramesAdvance n c.links c.head) t.is_top kept.progress.advance).0
 
-  -- behind the head there is a whole round of fills
+  -- after the head there is a whole round of fills
   pub round_next : (role : Role) (noted page : ℕ) → v.phase ≡ LookingNext role noted page → length v.links ≤ noted
   round_next role noted page at = let wide = core.shows.positions in let turn : n ≤ noted = advances (model.looking_next (role_of role) noted page) (ap phase_of at) in omega arith
 
@@ -175,7 +175,7 @@ module _ (n size start : ℕ) (v : CoreValue) (c : Core) (core : IsCore n size s
       goes (model.looking_next (role_of role) noted page) (Marking role noted page next) noted (ap phase_of at) refl refl
       (λ frame below. model_steps.sees_normal lost next (goes_on role noted now) (omega arith) here refl refl)
 
-  -- what the frame does behind the look at the next link
+  -- what the frame does after the look at the next link
   noted_after : (role : Role) (noted page : ℕ) → noted_fill (model_steps.after_next (role_of role) noted page) ≡ Some noted
   noted_after Owner noted page = refl
   noted_after Helper noted page = refl

@@ -1,5 +1,5 @@
 -- Steps that change the writer's frames alone, with their history and what the writer's own pages hold: the rest of the
--- ring shows the state behind them as it did.
+-- ring shows the state after them as it did the one before.
 use Rattle.std.proofs.Common.{◌≡◌, ◌≢◌, ℕ, ◌+◌, ◌<◌, ◌≤◌, List, length, slice_index_or, refl, sym, ◌∙◌, subst, arith}
 use Rattle.trace_model.specs.Frames.{Frame}
 use Rattle.trace_model.specs.History.{Action}
@@ -26,7 +26,7 @@ closed_is_other n size start c f k low high i inside e =
     let some = k.links.some_pages in let le = k.links.head_le in let room = k.links.opened_le in let count = k.open_pages.count in
     pages_differ n c.order c.spare c.head (c.done + i) f (omega arith) k.links.apart (omega arith) (omega arith) low (omega arith) (λ same. omega arith) (sym (k.open_pages.each i inside) ∙ e)
 
--- the ring with these frames, where they are those of the state with these frames, this history and these contents
+-- the ring with these frames, if they are those of the state with these frames, this history and these contents
 pub shows_reframed : (n size start : ℕ) (v : CoreValue) (c : Core) (new : FramesValue) (frames : List Frame) (history : List Action) (held : List Held) → Shows n size start v c → AreFrames n size start new (private_state c frames history held)
     → ((f : ℕ) → c.head ≤ f → f < c.done → contents_of (private_state c frames history held) (page_at n c.order f) ≡ contents_of c (page_at n c.order f))
     → Shows n size start (with_frames v new) (private_state c frames history held)

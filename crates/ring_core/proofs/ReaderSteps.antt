@@ -39,9 +39,9 @@ reader_shown n size start v c spare_link of_link wish of_wish reader of s link_i
   free = s.free;
 }
 
--- ---- what the links tell
+-- ---- what the links state
 
--- a link tells a fill that has a number
+-- a link states a fill that has a number
 told_below : (n : ℕ) (c : ring.Core) → LinksKept n c → (f : ℕ) → (ring.link_into n c.links f).fill < LINK_FILLS
 told_below n c k f = let (g, low, high, same, kept) = fill_at n c k f in subst (λ (l : Link). l.fill < LINK_FILLS) same (from g high kept)
   where
@@ -50,7 +50,7 @@ told_below n c k f = let (g, low, high, same, kept) = fill_at n c k f in subst (
     from g high (is_header e here) = let is = ap (λ (l : Link). l.fill) e in let a = k.head_le in let b = k.done_lt in let fits = k.fits in omega arith
     from g high (is_update lost sum e st) = let is = ap (λ (l : Link). l.fill) e in let a = k.head_le in let b = k.done_lt in let fits = k.fits in omega arith
 
--- a NORMAL tells the hint, or a fill that is a turn behind it or further
+-- a NORMAL states the hint's fill, or one that is at least a round after it
 turned : (n : ℕ) (c : ring.Core) (page fill : ℕ) → LinksKept n c → ring.link_into n c.links c.reader.hint ≡ normal_link page fill → fill ≢ c.reader.hint → (c.reader.hint < fill) × (n ≤ fill + 1)
 turned n c page fill k at ne =
     let some_pages = k.some_pages in let hint = k.hint_le in
@@ -71,7 +71,7 @@ module _ (n size start : ℕ) (v : CoreValue) (c : ring.Core) (core : IsCore n s
       (reader_shown n size start v c v.spare_link c.spare_link (v.reader.seen + 1) (c.reader.seen + 1) v.reader c.reader s
       s.spare_link_is (ap (λ (k : ℕ). k + 1) s.seen_is) s.reader_phase_is s.hint_is s.seen_is s.expected_is)
 
-  -- a step of the reader that changes no more than it and its page's link
+  -- a step of the reader that changes only the reader and its page's link
   pub reads : (phase : ring.ReaderPhase) (answer : model.Answer) (result : Answer) (spare_link of_link : Link) (reader : Reader) (of : ring.Reader) → reader_phase_of v.reader.phase ≡ phase
       → model.ReadStep n c phase answer (record c { spare_link = of_link; reader = of }) → Tells size result answer
       → of_link ≡ spare_link → of.phase ≡ reader_phase_of reader.phase → of.hint ≡ reader.hint → of.seen ≡ reader.seen → of.expected ≡ reader.expected
@@ -139,7 +139,7 @@ module _ (v : CoreValue) (r : IsRing v) where
   told_fits f = let (n, size, start, c, core) = r in let s = core.shows in
       subst (λ (l : Link). l.fill < LINK_FILLS) (λ i. ring.link_into (sym s.positions i) (s.links_are i) f) (told_below n c (kept_of n size start v c core).links f)
 
-  -- a link to a fill behind the hint tells one behind the first turn
+  -- a link that states another fill than the hint's states one that isn't in the first round
   pub turn_fits : (page fill : ℕ) → ring.link_into (length v.links) v.links v.reader.hint ≡ normal_link page fill → fill ≢ v.reader.hint → length v.links ≤ fill + 1
   turn_fits page fill link ne = let (n, size, start, c, core) = r in let s = core.shows in let positions = s.positions in
       let (behind, turn) = turned n c page fill (kept_of n size start v c core).links (link_at n size start v c core (normal_link page fill) link) (λ e. ne (e ∙ s.hint_is)) in omega arith

@@ -19,7 +19,7 @@ use Rattle.ring_core.specs.Steps.{IsStep}
 use Rattle.ring_core.proofs.Stepped.{kept_of, stepped}
 use Rattle.ring_core.proofs.Homes.{get_set_same, get_set_other}
 
--- where the page that is let go is laid
+-- where the page that is let go is put
 pub record IsLaid (v : CoreValue) (at : ℕ) : Type 0 where
   pub homes : length v.homes ≡ length v.links + 1
   pub at_is : at ≡ page_at (length v.links) v.order v.stack.done

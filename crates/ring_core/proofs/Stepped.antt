@@ -1,4 +1,4 @@
--- A step that is made: the value after it is the ring in the state behind the step.
+-- A step that is made: the value after it is the ring in the state after the step.
 use Rattle.std.proofs.Common.{◌≡◌, ◌≢◌, ℕ, ◌⊎◌, [], ◌∷◌, inl, inr, ⊎_elim, sym, ◌∙◌, subst}
 use Rattle.trace_model.specs.Ring.{Core}
 use Rattle.trace_model.specs.Steps as model

@@ -42,7 +42,7 @@ get_set_other xs i k y x ne is = slice_get_read (set xs i y) (length (set xs i y
     (let wide = length-set xs i y in let low = slice_get_within xs k x is in omega arith)
     (sym (get_or-set_other xs i k y x ne ∙ get_or_from_slice_get xs k x x is))
 
--- a page that is at home, where two others come and go
+-- a page that is at home, if two others come and go
 home_stays : (homes : List (Option Contents)) (spare page p : ℕ) (x y : Option Contents) (size fill : ℕ) (held : ring.Held) → p ≢ spare → p ≢ page → IsHome homes size p fill held → IsHome (set (set homes spare x) page y) size p fill held
 home_stays homes spare page p x y size fill held ne ne' (body, is, w) = (body, get_set_other (set homes spare x) page p y (Some body) ne' (get_set_other homes spare p x (Some body) ne is), w)
 
@@ -51,7 +51,7 @@ body_stays homes spare page p x y size ne ne' (body, is, w) = (body, get_set_oth
 
 -- ---- before the swap
 
--- the value after a swap: this link stands at the head's position, and the pages come and go
+-- the value after a swap: this link is at the head's position, and the pages come and go
 abbrev pub value_after : CoreValue → Link → (size page fill expected : ℕ) → CoreValue
 value_after v behind size page fill expected =
     let x : CoreValue = record v { links = ring.links_with (length v.links) v.links fill behind } in
@@ -157,7 +157,7 @@ module _ (n size start : ℕ) (v : CoreValue) (c : ring.Core) (core : IsCore n s
     next : suc fill ≡ fill + 1
     next = omega arith
 
-    -- the link behind the head, which the spare's will be
+    -- the link after the head, which the spare's will be
     led_on : ring.link_into n c.links (suc fill) ≡ ring.link_into (length once) once (fill + 1)
     led_on = let two = kept.links.some_pages in
         sym (link_else fill n c.links (suc fill) fill (normal_link c.spare (fill + n)) (omega arith) (omega arith) (omega arith) (omega arith) (λ e. omega arith))

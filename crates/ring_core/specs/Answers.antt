@@ -13,7 +13,7 @@ use Rattle.ring_core.specs.Value.{CoreValue}
 
 -- ---- events
 
--- the event of the model: the end of a frame is one with the payload that stands in its slot
+-- the event of the model: the end of a frame is one with the payload that is in its slot
 abbrev pub event_of : CoreValue → Event → model.Event
 event_of v (Push moment len) = model.pushes moment len
 event_of v PushClose = model.pushes_close
@@ -43,7 +43,7 @@ StepsTop Wish result old new = pushed_len new.frames ≡ pushed_len old.frames
 
 -- ---- answers
 
--- a step of the reader gives its body back, but where a page is taken for it
+-- a step of the reader gives its body back, unless a page is taken for it
 abbrev pub GivesBack : List ℕ → Answer → Type 0
 GivesBack body Pushed = ⊥
 GivesBack body Going = ⊥

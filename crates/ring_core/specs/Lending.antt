@@ -43,7 +43,7 @@ with_slot_payload v slot part = record v { stack = with_slot v.stack slot part }
 abbrev pub with_lent : CoreValue → Lent → CoreValue
 with_lent v payload = record v { stack = stack.with_top v.stack payload }
 
--- where the result is a payload, the ring ends with the last value behind it; else nothing changes
+-- if the result is a payload, the ring ends with the value that it leaves; else nothing changes
 abbrev pub LendsTop : MutBor CoreValue → Result (MutBor Lent) WriteFault → Fml
 LendsTop core result = LendsIfOk the_row payload_rows.the_row core result (with_lent core.now) core.now
 
@@ -54,7 +54,7 @@ StaysRing v = (n size start : ℕ) (c : Core) (part : List ℕ)
     → length part ≡ length (top_bytes v.stack v.stack.frames)
     → IsCore n size start (with_top_payload v part) c
 
--- in each state that the ring is in, the slot has just the room of the record that the frame on top was pushed for
+-- in each state that the ring is in, the slot has exactly the room of the record that the frame on top was pushed for
 abbrev pub FitsFrame : CoreValue → Slot → Type 0
 FitsFrame v slot = (n size start : ℕ) (c : Core) (frame : ModelFrame) (below : List ModelFrame) (moment len : ℕ)
     → IsCore n size start v c

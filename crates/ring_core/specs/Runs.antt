@@ -1,4 +1,4 @@
--- Lists of events on a ring, and what holds behind them.
+-- Lists of events on a ring, and what holds after them.
 use Rattle.std.specs.Prelude.{◌≡◌, ℕ, List, [], ◌∷◌}
 use Rattle.trace_model.specs.Ring.{IsStart, Core}
 use Rattle.trace_model.specs.Steps as model
@@ -10,8 +10,8 @@ use Rattle.ring_frames.specs.Answers.{Tells}
 use Rattle.ring_core.specs.Answers.{event_of}
 use Rattle.ring_core.specs.Steps.{Makes, IsNewRing}
 
--- What happens to a ring: an event, with its answer; or a payload is written into its slot, which is no event. And the
--- ring behind it.
+-- What happens to a ring, with the ring after it: an event, with its answer; or a payload is written into its slot,
+-- which is no event.
 pub data Happening : Type 0 where
   happens : (event : Event) (answer : Answer) (next : CoreValue) → Happening
   writes : (next : CoreValue) → Happening
@@ -20,7 +20,7 @@ pub data Happening : Type 0 where
 abbrev pub Stays : CoreValue → CoreValue → Type 0
 Stays old new = (n size start : ℕ) (c : Core) → IsCore n size start old c → IsCore n size start new c
 
--- these happen one behind the other, each event by the clause of `step`
+-- these happen one after the other, each event by the clause of `step`
 abbrev pub AreCalls : CoreValue → List Happening → CoreValue → Type 0
 AreCalls v [] after = after ≡ v
 AreCalls v (happens event answer next ∷ more) after =
@@ -36,8 +36,8 @@ AreTold size v (happens event answer next ∷ more) (x ∷ exchanges) =
     (x.event ≡ event_of v event) × Tells size answer x.answer × AreTold size next more exchanges
 AreTold size v (writes next ∷ more) exchanges = AreTold size next more exchanges
 
--- From this state of the model on there is a run with these events and answers; and the ring behind them is in the
--- state to which it leads, which steps from a new ring reach.
+-- From this state of the model on there is a run with these events and answers; and the ring after them is in the state
+-- to which it leads, which steps from a new ring reach.
 pub record IsRunOf (n size start : ℕ) (from : Core) (v : CoreValue) (happened : List Happening) (after : CoreValue)
     : Type 0 where
   pub exchanges : List model.Exchange

@@ -14,8 +14,8 @@ use Rattle.ring_core.specs.Value.{CoreValue}
 use Rattle.ring_core.specs.IsCore.{IsCore}
 use Rattle.ring_core.specs.Answers.{GivesBack}
 
--- In this state the event has an answer and a state after it, by a step of the model, which the value's answer tells
--- and the value after it shows.
+-- In this state the event has an answer and a state after it, by a step of the model. The value's answer means the
+-- model's answer, and the value after it shows the model's state.
 pub record IsStep (n size start : ℕ) (c : Core) (event : model.Event) (result : Answer) (new : CoreValue) : Type 0 where
   pub answer : model.Answer
   pub after : Core

@@ -1,4 +1,4 @@
-//! What happens to a ring; what it answers is told by `ring_frames`.
+//! What happens to a ring; what it answers is in `ring_frames`.
 use page_image::Body;
 pub use ring_frames::Answer;
 
@@ -12,14 +12,14 @@ pub enum Event {
         /// The payload's length in bytes.
         len: usize,
     },
-    /// A frame is pushed that leaves the tail page, where that holds a record.
+    /// A frame is pushed that leaves the tail page, if that holds a record.
     PushClose,
     /// The frame on top makes one step.
     Step,
-    /// The frame on top, whose record is reserved, ends with the payload that stands in its slot.
+    /// The frame on top, whose record is reserved, ends with the payload that is in its slot.
     End,
-    /// The reader makes one step, which begins a take where none is under way. Its body, of the ring's data size, is
-    /// the page that goes into the ring for the one that is taken.
+    /// The reader makes one step, which begins a take if none is under way. Its body, of the ring's data size, is the
+    /// page that goes into the ring for the one that is taken.
     Read(Body),
     /// The reader wishes for the tail page.
     Wish,

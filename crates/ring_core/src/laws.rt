@@ -1,8 +1,8 @@
-//! What holds of a ring behind any list of events.
+//! What holds of a ring after any list of events.
 ghost use Rattle.ring_core.specs.Runs.{CallsAreRuns, CallsFromNewAreRuns};
 
 /// Any list of events on a ring, with payloads written between them, is a run of the ring's model: from a state that
-/// the ring is in, to one that it is in behind them, with these events and answers.
+/// the ring is in, to one that it is in after them, with these events and answers.
 pub fn calls_are_a_run_of_the_model()
     ensures { CallsAreRuns }
 {}

@@ -30,7 +30,7 @@ pub struct Core {
     spare: u16,
     /// The pages at home, by their numbers.
     homes: Vec<Option<Page>>,
-    /// The number of closed fills that the reader knew when it wished last, and one.
+    /// One more than the number of closed fills that the reader knew when it wished last.
     wish: u64,
     reader: Reader,
 }
@@ -49,7 +49,7 @@ impl Model for Core {
 impl Core {
     ghost use Rattle.std.specs.Prelude.{◌≡◌, length};
 
-    /// How many frames stand on the writer's stack.
+    /// The number of frames on the writer's stack.
     #[inline(always)]
     pub fn depth(&self) -> usize
         ensures { result ≡ length self.now.stack.frames }
@@ -66,7 +66,7 @@ impl Core {
     }
 }
 
-/// How many frames stand, and of how many bytes of data the pages are: a ring has no short text.
+/// The number of frames on the stack, and of bytes of data of a page: a ring has no short text.
 impl fmt::Debug for Core {
     fn fmt<W: fmt::Write>(&self, f: &mut fmt::Formatter<W>) -> fmt::Result {
         f.debug_struct("Core")

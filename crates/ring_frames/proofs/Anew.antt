@@ -1,4 +1,4 @@
--- The frame on top in another phase; and one that begins anew.
+-- The frame on top in another phase; and one that begins again.
 use Rattle.std.proofs.Common.{◌≡◌, ℕ, List, [], ◌∷◌, Option, Some, refl, sym, ap, ◌∙◌, subst}
 use Rattle.trace_model.specs.Frames.{Kind, for_record, for_close, FrameState, waiting, left, Phase as ModelPhase, idle, Frame as ModelFrame}
 use Rattle.trace_model.specs.Ring.{Core}
@@ -41,9 +41,9 @@ rephased n size start v c top frames frame below phase in_model k stack_is model
       noted = subst (λ (fs : List Frame). AreNotedAlike fs (phase ∷ v.below)) (sym stack_is) (alike, (subst (λ (fs : List Frame). AreNotedAlike fs (v.phase ∷ v.below)) stack_is k.noted).1);
     }
 
--- ---- beginning anew, by what the frame is
+-- ---- beginning again, by what the frame is
 
--- what beginning anew makes of a frame
+-- what beginning again makes of a frame
 abbrev Anew : (n size start : ℕ) (c : Core) (kind : Kind) (state : FrameState) (frame : ModelFrame) (below : List ModelFrame) → Answer → FramesValue → Type 0
 Anew n size start c kind state frame below result new =
     Tells size result (model.begin_answer kind state below) × AreFrames n size start new (model.after_begin kind state c frame below)
@@ -102,7 +102,7 @@ tries_anew v top frames stack_is close gone = λ n size start c frame below k mo
     (anew_idle n size start c top.purpose top.progress frame below (record v { phase = Idle }) close gone (stays_not top.purpose top.progress v.phase alike)
     (rephased n size start v c top frames frame below Idle idle k stack_is model_is refl (rests top.purpose top.progress v.phase alike close)))
 
--- ---- the frame on top, as the stack tells it
+-- ---- the frame on top, as the stack holds it
 
 pub top_from : (frames : List Frame) (top : Frame) → Some top ≡ top_of frames → (below : List Frame) × (frames ≡ top ∷ below)
 top_from [] top is = absurd (none_some (sym is))

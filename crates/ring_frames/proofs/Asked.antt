@@ -1,5 +1,5 @@
--- What may be asked of a ring with a writer's frames: the end of the frame on top with the payload that stands in its
--- slot, and a step of a frame whose phase is private.
+-- What may be asked of a ring with a writer's frames: the end of the frame on top with the payload that is in its slot,
+-- and a step of a frame whose phase is private.
 use Rattle.std.proofs.Common.{◌≡◌, ℕ, List, [], ◌∷◌, length, refl, sym, ap, ◌∙◌, subst, arith}
 use Rattle.trace_model.specs.Words.{slot_len}
 use Rattle.trace_model.specs.Frames.{for_record, Frame as ModelFrame}
@@ -17,7 +17,7 @@ use Rattle.ring_frames.specs.Answers.{top_bytes}
 use Rattle.ring_frames.proofs.Left.{tops_are}
 use Rattle.ring_frames.proofs.Ended.{stands, fills_slot}
 
--- the payload in the slot of the frame on top takes just that slot
+-- the payload in the slot of the frame on top takes exactly that slot
 pub may_end : (n size start : ℕ) (v : FramesValue) (c : Core) → AreFrames n size start v c → MayAsk c (model.ends (top_bytes v.stack v.stack.frames))
 may_end n size start v c k frame below number moment len model_is at kind = by_frames v.stack.frames refl
   where
@@ -40,7 +40,7 @@ may_end n size start v c k frame below number moment len model_is at kind = by_f
         let (frame_is, below_is, same) = tops_are v c n size start top rest frame below k is model_is in
         by_progress top rest is top.progress refl (ap (λ (f : ModelFrame). f.state) frame_is)
 
--- a step of the frame on top is private where the phase of the frames is
+-- a step of the frame on top is private if the phase of the frames is
 pub steps_are_private : (n size start : ℕ) (v : FramesValue) (c : Core) → AreFrames n size start v c → PhaseIsPrivate (phase_of v.phase) (opened v.stack) → IsPrivate c model.steps
 steps_are_private n size start v c k own = subst (λ (fs : List ModelFrame). TopIsPrivate fs c.opened) (sym k.frames_are) (by_frames v.stack.frames)
   where

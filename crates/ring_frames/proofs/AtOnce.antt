@@ -96,7 +96,7 @@ module _ (n size start : ℕ) (v : FramesValue) (c : Core) (k : AreFrames n size
   end_is : model.Step n size with_its_record (model.ends (padded payload)) model.full after
   end_is = model.end_step (padded payload) (holds number) [] number moment len refl refl refl refl same_slot refl refl
 
-  -- ---- the frames behind them
+  -- ---- the frames after them
 
   reserved_alone : (writer_after (pushed.history ++ reserve ∷ [])).stack ≡ record_frame moment len (Some number) ∷ []
   reserved_alone = reserved_stack pushed.history moment len [] (is_pushed.stack_is ∙ ap (λ (fs : List Frame). pushed_of (model_frames (new_frame (Record moment len) ∷ fs))) none)
@@ -141,7 +141,7 @@ module _ (n size start : ℕ) (v : FramesValue) (c : Core) (k : AreFrames n size
     are = shown acted;
   }
 
--- its frame may stand behind it, which has left
+-- its frame, which has left, may be put on the stack afterwards
 left_acted : (s stack : Stack) (moment : ℕ) (payload : List ℕ) → FitsAtOnce s moment (length payload) → stack ≡ with_written s moment payload → HasActed s (push moment (length payload) ∷ reserve ∷ leave (Some payload) ∷ []) stack → HasActed s (push moment (length payload) ∷ reserve ∷ leave (Some payload) ∷ []) (with_left stack moment (length payload))
 left_acted s stack moment payload fits is acted = λ start h k.
     let none : stack.frames ≡ [] = ap (λ (x : Stack). x.frames) is ∙ fits.0 in
@@ -152,7 +152,7 @@ pub writes_at_once : (v : FramesValue) (stack : Stack) (moment : ℕ) (payload :
 writes_at_once v stack moment payload fits is acted = λ n size start c reached are.
     written n size start v c are moment payload fits (with_left stack moment (length payload)) (ap (λ (s : Stack). with_left s moment (length payload)) is) (left_acted v.stack stack moment payload fits is acted)
 
--- where no frame stands, no fill is left to close
+-- if no frame is on the stack, no fill is left to close
 pub closed_at_rest : (v : FramesValue) → IsFrames v → v.stack.frames ≡ [] → closing_phase v.stack ≡ Wishing
 closed_at_rest v (n, size, start, c, core) none =
     let k = core.are in

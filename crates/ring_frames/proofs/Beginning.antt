@@ -51,7 +51,7 @@ begun n size start v c page later first s added acted =
       noted = subst (λ (fs : List stack.Frame). AreNotedAlike fs (v.phase ∷ v.below)) (sym same_frames) s.noted;
     }
 
--- so many more fills are begun
+-- one more fill is begun
 pub one_more : (v : FramesValue) (later : Stack) (first : ℕ) → later ≡ with_tail v.stack (blank_page v.stack.size first (opened v.stack)) → opened later ≡ opened v.stack + 1
 one_more v later first added =
     let same_done : later.done ≡ v.stack.done = ap (λ (x : Stack). x.done) added in

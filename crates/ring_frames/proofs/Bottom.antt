@@ -1,4 +1,4 @@
--- The bottom frame, which has left and stands alone.
+-- The bottom frame, which has left and is alone.
 use Rattle.std.proofs.Common.{◌≡◌, ◌≢◌, ℕ, List, [], ◌∷◌, length, Option, refl, ap, ◌∙◌, subst, arith}
 use Rattle.trace_model.specs.Frames.{Kind, FrameState, waiting, reserved, left}
 use Rattle.trace_model.specs.Ring.{Core}
@@ -13,7 +13,7 @@ use Rattle.ring_frames.specs.declared.phase.Phase.{Phase}
 use Rattle.ring_frames.specs.Value.{FramesValue, phase_of}
 use Rattle.ring_frames.specs.AreFrames.{ring_frames, AreBelow, AreFrames}
 
--- only this frame stands, which has left
+-- only this frame, which has left, is on the stack
 pub record IsAlone (v : FramesValue) (c : Core) : Type 0 where
   pub purpose : Purpose
   pub noted : Option ℕ

@@ -37,7 +37,7 @@ at_progress top progress = record top { progress = progress }
 abbrev pub IsThrough : Stack → Frame → List Frame → Option ℕ → Stack → Type 0
 IsThrough s top below noted after = (after ≡ with_progress s top below (Through (first_try s (Waiting noted)))) × HasActed s [] after
 
--- where a fill was begun since it noted, it fits
+-- if a fill was begun since it noted, it fits
 pub close_fits : (s : Stack) (history : List Action) (noted : ℕ) (below : List Frame) (result : Result Allot WriteFault) (after : Stack) → noted ≢ opened s
     → IsAnswered s history (record { purpose = Close; progress = Waiting (Some noted) } ∷ below) result
     → IsAllotted s (record { purpose = Close; progress = Waiting (Some noted) } ∷ below) result after

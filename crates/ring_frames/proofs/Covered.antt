@@ -1,4 +1,4 @@
--- A frame more stands on top: the slots that the others have reserved are below it.
+-- One more frame is on top: the slots that the others have reserved are below it.
 use Rattle.std.proofs.Common.{◌≡◌, ℕ, ◌<◌, ◌≤◌, List, [], ◌∷◌, length, ◌⊎◌, inl, inr, sym, ap, ◌∙◌, subst, arith}
 use Rattle.std.specs.Prelude.{IfSome}
 use Rattle.trace_model.specs.History.{reserved_records}

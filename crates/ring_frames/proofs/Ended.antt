@@ -1,4 +1,4 @@
--- The end of a frame as a private step: it leaves with the payload that stands in its slot, or is refused.
+-- The end of a frame as a private step: it leaves with the payload that is in its slot, or is refused.
 use Rattle.std.proofs.Common.{◌≡◌, ℕ, suc, ◌-◌, ◌<◌, ◌≤◌, List, [], ◌∷◌, ◌++◌, length, drop, get_or, Some, None, refl, sym, ap, ◌∙◌, subst, arith, length-drop, length-take-le}
 use Rattle.std.proofs.lemmas.Bool.{cond-true, cond-false, eq-eqb, ne_eqb}
 use Rattle.std.proofs.lemmas.Option.{slice_get_within, get_or_from_slice_get}
@@ -101,7 +101,7 @@ module _ (n size start : ℕ) (v : FramesValue) (c : Core) (k : AreFrames n size
       (subst (λ (fs : List ModelFrame). Tells size (HasEndedSo ended) (model.end_answer fs)) (sym below_is) (answered ended frames v.below same (λ many. pending may (omega (arith, deep, many))) (λ one. full may (omega (arith, deep, one)))))
       (shown stack is acted)
 
--- the frames of the model, where one stands on the stack
+-- the frames of the model, if one is on the stack
 model_top : (frames : List Frame) (phase : Phase) (phases : List Phase) (top : Frame) (rest : List Frame) → frames ≡ top ∷ rest → (frame : ModelFrame) × (below : List ModelFrame) × (ring_frames frames (phase ∷ phases) ≡ frame ∷ below)
 model_top frames phase phases top rest is = (_, _, ap (λ (fs : List Frame). ring_frames fs (phase ∷ phases)) is)
 

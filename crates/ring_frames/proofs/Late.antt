@@ -1,4 +1,4 @@
--- A frame that begins anew since another one began a fill: a private step.
+-- A frame that begins again since another one began a fill: a private step.
 use Rattle.std.proofs.Common.{◌≡◌, ◌≢◌, ℕ, List, [], Some, refl, sym, ap, ◌∙◌, subst}
 use Rattle.trace_model.specs.Frames.{owner, helper, Phase, idle, looking, claiming, looking_next, marking, clearing, opening, releasing, wishing, Frame, noted_fill}
 use Rattle.trace_model.specs.Ring.{Core}
@@ -35,7 +35,7 @@ module _ (n size : ℕ) (c : Core) (frame : Frame) (below : List Frame) where
   late_in releasing noted is own = absurd own
   late_in wishing noted is own = absurd own
 
--- a frame that may begin anew in private makes a step by it
+-- a frame that may begin again in private makes a step by it
 pub late_private : (v : FramesValue) (result : Answer) (new : FramesValue) (noted : ℕ) → v.stack.frames ≢ [] → noted_fill (phase_of v.phase) ≡ Some noted → PhaseIsPrivate (phase_of v.phase) (opened v.stack) → BeginsAnew v result new → MakesPrivate v model.steps result new
 late_private v result new noted some is own anew = λ n size start c reached are.
     let top = topped n size start v c are some in

@@ -83,7 +83,7 @@ leave_told size frames phases below is same = subst (λ (fs : List ModelFrame). 
 
 -- ---- the ring
 
--- what a leave makes of the value, where its stack is this one then
+-- what a leave makes of the value, if its stack is this one afterwards
 abbrev pub left_value : FramesValue → Stack → FramesValue
 left_value v stack = with_left_phase (record v { stack = stack })
 
@@ -115,9 +115,9 @@ left_without n size start v c top frames frame below stack k stack_is model_is i
     subst (λ (s : Stack). AreFrames n size start (left_value v s) (model.after_leave c frame below None)) (sym is)
     (left_shown n size start v c top frames frame below None k stack_is model_is (subst (IsStack start (c.history ++ leave None ∷ [])) is kept))
 
--- ---- a frame that stands alone
+-- ---- a frame that is alone
 
--- no phase is kept below that of a frame that stands alone
+-- no phase is kept below that of a frame that is alone
 pub none_below : (frames : List Frame) (below : List Phase) → AreBelow frames below → length frames ≤ 1 → below ≡ []
 none_below [] below same few = same
 none_below (top ∷ frames) [] same few = refl
@@ -127,11 +127,11 @@ pub some_below : (frames : List Frame) (below : List Phase) → AreBelow frames 
 some_below [] below same many none = absurd (omega (arith, many))
 some_below (top ∷ frames) below same many none = let e = ap (length {A = Phase}) none in absurd (omega (arith, same, many, e))
 
--- the value with this stack, whose bottom frame has just left
+-- the value with this stack, whose bottom frame is the one that left
 abbrev pub closing_value : FramesValue → Stack → FramesValue
 closing_value v stack = record v { stack = stack; phase = closing_phase stack }
 
--- a frame that stands alone stays
+-- a frame that is alone stays
 pub left_alone : (v : FramesValue) (stack : Stack) → v.below ≡ [] → left_value v stack ≡ closing_value v stack
 left_alone v stack none =
     ap (λ (below : List Phase). let x : FramesValue = record { stack = stack; phase = phase_after_leave stack below; below = below_after_leave below } in x) none

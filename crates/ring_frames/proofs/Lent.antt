@@ -137,7 +137,7 @@ module _ (n size start : ℕ) (v : FramesValue) (c : Core) (k : AreFrames n size
       let lens : len ≡ len' = cc in
       lies.fills_slot ∙ ap slot_len (sym lens)
 
-  -- what is written is what then stands there
+  -- what is written is what is there afterwards
   pub written_there : (part : List ℕ) → length part ≡ slot.place.len → top_bytes (with_slot v.stack slot part) v.stack.frames ≡ part
   written_there part long =
       let (moment, len, kind, lies) = stands n size start v c k t.top t.rest slot t.stack_is t.has _ _ model_is in
@@ -150,14 +150,14 @@ module _ (n size start : ℕ) (v : FramesValue) (c : Core) (k : AreFrames n size
 -- ---- what the stack lends
 
 module _ (n size start : ℕ) (v : FramesValue) (c : Core) (k : AreFrames n size start v c) (payload : Lent) (lent : IsLent v.stack payload) where
-  -- it is what stands in the slot of the frame on top
+  -- it is what is in the slot of the frame on top
   pub top_lent : lent_bytes payload ≡ top_bytes v.stack v.stack.frames
   top_lent = bytes_lent n size start v c k lent.slot lent.on_top (lent_bytes payload) (λ page there.
       ap (λ (p : Place). slice_range payload.page.bytes p.start (p.start + p.len)) lent.place_is
       ∙ ap (λ (p : Contents). slice_range p.bytes lent.slot.place.start (lent.slot.place.start + lent.slot.place.len))
       (open_page_is v.stack.done v.stack.older v.stack.tail lent.slot.fill payload.page page lent.open_page there))
 
-  -- what is written is what then stands there
+  -- what is written is what is there afterwards
   pub top_written : (part : List ℕ) → length part ≡ length (lent_bytes payload) → top_bytes (with_top v.stack (with_bytes payload part)) v.stack.frames ≡ part
   top_written part fills =
       ap (λ (t : Stack). top_bytes t v.stack.frames) (lent.in_slot part)

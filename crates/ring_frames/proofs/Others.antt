@@ -30,11 +30,11 @@ use Rattle.ring_frames.proofs.Payloads.{held_open, by_page}
 
 -- ---- in the same page
 
--- bytes in front of those that are put over others stay
+-- bytes before those that are overwritten stay
 front_stays : (bytes : List ℕ) (start at len : ℕ) (part : List ℕ) → at + len ≤ start → start ≤ length bytes → bytes_at at len (take (length bytes) (overwritten bytes start part)) ≡ bytes_at at len bytes
 front_stays bytes start at len part low within = same_lists _ _ (search (rules, places)) (λ k d h. grind (arith, places))
 
--- a record of a smaller number ends in front of the other's payload
+-- a record of a smaller number ends before the other's payload
 ends_before : (bytes : List ℕ) (number start len other at size : ℕ) → IsPlaceOf bytes number start len → IsPlaceOf bytes other at size → other < number → at + size ≤ start
 ends_before bytes number start len other at size place there low = elim (places-apart bytes other at size number start len there place) [
   | same_place same starts lens ↦ absurd (omega arith)

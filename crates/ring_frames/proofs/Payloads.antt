@@ -114,9 +114,9 @@ ended_kept old new is lacks slot held = (ended_below old new old.frames is slot 
     not_on_top (top ∷ below) (inl has) lacks = absurd (lacks slot has)
     not_on_top (top ∷ below) (inr there) lacks = there
 
--- ---- where nothing is reserved
+-- ---- if nothing is reserved
 
--- no frame stands
+-- no frame is on the stack
 pub none_held : (old new : Stack) → old.frames ≡ [] → KeepsPayloads old new
 none_held old new none slot held = absurd (subst (λ (fs : List Frame). HoldSlot fs slot) none held)
 
@@ -140,9 +140,9 @@ bottom_held old new bottom slot held = absurd (by_frames old.frames bottom held)
     by_frames (f ∷ []) at (inr none) = none
     by_frames (f ∷ next ∷ below) at held = at
 
--- ---- where slots lie
+-- ---- where slots are
 
--- A slot lies in the page of an open fill.
+-- A slot is in the page of an open fill.
 record LiesIn (s : Stack) (slot : Slot) : Type 0 where
   page : Contents
   open_page : IsOpenPage s.done s.older s.tail slot.fill page
@@ -151,7 +151,7 @@ record LiesIn (s : Stack) (slot : Slot) : Type 0 where
 lies_in : (s : Stack) (slot : Slot) (records : List Reservation) (len : ℕ) → LiesOpen s.done s.older s.tail records len slot → LiesIn s slot
 lies_in s slot records len lies = record { page = lies.page; open_page = lies.open_page; inside = place-within lies.page.bytes slot.place.start slot.place.len lies.place.place }
 
--- its record lies open
+-- its record is in an open page
 pub held_open : (start : ℕ) (h : List Action) (s : Stack) (slot : Slot) → IsStack start h s → HoldSlot s.frames slot → (len : ℕ) × LiesOpen s.done s.older s.tail (reserved_records h) len slot
 held_open start h s slot k held = by_frames s.frames held k.holds.frames_are
   where
@@ -172,7 +172,7 @@ by_page s slot page fill there = ap (λ (p : Contents). bytes_at slot.place.star
 appended : (a b : List ℕ) (start len : ℕ) → start + len ≤ length a → bytes_at start len a ≡ bytes_at start len (a ++ b)
 appended a b start len low = same_lists _ _ (search (rules, places)) (λ k d h. grind (arith, places))
 
--- the tail has more bytes behind its own
+-- the tail has more bytes after its own
 pub grown : (start : ℕ) (h : List Action) (s after : Stack) (more : List ℕ) → IsStack start h s → after.done ≡ s.done → after.older ≡ s.older → after.tail.fill ≡ tail_fill after → after.tail.bytes ≡ s.tail.bytes ++ more → StayHeld s.frames after.frames → KeepsPayloads s after
 grown start h s after more k done older fill bytes stay slot held = (stay slot held, kept lies.page lies.open_page lies.inside)
   where

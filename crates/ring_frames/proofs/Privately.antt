@@ -1,4 +1,4 @@
--- A private step that is made: the frames after it are those of the state behind the step.
+-- A private step that is made: the frames after it are those of the state after the step.
 use Rattle.std.proofs.Common.{◌≡◌, ℕ, List, ◌∷◌, sym, subst}
 use Rattle.trace_model.specs.Frames.{Frame}
 use Rattle.trace_model.specs.Ring.{Core}
@@ -26,6 +26,6 @@ privately n size start new c event result answer after step own tells are = reco
   are = are;
 }
 
--- a step of the frame on top is private where its phase is
+-- a step of the frame on top is private if its phase is
 pub top_is_private : (c : Core) (frame : Frame) (below : List Frame) → c.frames ≡ frame ∷ below → PhaseIsPrivate frame.phase c.opened → IsPrivate c model.steps
 top_is_private c frame below top own = subst (λ (fs : List Frame). TopIsPrivate fs c.opened) (sym top) own

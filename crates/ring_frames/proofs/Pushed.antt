@@ -31,7 +31,7 @@ as_many (f ∷ frames) phase below are = ap suc (more frames below are)
     more (f ∷ frames) [] same = absurd (omega (arith, same))
     more (f ∷ frames) (p ∷ phases) same = ap suc (more frames phases (omega (arith, same)))
 
--- where a frame stands below the new one
+-- if a frame is below the new one
 kept_below : (n : ℕ) (phase : Phase) (below : List Phase) → below_after_push (suc (suc n)) phase below ≡ phase ∷ below
 kept_below n phase below = cond-true _ _ _ (lt-ltb 1 (suc (suc n)) (omega arith))
 
@@ -72,7 +72,7 @@ pushed_shown n size start v c purpose action k is =
       noted = (noted_nothing purpose, noted_below frames v.phase v.below k.noted);
     }
 
--- where fewer frames stand than may
+-- if fewer frames are on the stack than may be
 pub has_room : (n size start : ℕ) (v : FramesValue) (c : Core) → AreFrames n size start v c → length v.stack.frames < MAX_FRAMES → HasRoom c
 has_room n size start v c k few =
     let same = as_many v.stack.frames v.phase v.below k.below_are in

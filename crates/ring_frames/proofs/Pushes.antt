@@ -1,4 +1,4 @@
--- The push of a frame as a private step: it stands, or is refused.
+-- The push of a frame as a private step: it is on the stack, or refused.
 use Rattle.std.proofs.Common.{◌≡◌, ◌⊎◌, ⊎_elim, ℕ, ◌+◌, ◌<◌, ◌≤◌, true, [], ◌∷◌, ◌++◌, length, inl, inr, refl, sym, ap, subst, arith}
 use mathlib.Core.Logic.{dite}
 use native.Mathlib.Decide.{dec_le}
@@ -24,7 +24,7 @@ use Rattle.ring_frames.specs.Steps.{IsPrivateStep}
 use Rattle.ring_frames.proofs.Privately.{privately}
 use Rattle.ring_frames.proofs.Pushed.{new_frame, pushed_shown, has_room, has_no_room}
 
--- what a push makes of the value, where its stack is this one then
+-- what a push makes of the value, if its stack is this one afterwards
 abbrev pub pushed_value : FramesValue → Stack → FramesValue
 pushed_value v stack = with_pushed_phase (record v { stack = stack })
 

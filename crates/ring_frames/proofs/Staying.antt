@@ -1,4 +1,4 @@
--- The frame of a record that was written at once, which has left: it looks for the reader's wish, and is gone where that
+-- The frame of a record that was written at once, which has left: it looks for the reader's wish, and is gone if that
 -- isn't for the next fill.
 use Rattle.std.specs.Prelude.{◌==◌, Bool, true, false, if◌then◌else◌}
 use Rattle.std.proofs.Common.{◌≡◌, ◌≢◌, ℕ, ◌+◌, List, [], length, None, refl, sym, ap, ◌∙◌, subst, arith, append-nil}

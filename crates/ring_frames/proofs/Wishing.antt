@@ -103,7 +103,7 @@ module _ (n size start : ℕ) (v : FramesValue) (c : Core) (core : HasFrames n s
         noted = subst (λ (fs : List stack.Frame). AreNotedAlike fs (phase ∷ v.below)) (sym no_frames) tt;
       })
 
--- ---- what a test tells
+-- ---- what a test decides
 
 false_is_not_true : IsTrue false → ⊥
 false_is_not_true truth = cc

@@ -1,4 +1,4 @@
--- What the answer of a ring means in the model; and the bytes that stand in the slot of the frame on top.
+-- What the answer of a ring means in the model; and the bytes that are in the slot of the frame on top.
 use Rattle.std.specs.Prelude.{◌≡◌, ℕ, ◌-◌, if◌then◌else◌, ◌==◌, List, [], ◌∷◌, ◌⊎◌, replicate, slice_index_or}
 use Rattle.trace_model.specs.Frames.{Refusal, too_deep, too_long, late_moment, crowded, worn, no_frame, not_reserved}
 use Rattle.trace_model.specs.Overwriting.{bytes_at}
@@ -26,7 +26,7 @@ use Rattle.ring_frames.specs.declared.answer.Answer.TheVariants.{Pushed, Going, 
 abbrev pub open_page : Stack → ℕ → Contents
 open_page s fill = if fill == s.tail.fill then s.tail else slice_index_or s.older (fill - s.done) s.tail
 
--- the bytes that stand in a slot
+-- the bytes that are in a slot
 abbrev pub bytes_in : Stack → Slot → List ℕ
 bytes_in s slot = bytes_at slot.place.start slot.place.len (open_page s slot.fill).bytes
 
@@ -36,7 +36,7 @@ bytes_of_progress s (Through noted) = []
 bytes_of_progress s (HasReserved slot) = bytes_in s slot
 bytes_of_progress s (Left noted) = []
 
--- the bytes in the slot of the frame on top, where it has reserved one
+-- the bytes in the slot of the frame on top, if it has reserved one
 abbrev pub top_bytes : Stack → List Frame → List ℕ
 top_bytes s [] = []
 top_bytes s (top ∷ below) = bytes_of_progress s top.progress
@@ -75,12 +75,12 @@ refusal_of NoFrame = no_frame
 refusal_of NotReserved = not_reserved
 
 -- The page is that of a fill which the reader took, with its number, its first record's number, and all its records;
--- and so many records were lost in front of it.
+-- and `missed` records were lost before it.
 pub record IsTakenPage (size : ℕ) (page : Contents) (missed : ℕ) (t : Taken) : Type 0 where
   pub written : IsWrittenPage size t.fill t.held page
   pub missed_is : missed ≡ t.skipped
 
--- the answer tells that of the model
+-- the answer means that of the model
 abbrev pub Tells : (size : ℕ) → Answer → model.Answer → Type 0
 Tells size Pushed told = told ≡ model.pushed
 Tells size Going told = told ≡ model.going
@@ -103,7 +103,8 @@ ZerosSlot old result new = (number : RecordNo) (slot : Slot)
     → IsTopSlot new.frames slot
     → bytes_in new slot ≡ replicate slot.place.len 0
 
--- If the frame on top goes on or its record is reserved by this answer, it is for a payload of the same length as before.
+-- If the frame on top continues or its record is reserved by this answer, it is for a payload of the same length as
+-- before.
 pub record KeepsTop (result : Answer) (old new : Stack) : Type 0 where
   pub going : result ≡ Going → pushed_len new.frames ≡ pushed_len old.frames
   pub reserved : (number : RecordNo) → result ≡ Reserved number → pushed_len new.frames ≡ pushed_len old.frames

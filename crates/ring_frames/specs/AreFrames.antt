@@ -22,7 +22,7 @@ ring_frames (f ∷ frames) (phase ∷ phases) =
     record { kind = kind_of f.purpose; state = state_of f.progress; phase = phase_of phase }
     ∷ ring_frames frames phases
 
--- so many phases are kept below the one on top
+-- a phase is kept for each frame below the one on top
 abbrev pub AreBelow : List stack.Frame → List Phase → Type 0
 AreBelow [] below = below ≡ []
 AreBelow (top ∷ frames) below = length below ≡ length frames
@@ -42,8 +42,8 @@ AreNotedAlike (f ∷ frames) [] = ⊥
 AreNotedAlike (f ∷ frames) (phase ∷ phases) = NotedAlike f.purpose f.progress phase × AreNotedAlike frames phases
 
 -- The frames are those of a state of the model, in a ring of n positions and pages of this size whose first fill has
--- the number start: the writers' stack is what the state's history leaves, in its phases. Of the state this speaks of
--- the frames, the history and the counts of closed and begun fills alone, so of nothing that the reader stores.
+-- the number start: the writers' stack is what the state's history leaves, in its phases. Of the state this concerns
+-- only the frames, the history and the counts of closed and begun fills, so nothing that the reader stores.
 pub record AreFrames (n size start : ℕ) (v : FramesValue) (c : Core) : Type 0 where
   pub pages_is : v.stack.pages ≡ n
   pub size_is : v.stack.size ≡ size

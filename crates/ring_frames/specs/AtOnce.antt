@@ -14,13 +14,13 @@ use Rattle.ring_frames.specs.Phases.{closing_phase}
 use Rattle.ring_frames.specs.Value.{FramesValue}
 use Rattle.ring_frames.specs.AreFrames.{AreFrames}
 
--- the frame that was pushed for a record of this moment and length has left, and stands at the bottom
+-- the frame that was pushed for a record of this moment and length has left, and is at the bottom
 abbrev pub with_left_frame : FramesValue → (moment len : ℕ) → FramesValue
 with_left_frame v moment len = record v { stack = with_left v.stack moment len; phase = closing_phase v.stack }
 
 -- In this state three private steps of the model follow one another: a frame is pushed for a record of this moment and
 -- payload; its record, the next one, is reserved under this number; and it ends, with the payload and the zeros up to
--- the end of its slot. The frames behind them are those of the last state.
+-- the end of its slot. The frames after them are those of the last state.
 pub record IsWriteAtOnce (n size start : ℕ) (c : Core) (moment : ℕ) (payload : List ℕ) (number : ℕ) (new : FramesValue)
     : Type 0 where
   pub pushed : Core
@@ -42,7 +42,7 @@ WritesAtOnce old moment payload new = (n size start : ℕ) (c : Core)
     → AreFrames n size start old c
     → IsWriteAtOnce n size start c moment payload (next_number old.stack) new
 
--- No frame stood, and none stands: the record is in the tail, and all other fills are closed.
+-- There was no frame, and there is none: the record is in the tail, and all other fills are closed.
 pub record IsWrittenAlone (old : FramesValue) (moment : ℕ) (payload : List ℕ) (new : FramesValue) : Type 0 where
   pub none : old.stack.frames ≡ []
   pub stack : new.stack ≡ with_written old.stack moment payload

@@ -13,7 +13,7 @@ use Rattle.ring_frames.specs.Value.{FramesValue}
 use Rattle.ring_frames.specs.AreFrames.{AreFrames}
 use Rattle.ring_frames.specs.Answers.{Tells}
 
--- The next fill is begun, on whatever page, and the frame on top begins anew, in any state whose frames these are.
+-- The next fill is begun, on whatever page, and the frame on top begins again, in any state whose frames these are.
 abbrev pub OpensFill : FramesValue → Answer → FramesValue → Type 0
 OpensFill old result new = (n size start page : ℕ) (c : Core) (frame : Frame) (below : List Frame)
     → AreFrames n size start old c
@@ -22,7 +22,7 @@ OpensFill old result new = (n size start page : ℕ) (c : Core) (frame : Frame) 
     × AreFrames n size start new
     (model.after_begin frame.kind frame.state (model.with_new_tail c page) frame below)
 
--- the state in which the oldest open fill is closed, and this frame stands alone
+-- the state in which the oldest open fill is closed, and this frame is alone
 abbrev pub released_in : Core → Frame → Core
 released_in c frame = record (model.with_released c) { frames = frame ∷ [] }
 

@@ -24,7 +24,7 @@ with_slot_payload v slot part = record v { stack = with_slot v.stack slot part }
 abbrev pub with_lent : FramesValue → Lent → FramesValue
 with_lent v payload = record v { stack = with_top v.stack payload }
 
--- where the result is a payload, the frames end with the last value behind it; else nothing changes
+-- if the result is a payload, the frames end with the value that it leaves; else nothing changes
 abbrev pub LendsTop : MutBor FramesValue → Result (MutBor Lent) WriteFault → Fml
 LendsTop frames result =
     LendsIfOk the_row payload_rows.the_row frames result (with_lent frames.now) frames.now
@@ -36,7 +36,7 @@ StaysFrames v slot = (n size start : ℕ) (c : Core) (part : List ℕ)
     → length part ≡ slot.place.len
     → AreFrames n size start (with_slot_payload v slot part) c
 
--- in each of these states the slot has just the room of the record that the frame on top was pushed for
+-- in each of these states the slot has exactly the room of the record that the frame on top was pushed for
 abbrev pub FitsFrame : FramesValue → Slot → Type 0
 FitsFrame v slot = (n size start : ℕ) (c : Core) (frame : ModelFrame) (below : List ModelFrame) (moment len : ℕ)
     → AreFrames n size start v c

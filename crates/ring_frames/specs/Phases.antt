@@ -19,11 +19,11 @@ with_pushed_phase v = record v {
   below = below_after_push (length v.stack.frames) v.phase v.below;
 }
 
--- a frame that has left closes fills, or where none is left to close looks for a wish
+-- a frame that has left closes fills, or if none is left to close looks for a wish
 abbrev pub closing_phase : Stack → Phase
 closing_phase s = if (s.done + 1) == opened s then Wishing else Releasing
 
--- the frame on top has left, and the one below it is on top, or none stood there and it stays
+-- the frame on top has left, and the one below it is on top; if there was none below it, it stays
 abbrev pub phase_after_leave : Stack → List Phase → Phase
 phase_after_leave s [] = closing_phase s
 phase_after_leave s (next ∷ below) = next

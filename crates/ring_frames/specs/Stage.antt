@@ -1,4 +1,4 @@
--- How far the frame on top has come, as the fields tell it.
+-- How far the frame on top has got, as the fields state it.
 use Rattle.std.specs.Prelude.{ℕ}
 use Rattle.ring_frames.specs.declared.phase.Role.{Role}
 use Rattle.ring_frames.specs.declared.phase.Phase.{Phase}

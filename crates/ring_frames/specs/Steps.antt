@@ -14,7 +14,7 @@ use Rattle.ring_frames.specs.Value.{FramesValue, phase_of}
 use Rattle.ring_frames.specs.AreFrames.{AreFrames, HasFrames}
 use Rattle.ring_frames.specs.Answers.{Tells}
 
--- the frames are those of some state, between two steps or amid one
+-- the frames are those of some state, between two steps or during one
 abbrev pub IsShown : FramesValue → Type 0
 IsShown v = (n size start : ℕ) × (c : Core) × AreFrames n size start v c
 
@@ -29,7 +29,7 @@ AreNew n size start v = (c : Core) → IsStart n start c → AreFrames n size st
 -- ---- private steps
 
 -- In this state the event has an answer and a state after it, by a step of the model that touches no word of the ring;
--- the value's answer tells that of the model, and the frames after it are those of the state behind it.
+-- the value's answer means that of the model, and the frames after it are those of the state after it.
 pub record IsPrivateStep (n size start : ℕ) (c : Core) (event : model.Event) (result : Answer) (new : FramesValue)
     : Type 0 where
   pub answer : model.Answer
@@ -48,7 +48,7 @@ MakesPrivate old event result new = (n size start : ℕ) (c : Core)
 
 -- ---- the frame on top
 
--- the frame on top goes on in this phase, in any state whose frames these are
+-- the frame on top continues in this phase, in any state whose frames these are
 abbrev pub GoesOnIn : FramesValue → Phase → FramesValue → Type 0
 GoesOnIn old phase new = (n size start : ℕ) (c : Core) (frame : Frame) (below : List Frame)
     → AreFrames n size start old c
@@ -60,7 +60,7 @@ pub record IsNotedIn (old new : Phase) (noted : ℕ) : Type 0 where
   pub before : noted_fill (phase_of old) ≡ Some noted
   pub behind : noted_fill (phase_of new) ≡ Some noted
 
--- the frame on top begins anew, in any state whose frames these are, and answers so
+-- the frame on top begins again, in any state whose frames these are, and answers so
 abbrev pub BeginsAnew : FramesValue → Answer → FramesValue → Type 0
 BeginsAnew old result new = (n size start : ℕ) (c : Core) (frame : Frame) (below : List Frame)
     → AreFrames n size start old c
@@ -76,7 +76,7 @@ LeavesWithout old result new = (n size start : ℕ) (c : Core) (frame : Frame) (
     → Tells size result (model.leave_answer below)
     × AreFrames n size start new (model.after_leave c frame below None)
 
--- a close frame is on top that noted so many begun fills
+-- a close frame is on top that noted this number of begun fills
 abbrev pub IsCloseTop : FramesValue → ℕ → Type 0
 IsCloseTop v noted = (below : List stack.Frame)
     × (v.stack.frames ≡ record { purpose = Close; progress = Waiting (Some noted) } ∷ below)

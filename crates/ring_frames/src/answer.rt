@@ -6,9 +6,9 @@ use trace_model::{FillNo, RecordNo};
 /// What a ring answers.
 #[derive(Debug, Drop)]
 pub enum Answer {
-    /// The frame stands on top.
+    /// The frame is on top.
     Pushed,
-    /// The frame stands, and has reserved nothing, or has left and has more to do.
+    /// The frame is on the stack, and has reserved nothing, or has left and has more to do.
     Going,
     /// Its record is reserved, under this number.
     Reserved(RecordNo),
@@ -18,13 +18,13 @@ pub enum Answer {
     Gone,
     /// The event is refused. `Crowded` and `Worn` end their frame without a record; any other refusal changes nothing.
     Refused(WriteFault),
-    /// The take goes on.
+    /// The take continues.
     Looking(Body),
-    /// No closed fill is unread: so many are closed.
+    /// No closed fill is unread: this many are closed.
     Empty(u64, Body),
-    /// A move of the head stands in the way; each fill below this one is taken or lost.
+    /// A move of the head isn't finished; each fill below this one is taken or lost.
     Moving(FillNo, Body),
-    /// The page that is taken, and how many numbers are missing in front of its first record since the last page taken.
+    /// The page that is taken, and how many numbers are missing before its first record since the last page taken.
     Taken(Page, u64),
     /// The reader wished for this fill to be closed.
     Wished(FillNo),

@@ -20,9 +20,9 @@ use trace_model::{MAX_FRAMES, NoMemory};
 pub struct Frames {
     /// The frames, the pages that they write, and how many fills are begun and closed.
     stack: WriterStack,
-    /// How far the frame on top has come. Where none stands it says nothing.
+    /// How far the frame on top has got. If there is none it says nothing.
     phase: Stage,
-    /// How far those below it have come, the upper ones first.
+    /// How far those below it have got, the upper ones first.
     below: VecDeque<Phase>,
 }
 
@@ -67,7 +67,7 @@ impl Frames {
         })
     }
 
-    /// Whether no frame stands.
+    /// Whether no frame is on the stack.
     #[inline(always)]
     pub fn is_empty(&self) -> bool
         ensures { IsTrue result ↔ self.now.stack.frames ≡ [] }
@@ -75,7 +75,7 @@ impl Frames {
         self.stack.is_empty()
     }
 
-    /// How many frames stand.
+    /// The number of frames on the stack.
     #[inline(always)]
     pub fn depth(&self) -> usize
         ensures frames { result ≡ length self.now.stack.frames }
@@ -112,7 +112,7 @@ impl Frames {
         self.stack.done()
     }
 
-    /// How many fills are begun, those closed counted; that is the number of the next one.
+    /// How many fills are begun, including those that are closed; that is the number of the next one.
     #[inline(always)]
     pub fn opened(&self) -> u64
         ensures begun { result ≡ opened self.now.stack }
@@ -122,7 +122,7 @@ impl Frames {
         self.stack.opened()
     }
 
-    /// Whether a frame of this role, which noted this fill, stops: a helper does where another frame has begun a fill.
+    /// Whether a frame of this role, which noted this fill, stops: a helper does if another frame has begun a fill.
     #[inline(always)]
     pub fn stops(&self, role: Role, noted: u64) -> bool
         ensures stops { result ≡ true → (role ≡ Helper) × (noted ≢ opened self.now.stack) }
@@ -142,7 +142,7 @@ impl Frames {
         self.stack.top()
     }
 
-    /// How far the frame on top has come. Where none stands it says nothing.
+    /// How far the frame on top has got. If there is none it says nothing.
     #[inline(always)]
     pub fn phase(&self) -> Phase
         ensures { result ≡ self.now.phase }

@@ -1,8 +1,8 @@
 //! The frames of a ring's writers: their stack, and how far each frame has come with the ring's words.
 //!
-//! What a frame does in private, as to be pushed, to reserve, to end, or to begin anew once another one has begun a
-//! fill, touches no word of the ring. So it is the same over a ring as a value and over words that threads share.
-//! The types that say how far the reader has come are here for the same reason.
+//! What a frame does in private (to be pushed, to reserve, to end, or to begin again after another one has begun a
+//! fill) touches no word of the ring. So it is the same over a ring as a value and over words that threads share. The
+//! types that say how far the reader has got are here for the same reason.
 #![tactic(auto)]
 
 pub mod answer;

@@ -27,8 +27,8 @@ impl Role {
     }
 }
 
-/// How far a frame has come. `noted` is the number of fills that were begun when it found that it needs a page, so the
-/// number of the fill to open; `page` stands at that fill's position, and `next` behind it.
+/// How far a frame has got. `noted` is the number of fills that were begun when it found that it needs a page, so the
+/// number of the fill to open; `page` is the page at that fill's position, and `next` the one after it.
 #[derive(Clone, Copy, Debug, PartialEq, Eq)]
 pub enum Phase {
     /// It has noted nothing.
@@ -74,7 +74,7 @@ pub enum Phase {
 /// What a step answers by which a frame opens or closes a page, or has nothing left to do there.
 #[derive(Clone, Copy)]
 pub enum Turned {
-    /// It stands.
+    /// It is on the stack.
     Going,
     /// It has left the stack.
     Gone,

@@ -2,7 +2,7 @@
 use crate::phase::{Phase, Role};
 use std::marker::Model;
 
-/// Which phase it is, and so which fields tell it.
+/// Which phase it is, and so which fields belong to it.
 #[derive(Clone, Copy)]
 enum Tag {
     /// Nothing is noted.

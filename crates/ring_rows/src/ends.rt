@@ -60,7 +60,7 @@ impl Ends {
         Body::new(alloc, self.shape.size)
     }
 
-    /// The payload is put to the front of the slot of the frame on top, if its record is reserved.
+    /// The payload is put to the beginning of the slot of the frame on top, if its record is reserved.
     fn put(&mut self, payload: &[u8]) -> Result<(), WriteFault> {
         fill(self.writer.top_mut()?, payload);
         Ok(())

@@ -15,7 +15,7 @@ pub enum Event {
     Step,
     /// The frame on top makes steps until its record is reserved or refused, or it is gone.
     Finish,
-    /// The payload is put to the front of the slot of the frame on top, which is then ended.
+    /// The payload is put to the beginning of the slot of the frame on top, which is then ended.
     End(Vec<u8>),
     /// A record is written whole.
     Write { moment: u64, payload: Vec<u8> },
@@ -74,7 +74,7 @@ fn mark(words: &mut SplitWhitespace<'_>) -> Option<Mark> {
     }
 }
 
-/// So many bytes of one value.
+/// `count` bytes of one value.
 fn bytes_alike(alloc: Global, value: &str, count: &str) -> Result<Option<Vec<u8>>, NoMemory> {
     match (value.parse::<u8>(), count.parse::<u16>()) {
         (Ok(value), Ok(count)) => Ok(Some(vec![in alloc; value; usize::from(count)]?)),

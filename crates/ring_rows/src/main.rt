@@ -19,7 +19,7 @@ use std::process::ExitCode;
 /// The text was read to its end.
 const DONE: u8 = 0;
 
-/// A line of the text is none of a row.
+/// A line of the text belongs to no row.
 const REFUSED: u8 = 1;
 
 /// Memory was refused, or a read or a write failed.

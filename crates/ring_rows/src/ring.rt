@@ -21,7 +21,8 @@ pub trait Ring {
     /// The frame on top makes steps until its record is reserved or refused, or it is gone.
     fn finish(&mut self) -> Answer;
 
-    /// The payload is put to the front of the slot of the frame on top, if its record is reserved; the frame is ended.
+    /// The payload is put to the beginning of the slot of the frame on top, if its record is reserved; the frame is
+    /// ended.
     fn end(&mut self, payload: &[u8]) -> Answer;
 
     /// A record is written whole.
@@ -108,7 +109,7 @@ pub fn answer<R: Ring>(ring: &mut R, alloc: Global, event: &Event) -> Result<Str
     }
 }
 
-/// Puts the front of a payload that has room in a slot.
+/// Puts the beginning of a payload, as far as it has room in a slot.
 pub fn fill(slot: &mut [u8], payload: &[u8])
     ensures { length slot.new ≡ length slot.old }
 {

@@ -69,7 +69,7 @@ impl Value {
         }
     }
 
-    /// The payload is put to the front of the slot of the frame on top, if its record is reserved.
+    /// The payload is put to the beginning of the slot of the frame on top, if its record is reserved.
     fn put(&mut self, payload: &[u8]) -> Result<(), WriteFault> {
         fill(self.core.top_mut()?, payload);
         Ok(())
@@ -106,7 +106,7 @@ impl Ring for Value {
         self.core.step(Event::Step)
     }
 
-    /// A record frame that is refused comes no further; a close frame goes on until it is gone.
+    /// A record frame that is refused makes no further step; a close frame makes steps until it is gone.
     fn finish(&mut self) -> Answer {
         let depth = self.core.depth();
         let closes = self.is_close(depth);

@@ -1,4 +1,4 @@
--- What the frame on top is stepped to, by what its stack tells of it.
+-- What the frame on top is stepped to, by what its stack states of it.
 use Rattle.std.proofs.Common.{◌≡◌, ℕ, List, [], ◌∷◌, sym, ap, ◌∙◌, subst}
 use Rattle.trace_model.specs.Frames.{Kind, for_record, for_close, FrameState, waiting, reserved, left, Frame}
 use Rattle.trace_model.specs.Steps as model

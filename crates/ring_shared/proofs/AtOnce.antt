@@ -1,4 +1,4 @@
--- A record that is written at once: the private steps behind it, and the look for the reader's wish.
+-- A record that is written at once: the private steps of it, and the look for the reader's wish after them.
 use Rattle.std.proofs.Common.{◌≡◌, ◌≢◌, ℕ, List, [], ◌∷◌, length, refl, sym, ap, ◌∙◌, subst, arith}
 use Rattle.trace_model.specs.declared.numbers.RecordNo.{RecordNo}
 use Rattle.trace_model.specs.Words.{padded}
@@ -38,7 +38,7 @@ use Rattle.ring_shared.proofs.WholeWrites.{HasBegun, has_begun, leaves_below}
 
 -- ---- the look for the reader's wish
 
--- the frame goes on, or is gone, and then none stood below it
+-- the frame continues, or is gone, and then there was none below it
 pub data Wished (frame : Frame) (below : List Frame) (answer : model.Answer) (after : List Frame) : Type 0 where
   wishes_on : (next : Frame) → answer ≡ model.going → after ≡ next ∷ below → next.kind ≡ frame.kind → next.state ≡ frame.state → Wished frame below answer after
   wished_gone : answer ≡ model.gone → after ≡ below → Wished frame below answer after
@@ -122,7 +122,7 @@ module _ (v : WriterValue) (w : IsWriter v) (moment : ℕ) (payload : List ℕ) 
       ∙ (open_stay n size w.core (model.pushes moment (length payload)) model.pushed first.pushed first.push_private first.push
       ∙ ap (λ (x : Writing). x.open_pages) w.part_is)))
 
-  -- the writer behind them
+  -- the writer after them
   pub writer_mid : IsWriter mid
   writer_mid = record {
     core = first.after;

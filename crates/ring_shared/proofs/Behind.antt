@@ -1,4 +1,4 @@
--- What an event that touches no word makes of the writer's part of a ring: a function of that part, whatever the rest is.
+-- What an event that touches no word makes of the writer's part of a ring: a function of that part alone.
 use Rattle.std.specs.Prelude.{ℕ, List, [], length, Option, Some, None}
 use Rattle.trace_model.specs.Words.{padded}
 use Rattle.trace_model.specs.Links.{normal_link}
@@ -30,11 +30,11 @@ abbrev pub part_of : Writing → Option Outcome → Writing
 part_of w None = w
 part_of w (Some outcome) = writing_of outcome.after
 
--- the writer's part behind a private event
+-- the writer's part after a private event
 abbrev pub behind : Shape → Writing → Event → Writing
 behind shape w event = part_of w (step_of shape.pages shape.size (alone w) event)
 
--- behind a record that is written at once: its frame is pushed, reserves, and ends with this payload
+-- after a record that is written at once: its frame is pushed, reserves, and ends with this payload
 abbrev pub behind_write : Shape → Writing → ℕ → List ℕ → Writing
 behind_write shape w moment payload =
     behind shape (behind shape (behind shape w (pushes moment (length payload))) steps) (ends (padded payload))

@@ -57,7 +57,7 @@ module _ (v : WriterValue) (w : IsWriter v) where
         (subst (HaveSeenLinks v.shape.pages w.core.links w.core.head) t.is_top (frames_have_seen_links v.shape.pages v.shape.size v.shape.start w.core few w.reached)).0
 
     module _ (noted : ℕ) (is : noted_fill phase ≡ Some noted) where
-      -- the fill that it noted has a number, behind which there is a whole round of them
+      -- the fill that it noted has a number, after which there is a whole round of them
       pub noted_bounds : (v.part.done < noted) × (noted ≤ v.part.opened) × (noted < v.part.done + v.shape.pages) × (noted + v.shape.pages < LINK_FILLS)
       noted_bounds =
           let (low, high, room, numbers) = knows.noted noted is in

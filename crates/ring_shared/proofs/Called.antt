@@ -1,4 +1,4 @@
--- What a call is asked of its writer, told of the view of the writer's fields.
+-- What a call asks of its writer, stated of the view of the writer's fields.
 use Rattle.std.proofs.Common.{◌≡◌, ◌≢◌, [], sym, ap, ◌∙◌, subst}
 use Rattle.ring_frames.specs.declared.phase.Phase.{Phase}
 use Rattle.ring_frames.specs.Value.{phase_of}

@@ -1,4 +1,4 @@
--- As many frames stand in the writer's part as in its stack; and they have one top.
+-- The writer's part has as many frames as its stack; and they have one top.
 use Rattle.std.proofs.Common.{◌≡◌, List, ◌∷◌, length, sym, ap, ◌∙◌, subst}
 use Rattle.trace_model.specs.Frames.{Frame}
 use Rattle.link_marks.specs.FrameOutcomes.{IsReserving, IsLeaving}

@@ -1,4 +1,4 @@
--- The reader's fields behind a step that takes nothing.
+-- The reader's fields after a step that takes nothing.
 use Rattle.std.proofs.Common.{◌≡◌, ◌≢◌, ℕ, ◌+◌, ◌-◌, ◌≤◌, length, Some, None, sym, ap, ◌∙◌, subst}
 use Rattle.atomic_table.specs.Seated.{TableId}
 use Rattle.trace_model.specs.Links.{normal_link}
@@ -26,7 +26,7 @@ module _ (w v : ReaderValue) (same : w ≡ v) (is : IsReader v) where
   pub fields : AreFields v.part.reader w.at
   fields = subst (λ (x : ReaderValue). AreFields v.part.reader x.at) (sym same) (is.phase_is, is.hint_is, is.seen_is, is.expected_is)
 
-  -- the fields are the reader's part again, behind a step that takes nothing or a wish
+  -- the fields are the reader's part again, after a step that takes nothing or a wish
   pub shown_as : (shape : Shape) (table : TableId) (after : Reading) (reader : ring.Reader) (at : Reader) (wish : ℕ) → shape ≡ w.shape → Stays v.shape (record v.part { wish = wish }) after reader
       → AreFields reader at → KeepsSlot at.phase after.keeps_spare → SawPage at.phase
       → ((done : ℕ) → w.empty_at ≡ Some done → FoundEmpty (record w { shape = shape; table = table; part = after; at = at }) done)
@@ -44,7 +44,7 @@ module _ (w v : ReaderValue) (same : w ≡ v) (is : IsReader v) where
     empty = empty;
   }
 
-  -- no take has told that it found nothing
+  -- no take has answered that it found nothing
   pub not_empty : v.empty_at ≡ None → (done : ℕ) → w.empty_at ≡ Some done → ⊥
   not_empty anew done e = let none : w.empty_at ≡ None = ap (λ (x : ReaderValue). x.empty_at) same ∙ anew in let both = sym none ∙ e in absurd (cc)
 
@@ -58,7 +58,7 @@ pub positions : (v : ReaderValue) → IsReader v → length v.order ≡ v.shape.
 positions v is = let kept = reached_kept v.shape.pages v.shape.size v.shape.start is.part.core is.part.reached in
     ap (length {A = ℕ}) (sym is.order_is ∙ is.part.is.order_is) ∙ kept.links.apart.pages
 
--- ---- what a load of a link tells, by its mark
+-- ---- what a load of a link states, by its mark
 
 -- the link that is loaded is that into the position of the hint
 abbrev pub SeesLink : ReaderValue → Link → ring.Core → Type 0

@@ -1,4 +1,4 @@
--- The frame on top, stepped as far as it comes: what its answer tells, and what is made behind its first steps.
+-- The frame on top, stepped as far as it gets: what its answer states, and what is made after its first steps.
 use Rattle.std.specs.Prelude.{◌⊎◌, None}
 use Rattle.std.proofs.Common.{◌≡◌, ℕ, List, [], ◌∷◌, refl, sym, ap, ◌∙◌, subst, inl, inr}
 use Rattle.trace_model.specs.declared.numbers.RecordNo.{RecordNo}
@@ -29,7 +29,7 @@ use Rattle.ring_shared.proofs.WholeWrites.{HasTopRecord, top_slot_of}
 
 -- ---- a record
 
--- an answer that refuses nothing tells the number of the record that the frame on top has
+-- an answer that refuses nothing states the number of the record that the frame on top has
 pub record HasNumber (below : List Frame) (result : Answer) (frames : List Frame) : Type 0 where
   pub next : Frame
   pub number : RecordNo
@@ -37,7 +37,7 @@ pub record HasNumber (below : List Frame) (result : Answer) (frames : List Frame
   pub top : frames ≡ next ∷ below
   pub state_is : next.state ≡ reserved number.0
 
--- an answer tells that number, or refuses
+-- an answer states that number, or refuses
 abbrev pub TellsTop : Answer → List Frame → Type 0
 TellsTop result frames = ((below : List Frame) × HasNumber below result frames) ⊎ IsRefusal result
 
@@ -72,7 +72,7 @@ slot_of_number v w below result h =
     let t : HasTopRecord h.next.kind below v.part.frames = record { next = h.next; number = h.number.0; top = h.top; kind_is = refl; state_is = h.state_is } in
     top_slot_of v w h.next.kind below t
 
--- so what the brief answer tells
+-- so what the brief answer states
 pub finished_so : (old new : WriterValue) (w : IsWriter new) (answer : Answer) (to : Finished) → IsBrief answer to → TellsTop answer new.part.frames → Finishes old.shape old.part answer new.part → IsFinished old to new
 finished_so old new w answer finished.Reserved (number, is) (inl (below, h)) f =
     let (slot, at) = slot_of_number new w below answer h in
@@ -84,7 +84,7 @@ finished_so old new w answer (finished.Refused fault) is tells f = subst (λ (x 
 -- ---- a frame that leaves
 
 module _ (shape : Shape) (below : List Frame) (before : Writing) where
-  -- what is made behind steps that it made
+  -- what is made after steps that it made
   pub leaves_then : (now : Writing) → GoesOn shape before now → (answer : Answer) (after : Writing) → Leaves shape below now answer after → Leaves shape below before answer after
   leaves_then now at_once answer after l = l
   leaves_then now (one_more between end goes call) answer after l = leaves_then between goes answer after (leaves_behind shape below between now after answer call l)
@@ -97,7 +97,7 @@ module _ (shape : Shape) (below : List Frame) (before : Writing) where
   closes_then now next turned.Gone (frame, top, is, goes) call =
       leaves_then now goes Gone next (leaving_gone shape below now None now next Gone (leaving_first shape frame below now top is) call refl)
 
-  -- where it still stands
+  -- if it is still on the stack
   pub closes_still : (now : Writing) (to : Turned) → Closes shape below before to now → to ≡ turned.Going → (next : Frame) × (others : List Frame) × (now.frames ≡ next ∷ others) × IsLeaving next.kind next.state
   closes_still now to c e =
       let (frame, top, is, goes) = subst (λ (t : Turned). Closes shape below before t now) e c in (frame, below, top, is)

@@ -1,4 +1,4 @@
--- The frame on top, stepped as far as it comes by itself: what one step more makes of what came before it.
+-- The frame on top, stepped as far as it gets by itself: what one step more makes of what came before it.
 use Rattle.std.specs.Prelude.{Option, Some, None, ◌⊎◌, ◌<◌}
 use Rattle.std.proofs.Common.{◌≡◌, ◌≢◌, ℕ, suc, List, ◌∷◌, length, refl, sym, ap, ◌∙◌, subst, inl, inr, arith}
 use Rattle.trace_model.specs.Frames.{Refusal, Kind, FrameState, number_of, Frame}
@@ -17,7 +17,7 @@ use Rattle.ring_shared.specs.Value.{WriterValue, SameWriter}
 use Rattle.ring_shared.specs.Calls.{IsCall, MakesSome}
 use Rattle.ring_shared.specs.Finishing.{GoesOn, at_once, one_more, IsReservedOr, is_reserved, stays_refused, is_refused, Reserves, Leaves, is_gone, was_refused, met_behind, told_behind, IsGoneOrRefused}
 
--- ---- what an answer tells
+-- ---- what an answer states
 
 pub is_going : (size : ℕ) (result : Answer) (told : model.Answer) → Tells size result told → told ≡ model.going → result ≡ Going
 is_going size Pushed told t e = absurd (let both : model.pushed ≡ model.going = sym t ∙ e in cc)
@@ -65,7 +65,7 @@ is_gone_told size (Moving fill body) told t e = absurd (let both : model.moving 
 is_gone_told size (Taken page missed) told t e = absurd (let both : model.swapped t.0 ≡ model.gone = sym t.1 ∙ e in cc)
 is_gone_told size (Wished fill) told t e = absurd (let both : model.wished_for fill.0 ≡ model.gone = sym t ∙ e in cc)
 
--- it tells the record's number
+-- it states the record's number
 abbrev pub TellsNumber : Answer → ℕ → Type 0
 TellsNumber result number = (told : Rattle.trace_model.specs.declared.numbers.RecordNo.RecordNo) × (result ≡ Reserved told) × (told.0 ≡ number)
 
@@ -97,7 +97,7 @@ leaving_unnumbered kind Rattle.trace_model.specs.Frames.left is = refl
 -- ---- runs
 
 module _ (shape : Shape) where
-  -- one step in front of others
+  -- one step before others
   first_goes : (before between after : Writing) → IsCall shape before model.steps Going between → GoesOn shape between after → GoesOn shape before after
   first_goes before between after call at_once = one_more before after at_once call
   first_goes before between after call (one_more last end goes more) = one_more last after (first_goes before between last call goes) more
@@ -128,9 +128,10 @@ module _ (shape : Shape) where
         frames_leave shape.pages shape.size shape.start call.core frame below call.answer call.next
         (reached_kept shape.pages shape.size shape.start call.core call.reached) (frames_before (frame ∷ below) top) is call.step
 
--- ---- amid
+-- ---- during a call
 
--- Amid steps to a record: it is still to be reserved, and as it goes on from here, so it does from the first.
+-- Part of the steps to a record are made: it is still to be reserved, and what is made from here is made from the
+-- first.
 pub record IsAmidReserving (shape : Shape) (kind : Kind) (below : List Frame) (before now : Writing) : Type 0 where
   pub frame : Frame
   pub top : now.frames ≡ frame ∷ below
@@ -176,7 +177,7 @@ module _ (shape : Shape) (kind : Kind) (below : List Frame) (before now next : W
       let (fault, is) = is_refusal shape.size result call.answer why call.tells answer_is in
       subst (λ (x : Answer). IsReservedOr kind below x next.frames) (sym is) (refused_how fault leaves)
 
-  -- it comes to its end
+  -- it reaches its end
   pub reserving_ends : result ≢ Going → Reserves shape kind below before result next
   reserving_ends ne = a.ends result next record {
     between = now;
@@ -185,7 +186,7 @@ module _ (shape : Shape) (kind : Kind) (below : List Frame) (before now next : W
     ends = ends_with (reserving_step shape now next result call a.frame below a.top a.reserves) ne;
   }
 
--- Amid the steps of a frame that leaves, which was refused before, or not.
+-- Part of the steps of a frame that leaves are made; it was refused before, or not.
 pub record IsAmidLeaving (shape : Shape) (below : List Frame) (before : Writing) (met : Option WriteFault) (now : Writing) : Type 0 where
   pub frame : Frame
   pub top : now.frames ≡ frame ∷ below

@@ -21,7 +21,7 @@ Moves v from to c after = (frame : Frame) (below : List Frame)
     → model.FrameStep v.shape.pages v.shape.size c frame below from model.going after
     → writing_of after ≡ writing_of (model.in_phase c frame below to)
 
--- it goes on in this phase, which was chosen by what the word told
+-- it continues in this phase, which was chosen by what the word stated
 pub goes_on : (v new : WriterValue) (w : IsWriter v) (some : v.frames.stack.frames ≢ []) (from : ModelPhase) (noted : ℕ) (chosen to : Phase) (sees : Core → Type 0)
     → phase_of v.frames.phase ≡ from
     → noted_fill from ≡ Some noted
@@ -44,6 +44,6 @@ goes_on v new w some from noted chosen to sees at was is same shape_is table_is 
     (frames_like v.shape new.frames (model.in_phase s.core t.frame t.below (phase_of to)) s.next (goes v.shape.pages v.shape.size v.shape.start s.core t.frame t.below before t.is_top) part)
     (ap (λ (p : Writing). p.open_pages) part ∙ ap (λ (p : Writing). p.open_pages) s.before_is ∙ w.pages_are ∙ sym pages_is)
 
--- the same of a value, where its view is that one, and of an answer
+-- the same of a value whose view is that one, and of an answer
 pub as_called : (v x new : WriterValue) (result : Answer) → v ≡ x → result ≡ Going → MakesSome v model.steps Going new → MakesSome x model.steps result new
 as_called v x new result view_is is makes = subst (λ (r : Answer). MakesSome x model.steps r new) (sym is) (subst (λ (y : WriterValue). MakesSome y model.steps Going new) view_is makes)

@@ -1,4 +1,4 @@
--- What each step on a link's word makes of the writer's part, by what the word told.
+-- What each step on a link's word makes of the writer's part, by what the word stated.
 use Rattle.std.proofs.Common.{◌≡◌, ◌≢◌, ℕ, suc, ◌+◌, List, Some, refl, sym, ap, ◌∙◌, subst, arith}
 use Rattle.trace_model.specs.Links.{Mark, normal, header, update, Link, normal_link, header_link}
 use Rattle.trace_model.specs.Frames.{Role, owner, helper, Phase, claiming, looking_next, marking, opening, looking, Frame, noted_fill}
@@ -15,7 +15,7 @@ found_at normal noted page = opening noted page
 found_at header noted page = claiming noted page
 found_at update noted page = looking_next helper noted page
 
--- what the frame does behind the look at the next link is for the same fill
+-- what the frame does after the look at the next link is for the same fill
 pub noted_after : (role : Role) (noted page : ℕ) → noted_fill (after_next role noted page) ≡ Some noted
 noted_after owner noted page = refl
 noted_after helper noted page = refl

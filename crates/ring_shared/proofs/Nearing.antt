@@ -81,7 +81,7 @@ module _ (v new : WriterValue) (shape_is : new.shape ≡ v.shape) (knows : v.pas
       nearer m.call.core m.call.next m.call.answer m.call.reached m.call.before_is m.call.step m.call.after_is
       (λ noted at now. absurd (in_phase (looking noted) at now)) (λ noted page at now. absurd (in_phase (claiming noted page) at now))
 
-  -- a claim, behind which the fill that is lost is known to be passed
+  -- a claim, after which the fill that is lost is known to be passed
   pub nearer_claiming : (result : Answer) (noted page : ℕ) → MakesSome v model.steps result new → IsTopIn v.part.frames (claiming noted page) → noted < new.passed + v.shape.pages → IsNearer v new
   nearer_claiming result noted page m top low =
       nearer m.call.core m.call.next m.call.answer m.call.reached m.call.before_is m.call.step m.call.after_is

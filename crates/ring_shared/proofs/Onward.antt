@@ -30,7 +30,7 @@ nothing_more before mid after a b =
       seen_le = omega arith;
     }
 
--- what is answered behind steps that took nothing is the answer of them all
+-- what is answered after steps that took nothing is the answer of them all
 pub answered : (shape : Shape) (before mid after : Reading) (body had : List ℕ) (took : Take) → TakesNothing before mid → length had ≡ length body → IsTake shape mid had took after → IsTake shape before body took after
 answered shape before mid after body had (Page page missed) a same t =
     let hint = a.hint_le in let low = t.hint_le in let seen = a.seen_le in let no_less = t.seen_le in record {
@@ -70,7 +70,7 @@ given_up shape before after fill a is = let hint = a.hint_le in record {
   passed = passed_below_hint shape after fill is;
 }
 
--- a wish changes no more than the wish
+-- a wish changes only the wish
 pub wish_stays : (shape : Shape) (before after : Reading) (sees : ring.Core → Type 0) (answer : model.Answer) → IsReaderStep shape before sees model.wishes answer after → Stays shape (record before { wish = after.wish }) after before.reader
 wish_stays shape before after sees answer r =
     let is = (steps_are_determined shape.pages shape.size r.core model.wishes answer (model.wished_for r.core.reader.seen) r.next (model.with_wish r.core) r.step (model.wish_step refl refl refl)).1 in record {

@@ -19,7 +19,7 @@ use Rattle.ring_shared.specs.Calls.{IsWriter, MakesSome}
 use Rattle.link_marks.proofs.TopSteps.{top_stepped}
 use Rattle.ring_shared.proofs.Standing.{FramesIn, kept_now, frames_in, top_in, made}
 
--- a frame that begins anew keeps the writer's pages
+-- a frame that begins again keeps the writer's pages
 begun_pages : (kind : Kind) (state : FrameState) (c : Core) (frame : Frame) (below : List Frame) → (model.after_begin kind state c frame below).open_pages ≡ c.open_pages
 begun_pages (for_record moment len) waiting c frame below = refl
 begun_pages for_close waiting c frame below = refl

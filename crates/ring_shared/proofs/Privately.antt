@@ -45,7 +45,7 @@ stands_alone w c is = record {
   opened = ap (λ (x : Writing). x.opened) (sym is);
 }
 
--- behind a private step it is the one that is computed
+-- after a private step it is the one that is computed
 pub behind_is : (shape : Shape) (w : Writing) (c : Core) (event : model.Event) (answer : model.Answer) (after : Core) → writing_of c ≡ w → IsPrivate c event → model.Step shape.pages shape.size c event answer after → writing_of after ≡ behind shape w event
 behind_is shape w c event answer after is own step =
     let (next, computed, same) = private_computed shape.pages shape.size c (alone w) event answer after (stands_alone w c is) own step in

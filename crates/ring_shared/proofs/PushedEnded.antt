@@ -15,7 +15,7 @@ IsPush (ends payload) = ⊥
 IsPush reads = ⊥
 IsPush wishes = ⊥
 
--- a frame for the record is on top of those that stood
+-- a frame for the record is on top of those that were on the stack
 pub record IsPushed (moment len : ℕ) (answer : Answer) (before after : List Frame) : Type 0 where
   pub frame : Frame
   pub top : after ≡ frame ∷ before

@@ -165,7 +165,7 @@ module _ (shape : Shape) (before : Writing) (result : Answer) (after : Writing) 
     pub gone_rooms : result ≡ Gone → IsOneMore (rooms_of before.frames) (rooms_of after.frames)
     gone_rooms e = gone_in before.frames refl e
 
--- ---- of a frame that is stepped as far as it comes
+-- ---- of a frame that is stepped as far as it gets
 
 -- steps that go on change no room
 goes_rooms : (shape : Shape) (before after : Writing) → GoesOn shape before after → rooms_of after.frames ≡ rooms_of before.frames
@@ -222,7 +222,7 @@ module _ (shape : Shape) (before after : Writing) (moment len : ℕ) where
   refused_write fault (inl push) = refused_push fault push
   refused_write fault (inr amid) = ap rooms_of amid.frames
 
--- a write leaves the frames that stand, and so their rooms
+-- a write keeps the frames on the stack, and so their rooms
 pub write_rooms : (shape : Shape) (before after : Writing) (moment : ℕ) (payload : List ℕ) (result : Result Unit WriteFault)
     → (result ≡ Ok tt → IsWritten shape before moment payload after)
     → ((fault : WriteFault) → result ≡ Err fault → IsRefusedWrite shape before moment (length payload) fault after)

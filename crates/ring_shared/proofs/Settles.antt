@@ -22,7 +22,7 @@ use Rattle.ring_shared.specs.Takes.{IsReader}
 use Rattle.ring_shared.specs.declared.settling.Settled.{Settled}
 use Rattle.ring_shared.specs.Settling.{piece_unread, unread_page, WasTaken, IsSettled}
 
--- what is left as one piece more, in front of which nothing is skipped
+-- what is left as one piece more, before which nothing is skipped
 rest_as_piece : (records : List Record) (pieces : List Piece) (rest : List Record) → IsPartition records pieces rest → IsPartition records (pieces ++ record { skipped = 0; records = rest } ∷ []) []
 rest_as_piece records [] rest is = ([], [], refl, is ∙ sym (append-nil rest), refl)
 rest_as_piece records (p ∷ pieces) rest (lost, behind, skips, cut, more) = (lost, behind, skips, cut, rest_as_piece behind pieces rest more)
@@ -120,7 +120,7 @@ module _ (w : WriterValue) (r : ReaderValue) (tail : Contents) (writer : IsWrite
       (subst (λ (done : ℕ). IsWrittenPage w.shape.size done (fill_of writer.core.history w.shape.start done) tail) (sym (done_there w writer))
       (subst (λ (size : ℕ). IsWrittenPage size w.frames.stack.done (fill_of writer.core.history w.shape.start w.frames.stack.done) tail) writer.frames_are.size_is page))
 
-  -- what is told of the seats and the frames, of which both ends are shown
+  -- what is known of the seats and the frames, of which both ends are shown
   pub ends_settle : (shown_w : WriterValue) (shown_r : ReaderValue) → shown_w ≡ w → shown_r ≡ r
       → AreParts shown_w.shape shown_w.part shown_r.part
       → ((start : ℕ) (history : List Action) → IsStack start history shown_w.frames.stack → IsWrittenPage shown_w.frames.stack.size shown_w.frames.stack.done (fill_of history start shown_w.frames.stack.done) tail)

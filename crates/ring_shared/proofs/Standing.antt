@@ -1,4 +1,4 @@
--- What a writer's fields tell of each state with its part; and what they are behind a step of the frame on top.
+-- What a writer's fields state of each state with its part; and what they are after a step of the frame on top.
 use Rattle.std.proofs.Common.{◌≡◌, ◌≢◌, List, [], refl, sym, ap, ◌∙◌, subst}
 use Rattle.trace_model.specs.Frames.{Phase, Frame}
 use Rattle.trace_model.specs.Ring.{Core}
@@ -19,7 +19,7 @@ use Rattle.ring_frames.proofs.Tops.{IsTopped, topped}
 use Rattle.ring_shared.specs.Value.{WriterValue}
 use Rattle.ring_shared.specs.Calls.{IsWriter, MakesSome}
 
--- where nothing was done in private, no step is pending
+-- if nothing was done in private, no step is pending
 pub leads_nowhere : (shape : Shape) (part : Writing) → Leads shape part part
 leads_nowhere shape part = λ c reached is. ([], c, refl, is)
 
@@ -48,7 +48,7 @@ module _ (v : WriterValue) (w : IsWriter v) where
       let t = top_in w.core w.part_is some in
       subst (λ (fs : List Frame). IsTopIn fs phase) (sym t.is_top ∙ ap (λ (p : Writing). p.frames) w.part_is) (t.phase_is ∙ at)
 
-  -- the writer's fields behind a step
+  -- the writer's fields after a step
   pub made : (new : WriterValue) (sees : Core → Type 0) (answer : model.Answer) (result : Answer)
       → new.shape ≡ v.shape
       → new.table ≡ v.table

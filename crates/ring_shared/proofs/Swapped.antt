@@ -1,4 +1,4 @@
--- What the reader's swap tells of its part.
+-- What the reader's swap makes of its part.
 use Rattle.std.proofs.Common.{◌≡◌, ◌≢◌, ℕ, ◌+◌, ◌-◌, ◌≤◌, List, [], take, map, refl, sym, ap, ◌∙◌, subst, arith}
 use Rattle.trace_model.specs.declared.limits.TheConstants.{MAX_SIZE}
 use Rattle.trace_model.specs.Record.{Record}
@@ -19,7 +19,7 @@ use Rattle.ring_shared.specs.declared.take.Turn.TheVariants.{Done}
 use Rattle.ring_shared.specs.Takes.{IsReaderPart, IsPageTaken, ReadsSo, IsAnswered}
 use Rattle.ring_shared.proofs.TakeSteps.{Stays, known_after, facts, hint_is, so}
 
--- the records that a reader heard of are parted into what it took and what was lost between
+-- the records that a reader has observed are parted into what it took and what was lost between
 pub parted : (shape : Shape) (part : Reading) → IsReaderPart shape part → IsPartition part.heard (pieces_of part.reader.taken) []
 parted shape part known = let kept = reached_kept shape.pages shape.size shape.start known.core known.reached in
     subst (λ (heard : List Record). IsPartition heard (pieces_of part.reader.taken) []) (sym known.is.heard_is)

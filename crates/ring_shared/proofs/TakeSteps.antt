@@ -1,4 +1,4 @@
--- What each step of a take tells of the reader's part.
+-- What each step of a take makes of the reader's part.
 use Rattle.std.proofs.Common.{◌≡◌, ◌≢◌, ℕ, suc, ◌+◌, ◌-◌, ◌%◌, ◌<◌, ◌≤◌, List, get_or, take, map, refl, sym, ap, ◌∙◌, subst, arith, mod-lt}
 use mathlib.Core.Logic.{dite}
 use native.Mathlib.Decide.{dec_le}
@@ -27,7 +27,8 @@ passed_below_hint shape part fill same = λ core reached is.
     let hint = ap (λ (x : Reader). x.hint) is.reader_is in let low = kept.links.hint_le in
     passed_below shape.pages shape.size shape.start core kept fill (omega arith)
 
--- Behind a step that takes nothing: the reader's part is that of a state, with this reader, and no page moved, nor the wish.
+-- After a step that takes nothing: the reader's part is that of a state, with this reader, and no page moved, nor the
+-- wish.
 pub record Stays (shape : Shape) (before after : Reading) (reader : Reader) : Type 0 where
   pub known : IsReaderPart shape after
   pub order_is : after.order ≡ before.order
@@ -50,7 +51,7 @@ nothing shape before after reader s taken expected hint seen =
     }
 
 module _ (shape : Shape) (before after : Reading) (sees : Core → Type 0) (answer : model.Answer) (r : IsReaderStep shape before sees model.reads answer after) where
-  -- ---- the states in front of the step and behind it
+  -- ---- the states before the step and after it
 
   kept : IsRingKept shape.pages shape.size shape.start r.core
   kept = reached_kept shape.pages shape.size shape.start r.core r.reached
@@ -155,7 +156,7 @@ module _ (shape : Shape) (before after : Reading) (sees : Core → Type 0) (answ
         let hint = loads loading_link r.core.reader.hint (model.moving r.core.reader.hint) (model.loads_owed page owed refl refl) in
         subst (Stays shape before after) (λ i. record before.reader { phase = sym at i; hint = sym hint_is i }) hint
 
-    -- the position has a fill from the head on, a whole turn behind the hint at least
+    -- the position has a fill from the head on, at least a whole round after the hint
     far : (page fill : ℕ) → link_into shape.pages r.core.links before.reader.hint ≡ normal_link page fill → fill ≢ before.reader.hint → (before.reader.hint + shape.pages ≤ fill) × (1 ≤ shape.pages)
     far page fill e other =
         let some_pages = kept.links.some_pages in let behind = kept.links.hint_le in let same = hint_is in

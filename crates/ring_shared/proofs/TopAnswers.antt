@@ -40,7 +40,7 @@ release_answers c frame below answer after (releases alone more a is) = a
 release_answers c frame below answer after (releases_last alone last a is) = a
 
 module _ (v : WriterValue) (w : IsWriter v) where
-  -- the stack has a frame where the writer's part has
+  -- the stack has a frame if the writer's part has
   pub some_stand : (frame : Frame) (below : List Frame) → v.part.frames ≡ frame ∷ below → v.frames.stack.frames ≢ []
   some_stand frame below top none =
       let deep = depth_is v w in let one = ap (length {A = Frame}) top in let zero = ap length none in omega arith
@@ -112,13 +112,13 @@ module _ (shape : Shape) (before : Writing) (result : Answer) (after : Writing) 
         state_is = is ∙ ap reserved (sym told_is);
       }
 
-  -- and where none stands, the step is refused
+  -- and if there is no frame, the step is refused
   pub none_refused : before.frames ≡ [] → IsRefusal result
   none_refused none =
       is_refusal shape.size result call.answer no_frame call.tells
       (none_answers shape.pages shape.size call.core call.answer call.next (ap (λ (p : Writing). p.frames) call.before_is ∙ none) call.step)
 
--- one that makes a single step tells its record's number, or is refused
+-- one that makes a single step answers its record's number, or is refused
 step_in : (shape : Shape) (before : Writing) (result : Answer) (after : Writing) (frames : List stack.Frame) (phase : Phase) (below : List Phase) → before.frames ≡ ring_frames frames (phase ∷ below) → IsAim (top_of frames) aim.Step → IsCall shape before model.steps result after → TellsTop result after.frames
 step_in shape before result after [] phase below same is call = inr (none_refused shape before result after call same)
 step_in shape before result after (f ∷ frames) phase below same (number, is) call = inl (_, reserved_answers shape before result after call _ _ number same is)

@@ -92,7 +92,7 @@ turned_on old mid new one two = record {
 pub same_turned : (first old new : WriterValue) → SameWriter first old → TurnsOn old new → SameWriter first new
 same_turned first old new same t = (t.ring.0 ∙ same.0, t.ring.1 ∙ same.1)
 
--- amid steps to a record
+-- during the steps to a record
 pub amid_turned : (shape : Shape) (kind : Kind) (below : List Frame) (before : Writing) (old new : WriterValue) → old.shape ≡ shape → IsAmidReserving shape kind below before old.part → TurnsOn old new → IsAmidReserving shape kind below before new.part
 amid_turned shape kind below before old new same a t =
     let (next, at, kind_is, is) = t.stands a.frame below a.top in

@@ -1,4 +1,4 @@
--- A record that is written whole: its parts, one behind the other.
+-- A record that is written whole: its parts, one after the other.
 use Rattle.std.specs.Prelude.{Some, None, ◌⊎◌, ◌<◌, ◌≤◌}
 use Rattle.std.proofs.Common.{◌≡◌, ◌≢◌, ℕ, List, [], ◌∷◌, length, refl, sym, ap, ◌∙◌, subst, inl, inr, arith}
 use Rattle.trace_model.specs.Words.{slot_len, padded}
@@ -127,7 +127,7 @@ leaves_below shape below before answer after (was_refused from mid next end fram
 
 -- ---- the push
 
--- a record frame is pushed above those that stand, and is to be reserved
+-- a record frame is pushed above those on the stack, and is to be reserved
 pub record HasBegun (moment len : ℕ) (before after : Writing) : Type 0 where
   pub frame : Frame
   pub top : after.frames ≡ frame ∷ before.frames
@@ -163,13 +163,13 @@ pub record HasTopRecord (kind : Kind) (below frames : List Frame) : Type 0 where
   pub kind_is : next.kind ≡ kind
   pub state_is : next.state ≡ reserved number
 
--- an answer that refuses nothing tells a record's number
+-- an answer that refuses nothing states a record's number
 pub reserved_so : (kind : Kind) (below : List Frame) (result : Answer) (after : List Frame) → IsReservedOr kind below result after → (IsRefusal result → ⊥) → HasTopRecord kind below after × ((number : Rattle.trace_model.specs.declared.numbers.RecordNo.RecordNo) × (result ≡ Reserved number))
 reserved_so kind below _ after (is_reserved next number end top kind_is state_is) denied = (record { next = next; number = number.0; top = top; kind_is = kind_is; state_is = state_is }, (number, refl))
 reserved_so kind below _ after (stays_refused fault next end top leaves) denied = absurd (denied (fault, refl))
 reserved_so kind below _ after (is_refused fault end top) denied = absurd (denied (fault, refl))
 
--- a frame that is refused stands on, and leaves, or is gone
+-- a frame that is refused stays on the stack, and leaves, or is gone
 refused_so : (kind : Kind) (below : List Frame) (result : Answer) (fault : WriteFault) (after : List Frame) → IsReservedOr kind below result after → result ≡ Refused fault → ((next : Frame) × (after ≡ next ∷ below) × IsLeaving next.kind next.state) ⊎ (after ≡ below)
 refused_so kind below _ fault after (is_reserved next number end top kind_is state_is) e = absurd (cc)
 refused_so kind below _ fault after (stays_refused other next end top leaves) e = inl (next, top, leaves)
@@ -200,7 +200,7 @@ module _ (shape : Shape) (before pushed after : Writing) (moment len : ℕ) (beg
   refused_with : (fault : WriteFault) → result ≡ Refused fault → Reserves shape (for_record moment len) before.frames pushed (Refused fault) after
   refused_with fault e = subst (λ (x : Answer). Reserves shape (for_record moment len) before.frames pushed x after) e reserving
 
-  -- the frame is gone, as its depth tells
+  -- the frame is gone, as its depth shows
   pub refused_gone : (fault : WriteFault) → result ≡ Refused fault → length after.frames ≤ length before.frames → IsRefusedWrite shape before moment len fault after
   refused_gone fault e low =
       inr record {
@@ -220,7 +220,7 @@ module _ (shape : Shape) (before pushed after : Writing) (moment len : ℕ) (beg
   stands_on (inl s) deep = s
   stands_on (inr top) deep = let same = ap (length {A = Frame}) top in absurd (omega arith)
 
-  -- it stands on, and is finished
+  -- it stays on the stack, and is finished
   pub refused_left : (fault : WriteFault) (last : Answer) (end : Writing) → result ≡ Refused fault → length before.frames < length after.frames → Finishes shape after last end → IsRefusedWrite shape before moment len fault end
   refused_left fault last end e deep f =
       let (next, top, leaves) = stands_on (refused_so (for_record moment len) before.frames result fault after.frames reserving.ends e) deep in
@@ -316,7 +316,7 @@ module _ (shape : Shape) (before after : Writing) (payload : List ℕ) (result :
       any (for_record moment len) = tt
       any for_close = tt
 
-  -- it stands alone, and is finished
+  -- it is alone on the stack, and is finished
   pub ends_alone : (last : Answer) (end : Writing) → result ≡ Ended Full → Finishes shape after last end → (how : Rattle.nested_writer.specs.declared.stack.leave.Ended.Ended) × IsCall shape before (model.ends payload) (Ended how) after × GoesAway shape after how end
   ends_alone last end full f =
       let (frame, top, gone) = left_alone t.below refl full in
@@ -333,7 +333,7 @@ module _ (shape : Shape) (before after : Writing) (payload : List ℕ) (result :
 pub top_kind : (kind : Kind) (below : List Frame) (number : Rattle.trace_model.specs.declared.numbers.RecordNo.RecordNo) (after : List Frame) → IsReservedOr kind below (Reserved number) after → HasTopRecord kind below after
 top_kind kind below number after is = (reserved_so kind below (Reserved number) after is (λ (fault, e). cc)).0
 
--- the slot has just the room of the record
+-- the slot has exactly the room of the record
 pub record_room : (shape : Shape) (before : Writing) (moment len : ℕ) (v : WriterValue) (slot : Slot) → IsReserved shape before moment len v.part → FitsFrame v slot → slot.place.len ≡ slot_len len
 record_room shape before moment len v slot r fits =
     let t = top_kind (for_record moment len) before.frames r.number v.part.frames r.reserve.ends in

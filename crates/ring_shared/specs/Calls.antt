@@ -19,7 +19,7 @@ pub record IsWriter (v : WriterValue) : Type 0 where
   pub pages_are : v.part.open_pages ≡ v.pages
 
 -- The event is a step of the model, from a state in which the writer's part is the first to one in which it is the
--- second, and the answer tells the model's.
+-- second, and the answer means the model's.
 pub record IsCall (shape : Shape) (before : Writing) (event : model.Event) (result : Answer) (after : Writing)
     : Type 0 where
   pub core : Core

@@ -1,4 +1,4 @@
--- What it means that the frame on top is stepped as far as it comes by itself.
+-- What it means that the frame on top is stepped as far as it gets by itself.
 use Rattle.std.specs.Prelude.{◌≡◌, ◌⊎◌, ℕ, List, [], ◌∷◌, Option, Some, None, replicate}
 use Rattle.trace_model.specs.declared.numbers.RecordNo.{RecordNo}
 use Rattle.trace_model.specs.Frames.{Kind, for_record, for_close, FrameState, waiting, reserved, left, Frame}
@@ -33,7 +33,7 @@ pub data GoesOn (shape : Shape) (before : Writing) : Writing → Type 0 where
       → IsCall shape between model.steps Going after
       → GoesOn shape before after
 
--- this frame's record is reserved under a number; or the frame is refused, and stands no more or has left
+-- this frame's record is reserved under a number; or the frame is refused, and is gone from the stack or has left
 pub data IsReservedOr (kind : Kind) (below : List Frame) : Answer → List Frame → Type 0 where
   is_reserved : (next : Frame) (number : RecordNo) (after : List Frame)
       → after ≡ next ∷ below
@@ -57,8 +57,8 @@ pub record Reserves (shape : Shape) (kind : Kind) (below : List Frame) (before :
   pub last : IsCall shape between model.steps result after
   pub ends : IsReservedOr kind below result after.frames
 
--- It makes steps until it is gone, and answers as the last of them; or it is refused amid them and stays on, and it
--- answers so.
+-- It makes steps until it is gone, and answers as the last of them; or one of them refuses it and it stays on, and it
+-- answers that refusal.
 pub data Leaves (shape : Shape) (below : List Frame) : Writing → Answer → Writing → Type 0 where
   is_gone : (before between after : Writing) (answer : Answer)
       → GoesOn shape before between
@@ -73,8 +73,8 @@ pub data Leaves (shape : Shape) (below : List Frame) : Writing → Answer → Wr
       → Leaves shape below next answer after
       → Leaves shape below before (Refused fault) after
 
--- It has made steps, each of which was answered `Going`, and it stands and leaves; or the last of them answered that it
--- is gone.
+-- It has made steps, each of which was answered `Going`, and it is on the stack and leaves; or the last of them
+-- answered that it is gone.
 abbrev pub Closes : Shape → List Frame → Writing → Turned → Writing → Type 0
 Closes shape below before turned.Going after =
     (frame : Frame) × (after.frames ≡ frame ∷ below) × IsLeaving frame.kind frame.state × GoesOn shape before after
@@ -96,24 +96,24 @@ FinishesTop shape [] before result after = IsCall shape before model.steps resul
 FinishesTop shape (frame ∷ below) before result after =
     FinishesFrame shape frame.kind frame.state below before result after
 
--- the frame on top is stepped as far as it comes; with none, the one step is refused
+-- the frame on top is stepped as far as it gets; with none, the one step is refused
 abbrev pub Finishes : Shape → Writing → Answer → Writing → Type 0
 Finishes shape before result after = FinishesTop shape before.frames before result after
 
--- ---- what comes of it
+-- ---- what is made of it
 
 -- a record is reserved, or a frame is refused
 abbrev pub IsNumberOrRefused : Answer → Type 0
 IsNumberOrRefused answer =
     ((number : RecordNo) × (answer ≡ Reserved number)) ⊎ ((fault : WriteFault) × (answer ≡ Refused fault))
 
--- this tells the answer, but for the record's number
+-- this states the answer, except for the record's number
 abbrev pub IsBrief : Answer → Finished → Type 0
 IsBrief answer finished.Reserved = (number : RecordNo) × (answer ≡ Reserved number)
 IsBrief answer finished.Gone = answer ≡ Gone
 IsBrief answer (finished.Refused fault) = answer ≡ Refused fault
 
--- the frame on top is stepped as far as it comes, and answers so; the number of its record stands in the slot on top
+-- the frame on top is stepped as far as it gets, and answers so; the number of its record is in the slot on top
 abbrev pub IsFinished : WriterValue → Finished → WriterValue → Type 0
 IsFinished old finished.Reserved new =
     (slot : Slot)
@@ -122,7 +122,7 @@ IsFinished old finished.Reserved new =
 IsFinished old finished.Gone new = Finishes old.shape old.part Gone new.part
 IsFinished old (finished.Refused fault) new = Finishes old.shape old.part (Refused fault) new.part
 
--- a slot that is reserved by what comes of the frame on top holds only zeros
+-- a slot that is reserved by what is made of the frame on top holds only zeros
 abbrev pub ZerosFinished : Stack → Finished → Stack → Type 0
 ZerosFinished old result new = (slot : Slot)
     → result ≡ finished.Reserved
@@ -144,7 +144,7 @@ IsAim (Some frame) to = IsAimOf (kind_of frame.purpose) (state_of frame.progress
 
 -- ---- refusals
 
--- the refusal that is met first, where this one was met before the answer
+-- the refusal that is met first, if this one was met before the answer
 abbrev pub met_behind : Option WriteFault → Answer → Option WriteFault
 met_behind (Some fault) answer = Some fault
 met_behind None Pushed = None
@@ -163,7 +163,7 @@ met_behind None (Wished fill) = None
 abbrev pub IsGoneOrRefused : Answer → Type 0
 IsGoneOrRefused result = (result ≡ Gone) ⊎ ((fault : WriteFault) × (result ≡ Refused fault))
 
--- it is told, or else the last answer is
+-- it is answered if there is one, or else the last answer is
 abbrev pub told_behind : Option WriteFault → Answer → Answer
 told_behind None last = last
 told_behind (Some fault) last = Refused fault

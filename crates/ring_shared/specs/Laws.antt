@@ -61,7 +61,7 @@ ReservationsAppend = (shape : Shape) (before : Writing) (frame : Frame) (below :
     → IsCall shape before model.steps (Reserved number) after
     → (number.0 ≡ length (reserved_records before.history)) × (after.history ≡ before.history ++ reserve ∷ [])
 
--- one that has a number is told it again, and appends nothing;
+-- one that has a number is answered it again, and appends nothing;
 abbrev pub NumbersAreToldAgain : Type 0
 NumbersAreToldAgain = (shape : Shape) (before : Writing) (frame : Frame) (below : List Frame) (number : ℕ)
     (result : Answer) (after : Writing)
@@ -70,7 +70,7 @@ NumbersAreToldAgain = (shape : Shape) (before : Writing) (frame : Frame) (below 
     → IsCall shape before model.steps result after
     → Tells shape.size result (model.reserved_as number) × (after.history ≡ before.history)
 
--- what a refusal appends: where a frame stands whose step is refused, it leaves without a record
+-- what a refusal appends: if there is a frame whose step is refused, it leaves without a record
 abbrev pub actions_of_refusal : model.Event → List Frame → List Action
 actions_of_refusal (model.pushes moment len) frames = []
 actions_of_refusal model.pushes_close frames = []

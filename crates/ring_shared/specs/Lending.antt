@@ -20,7 +20,7 @@ with_slot_payload v slot part = record v { frames = frames.with_slot_payload v.f
 abbrev pub with_lent : WriterValue → Lent → WriterValue
 with_lent v payload = record v { frames = frames.with_lent v.frames payload }
 
--- if the result is a payload, the writer ends with the last value behind it; else nothing changes
+-- if the result is a payload, the writer ends with the value that it leaves; else nothing changes
 abbrev pub LendsTop : MutBor WriterValue → Result (MutBor Lent) WriteFault → Fml
 LendsTop writer result =
     LendsIfOk the_row payload_rows.the_row writer result (with_lent writer.now) writer.now
@@ -31,7 +31,7 @@ StaysWriter v payload = (part : List ℕ)
     → length part ≡ length (lent_bytes payload)
     → IsWriter (with_lent v (with_bytes payload part))
 
--- the slot has just the room of the record that the frame on top was pushed for
+-- the slot has exactly the room of the record that the frame on top was pushed for
 abbrev pub FitsFrame : WriterValue → Slot → Type 0
 FitsFrame v slot = (frame : Frame) (below : List Frame) (moment len : ℕ)
     → v.part.frames ≡ frame ∷ below

@@ -8,7 +8,7 @@ use Rattle.ring_shared.specs.Value.{WriterValue}
 abbrev pub rank_of : WriterValue → ℕ
 rank_of v = writer_rank v.shape.pages v.passed v.part.done v.part.opened v.part.history v.part.frames
 
--- behind a step, the frame that made it, and which hadn't reserved, is gone or nearer to its end
+-- after a step, the frame that made it, and which hadn't reserved, is gone or nearer to its end
 abbrev pub IsNearer : WriterValue → WriterValue → Type 0
 IsNearer old new = (frame : Frame) (below : List Frame)
     → old.part.frames ≡ frame ∷ below

@@ -13,14 +13,14 @@ abbrev pub rooms_of : List Frame → List (Option ℕ)
 rooms_of [] = []
 rooms_of (frame ∷ below) = room_of frame.kind ∷ rooms_of below
 
--- those of the frames that stand, the one on top first
+-- those of the frames on the stack, the one on top first
 abbrev pub rooms : WriterValue → List (Option ℕ)
 rooms v = rooms_of v.part.frames
 
--- these stand above those, and one more
+-- these are those below, and one more on top
 abbrev pub IsOneMore : List (Option ℕ) → List (Option ℕ) → Type 0
 IsOneMore more rooms = (room : Option ℕ) × (more ≡ room ∷ rooms)
 
--- the slot of the frame on top takes so many bytes
+-- the slot of the frame on top takes this number of bytes
 abbrev pub IsTopRoom : WriterValue → ℕ → Type 0
 IsTopRoom v bytes = (below : List (Option ℕ)) × (rooms v ≡ Some bytes ∷ below)

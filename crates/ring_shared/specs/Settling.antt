@@ -16,7 +16,7 @@ use Rattle.ring_shared.specs.declared.settling.Settled.{Settled}
 abbrev pub unread_page : Settled → Option Contents
 unread_page settled = if settled.tail.count == 0 then None else Some settled.tail
 
--- as a piece, in front of which nothing is skipped
+-- as a piece, before which nothing is skipped
 abbrev pub piece_unread : Option Contents → List Piece
 piece_unread None = []
 piece_unread (Some page) = record { skipped = 0; records = records_of_page page } ∷ []
@@ -25,10 +25,10 @@ piece_unread (Some page) = record { skipped = 0; records = records_of_page page 
 abbrev pub WasTaken : Reading → ℕ → Type 0
 WasTaken reading f = (k : ℕ) × (t : Taken) × (slice_get reading.reader.taken k ≡ Some t) × (t.fill ≡ f)
 
--- The committed records are what the reader took, with what it tells as missed, and then the unread page's, and nothing
--- else. That page is the tail. Each closed fill was taken, or is lost: the fill a whole turn of the ring's pages behind
--- it, which took its place, is begun. Each page that was taken is a whole fill of this writer's history, under that
--- fill's number. The two ends are the parts of one ring that steps reach.
+-- The committed records are what the reader took, with what it reports as missed, and then the unread page's, and
+-- nothing else. That page is the tail. Each closed fill was taken, or is lost: the fill one round of the ring's pages
+-- after it, which took its place, is begun. Each page that was taken is a whole fill of this writer's history, under
+-- that fill's number. The two ends are the parts of one ring that steps reach.
 pub record IsSettled (shape : Shape) (writing : Writing) (reading : Reading) (settled : Settled) : Type 0 where
   pub partition : IsPartition (committed_records writing.history)
       (pieces_of reading.reader.taken ++ piece_unread (unread_page settled)) []

@@ -39,15 +39,15 @@ KeepsSlot (LoadingDone page fill) keeps = keeps ≡ false
 KeepsSlot (StoringLink page fill) keeps = keeps ≡ false
 KeepsSlot (Swapping page fill) keeps = keeps ≡ true
 
--- the page that it saw is one that a link can tell
+-- the page that it saw is one that a link can state
 abbrev pub SawPage : ReaderPhase → Type 0
 SawPage LoadingLink = Unit {0}
 SawPage (LoadingDone page fill) = page < LINK_PAGES
 SawPage (StoringLink page fill) = page < LINK_PAGES
 SawPage (Swapping page fill) = page < LINK_PAGES
 
--- The last take found that so many fills are closed, and all of them passed: the reader knows just that, is at no take,
--- and has no slot.
+-- The last take found `done` closed fills, all of them passed: the reader knows exactly that, is at no take, and has no
+-- slot.
 pub record FoundEmpty (v : ReaderValue) (done : ℕ) : Type 0 where
   pub hint_is : v.part.reader.hint ≡ done
   pub seen_is : v.part.reader.seen ≡ done
@@ -69,7 +69,7 @@ pub record IsReader (v : ReaderValue) : Type 0 where
 
 -- ---- takes
 
--- What was taken and heard of stays, and the wish; and the reader knows no less.
+-- What was taken and observed stays, and the wish; and the reader knows at least as much.
 pub record TakesNothing (before after : Reading) : Type 0 where
   pub taken_is : after.reader.taken ≡ before.reader.taken
   pub heard_is : after.heard ≡ before.heard
@@ -85,9 +85,10 @@ ArePassedBelow shape part fill = (core : Core)
     → IsReading core part
     → ArePassed shape.pages shape.start core fill
 
--- The page is one more fill that was taken, no earlier one than the reader knew, and so many records were lost in front
--- of it: what the reader has heard of, it and those before it part. Its numbers come behind those of the last page and
--- of what was lost, and fit a parcel. The reader goes on behind this fill, has seen no less, and wishes as before.
+-- The page is one more fill that was taken, no earlier one than the reader knew, and `missed` records were lost before
+-- it. It and the pages before it part what the reader has observed. Its numbers follow those of the last page and of
+-- what was lost, and fit a parcel. The reader continues after this fill, has seen at least as many closed fills, and
+-- wishes as before.
 pub record IsPageTaken (shape : Shape) (before : Reading) (page : Contents) (missed : ℕ) (after : Reading)
     : Type 0 where
   pub taken : Taken
@@ -106,7 +107,8 @@ pub record IsPageTaken (shape : Shape) (before : Reading) (page : Contents) (mis
   pub heard_is : after.heard ≡ before.heard ++ lost ++ records_of_page page
   pub partition : IsPartition after.heard (pieces_of after.reader.taken) []
 
--- All closed fills, so many, are taken or lost, and the reader knows just that; they are no fewer than it had seen.
+-- All closed fills, `done` of them, are taken or lost, and the reader knows exactly that; they are no fewer than it had
+-- seen.
 pub record IsEmptyFound (shape : Shape) (before : Reading) (done : ℕ) (after : Reading) : Type 0 where
   pub nothing : TakesNothing before after
   pub seen_le : before.reader.seen ≤ done
@@ -116,7 +118,7 @@ pub record IsEmptyFound (shape : Shape) (before : Reading) (done : ℕ) (after :
   pub all : known.core.done ≡ done
   pub passed : ArePassedBelow shape after done
 
--- Each fill below this one is taken or lost, and the reader knows just that; it knew of no later one.
+-- Each fill below this one is taken or lost, and the reader knows exactly that; it knew of no later one.
 pub record IsSentAway (shape : Shape) (before : Reading) (fill : ℕ) (after : Reading) : Type 0 where
   pub nothing : TakesNothing before after
   pub hint_le : before.reader.hint ≤ fill
@@ -128,13 +130,13 @@ IsTake shape before body (Page page missed) after = IsPageTaken shape before pag
 IsTake shape before body (Empty done back) after = (length back ≡ length body) × IsEmptyFound shape before done after
 IsTake shape before body (Moving fill back) after = (length back ≡ length body) × IsSentAway shape before fill.0 after
 
--- what the take hands out: a page of this size, or the body, of this size too
+-- what the take returns: a page of this size, or the body, of this size too
 abbrev pub IsOfSize : ℕ → Take → Type 0
 IsOfSize size (Page page missed) = IsPage page × (page.size ≡ size)
 IsOfSize size (Empty done back) = length back ≡ size
 IsOfSize size (Moving fill back) = length back ≡ size
 
--- the number that the take answered, where it found nothing
+-- the number that the take answered, if it found nothing
 abbrev pub empty_of : Take → Option ℕ
 empty_of (Page page missed) = None
 empty_of (Empty done back) = Some done
@@ -152,14 +154,14 @@ IsTurn shape before body (Done took) after = IsTake shape before body took after
 abbrev pub ReadsSo : Shape → Reading → model.Answer → Reading → Type 0
 ReadsSo shape before told after = IsReaderStep shape before (λ _. ⊤) model.reads told after
 
--- the step's answer tells the model's
+-- the step's answer means the model's
 abbrev pub TurnTells : ℕ → Turn → model.Answer → Type 0
 TurnTells size (Looking back) told = told ≡ model.reading
 TurnTells size (Done (Page page missed)) told = (t : Taken) × (told ≡ model.swapped t) × IsTakenPage size page missed t
 TurnTells size (Done (Empty done back)) told = told ≡ model.empty done
 TurnTells size (Done (Moving fill back)) told = told ≡ model.moving fill.0
 
--- so a take answers at once where the model does, and goes on where the model does
+-- so a take answers at once if the model does, and continues if the model does
 pub record IsAnswered (shape : Shape) (before : Reading) (turn : Turn) (after : Reading) : Type 0 where
   pub told : model.Answer
   pub step : ReadsSo shape before told after
@@ -167,11 +169,11 @@ pub record IsAnswered (shape : Shape) (before : Reading) (turn : Turn) (after : 
 
 -- ---- how many steps a take makes
 
--- a take makes so many steps at most
+-- the number of steps that a take makes at most
 abbrev pub most_steps : Shape → ℕ
 most_steps shape = 2 * shape.pages + 8
 
--- so many steps, one after the other, each of which the model answers by going on
+-- this number of steps, one after the other, to each of which the model answers that it is still reading
 pub data ReadsOn (shape : Shape) (before : Reading) : ℕ → Reading → Type 0 where
   no_step : ReadsOn shape before 0 before
   one_more : (steps : ℕ) (between after : Reading)
@@ -179,7 +181,7 @@ pub data ReadsOn (shape : Shape) (before : Reading) : ℕ → Reading → Type 0
       → ReadsSo shape between model.reading after
       → ReadsOn shape before (steps + 1) after
 
--- A take goes on until a step of it has the answer, which is the take's; or it has made as many steps as it may, and
+-- A take continues until a step of it has the answer, which is the take's; or it has made as many steps as it may, and
 -- answers by its hint.
 pub data TakesSteps (shape : Shape) (before : Reading) (result : Take) (after : Reading) : Type 0 where
   has_answer : (steps : ℕ) (between : Reading)
@@ -197,8 +199,8 @@ pub data TakesSteps (shape : Shape) (before : Reading) (result : Take) (after : 
 abbrev pub SameRing : ReaderValue → ReaderValue → Type 0
 SameRing before after = (after.shape ≡ before.shape) × (after.table ≡ before.table)
 
--- Behind a step, the reader's fields are its part again; it found nothing where the answer says so, and the last take's
--- answer isn't told yet.
+-- After a step, the reader's fields are its part again; it found nothing if the answer says so, and the last take's
+-- answer isn't given yet.
 abbrev pub EmptyAfter : ReaderValue → Turn → Type 0
 EmptyAfter v (Looking back) = Unit {0}
 EmptyAfter v (Done (Page page missed)) = Unit {0}

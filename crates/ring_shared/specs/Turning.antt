@@ -13,8 +13,8 @@ abbrev pub IsReservingTop : List Frame → Type 0
 IsReservingTop frames =
     (frame : Frame) × (below : List Frame) × (frames ≡ frame ∷ below) × IsReserving frame.kind frame.state
 
--- The frame on top makes steps, some or none, each of which is answered `Going`; it stands with the same record still
--- to be reserved, and is no further from its end; and all payloads stay.
+-- The frame on top makes steps, some or none, each of which is answered `Going`; it is still on the stack, with the
+-- same record to be reserved, and is no further from its end; and all payloads stay.
 pub record TurnsOn (old new : WriterValue) : Type 0 where
   pub ring : SameWriter old new
   pub writer : IsWriter new

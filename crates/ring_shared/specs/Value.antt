@@ -7,8 +7,8 @@ use Rattle.ring_frames.specs.Value.{FramesValue}
 use Rattle.ring_steps.specs.Views.{Writing, Reading}
 
 -- The reader's end: the ring's shape and its table, which both ends of one ring have; the reader's part of the ring,
--- with what it took and heard of; and its fields: the page at each position, its own page, how far its take has come,
--- and the number of closed fills that the last take answered, where it found nothing.
+-- with what it took and observed; and its fields: the page at each position, its own page, how far its take has got,
+-- and the number of closed fills that the last take answered, if it found nothing.
 pub record ReaderValue : Type 0 where
   pub shape : Shape
   pub table : TableId

@@ -17,17 +17,17 @@ use Rattle.ring_shared.specs.Value.{WriterValue}
 use Rattle.ring_shared.specs.Calls.{IsCall}
 use Rattle.ring_shared.specs.Finishing.{Reserves, Leaves}
 
--- A frame is pushed for a record of this moment, and of so many bytes of payload.
+-- A frame is pushed for a record of this moment, and of `len` bytes of payload.
 abbrev pub Pushes : Shape → Writing → (moment len : ℕ) → Answer → Writing → Type 0
 Pushes shape before moment len result after = IsCall shape before (model.pushes moment len) result after
 
--- A frame that was ended is gone where others stand below it; alone it makes steps until it is.
+-- A frame that was ended is gone if others are below it; alone it makes steps until it is.
 abbrev pub GoesAway : Shape → Writing → How → Writing → Type 0
 GoesAway shape ended Pending after = after ≡ ended
 GoesAway shape ended Full after = (answer : Answer) × Leaves shape [] ended answer after
 
--- The frame is pushed, above those that stand, and makes steps until its record is reserved; it ends with this payload,
--- and the zeros up to the end of its slot; and goes away, so the same frames as before are left.
+-- The frame is pushed, above those on the stack, and makes steps until its record is reserved; it ends with this
+-- payload, and the zeros up to the end of its slot; and goes away, so the same frames as before are left.
 pub record IsWritten (shape : Shape) (before : Writing) (moment : ℕ) (payload : List ℕ) (after : Writing) : Type 0 where
   pub pushed : Writing
   pub reserved : Writing
@@ -71,7 +71,7 @@ pub record IsRefusedAmid (shape : Shape) (before : Writing) (moment len : ℕ) (
       × Leaves shape before.frames refused answer after)
   pub frames : after.frames ≡ before.frames
 
--- The frame is refused as it is pushed, or behind that.
+-- The frame is refused as it is pushed, or after that.
 abbrev pub IsRefusedWrite : Shape → Writing → (moment len : ℕ) → WriteFault → Writing → Type 0
 IsRefusedWrite shape before moment len fault after =
     Pushes shape before moment len (Refused fault) after ⊎ IsRefusedAmid shape before moment len fault after

@@ -2,7 +2,7 @@
 ghost use Rattle.ring_shared.specs.Laws.{CallsAppend, ClosesAppend, EndsAppend, NumbersAreToldAgain, PushesAppend, RefusalsAppend, ReservationsAppend};
 ghost use Rattle.ring_shared.specs.WholeLaws.{FinishesClose, FinishesLeft, FinishesRefused, FinishesReserve, PaddedTwice, RefusedWritesAppend, RefusedWritesLeaveNoFrame, RefusedWritesReserveNone, WritersHaveHistories, WritesAppend, WritesReserve};
 
-/// A call appends to the history of its writer's frames what its answer tells, and nothing else.
+/// A call appends to the history of its writer's frames what its answer states, and nothing else.
 pub fn calls_append()
     ensures calls { CallsAppend }
     ensures pushes { PushesAppend }

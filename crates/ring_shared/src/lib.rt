@@ -1,12 +1,12 @@
 //! The two ends of a running ring, one for a writer's thread and one for a reader's.
 //!
 //! Both share the words of one table (`ring_steps`), and no call waits for the other end. The writer puts records into
-//! the ring, nested ones too, and moves the head on where the ring is full; the reader takes the oldest page that is
-//! closed and unread, and knows how many records were lost in front of it.
+//! the ring, nested ones too, and moves the head on if the ring is full; the reader takes the oldest page that is
+//! closed and unread, and knows how many records were lost before it.
 //!
-//! Code without loops names no fact of the ends: `ring` gives what their calls ask for, and each call gives it again. A
-//! loop names what it keeps, which is `IsWriter` of a writer, `IsReader` of a reader, and that it is the same end as
-//! before (`SameWriter`, `SameRing`). So of the steps of the frame on top until one of them answers:
+//! Code without loops states nothing of the ends: `ring` ensures what their calls require, and each call ensures it
+//! again. A loop states what it keeps: `IsWriter` of a writer, `IsReader` of a reader, and that it is the same end as
+//! before (`SameWriter`, `SameRing`). These are the steps of the frame on top until one of them answers:
 //!
 //! ```text
 //! ghost use Rattle.ring_shared.specs.Value.{SameWriter};

@@ -10,8 +10,8 @@ use std::alloc::Global;
 use trace_model::{NoMemory, START_FILL};
 
 /// The two ends of a new ring of `pages` pages (2 to 1,024) and a spare, of `size` bytes of data each (32 to 65,520, a
-/// multiple of 4), whose first fill has the number `start`, where `start + pages` is less than 2^48. Either can go to
-/// another thread. All room is made here, or `NoMemory` is answered: no call on them takes memory.
+/// multiple of 4), whose first fill has the number `start`; `start + pages` is less than 2^48. Either can go to another
+/// thread. All room is made here, or `NoMemory` is answered: no call on them takes memory.
 pub fn ring_at(
     alloc: Global,
     pages: usize,

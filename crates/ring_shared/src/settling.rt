@@ -28,7 +28,7 @@ impl Settled {
 /// Why two ends weren't settled: `settle` takes no memory, and never answers it.
 #[derive(Debug, Drop)]
 pub enum SettleFault {
-    /// There was no memory. The ends come back.
+    /// There was no memory. The ends are returned.
     NoMemory(Writer, Reader),
 }
 
@@ -38,8 +38,8 @@ ghost use Rattle.ring_shared.specs.Takes.{IsReader};
 ghost use Rattle.ring_shared.specs.Settling.{IsSettled};
 
 /// Joins the two ends of a ring: the pages that its reader took, and then the unread one if there is one, are all
-/// records that its writer committed, but those that are told as missed. No frame of the writer stands, and the last
-/// take found that all closed fills are taken or lost. Two such ends are always settled.
+/// records that its writer committed, except those that are reported as missed. The writer has no frame on its stack,
+/// and the last take found that all closed fills are taken or lost. Two such ends are always settled.
 pub fn settle(alloc: Global, writer: Writer, reader: Reader) -> Result<Settled, SettleFault>
     requires writer { IsWriter writer }
     requires reader { IsReader reader }

@@ -5,21 +5,21 @@ use trace_model::FillNo;
 /// What a take answers.
 #[derive(Debug, Drop)]
 pub enum Take {
-    /// The oldest page that was closed and unread, and how many numbers are missing in front of its first record since
-    /// the last page taken.
+    /// The oldest page that was closed and unread, and how many numbers are missing before its first record since the
+    /// last page taken.
     Page(Page, u64),
-    /// No closed fill is unread: this is the number of the oldest one that isn't closed. The body comes back.
+    /// No closed fill is unread: this is the number of the oldest one that isn't closed. The body is returned.
     Empty(u64, Body),
-    /// A move of the head stands in the way, or the take has made as many steps as it may: each fill below this one is
-    /// taken or lost. The body comes back.
+    /// A move of the head isn't finished, or the take has made as many steps as it may: each fill below this one is
+    /// taken or lost. The body is returned.
     Moving(FillNo, Body),
 }
 
 /// What one step of a take answers.
 #[derive(Drop)]
 pub(crate) enum Turn {
-    /// The take goes on.
+    /// The take continues.
     Looking(Body),
-    /// It has come to its answer.
+    /// It has its answer.
     Done(Take),
 }

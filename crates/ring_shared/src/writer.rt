@@ -19,7 +19,7 @@ use std::marker::Model;
 #[derive(Drop)]
 pub struct Writer {
     pub(crate) seat: WriterSeat,
-    /// The frames of the writers that stand, and the pages that they write.
+    /// The frames of the writers on the stack, and the pages that they write.
     pub(crate) frames: Frames,
     /// The numbers of these pages, the oldest first. It has room for the ring's pages, and never takes more.
     pub(crate) pages: VecDeque<u16>,
@@ -49,7 +49,7 @@ impl Writer {
     ghost use Rattle.std.specs.Prelude.{◌≡◌, [], length};
     ghost use Rattle.ring_shared.specs.Calls.{IsWriter};
 
-    /// How many frames stand.
+    /// The number of frames on the stack.
     #[inline(always)]
     pub fn depth(&self) -> usize
         ensures stack { result ≡ length self.now.frames.stack.frames }
@@ -59,8 +59,8 @@ impl Writer {
         self.frames.depth()
     }
 
-    /// The number of the oldest fill that isn't closed: in a ring whose first fill has the number 0, how many are
-    /// closed.
+    /// The number of the oldest fill that isn't closed. If the ring's first fill has the number 0, it is the number of
+    /// closed fills.
     #[inline(always)]
     pub fn done(&self) -> u64
         ensures stack { result ≡ self.now.frames.stack.done }
@@ -70,8 +70,8 @@ impl Writer {
     }
 }
 
-/// How many frames stand, and the number of the oldest fill that is not closed: the rest of a writer has no
-/// short text.
+/// The number of frames on the stack, and of the oldest fill that is not closed: the rest of a writer has no short
+/// text.
 impl fmt::Debug for Writer {
     fn fmt<W: fmt::Write>(&self, f: &mut fmt::Formatter<W>) -> fmt::Result {
         f.debug_struct("Writer")

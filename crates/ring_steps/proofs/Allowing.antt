@@ -1,4 +1,5 @@
--- What a step on a word owes: the state behind it, and that the words, the pages at home and its own seat's view show that.
+-- What a step on a word owes: the state after it, and that the words, the pages at home and its own seat's view show
+-- that state.
 use Rattle.std.proofs.Common.{◌≡◌, ℕ, ◌≤◌, List, sym, ap, ◌∙◌, subst, arith}
 use Rattle.std.specs.Prelude.{Option, None, slice_index_or}
 use Rattle.std.specs.List.{slice_index}
@@ -19,7 +20,8 @@ module _ (shape : Shape) where
   abbrev pub IsShownBy : Core → Reading → List ℕ → Homes → Type 0
   IsShownBy c r words homes = IsShown shape.pages shape.size shape.start c r words homes
 
-  -- the writer's step of the word i, to f of what it finds there; behind it the writer knows all fills below a number to be passed
+  -- the writer's step of the word i, to f of what it finds there; after it the writer knows all fills below a number
+  -- to be passed
   pub record WriterMoves (r : Reading) (me : Sat) (words : List ℕ) (homes : Homes) (i : ℕ) (f : ℕ → ℕ) (tells : ℕ → Sat → Type 0) : Type 0 where
     pub next : Core
     pub knows : ℕ

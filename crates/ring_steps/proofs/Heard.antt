@@ -1,4 +1,4 @@
--- What the reader heard stays as it is, whatever is done next.
+-- What the reader observed stays as it is, whatever is done next.
 use Rattle.std.proofs.Common.{◌≡◌, ℕ, ◌≤◌, List, [], ◌∷◌, ◌++◌, take, map, sym, ap, ◌∙◌, arith, append_assoc, append-nil}
 use Rattle.trace_model.specs.Record.{Record}
 use Rattle.trace_model.specs.History.{Action, as_record, reserved_records}

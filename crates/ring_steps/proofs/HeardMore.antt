@@ -10,7 +10,7 @@ use Rattle.trace_model.proofs.FillFirsts.{first_below, fill_behind}
 use Rattle.link_marks.proofs.PartitionLemmas.{take_split, take_map}
 use Rattle.ring_steps.proofs.Heard.{first_records}
 
--- The records up to the end of a fill: those in front of a number, those from there to the fill, and its own.
+-- The records up to the end of a fill: those before a number, those from there to the fill, and its own.
 pub heard_with : (start : ℕ) (h : List Action) (f expected : ℕ) (held : Held)
     → f - start < length (opens_of h)
     → IsRising 0 (opens_of h) (length (reserved_records h))

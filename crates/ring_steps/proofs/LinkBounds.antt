@@ -1,4 +1,4 @@
--- What the writer knows of the numbers in front of its steps on links, and what such a step tells behind.
+-- What the writer knows of the counts before its steps on links, and what such a step shows after it.
 use Rattle.std.specs.Prelude.{slice_index_or, true, ◌==◌, ◌↔◌}
 use Rattle.std.proofs.Common.{◌≡◌, ℕ, ◌+◌, ◌-◌, ◌<◌, ◌≤◌, List, length, Some, refl, sym, ap, ◌∙◌, subst, eq-eqb, arith}
 use Rattle.std.proofs.lemmas.Bool.{eqb-true}
@@ -26,7 +26,7 @@ use Rattle.ring_steps.proofs.Private.{private_reached}
 use Rattle.ring_steps.proofs.Paging.{top_of}
 use Rattle.ring_steps.proofs.Linking.{link_fits}
 
--- ---- in front
+-- ---- before the step
 
 -- a state whose writer's part is this
 record StateNow (shape : Shape) (now : Writing) : Type 0 where
@@ -89,7 +89,7 @@ module _ (shape : Shape) (before now : Writing) (known : ∥ IsWriterReached sha
   pub lost_bounds : (page noted : ℕ) → IsTopIn now.frames (clearing noted page) → shape.pages ≤ noted
   lost_bounds page noted on = ∥∥₁_elim known (Prim.hlevel props) (λ w. lost_of_state page noted on (state_now shape before now w leads))
 
--- ---- behind
+-- ---- after the step
 
 -- a frame that clears finds its UPDATE
 update_there : (n : ℕ) (c : Core) (frame : Frame) (below : List Frame) (noted page lost : ℕ) (answer : Answer) (after : Core) → lost + n ≡ noted → ClearStep n c frame below noted page answer after
@@ -124,7 +124,7 @@ module _ (shape : Shape) (few : shape.pages ≤ MAX_PAGES) (fill found : ℕ) (l
   pub link_seen : word_of l ≡ found → link_into shape.pages core.links fill ≡ l
   link_seen same = word_tells (link_into shape.pages core.links fill) l (link_fits shape.pages shape.size shape.start core fill few reached) fits (seen ∙ sym same)
 
-  -- an exchange was done just where it was there
+  -- an exchange was done if and only if it was there
   pub done_seen : (from : ℕ) → from ≡ word_of l → ((found == from) ≡ true) ↔ (link_into shape.pages core.links fill ≡ l)
   done_seen from is = (
     (λ e. link_seen (sym is ∙ sym (eqb-true found from e))),

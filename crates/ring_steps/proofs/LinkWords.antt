@@ -8,12 +8,12 @@ use Rattle.trace_model.specs.Links.{Link, word_of, normal_link}
 use Rattle.trace_model.specs.Ring.{Core, AreApart, links_with}
 use Rattle.ring_steps.specs.Shown.{page_word, page_before, AreWords}
 
--- ---- two fills, and the positions in front of theirs
+-- ---- two fills, and the positions before theirs
 
 shifted : (n k f g : ℕ) → f % n ≡ g % n → (f + k) % n ≡ (g + k) % n
 shifted n k f g e = sym (mod-add-mod f n k) ∙ (ap (λ (i : ℕ). (i + k) % n) e ∙ mod-add-mod g n k)
 
--- fills at one position have one in front of them
+-- fills at one position have one before them
 pub one_before : (n f g : ℕ) → 1 ≤ n → f % n ≡ g % n → (f + n - 1) % n ≡ (g + n - 1) % n
 one_before n f g some e =
     ap (λ (i : ℕ). i % n) (let s : f + n - 1 ≡ f + (n - 1) = omega arith in s)
@@ -27,7 +27,7 @@ one_behind n f g some e =
     ∙ (shifted n 1 (f + n - 1) (g + n - 1) e
     ∙ (ap (λ (i : ℕ). i % n) (let s : g + n - 1 + 1 ≡ g + n = omega arith in s) ∙ add-mod_right g n)))
 
--- the links into different positions stand on different pages
+-- the links into different positions are on different pages
 pub befores_differ : (n : ℕ) (order : List ℕ) (spare f g : ℕ) → 1 ≤ n → AreApart n order spare → f % n ≢ g % n → page_before n order f ≢ page_before n order g
 befores_differ n order spare f g some a ne same = ne (one_behind n f g some (a.differ ((f + n - 1) % n) ((g + n - 1) % n) (mod-lt (f + n - 1) some) (mod-lt (g + n - 1) some) same))
 

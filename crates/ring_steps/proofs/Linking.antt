@@ -42,7 +42,7 @@ use Rattle.ring_steps.proofs.Paging.{top_of}
 known_with : (known least head : ℕ) → known ≤ head → least ≤ head → (knows : ℕ) × (known ≤ knows) × (least ≤ knows) × (knows ≤ head)
 known_with known least head low high = dite (dec_le known least) (λ le. (least, le, omega arith, high)) (λ not. (known, omega arith, omega arith, low))
 
--- ---- the fill that is noted, and the one behind the lost one
+-- ---- the fill that is noted, and the one after the lost one
 
 noted_top : (frames : List Frame) (phase : Phase) (noted : ℕ) → IsTopIn frames phase → noted_fill phase ≡ Some noted → noted_on_top frames ≡ noted
 noted_top [] phase noted top e = absurd top
@@ -134,9 +134,9 @@ module _ (shape : Shape) (me : Sat) (is : IsWriting me) (now : Writing) (c : Cor
   goes answer after next step a after_is =
       subst (λ (d : Core). Step shape.pages shape.size c steps going d) after_is (subst (λ (x : Answer). Step shape.pages shape.size c steps x after) a step)
 
-  -- ---- where a link's word stands
+  -- ---- where a link's word is
 
-  -- in that of the page in front
+  -- in that of the page before
   front : (f : ℕ) → c.done < f → f ≤ c.opened → slice_index_or c.open_pages (f - 1 - c.done) 0 ≡ page_before shape.pages c.order f
   front f low high = let count = kept.open_pages.count in
       kept.open_pages.each (f - 1 - c.done) (omega arith)
@@ -152,7 +152,7 @@ module _ (shape : Shape) (me : Sat) (is : IsWriting me) (now : Writing) (c : Cor
       ∙ (ap (λ (i : ℕ). slice_index_or c.open_pages i 0) (let e : length c.open_pages - 1 ≡ c.opened - 1 - c.done = omega arith in e)
       ∙ (front c.opened behind (omega arith) ∙ ap (page_before shape.pages c.order) (sym opened_is)))
 
-  -- the page that a frame passed is in front of the fill behind the lost one
+  -- the page that a frame passed is before the fill after the lost one
   passed_front : (page noted behind : ℕ) → page ≡ page_at shape.pages c.order noted → behind + shape.pages ≡ noted + 1 → page ≡ page_before shape.pages c.order behind
   passed_front page noted behind page_is sum = page_is ∙ ap (page_at shape.pages c.order) (let e : noted ≡ behind + shape.pages - 1 = omega arith in e)
 
@@ -167,7 +167,7 @@ module _ (shape : Shape) (me : Sat) (is : IsWriting me) (now : Writing) (c : Cor
       subst (λ (p : ℕ). AreWords shape.pages (moved c frames (links_with shape.pages c.links f l) head) (slice_set ws (page_word p) (word_of l))) (sym e)
       record { count = a.count; opened = a.opened; done = a.done; wish = a.wish; links = a.links; spare = a.spare }
 
-  -- the word isn't that of a link which doesn't stand there
+  -- the word isn't that of a link which isn't there
   other_word : (page f : ℕ) (l : Link) → page ≡ page_before shape.pages c.order f → FitsWord l → link_into shape.pages c.links f ≢ l → slice_index ws (page_word page) ≢ word_of l
   other_word page f l e fits differ same =
       differ (word_tells (link_into shape.pages c.links f) l (link_fits shape.pages shape.size shape.start c f s.pages_fit s.reached) fits (word_there page f e ∙ same))
@@ -282,7 +282,7 @@ module _ (shape : Shape) (me : Sat) (is : IsWriting me) (now : Writing) (c : Cor
   abbrev ClaimMoves : (page from to : ℕ) → Type 0
   ClaimMoves page from to = WriterMoves shape r me ws homes (page_word page) (λ n. either (n == from) to n) (λ found after. ClaimTold shape now (passed me.0) found after)
 
-  -- the lost fill is passed behind the claim, and the writer knows it
+  -- the lost fill is passed after the claim, and the writer knows it
   raised : (page from to lost : ℕ) → lost + shape.pages ≡ now.opened → (m : ExchangeMoves page now.opened from to) → lost < m.next.head → ClaimMoves page from to
   raised page from to lost sum m behind =
       let (knows, more, least, low) = known_with m.knows (lost + 1) m.next.head m.low (omega arith) in let before = m.told.knows in record {

@@ -1,4 +1,4 @@
--- What the writer did in private: it is noted without a step on a word, and goes in front of what is due at the next one.
+-- What the writer did in private: it is noted without a step on a word, and comes before what is due at the next one.
 use Rattle.std.proofs.Common.{◌≡◌, ℕ, List, [], ◌∷◌, ◌++◌, refl, sym, ◌∙◌, subst}
 use Rattle.std.proofs.Math.Logic.{∥∥₁_elim}
 use Rattle.std.proofs.Props.{props}
@@ -10,7 +10,7 @@ use Rattle.ring_steps.specs.Views.{Writing, Reading}
 use Rattle.ring_steps.specs.Seats.{Leads, IsWriterStep, AreParts}
 use Rattle.ring_steps.proofs.Private.{private_reached, private_read}
 
--- ---- private steps behind private steps
+-- ---- private steps after private steps
 
 runs_on : (n size : ℕ) (c mid aside : Core) (first second : List Exchange) → PrivateRun n size c first mid → PrivateRun n size mid second aside → PrivateRun n size c (first ++ second) aside
 runs_on n size c mid aside [] second run on = subst (λ (d : Core). PrivateRun n size d second aside) (sym run) on
@@ -36,7 +36,7 @@ parts_now shape before now r leads parts =
       reading_is = private_read shape.pages shape.size shape.start parts.core aside exchanges r parts.reached run parts.reading_is;
     }
 
--- ---- behind a step on a word the noted part is the one that the seat knows
+-- ---- after a step on a word the noted part is the one that the seat knows
 
 pub rests : (shape : Shape) (known noted : Writing) → noted ≡ known → ∥ Leads shape known noted ∥₁
 rests shape known noted same = ∣ (λ c reached is. ([], c, refl, is ∙ sym same)) ∣₁

@@ -1,4 +1,4 @@
--- The writer's steps by which pages come to it and go home.
+-- The writer's steps by which it gets pages and by which they go home.
 use Rattle.std.specs.Prelude.{⊤, slice_index_or, slice_set, Option, Some, None}
 use Rattle.std.proofs.Common.{◌≡◌, ◌≢◌, ℕ, ◌+◌, ◌%◌, ◌<◌, ◌≤◌, false, List, [], ◌∷◌, ◌++◌, drop, set, length, refl, sym, ap, ◌∙◌, subst, arith, mod-lt, length-set}
 use Rattle.std.proofs.lemmas.List.{get_or-set_other}
@@ -129,7 +129,7 @@ module _ (shape : Shape) (c : Core) (r : Reading) (ws : List ℕ) (homes : Homes
 
   -- ---- a fill is closed
 
-  -- the state behind it, with these frames
+  -- the state after it, with these frames
   abbrev released_in : List Frame → Core
   released_in frames = record c { done = c.done + 1; open_pages = drop 1 c.open_pages; frames = frames }
 
@@ -172,7 +172,7 @@ module _ (shape : Shape) (c : Core) (r : Reading) (ws : List ℕ) (homes : Homes
       is_reading = reading_stays going (released_in frames) step;
     }
 
-  -- the frame on top stands alone, and goes on in one of two phases
+  -- the frame on top is alone, and goes on in one of two phases
   released_step : HasTop c.frames releasing → (frames : List Frame) × Step shape.pages shape.size c steps going (released_in frames)
   released_step top =
       let agree = top_agrees c top.frame top.below top.is kept.stack in
@@ -312,7 +312,7 @@ open_allowed shape slots id me now number fill is leads phase fill_is =
     writer_allows shape slots id me now 0 (λ _. fill + 1) (λ _. OpenTold shape now (passed me.0)) is.view leads
     (λ c r ws homes s now_is pages low. open_moves shape me now c r ws homes s now_is low number fill (is.hand ∙ ap emptied (sym pages)) phase fill_is)
 
--- ---- the page that came into the writer's hands
+-- ---- the page that the writer got
 
 same_page : (a b p q : ℕ) → opening a p ≡ opening b q → p ≡ q
 same_page a b p q e = cc
@@ -336,14 +336,14 @@ module _ (shape : Shape) (now : Writing) (known : ℕ) (mid : Sat) (told : OpenT
   pub opened_slot : mid.1 ≡ (number, Some told.body) ∷ rest mid.1
   opened_slot = told.hand ∙ (λ i. (page_is i, Some told.body) ∷ sym (ap rest told.hand) i)
 
-  -- and the body is what lies there
+  -- and the body is what is there
   pub opened_body : (found : Option Contents) → mid.1 ≡ (number, found) ∷ rest mid.1 → found ≡ Some told.body
   opened_body found at = sym (ap body_of at) ∙ ap body_of opened_slot
 
   pub opened_size : (found : Option Contents) (page : Contents) → mid.1 ≡ (number, found) ∷ rest mid.1 → found ≡ Some page → page.size ≡ shape.size
   opened_size found page at is = ap (λ (body : Contents). body.size) (same_body page told.body (sym is ∙ opened_body found at)) ∙ told.size_is
 
-  -- the slot that is emptied goes behind the others
+  -- the slot that is emptied goes after the others
   pub opened_seat : (after end : Sat) → after ≡ (mid.0, (number, None) ∷ rest mid.1) → end ≡ (after.0, turned after.1) → WriterTold shape now known (λ _. ⊤) (begun_answer now.frames) end
   opened_seat after end after_is end_is = subst (WriterTold shape now known (λ _. ⊤) (begun_answer now.frames)) (sym (end_is ∙ ap (λ (m : Sat). let seat : Sat = (m.0, turned m.1) in seat) after_is)) record {
     seat = record {

@@ -38,7 +38,7 @@ writer_placed w known r head vs id next knows e i low = subst (ArePlaced next r 
 pub reader_placed : (w : Writing) (known : ℕ) (r : Reading) (head : ℕ) (vs : List SeatView) (id : ℕ) (next : Reading) → vs ≡ writes w known ∷ reads r ∷ [] → id ≡ 1 → known ≤ head → ArePlaced w next head (set vs id (reads next))
 reader_placed w known r head vs id next e i low = subst (ArePlaced w next head) (λ k. set (sym e k) (sym i k) (reads next)) (running known low)
 
--- behind a step of either end no seat is the first one
+-- after a step of either end no seat is the first one
 pub not_laid_writer : (vs : List SeatView) (w : Writing) (known : ℕ) (r : Reading) (id : ℕ) (next : Writing) (knows : ℕ) (u : Writing) (v : Reading) → vs ≡ writes w known ∷ reads r ∷ [] → id ≡ 0 → set vs id (writes next knows) ≡ laid u v ∷ [] → ⊥
 not_laid_writer vs w known r id next knows u v e i is = let there : writes next knows ∷ reads r ∷ [] ≡ laid u v ∷ [] = sym (λ k. set (e k) (i k) (writes next knows)) ∙ is in cc
 

@@ -1,4 +1,4 @@
--- Private steps of the writer: the same words and pages at home show the state behind them.
+-- Private steps of the writer: the same words and pages at home show the state after them.
 use Rattle.std.proofs.Common.{◌≡◌, ◌≢◌, ℕ, ◌+◌, ◌<◌, ◌≤◌, List, [], ◌∷◌, length, slice_index_or, sym, ap, ◌∙◌, subst, arith}
 use Rattle.trace_model.specs.Ring.{Held, Core, page_at}
 use Rattle.trace_model.specs.Steps.{contents_of, Event, Answer, Exchange, Step}

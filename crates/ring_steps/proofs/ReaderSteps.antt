@@ -1,4 +1,4 @@
--- The steps of the reader: what the words, the pages at home and its part show behind each of them.
+-- The steps of the reader: what the words, the pages at home and its part show after each of them.
 use Rattle.std.specs.Prelude.{⊤}
 use Rattle.std.proofs.Common.{◌≡◌, ℕ, ◌+◌, List, refl, sym, ap, ◌∙◌, subst, arith}
 use Rattle.atomic_table.specs.Table.{keeps}

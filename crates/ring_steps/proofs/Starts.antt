@@ -66,7 +66,7 @@ module _ (shape : Shape) (is : IsShape shape) (ws : List ℕ) (first_ws : AreFir
     before_is : (f : ℕ) → page_before n c.order f ≡ (f + n - 1) % n
     before_is f = page_is (f + n - 1)
 
-    -- the position behind that of the page in front of a position is that position
+    -- the position after that of the page before a position is that position
     behind : (f : ℕ) → ((f + n - 1) % n + 1) % n ≡ f % n
     behind f = let many = some_pages in mod-add-mod (f + n - 1) n 1 ∙ (ap (λ (k : ℕ). k % n) (let e : f + n - 1 + 1 ≡ f + n = omega arith in e) ∙ add-mod_right f n)
 

@@ -1,4 +1,4 @@
--- The words of a ring and its pages at home, behind the reader's swap.
+-- The words of a ring and its pages at home, after the reader's swap.
 use Rattle.std.proofs.Common.{◌≡◌, ◌≢◌, ℕ, suc, ◌+◌, ◌-◌, ◌%◌, ◌<◌, ◌≤◌, List, length, get_or, set, Some, true, sym, ap, ◌∙◌, subst, mod-lt, arith, length-set}
 use Rattle.std.proofs.Math.Nat.{add-mod_right}
 use Rattle.std.proofs.lemmas.List.{get_or-set_same, get_or-set_other}
@@ -52,7 +52,7 @@ module _ (n size start : ℕ) (c : Core) (k : IsRingKept n size start c) (page f
   before_next : (suc fill + n - 1) % n ≡ fill % n
   before_next = ap (λ (i : ℕ). i % n) (let e : suc fill + n - 1 ≡ fill + n = omega arith in e) ∙ add-mod_right fill n
 
-  -- the spare stands in front of the next position
+  -- the spare is before the next position
   front_next : (g : ℕ) → g % n ≡ suc fill % n → page_before n order_behind g ≡ c.spare
   front_next g e = let two = two_pages in let wide = k.links.apart.pages in
       ap (λ (i : ℕ). get_or order_behind i 0) (one_before n g (suc fill) (omega arith) e ∙ before_next)
@@ -114,7 +114,7 @@ module _ (n size start : ℕ) (c : Core) (k : IsRingKept n size start c) (page f
         ∙ (other_page (page_before n c.order g) (befores_differ n c.order c.spare g fill (omega arith) k.links.apart ne')
         ∙ (a.links g ∙ ap word_of (sym (link_else g ne ne'))))
 
-    -- the head's page has the link behind it
+    -- the word of the head's page is the link into the position after it
     tells_spare : get_or words_behind (page_word page) 0 ≡ word_of (link_into n c.links (suc fill))
     tells_spare = let two = two_pages in
         let front : page ≡ page_before n c.order (suc fill) = page_is ∙ ap (λ (i : ℕ). get_or c.order i 0) (sym before_next) in
@@ -147,7 +147,7 @@ module _ (n size start : ℕ) (c : Core) (k : IsRingKept n size start c) (page f
     head_home = let here = head.fill_is in let closed = head.closed in
         subst (λ (p : ℕ). IsHome homes size p fill (contents_of c p)) (sym page_is) (h.closed fill (omega arith) (omega arith))
 
-    -- also where the spare's body is laid home
+    -- also if the spare's body is put home
     pub head_stays : get_elem? (set homes c.spare (some (Some blank))) page ≡ some (some (Some head_home.0))
     head_stays = set_else homes c.spare page (some (Some blank)) not_spare ∙ head_home.1
 

@@ -1,4 +1,4 @@
--- The reader's swap: what the words, the pages at home and its part show behind it.
+-- The reader's swap: what the words, the pages at home and its part show after it.
 use Rattle.std.specs.Prelude.{⊤, slice_set, ◌==◌}
 use Rattle.std.specs.List.{slice_index}
 use Rattle.std.proofs.Common.{◌≡◌, ◌≢◌, ℕ, suc, ◌+◌, ◌-◌, ◌*◌, ◌%◌, ◌≤◌, List, [], ◌∷◌, ◌++◌, length, set, map, Option, Some, None, Bool, true, refl, sym, ap, ◌∙◌, subst, arith, append_assoc, mul-le-mul_left}
@@ -119,7 +119,7 @@ module _ (shape : Shape) (me : Sat) (c : Core) (ws : List ℕ) (homes : Homes) (
     told : link_into shape.pages c.links fill ≡ header_link page fill
     told = word_tells (link_into shape.pages c.links fill) (header_link page fill) (link_fits shape.pages shape.size shape.start c fill s.pages_fit ring) fits (sym found_is ∙ (same ∙ from_is))
 
-    -- what lies in the head's slot
+    -- what is in the head's slot
     home : (body : Contents) × (get_elem? homes page ≡ some (some (Some body))) × IsWrittenPage shape.size fill (contents_of c page) body
     home = behind.head_home shape.pages shape.size shape.start c ring page fill facts told (reading me.0) homes blank sized s.are_homes
 
@@ -235,7 +235,7 @@ module _ (shape : Shape) (me mid : Sat) (page fill spare : ℕ) (blank : Content
       (λ core ws homes s. swap_moves shape (laid_into me blank) core ws homes s page fill front from to blank at keeps_slot refl sized front_is fits from_is
       (to_is ∙ ap (λ (p : ℕ). word_of (normal_link p (fill + shape.pages))) spare_is))))
 
-  -- what was told, of the seat before
+  -- what is known of the swap, said of the seat before
   pub told_before : (found : ℕ) (after : Sat) → SwapTold shape mid (head_to_take (reading mid.0).reader.phase) found after → SwapTold shape (laid_into me blank) (spot fill page) found after
   told_before found after t = subst (λ (head : Spot). SwapTold shape (laid_into me blank) head found after) (ap head_to_take at)
       (subst (λ (m : Sat). SwapTold shape m (head_to_take (reading m.0).reader.phase) found after) laid_is t)

@@ -1,4 +1,4 @@
--- The steps of the reader's take: what the words, the pages at home and its part show behind each of them.
+-- The steps of the reader's take: what the words, the pages at home and its part show after each of them.
 use Rattle.std.proofs.Common.{◌≡◌, ℕ, suc, ◌+◌, ◌-◌, ◌%◌, ◌<◌, ◌≤◌, List, [], ◌∷◌, get_or, map, take, Option, None, Bool, true, false, refl, sym, ap, ◌∙◌, subst, mod-lt, lt_of_not-le, arith, length-set}
 use Rattle.std.specs.Prelude.{⊤, slice_set}
 use Rattle.std.specs.List.{slice_index}
@@ -60,12 +60,12 @@ words_on n c words reader a = record {
   spare = a.spare;
 }
 
--- the same pages at home, where the spare's slot is empty unless the reader keeps it
+-- the same pages at home, in which the spare's slot is empty unless the reader keeps it
 pub homes_on : (n size : ℕ) (c : Core) (r : Reading) (homes : Homes) (reader : Reader) (link : Link) (b : Bool) → AreHomes n size c r homes → (b ≡ false → get_elem? homes c.spare ≡ some (some None))
     → AreHomes n size (gone_on c reader link) (part_of (gone_on c reader link) b) homes
 homes_on n size c r homes reader link b h spare = record { count = h.count; closed = h.closed; free = h.free; spare = spare }
 
--- the spare's slot comes home, or leaves it
+-- the spare's slot is put home, or taken from there
 pub homes_set : (n size : ℕ) (c : Core) (r : Reading) (homes : Homes) (reader : Reader) (link : Link) (b : Bool) (x : maybe.Option (Option Contents)) → 1 ≤ n → AreApart n c.order c.spare → AreHomes n size c r homes
     → (b ≡ false → x ≡ some None)
     → AreHomes n size (gone_on c reader link) (part_of (gone_on c reader link) b) (slice_set homes c.spare x)
@@ -77,7 +77,7 @@ homes_set n size c r homes reader link b x some_pages a h is =
       spare = λ e. set_here homes c.spare x (omega arith) ∙ ap some (is e);
     }
 
--- where the reader keeps the spare's slot, it comes home
+-- if the reader keeps the spare's slot, it is put home
 homes_given : (n size : ℕ) (c : Core) (r : Reading) (homes : Homes) (reader : Reader) (link : Link) (b : Bool) → 1 ≤ n → AreApart n c.order c.spare → AreHomes n size c r homes
     → (b ≡ false → get_elem? homes c.spare ≡ some (some None))
     → AreHomes n size (gone_on c reader link) (part_of (gone_on c reader link) false) (put_back homes (kept_slots b c.spare))
@@ -200,7 +200,7 @@ module _ (shape : Shape) (me : Sat) (is : IsSeatOfReader me) (c : Core) (ws : Li
       (λ not. loads_on 1 (λ found core. core.done ≡ found) model.reading (record c.reader { phase = storing_link page fill; seen = c.done })
       (step_in shape me c ws homes s (loading_done page fill) model.reading (model.reader_saw c (storing_link page fill)) at (model.finds_closed (lt_of_not-le not) refl refl)) seen)
 
-  -- the link into the position of the hint is loaded, and the spare's slot comes home
+  -- the link into the position of the hint is loaded, and the spare's slot is put home
   pub load_link_moves : (page : ℕ) → (reading me.0).reader.phase ≡ loading_link → page ≡ page_before shape.pages (reading me.0).order (reading me.0).reader.hint
       → ReaderMoves shape c me ws homes (page + 3) (λ k. k) (λ found after. SeatTold shape (IsWordInto shape (reading me.0).reader.hint found) false me after)
   load_link_moves page at page_is =

@@ -1,4 +1,4 @@
--- The writer's part, where steps reach a state of which it is that.
+-- The writer's part, if steps reach a state of which it is that.
 use Rattle.std.proofs.Common.{◌≡◌, ℕ, ◌<◌, ◌≤◌, List, length, sym, ap, ◌∙◌, arith}
 use Rattle.std.specs.Prelude.{slice_index_or}
 use Rattle.std.proofs.Math.Logic.{∥∥₁_elim}
@@ -13,7 +13,7 @@ use Rattle.ring_steps.specs.Seats.{Leads, IsWriterStep}
 use Rattle.ring_steps.specs.Paging.{IsWriterReached}
 use Rattle.ring_steps.proofs.Private.{private_open_pages, private_reached}
 
--- the writer's part behind a step is one that steps reach
+-- the writer's part after a step is one that steps reach
 pub step_reached : (shape : Shape) (before : Writing) (sees : Core → Type 0) (answer : Answer) (after : Writing) → IsWriterStep shape before sees answer after → IsWriterReached shape after
 step_reached shape before sees answer after s = record {
   core = s.next;
@@ -21,7 +21,7 @@ step_reached shape before sees answer after s = record {
   is = s.after_is;
 }
 
--- what is known of the writer's part before its private steps, and behind them
+-- what is known of the writer's part before its private steps, and after them
 abbrev pub IsWithin : Writing → Writing → Type 0
 IsWithin before now =
     (0 < length before.open_pages)

@@ -1,4 +1,4 @@
--- What the writer's steps ask and tell that load and set links.
+-- What the writer's steps that load and set links ask and show.
 use Rattle.std.specs.Prelude.{◌≡◌, ℕ, ◌+◌, ◌-◌, ◌<◌, ◌≤◌, List, [], ◌∷◌, length, Option, Some, None, slice_index_or}
 use Rattle.trace_model.specs.Links.{word_of}
 use Rattle.trace_model.specs.Frames.{Role, looking_next, marking, Frame, noted_fill}
@@ -9,11 +9,11 @@ use Rattle.ring_steps.specs.Views.{Writing, writing, passed}
 use Rattle.ring_steps.specs.Seats.{Sat, IsWriting, IsWriterStep, WriterTold}
 use Rattle.ring_steps.specs.Paging.{IsTopIn}
 
--- the tail page, in which the link into the position of the fill to open stands
+-- the tail page, whose word is the link into the position of the fill to open
 abbrev pub tail_in : Writing → ℕ
 tail_in w = slice_index_or w.open_pages (length w.open_pages - 1) 0
 
--- The frame on top looks at the link behind this page, which is into the position of this fill: the head was moved on
+-- The frame on top looks at the link after this page, which is into the position of this fill: the head was moved on
 -- to it.
 pub record LooksBehind (n : ℕ) (w : Writing) (page behind : ℕ) : Type 0 where
   pub role : Role
@@ -39,7 +39,7 @@ abbrev pub noted_on_top : List Frame → ℕ
 noted_on_top [] = 0
 noted_on_top (frame ∷ below) = number_or_zero (noted_fill frame.phase)
 
--- the fill behind the one that is lost for it
+-- the fill after the one that is lost for it
 abbrev pub behind_in : ℕ → Writing → ℕ
 behind_in n w = noted_on_top w.frames + 1 - n
 
@@ -49,17 +49,17 @@ abbrev pub SeesLink : Shape → (known fill found : ℕ) → Core → Type 0
 SeesLink shape known fill found core =
     (known ≤ core.head) × (word_of (link_into shape.pages core.links fill) ≡ found)
 
--- what a step on that word tells
+-- what a step on that word shows
 abbrev pub LinkTold : Shape → Writing → (known fill found : ℕ) → Sat → Type 0
 LinkTold shape now known fill found after =
     WriterTold shape now known (SeesLink shape known fill found) going after
 
--- What a claim of the head tells besides: the fill that is lost for the next one is passed, by this claim or before.
+-- What a claim of the head shows besides: the fill that is lost for the next one is passed, by this claim or before.
 pub record ClaimTold (shape : Shape) (now : Writing) (known found : ℕ) (after : Sat) : Type 0 where
   pub told : LinkTold shape now known now.opened found after
   pub lost : now.opened < passed after.0 + shape.pages
 
--- what a load of the reader's wish tells
+-- what a load of the reader's wish shows
 pub record WishTold (shape : Shape) (now : Writing) (known found : ℕ) (after : Sat) : Type 0 where
   pub seat : IsWriting after
   pub knows : known ≤ passed after.0

@@ -21,12 +21,12 @@ pub record IsShape (shape : Shape) : Type 0 where
   pub words : shape.size % 4 ≡ 0
   pub numbers_left : shape.start + shape.pages < LINK_FILLS
 
--- so many numbers, from one on
+-- count numbers, from one on
 abbrev pub counted : (from count : ℕ) → List ℕ
 counted from zero = []
 counted from (suc count) = from ∷ counted (suc from) count
 
--- no frame stands, and the first fill is begun, on the page of its position
+-- the stack is empty, and the first fill is begun, on the page of its position
 abbrev pub first_writing : Shape → Writing
 first_writing shape = record {
   frames = [];
@@ -48,12 +48,12 @@ first_reading shape = record {
   keeps_spare = false;
 }
 
--- the word of a page's link in a new ring: it leads into the position behind the page's own
+-- the word of a page's link in a new ring: it leads into the position after the page's own
 abbrev pub IsFirstLinkWord : Shape → (page word : ℕ) → Type 0
 IsFirstLinkWord shape page word =
     (link : Link) × (word ≡ word_of link) × IsFirstLink shape.pages shape.start ((page + 1) % shape.pages) link
 
--- A word of a new ring: its counts, for each page of it the link into the position behind, and 0 for the spare.
+-- A word of a new ring: its counts, for each page of it the link into the next position, and 0 for the spare.
 pub record IsFirstWord (shape : Shape) (i word : ℕ) : Type 0 where
   pub opened : i ≡ 0 → word ≡ shape.start + 1
   pub done : i ≡ 1 → word ≡ shape.start

@@ -1,4 +1,4 @@
--- What the writer's steps ask and tell that begin a fill and close one: a page comes into its hands, or goes home.
+-- What the writer's steps that begin a fill and close one ask and show: the writer gets a page, or one goes home.
 use Rattle.std.specs.Prelude.{◌≡◌, ◌≤◌, ⊤, ℕ, List, [], ◌∷◌, ◌++◌, Some}
 use Rattle.trace_model.specs.Frames.{Phase, opening, Frame, no_frame}
 use Rattle.trace_model.specs.Ring.{Core}
@@ -15,7 +15,7 @@ pub record IsWriterReached (shape : Shape) (w : Writing) : Type 0 where
   pub reached : IsReached shape.pages shape.size shape.start core
   pub is : writing_of core ≡ w
 
--- a frame stands, and the one on top is in this phase
+-- there is a frame on top, and it is in this phase
 abbrev pub IsTopIn : List Frame → Phase → Type 0
 IsTopIn [] phase = ⊥
 IsTopIn (frame ∷ below) phase = frame.phase ≡ phase
@@ -25,7 +25,7 @@ abbrev pub begun_answer : List Frame → Answer
 begun_answer [] = refused no_frame
 begun_answer (frame ∷ below) = begin_answer frame.kind frame.state below
 
--- What the store that begins a fill tells: the page at its position, of the ring's size, is in the writer's hands.
+-- What the store that begins a fill shows: the writer has the page at its position, of the ring's size.
 pub record OpenTold (shape : Shape) (now : Writing) (known : ℕ) (after : Sat) : Type 0 where
   pub view : after.0 ≡ writes (writing after.0) (passed after.0)
   pub knows : known ≤ passed after.0

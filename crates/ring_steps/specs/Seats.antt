@@ -1,4 +1,4 @@
--- What ties a seat to its ring's table, and what a step of either end tells.
+-- What ties a seat to its ring's table, and what a step of either end shows.
 use Rattle.std.specs.Prelude.{◌≡◌, ℕ, ◌+◌, ◌<◌, ◌≤◌, List, [], ◌∷◌, map, Option, None, Bool, true, false}
 use Rattle.atomic_table.specs.Table.{Me}
 use Rattle.atomic_table.specs.Seated.{TableId}
@@ -69,7 +69,7 @@ pub record IsReaderStep (shape : Shape) (before : Reading) (sees : Core → Type
   pub step : Step shape.pages shape.size core event answer next
   pub after_is : IsReading next after
 
--- what each step of the reader tells of its seat
+-- what each step of the reader shows of its seat
 pub record ReaderTold (shape : Shape) (sees : Core → Type 0) (event : Event) (answer : Answer) (before after : Sat)
     : Type 0 where
   pub seat : IsSeatOfReader after
@@ -99,8 +99,8 @@ pub record IsWriterStep (shape : Shape) (before : Writing) (sees : Core → Type
   pub step : Step shape.pages shape.size core steps answer next
   pub after_is : writing_of next ≡ after
 
--- What each step of the writer tells of its seat; by now its part is this, and below the known number it knows all
--- fills to be passed, as it does behind the step.
+-- What each step of the writer shows of its seat; by now its part is this, and below the known number it knows all
+-- fills to be passed, as it does after the step.
 pub record WriterTold (shape : Shape) (now : Writing) (known : ℕ) (sees : Core → Type 0) (answer : Answer) (after : Sat)
     : Type 0 where
   pub seat : IsWriting after

@@ -1,5 +1,5 @@
 -- The rule of a ring's table: its words, the pages at home and what its two ends know show some state of the ring.
--- docs/MODEL.md, "The running ring"; the words are told in docs/FORMATS.md, "The ring".
+-- docs/MODEL.md, "The running ring"; the words are specified in docs/FORMATS.md, "The ring".
 use Rattle.std.specs.Prelude.{◌≡◌, ℕ, ◌+◌, ◌-◌, ◌<◌, ◌≤◌, List, [], ◌∷◌, length, map, take, Option, Some, None, false, slice_index_or}
 use mathlib.Core.Option.{some, none}
 use mathlib.Core.Option as maybe
@@ -17,7 +17,7 @@ use Rattle.ring_steps.specs.Views.{Writing, writing_of, Reading, SeatView, laid,
 
 -- ---- words
 
--- the words of the counts, in front of those of the pages' links
+-- the words of the counts, before those of the pages' links
 abbrev pub OPENED_WORD : ℕ
 OPENED_WORD = 0
 
@@ -31,11 +31,11 @@ WISH_WORD = 2
 abbrev pub page_word : ℕ → ℕ
 page_word page = page + 3
 
--- the page whose link leads into the position of a fill: it stands at the position in front
+-- the page whose link leads into the position of a fill: it is at the position before
 abbrev pub page_before : ℕ → List ℕ → ℕ → ℕ
 page_before n order f = page_at n order (f + n - 1)
 
--- The words show the counts and the links of a state: each page has one, the link into the position behind its own, and
+-- The words show the counts and the links of a state: each page has one, the link into the position after its own, and
 -- the page outside the ring too.
 pub record AreWords (n : ℕ) (c : Core) (words : List ℕ) : Type 0 where
   pub count : length words ≡ n + 4
@@ -48,7 +48,7 @@ pub record AreWords (n : ℕ) (c : Core) (words : List ℕ) : Type 0 where
 
 -- ---- pages at home
 
--- what lies in the slots: a slot that is out with a seat is none
+-- what is in the slots: a slot that is out with a seat is none
 abbrev pub Homes : Type 0
 Homes = List (maybe.Option (Option Contents))
 
@@ -62,7 +62,7 @@ abbrev pub HasBody : Homes → (size page : ℕ) → Type 0
 HasBody homes size page = (body : Contents) × (get_elem? homes page ≡ some (some (Some body))) × (body.size ≡ size)
 
 -- The page of each fill that is closed and unread is at home with what it holds; and so is a page for each fill that
--- may be begun before one more is closed. The spare's slot is empty, where the reader doesn't keep it.
+-- may be begun before one more is closed. The spare's slot is empty if the reader doesn't keep it.
 pub record AreHomes (n size : ℕ) (c : Core) (r : Reading) (homes : Homes) : Type 0 where
   pub count : length homes ≡ n + 1
   pub closed : (f : ℕ)
@@ -74,7 +74,7 @@ pub record AreHomes (n size : ℕ) (c : Core) (r : Reading) (homes : Homes) : Ty
 
 -- ---- the rule
 
--- The reader's part is the state's; and it heard the records up to the last one that it took, which are committed.
+-- The reader's part is the state's; and it observed the records up to the last one that it took, which are committed.
 pub record IsReading (c : Core) (r : Reading) : Type 0 where
   pub order_is : r.order ≡ c.order
   pub spare_is : r.spare ≡ c.spare

@@ -1,4 +1,4 @@
--- What the reader's swap tells.
+-- What the reader's swap shows.
 use Rattle.std.specs.Prelude.{◌≡◌, ◌≢◌, ⊤, ℕ, ◌+◌, ◌-◌, ◌*◌, ◌%◌, ◌≤◌, true, List, [], ◌∷◌, ◌++◌, length, Some, slice_set}
 use Rattle.trace_model.specs.declared.limits.TheConstants.{LINK_FILLS}
 use Rattle.trace_model.specs.Record.{Record}
@@ -13,9 +13,10 @@ use Rattle.ring_steps.specs.Views.{Reading, reading}
 use Rattle.ring_steps.specs.Seats.{Sat, IsReaderStep}
 use Rattle.ring_steps.specs.Taking.{ReadTold}
 
--- The swap was done: this page as this fill was the head, and what lay in its slot is the fill with all that it holds,
--- as the model's answer tells. The reader heard of just the records that were lost in front of the page, and of the
--- page's; and it has the head's page for its own. Each record takes 8 bytes of a page, so the numbers fit a word.
+-- The swap was done: this page as this fill was the head, and what was in its slot is the fill with all that it holds,
+-- as the model's answer states. The records that the reader observed are more by exactly those that were lost before
+-- the page, and the page's; and the head's page is its own. Each record takes 8 bytes of a page, so the numbers fit a
+-- word.
 pub record HeadTaken (shape : Shape) (before : Reading) (page fill : ℕ) (taken : Contents) (after : Reading)
     : Type 0 where
   pub told : Taken
@@ -41,7 +42,7 @@ pub record HeadTaken (shape : Shape) (before : Reading) (page fill : ℕ) (taken
   pub spare_is : after.spare ≡ page
   pub wish_is : after.wish ≡ before.wish
 
--- The swap was not done: this page as this fill wasn't the head any more, and the reader looks for it behind that fill.
+-- The swap was not done: this page as this fill wasn't the head any more, and the reader looks for it after that fill.
 pub record HeadMissed (shape : Shape) (before : Reading) (page fill : ℕ) (after : Reading) : Type 0 where
   pub step : IsReaderStep shape before (λ core. link_into shape.pages core.links fill ≢ header_link page fill)
       model.reads model.reading after
@@ -55,8 +56,8 @@ head_to_take (loading_done page fill) = spot 0 0
 head_to_take (storing_link page fill) = spot 0 0
 head_to_take (swapping page fill) = spot fill page
 
--- What the compare and exchange tells of the seat, by the word that was found: where that was the head's, the head's
--- page lies in the slot that the seat has.
+-- What the compare and exchange shows of the seat, by the word that was found: if that was the head's, the head's
+-- page is in the slot that the seat has.
 pub record SwapTold (shape : Shape) (before : Sat) (head : Spot) (found : ℕ) (after : Sat) : Type 0 where
   pub read : ReadTold shape (λ _. ⊤) true before after
   pub took : found ≡ word_of (header_link head.page head.fill)

@@ -1,4 +1,4 @@
--- What the steps of the reader's take tell.
+-- What the steps of the reader's take show.
 use Rattle.std.specs.Prelude.{◌≡◌, ℕ, Bool}
 use Rattle.trace_model.specs.Links.{word_of, FitsWord}
 use Rattle.trace_model.specs.Ring.{Core, link_into}
@@ -11,7 +11,7 @@ use Rattle.ring_steps.specs.Seats.{Sat, IsSeatOfReader, IsReaderWithin, IsReader
 abbrev pub IsRead : Shape → Reading → (Core → Type 0) → Reading → Type 0
 IsRead shape before sees after = (answer : model.Answer) × IsReaderStep shape before sees model.reads answer after
 
--- what each step of a take tells of the seat's view, behind which the reader keeps the spare's slot, or doesn't
+-- what each step of a take shows of the seat's view, after which the reader keeps the spare's slot, or doesn't
 pub record ReadTold (shape : Shape) (sees : Core → Type 0) (keeps : Bool) (before after : Sat) : Type 0 where
   pub view : after.0 ≡ reads (reading after.0)
   pub within : IsReaderWithin shape (reading after.0)

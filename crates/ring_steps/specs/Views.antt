@@ -27,7 +27,7 @@ writing_of c = record {
 
 -- The reader's part: the page at each position, the page outside the ring and its link, how far its take has come and
 -- what it took, and the wish, which it alone stores. heard: the committed records up to the last one that it took,
--- those that were lost in front among them. keeps_spare: the spare's slot is out with it.
+-- those that were lost before it among them. keeps_spare: the spare's slot is out with it.
 pub record Reading : Type 0 where
   pub order : List ℕ
   pub spare : ℕ
@@ -62,7 +62,7 @@ no_reading = record {
   keeps_spare = false;
 }
 
--- the writer's part of what a seat knows, where it has one
+-- the writer's part of what a seat knows, if it has one
 abbrev pub writing : SeatView → Writing
 writing (laid w r) = w
 writing (whole w r) = w

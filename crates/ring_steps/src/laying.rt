@@ -26,7 +26,7 @@ pub(crate) fn first_words(alloc: Global, shape: Shape) -> Result<Vec<u64>, NoMem
     Ok(words)
 }
 
-/// The link of a page of a new ring, into the position behind its own.
+/// The link of a page of a new ring, into the position after its own.
 fn first_link_word(page: u16, shape: Shape) -> u64
     requires shape { IsShape shape }
     requires page { page < shape.pages }
@@ -50,7 +50,7 @@ pub(crate) fn first_slots(alloc: Global, shape: Shape) -> Result<Vec<Option<Page
     Ok(slots)
 }
 
-/// What lies in a slot at first, but the spare's.
+/// What is in a slot at first, but the spare's.
 fn first_slot(alloc: Global, page: usize, shape: Shape) -> Result<Option<Page>, NoMemory>
     requires shape { IsShape shape }
     requires page { page < shape.pages }

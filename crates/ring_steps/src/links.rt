@@ -19,7 +19,7 @@ pub(crate) fn link_in(word: u64) -> Link
     }
 }
 
-/// The word of the link that tells nothing of the page.
+/// The word of the link that states nothing of the page.
 pub(crate) fn normal_word(page: u16, fill: FillNo) -> u64
     requires page_fits { page < LINK_PAGES }
     requires fill_fits { fill.0 < LINK_FILLS }

@@ -7,7 +7,7 @@ use crate::plays::Place;
 use crate::writer::Present;
 use std::marker::{Brand, Model};
 
-/// The writer's part of a ring by now, behind what it did in private since its last step on a word. It has no bytes.
+/// The writer's part of a ring by now, after what it did in private since its last step on a word. It has no bytes.
 #[derive(Drop)]
 pub(crate) struct Memo {
     pub(crate) ghost now: { Writing },
@@ -20,7 +20,7 @@ impl Model for Memo {
 // It owns nothing.
 unsafe impl Send for Memo {}
 
-/// The part that the caller picks. `given` is what it tells the proof of that; no code reads it.
+/// The part that the caller picks. `given` is what the caller states to the proof; no code reads it.
 #[inline(always)]
 pub(crate) fn memo_of<J: Present, G>(given: &G) -> Memo
     ensures { result.now ≡ J.now }

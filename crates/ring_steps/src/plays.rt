@@ -1,4 +1,4 @@
-//! Steps on a word, each with what its caller wants it to tell.
+//! Steps on a word, each with what its caller needs to know after it.
 ghost use Rattle.std.specs.Prelude.{◌≡◌, ℕ, ◌<◌, ◌==◌};
 ghost use prog.Atomic.{either};
 ghost use Rattle.atomic_table.specs.Table.{Allows};
@@ -13,7 +13,7 @@ use std::marker::{Brand, PhantomData};
 /// A seat at a ring's table.
 pub(crate) type Place = Seat<Option<Page>, View>;
 
-/// What a step tells: of its seat before, of what it found (or stored), and of its seat after.
+/// What a step shows: of its seat before, of what it found (or stored), and of its seat after.
 pub(crate) trait Telling {
     ghost use Rattle.std.specs.Prelude.{ℕ};
     ghost use Rattle.ring_steps.specs.Seats.{Sat};
@@ -25,7 +25,7 @@ impl Telling for Brand {
     ghost tells = { λ _ _ _. Unit {0} };
 }
 
-/// A step that tells this.
+/// A step that shows this.
 struct Told<J> {
     of: PhantomData<J>,
 }
@@ -70,7 +70,7 @@ pub(crate) fn store<J: Telling>(
     board.shared.store::<Told<J>>(seat, word, new);
 }
 
-/// Makes a word `to` where it is `from`, and answers what it was.
+/// Makes a word `to` if it is `from`, and answers what it was.
 #[inline(always)]
 pub(crate) fn exchange<J: Telling>(
     board: &Board,

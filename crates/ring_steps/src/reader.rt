@@ -60,7 +60,7 @@ impl ReaderSeat {
         link_in(load::<Brand>(&self.board, self.shape, &mut self.seat, word))
     }
 
-    /// A store of the link of the spare, which will lead to the fill behind the one that is taken. The reader takes
+    /// A store of the link of the spare, which will lead to the fill after the one that is taken. The reader takes
     /// the spare's slot.
     pub fn store_spare_link(&mut self, spare: u16, link: Link)
         requires due { (page fill : ℕ)

@@ -17,9 +17,9 @@ use std::marker::Brand;
 use trace_model::{FillNo, RecordNo};
 
 impl ReaderSeat {
-    /// A compare and exchange of the link to the head, this page as this fill, in the word of the page in front: it is
+    /// A compare and exchange of the link to the head, this page as this fill, in the word of the page before: it is
     /// made the link to the reader's spare. If it was there, `body` is in the ring at the spare's number, and the
-    /// head's page is answered, whose number is the spare's from now on; else a body of the same size comes back. In
+    /// head's page is answered, whose number is the spare's from now on; else a body of the same size is returned. In
     /// both cases the reader keeps the spare's slot until its next load of a link.
     pub fn swap(
         &mut self,
@@ -59,7 +59,7 @@ impl ReaderSeat {
     }
 }
 
-/// The page comes out of the slot of this number, the one that the seat took last.
+/// Moves the page out of the slot of this number, the one that the seat took last.
 fn lift(board: &Board, seat: &mut Place, number: u16) -> Page
     requires seated { seat.old.table_id ≡ board.now.shared.table_id }
     requires slot { (page : Contents) × (seat.old.me.1 ≡ (number, Some page) ∷ rest seat.old.me.1) }

@@ -1,7 +1,7 @@
 //! What a seat at a ring's table knows.
 use std::marker::Model;
 
-/// What an end of a ring knows of its own part. No value of it is made: contracts and proofs alone speak of it.
+/// What an end of a ring knows of its own part. No value of it is made: only contracts and proofs use it.
 pub struct View;
 
 impl Model for View {

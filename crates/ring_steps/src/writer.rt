@@ -24,9 +24,9 @@ use std::marker::Brand;
 use trace_model::FillNo;
 
 impl WriterSeat {
-    /// Notes what the writer did in private since its last step on a word: by it the writer's part comes to be what it
-    /// is by now. No word is loaded or stored, and the next step on one is from there. `given` is what a caller tells
-    /// the proof of that; no code reads it.
+    /// Notes what the writer did in private since its last step on a word: by it the writer's part becomes what it
+    /// is by now. No word is loaded or stored, and the next step on one is from there. `given` is what a caller states
+    /// to the proof; no code reads it.
     #[inline(always)]
     pub fn note<J: Present, G>(&mut self, given: &G)
         requires due { Leads self.old.shape (writing_in self.old) J.now }
@@ -38,14 +38,14 @@ impl WriterSeat {
         self.memo = memo_of::<J, G>(given);
     }
 
-    /// What the writer did in private since its last step on a word leads from the part that its seat knows to its part
-    /// by now.
+    /// What the writer did in private since its last step on a word leads from the part that its seat knows to its
+    /// present part.
     #[inline(always)]
     pub(crate) fn recall(&self)
         ensures { Leads self.now.shape (writing self.now.seat.me.0) (writing_in self.now) }
     {}
 
-    /// A load of the link into the position of the fill to open, which stands in the word of the tail page. What the
+    /// A load of the link into the position of the fill to open, which is in the word of the tail page. What the
     /// seat knew to be passed is at most the head of the state that is seen.
     pub fn load_link<J: Present>(&mut self, tail: u16) -> Link
         requires due { Leads self.old.shape (writing_in self.old) J.now }
@@ -67,7 +67,7 @@ impl WriterSeat {
         link_in(found)
     }
 
-    /// A load of the next link, which stands in the word of this page: that into the position of the fill behind the
+    /// A load of the next link, which is in the word of this page: that into the position of the fill after the
     /// lost one.
     pub fn load_next<J: Present>(&mut self, page: u16, behind: FillNo) -> Link
         requires due { Leads self.old.shape (writing_in self.old) J.now }
@@ -88,8 +88,8 @@ impl WriterSeat {
         link_in(found)
     }
 
-    /// A load of the reader's wish, when no fill is left to close. `given` is what a caller tells the proof of what was
-    /// done in private before; no code reads it.
+    /// A load of the reader's wish, when no fill is left to close. `given` is what a caller states to the proof of what
+    /// was done in private before; no code reads it.
     pub fn load_wish<J: Present, G>(&mut self, given: &G) -> u64
         requires due { Leads self.old.shape (writing_in self.old) J.now }
         requires phase { IsTopIn J.now.frames wishing }
@@ -152,8 +152,8 @@ impl WriterSeat {
         found == from
     }
 
-    /// A compare and exchange of the link in the word of the page in front from the frame's own UPDATE to NORMAL with
-    /// the fill that it noted; whether it was done. It always is: nobody but the frame that set an UPDATE replaces it.
+    /// A compare and exchange of the link in the word of the page before from the frame's own UPDATE to NORMAL with
+    /// the fill that it noted; whether it was done. It always is: only the frame that set an UPDATE replaces it.
     pub fn clear<J: Present>(&mut self, front: u16, page: u16, noted: FillNo) -> bool
         requires due { Leads self.old.shape (writing_in self.old) J.now }
         requires phase { IsTopIn J.now.frames (clearing noted.0 page) }
@@ -221,7 +221,7 @@ impl WriterSeat {
     }
 }
 
-/// What the writer's part of the ring is by now, behind what it did in private since its last step on a word. No code
+/// What the writer's part of the ring is by now, after what it did in private since its last step on a word. No code
 /// reads it: a caller picks it for the proof.
 pub trait Present {
     ghost use Rattle.ring_steps.specs.Views.{Writing};

@@ -41,7 +41,7 @@ ledger_more ledgers i l within is =
     ap taken_in (take_more ledgers i l within ∙ ap (λ (y : Ledger). take i ledgers ++ y ∷ []) (sym is))
     ∙ sym (flat_map_more (λ (x : Ledger). x.taken.items) [] (take i ledgers) l)
 
--- ---- where each ledger has parcels of its own CPU alone
+-- ---- if each ledger has parcels of its own CPU alone
 
 module _ (ledgers : List Ledger) (own : AreOwn ledgers) where
   -- what was taken of a CPU is in the ledger of that CPU

@@ -15,9 +15,9 @@ use trace_model::{CpuId, NoMemory};
 /// The bytes of data of a page, which four records of four bytes of payload fill.
 const SIZE: usize = 32;
 
-/// A ring of two pages in which so many records are written; what each take finds; of each parcel its fill, its first
-/// number, how many records it has, and how many numbers are missing in front; and the first number of the page that is
-/// left, if there is one, and how many records it has.
+/// A ring of two pages in which `written` records are written; what each take finds; of each parcel its fill, its first
+/// number, how many records it has, and how many numbers are missing before it; and the first number of the page that
+/// is left, if there is one, and how many records it has.
 struct Row {
     written: u64,
     found: &'static [Found],
@@ -56,7 +56,7 @@ const ROWS: &[Row] = &[
     },
 ];
 
-/// Writes so many records.
+/// Writes `count` records.
 fn write_all(rt: &impl Abort, writer: Writer, count: u64) -> Writer
     requires { IsWriter writer }
     ensures same { SameWriter writer result }

@@ -27,7 +27,7 @@ pub record AuditedShown : Type 0 where
   pub collector : Shown
   pub verdict : Verdict
 
--- It tells just what the collector has and misses, and how its audit against these taken parcels ends.
+-- It states exactly what the collector has and misses, and how its audit against these taken parcels ends.
 pub record TellsAudited (taken kept : List Parcel) (shown : AuditedShown) : Type 0 where
   pub tells : Tells kept shown.collector
   pub verdict : IsVerdict kept taken shown.verdict

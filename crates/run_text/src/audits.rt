@@ -51,8 +51,8 @@ fn put_line(out: &mut Vec<u8>, answer: Result<Audited, AuditFault>) -> Result<()
     Ok(())
 }
 
-/// Puts the line that tells what an audit answered: `audit yes`, `audit stray C F` or `audit lacks C F`, C and F being
-/// the CPU and the fill of the parcel that the audit names. If memory is refused, the text is as before.
+/// Puts the line of an audit's answer: `audit yes`, `audit stray C F` or `audit lacks C F`, C and F being the CPU and
+/// the fill of the parcel that the audit names. If memory is refused, the text is as before.
 pub fn put_audit(out: &mut Vec<u8>, answer: Result<Audited, AuditFault>) -> Result<(), NoMemory>
     ensures text { OnOk result (out.new.items ≡ out.old.items ++ printed_audit (verdict_of answer)) }
     ensures kept { OnErr result (out.new.items ≡ out.old.items) }

@@ -21,9 +21,9 @@ fn answer_of(collector: &Collector, ledgers: &[Ledger]) -> Result<Audited, Audit
     audit(collector, ledgers)
 }
 
-/// The text of a collector under this number, and the line of its audit. Answers where what stands below the first line
-/// is, up to the audit. Of an earlier collector that is at `span`; where both have and miss the same, it is copied. On
-/// an error a part of that may be put.
+/// The text of a collector under this number, and the line of its audit. Returns the place of the part between the
+/// first line and the audit. The same part of an earlier collector is at `span`; if both have and miss the same, it is
+/// copied. On an error a part of the text may be put.
 fn put_audited(
     alloc: Global,
     out: &mut Vec<u8>,
@@ -46,7 +46,7 @@ fn put_audited(
     Ok(own)
 }
 
-/// The text of each collector, numbered from 0, and behind each the line of its audit against these ledgers. On an error
+/// The text of each collector, numbered from 0, and after each the line of its audit against these ledgers. On an error
 /// a part of that may be put.
 fn put_all(
     alloc: Global,
@@ -68,7 +68,7 @@ fn put_all(
     Ok(())
 }
 
-/// Puts what a run left: the text of each collector, numbered from 0, and behind each the line of its audit against
+/// Puts what a run left: the text of each collector, numbered from 0, and after each the line of its audit against
 /// these ledgers. If memory is refused, the text is as before.
 pub fn put_run(
     alloc: Global,

@@ -17,7 +17,7 @@ use Rattle.text_model.proofs.ParsedLimits.{tested-within, then-within, Is64Bit, 
 
 -- ---- commands
 
--- so many steps may a line ask for
+-- a line may ask for this many steps
 abbrev IsCount : ℕ → Type 0
 IsCount n = (MIN_LINE_STEPS ≤ n) × (n ≤ MAX_LINE_STEPS)
 

@@ -1,4 +1,4 @@
--- One answer after the other, where the first fault is what counts.
+-- One answer after the other, of which the first fault counts.
 use Rattle.std.proofs.Common.{◌≡◌, ◌⊎◌, Bool, true, false, cond, Result, Ok, Err, refl, sym, ap, inl, inr}
 use Rattle.text_model.specs.Script.{◌>>=◌}
 

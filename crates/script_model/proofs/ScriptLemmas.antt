@@ -72,7 +72,7 @@ command_onto : (command : ℕ × Command) (front : Commands) (r : Read Commands)
 command_onto command front (Ok x) = refl
 command_onto command front (Err e) = refl
 
--- in front of the rest, lines that spell commands are read as them
+-- lines that spell commands are read as them, if the rest follows them
 commands_given : (cpus collectors : ℕ) (front : List NumberedLine) (commands : Commands) (rest : List NumberedLine)
     → SpellCommands cpus collectors front commands
     → commands_from cpus collectors (front ++ rest) ≡ (commands_from cpus collectors rest >>= commands_onto commands)
@@ -88,7 +88,7 @@ commands_given cpus collectors (line ∷ front) (command ∷ commands) rest h =
 commands_given cpus collectors [] (command ∷ commands) rest h = absurd h
 commands_given cpus collectors (line ∷ front) [] rest h = absurd h
 
--- the lines in front of a line spell commands, and that line none
+-- the lines before a line spell commands, and that line none
 record CommandFault (cpus collectors : ℕ) (lines : List NumberedLine) (e : ℕ × LineFault) : Type 0 where
   front : List NumberedLine
   line : List ℕ
@@ -147,7 +147,7 @@ faulty_command_read cpus collectors lines e f =
     ∙ ap (command_then cpus collectors (e.0, f.line) f.behind) f.fails)
 
 -- ---- the start line
--- what stands in front of the commands, and the lines behind it: where nothing does, none of them is a start line
+-- what is before the commands, and the lines after it: if nothing is, none of them is a start line
 pub record StartRead (pages : ℕ) (lines : List NumberedLine) (x : Start) : Type 0 where
   pub start_line : List NumberedLine
   pub cut : lines ≡ start_line ++ x.1
@@ -249,7 +249,7 @@ unfolding start_from
 no_start_read pages [] h = refl
 no_start_read pages (line ∷ lines) h = start_from_line pages line lines ∙ cond-false (is_start_line line.1) _ _ h
 
--- in front of lines that begin with no start line, what gives the first fill is read as it
+-- before lines that begin with no start line, what gives the first fill is read as it
 start_read : (pages : ℕ) (start_line : List NumberedLine) (start : ℕ) (rest : List NumberedLine)
     → GivesStart pages start_line start → (length start_line ≡ 0 → BeginsNoStart rest)
     → start_from pages (start_line ++ rest) ≡ Ok (start, rest)
@@ -354,7 +354,7 @@ script_ok end lines s h =
     (spelled_by lines x y commands.0 (header_ok end lines x header.1) (start_ok (get_or x.0 0 0) x.1 y start.1)
     (commands_ok (get_or x.0 2 0) (get_or x.0 3 0) y.1 commands.0 commands.1))
 
--- behind a header and perhaps a start line, the reader goes on with the commands
+-- after a header and perhaps a start line, the reader goes on with the commands
 behind_start_read : (end : ℕ) (header start_line rest : List NumberedLine) (s : Script)
     → GiveSettings header header_settings (values_of s) → GivesStart s.pages start_line s.start
     → (length start_line ≡ 0 → BeginsNoStart rest)
@@ -380,7 +380,7 @@ script_given end lines s h =
     (λ none. commands_begin_no_start s.cpus s.collectors h.behind s.commands h.commands)
     ∙ ap (λ (r : Read Commands). r >>= λ commands. Ok (made_of (values_of s) s.start commands)) commands
 
--- the first fault of these lines, where the line behind the last one has the number end
+-- the first fault of these lines, if the line after the last one has the number end
 abbrev pub LinesFault : ℕ → List NumberedLine → ℕ × LineFault → Type 0
 LinesFault end lines e =
     IsFaultySetting header_settings lines e.0 e.1

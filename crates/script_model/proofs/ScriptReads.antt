@@ -14,7 +14,7 @@ script_reads text script = (
   λ h. script_ok (end_line_after 0 text) (significant_lines text) script h,
 )
 
--- the line behind the last one has one number more than the last
+-- the line after the last one has one number more than the last
 pub fault_reads : (text : List ℕ) (number : ℕ) (fault : LineFault)
     → (FirstScriptFault text number fault ↔ (script_in text ≡ Err (number, fault)))
 unfolding significant_lines_after end_line_after

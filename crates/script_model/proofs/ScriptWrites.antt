@@ -240,7 +240,7 @@ commands_spelled cpus collectors n (command ∷ commands) few_cpus few_collector
       (n + 1) commands few_cpus few_collectors h.1,
 )
 
--- the lines of a script, with these behind its start line
+-- the lines of a script, with these after its start line
 abbrev lines_for : Script → List (List ℕ) → List (List ℕ)
 lines_for script behind = setting_text pages_setting script.pages
     ∷ setting_text size_setting script.size

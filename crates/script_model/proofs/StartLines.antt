@@ -1,4 +1,4 @@
--- A start line is told from a command by its word.
+-- A start line is distinguished from a command by its word.
 use Rattle.std.proofs.Common.{◌≡◌, ℕ, Bool, true, false, ◌&&◌, cond, List, [], ◌∷◌, ◌++◌, length, codes, Ok, Err, refl, sym, ◌∙◌, ap, arith}
 use Rattle.std.specs.Str.{bytes_eq}
 use Rattle.std.proofs.lemmas.Bool.{false_from_ne_true, both_ways}
@@ -78,7 +78,7 @@ commands_begin_no_start cpus collectors (line ∷ lines) (command ∷ commands) 
     command_is_no_start cpus collectors line.1 command.1 h.0
 commands_begin_no_start cpus collectors (line ∷ lines) [] h = absurd h
 
--- the same, with more lines behind them
+-- the same, with more lines after them
 pub begins_no_start_before : (front : List NumberedLine) (line : NumberedLine) (behind : List NumberedLine)
     → BeginsNoStart front → (length front ≡ 0 → is_start_line line.1 ≡ false) → BeginsNoStart (front ++ line ∷ behind)
 begins_no_start_before [] line behind h first = first refl

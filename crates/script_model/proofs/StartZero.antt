@@ -11,7 +11,7 @@ use Rattle.script_model.proofs.ScriptLemmas.{Read, Settings, Start, then_command
 use Rattle.script_model.proofs.ScriptReads.{script_reads, fault_reads}
 
 -- ---- the header
--- these lines behind what is read
+-- these lines after what is read
 abbrev in_front_of : List NumberedLine → Settings → Read Settings
 in_front_of rest x = Ok (x.0, rest)
 

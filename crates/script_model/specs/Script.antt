@@ -7,10 +7,10 @@ use Rattle.text_model.specs.Script.{LineFault, bad_line, out_of_range, ◌>>=◌
 use Rattle.script_model.specs.declared.script_limits.TheConstants.{MIN_SCRIPT_CPUS, MAX_SCRIPT_CPUS, MIN_SCRIPT_COLLECTORS, MAX_SCRIPT_COLLECTORS, MIN_LINE_STEPS, MAX_LINE_STEPS}
 
 -- What a line of a script asks for, of a CPU's ring or of a collector. begin_frame: a record frame of this moment and
--- payload is pushed. step_frame: the frame on top makes so many steps, if it stands so long. finish_frame: it makes
--- steps until it is gone. write: both, a frame pushed and finished. close: a close frame, pushed and finished.
--- step_reader: the reader makes so many steps, if its take lasts so long. take_page: it makes steps until it answers.
--- wish: the reader asks for the tail. deliver: the collector gets this fill of the CPU.
+-- payload is pushed. step_frame: the frame on top makes this many steps, or fewer if it is gone before.
+-- finish_frame: it makes steps until it is gone. write: both, a frame pushed and finished. close: a close frame, pushed
+-- and finished. step_reader: the reader makes this many steps, or fewer if its take is answered before. take_page: it
+-- makes steps until it answers. wish: the reader asks for the tail. deliver: the collector gets this fill of the CPU.
 pub data Command : Type 0 where
   begin_frame : (cpu moment : ℕ) (payload : List ℕ) → Command
   step_frame : (cpu count : ℕ) → Command
@@ -68,9 +68,9 @@ deliver_in cpus collectors collector_field cpu_field fill_field = do
   fill ← decimal_in fill_field
   Ok (deliver collector cpu fill)
 
--- The command that fields spell, for so many CPUs and collectors: `cX f`, `cX c`, `cX t`, `cX a`, `cX s K`, `cX r K`,
--- `cX b T HEX`, `cX w T HEX` or `d K cX F`. Once the word and the number of fields fit, values are looked at from left
--- to right.
+-- The command that fields spell, with these numbers of CPUs and collectors: `cX f`, `cX c`, `cX t`, `cX a`, `cX s K`,
+-- `cX r K`, `cX b T HEX`, `cX w T HEX` or `d K cX F`. Once the word and the number of fields fit, values are looked at
+-- from left to right.
 unfoldable pub command_of : ℕ → ℕ → List (List ℕ) → Result Command LineFault
 command_of cpus collectors (first ∷ second ∷ []) =
     if bytes_eq second (codes "f") then of_cpu cpus finish_frame first
@@ -153,7 +153,7 @@ collectors_setting = record {
 abbrev pub header_settings : List Setting
 header_settings = pages_setting ∷ size_setting ∷ cpus_setting ∷ collectors_setting ∷ []
 
--- the number of each ring's first fill, for rings of so many pages: it leaves a number for each page
+-- the number of each ring's first fill, for rings of this many pages: it leaves a number for each page
 abbrev pub start_setting : ℕ → Setting
 start_setting pages = record { word = codes "start"; min = START_FILL; max = LINK_FILLS - 1 - pages; step = 1 }
 
@@ -171,8 +171,8 @@ abbrev pub BeginsNoStart : List NumberedLine → Type 0
 BeginsNoStart [] = ⊤
 BeginsNoStart (line ∷ lines) = is_start_line line.1 ≡ false
 
--- What stands between the four settings and the commands, for rings of so many pages: a start line with this value,
--- or nothing, where the first fill is the one that is meant without it.
+-- What is between the four settings and the commands, for rings of this many pages: a start line with this value,
+-- or nothing, if the first fill is the default one.
 abbrev pub GivesStart : ℕ → List NumberedLine → ℕ → Type 0
 GivesStart pages [] start = start ≡ START_FILL
 GivesStart pages (line ∷ []) start = value_in (start_setting pages) line.1 ≡ Ok start
@@ -204,7 +204,7 @@ pub record SpellScript (lines : List NumberedLine) (script : Script) : Type 0 wh
 abbrev pub ParsesScript : List ℕ → Script → Type 0
 ParsesScript text script = SpellScript (significant_lines text) script
 
--- The lines in front of this one are the header, and it is a start line whose value is at fault.
+-- The lines before this one are the header, and it is a start line whose value is at fault.
 pub record IsFaultyStart (lines : List NumberedLine) (number : ℕ) (fault : LineFault) : Type 0 where
   pub front : List NumberedLine
   pub line : List ℕ
@@ -216,8 +216,8 @@ pub record IsFaultyStart (lines : List NumberedLine) (number : ℕ) (fault : Lin
   pub is_start : IsTrue (is_start_line line)
   pub fails : value_in (start_setting script.pages) line ≡ Err fault
 
--- The lines in front of this one spell a script, and this one no command of it; and it isn't a start line at its
--- place, right behind the header.
+-- The lines before this one spell a script, and this one no command of it; and it isn't a start line at its
+-- place, right after the header.
 pub record IsFaultyCommand (lines : List NumberedLine) (number : ℕ) (fault : LineFault) : Type 0 where
   pub front : List NumberedLine
   pub line : List ℕ
@@ -229,7 +229,7 @@ pub record IsFaultyCommand (lines : List NumberedLine) (number : ℕ) (fault : L
   pub fails : command_in script.cpus script.collectors line ≡ Err fault
 
 -- The line of this number is the first of the text that is at fault, and this is what is wrong with
--- it. Where lines of the header are missing, it is the line behind the last one.
+-- it. If lines of the header are missing, it is the line after the last one.
 abbrev pub FirstScriptFault : List ℕ → ℕ → LineFault → Type 0
 FirstScriptFault text number fault =
     IsFaultySetting header_settings (significant_lines text) number fault
@@ -239,7 +239,7 @@ FirstScriptFault text number fault =
     ⊎ IsFaultyStart (significant_lines text) number fault
     ⊎ IsFaultyCommand (significant_lines text) number fault
 
--- The one text has no start line behind the four lines of its header, and the other has `start 0` there. All other
+-- The one text has no start line after the four lines of its header, and the other has `start 0` there. All other
 -- significant lines are the same in both, and their numbers too.
 pub record AddsStartZero (text other : List ℕ) : Type 0 where
   pub header : List NumberedLine

@@ -5,15 +5,15 @@ use Rattle.text_model.specs.declared.script_limits.TheConstants.{SIZE_STEP}
 use Rattle.script_model.specs.declared.script_limits.TheConstants.{MIN_SCRIPT_CPUS, MAX_SCRIPT_CPUS, MIN_SCRIPT_COLLECTORS, MAX_SCRIPT_COLLECTORS, MIN_LINE_STEPS, MAX_LINE_STEPS}
 use Rattle.script_model.specs.Script.{Command, begin_frame, step_frame, finish_frame, write, close, step_reader, take_page, wish, deliver, Script}
 
--- of so many CPUs, this one; its moment fits 64 bits, and its payload is one of bytes
+-- the CPU is one of `cpus`; the moment fits 64 bits, and the payload is one of bytes
 abbrev pub IsRecordWithin : (cpus cpu moment : ℕ) → List ℕ → Type 0
 IsRecordWithin cpus cpu moment payload = (cpu < cpus) × (moment < 2 ^ 64) × All (λ byte. byte < 256) payload
 
--- of so many CPUs, this one; so many steps may a line ask for
+-- the CPU is one of `cpus`, and a line may ask for this many steps
 abbrev pub AreStepsWithin : (cpus cpu count : ℕ) → Type 0
 AreStepsWithin cpus cpu count = (cpu < cpus) × (MIN_LINE_STEPS ≤ count) × (count ≤ MAX_LINE_STEPS)
 
--- Of so many CPUs and collectors, the command names some that are there, and its numbers are within their limits.
+-- The CPU and the collector that the command names are below these counts, and its numbers are within their limits.
 abbrev pub IsCommandWithin : (cpus collectors : ℕ) → Command → Type 0
 IsCommandWithin cpus collectors (begin_frame cpu moment payload) = IsRecordWithin cpus cpu moment payload
 IsCommandWithin cpus collectors (step_frame cpu count) = AreStepsWithin cpus cpu count

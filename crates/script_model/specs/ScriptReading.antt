@@ -14,13 +14,13 @@ commands_from cpus collectors (line ∷ lines) = do
   commands ← commands_from cpus collectors lines
   Ok ((line.0, command) ∷ commands)
 
--- the first fill that a start line gives, for rings of so many pages, and the lines behind it
+-- the first fill that a start line gives, for rings of this many pages, and the lines after it
 unfoldable pub start_given : ℕ → NumberedLine → List NumberedLine → Result (ℕ × List NumberedLine) (ℕ × LineFault)
 start_given pages line lines = do
   value ← numbered_reading line.0 (value_in (start_setting pages) line.1)
   Ok (value, lines)
 
--- the first fill that the first line gives, if it is a start line, and the lines behind it
+-- the first fill that the first line gives, if it is a start line, and the lines after it
 unfoldable pub start_from : ℕ → List NumberedLine → Result (ℕ × List NumberedLine) (ℕ × LineFault)
 start_from pages [] = Ok (START_FILL, [])
 start_from pages (line ∷ lines) =

@@ -1,4 +1,4 @@
--- The payloads of the frames that stand, which are kept with the top one's last and shown with it first.
+-- The payloads of the frames on the stack, which are kept with the top one's last and shown with it first.
 use Rattle.std.proofs.Common.{◌≡◌, ℕ, ◌-◌, List, [], ◌∷◌, ◌++◌, length, take, drop, reverse, map, sym, ap, ◌∙◌, arith}
 use Rattle.std.proofs.lemmas.List.{map-append, reverse-append, length-reverse, length-drop, take-append-drop, take-map, drop_at}
 

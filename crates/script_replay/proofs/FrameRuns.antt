@@ -27,7 +27,7 @@ use Rattle.script_replay.proofs.LaneValues.{depth_is}
 
 -- ---- one step more
 
--- a step behind a run of the frame on top is one more of it
+-- a step after a run of the frame on top is one more of it
 frame_more : (n size depth : ℕ) (before after : Lane) (xs : List Exchange) (answer : model.Answer) (core : Core)
     → FrameRun n size depth before xs after
     → length after.core.frames ≡ depth
@@ -110,7 +110,7 @@ amid_turn line cpu depth count old v new answer first log more amid deep once to
     amid_more n size start cpu line depth count lane v new answer first log more (amid n size start lane is) deep once
     told
 
--- so many steps are made, or the frame is gone
+-- `count` steps are made, or the frame is gone
 pub followed : (n size start cpu line depth made count : ℕ) (before : Lane) (v : LaneValue) (first log : List LogLine)
     → Happens (IsAmid depth made) line cpu n size start before first v log
     → depth ≡ length before.core.frames
@@ -209,7 +209,7 @@ stepped_on n size start cpu line count v new lane first log is some h = record {
   log = h.log;
 }
 
--- ---- no frame stands
+-- ---- no frame is on the stack
 
 lacked : (n size start cpu : ℕ) (v : LaneValue) (lane : Lane)
     → IsLane n size start cpu v lane

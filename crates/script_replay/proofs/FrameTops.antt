@@ -92,7 +92,7 @@ top_payload frames payloads frame below top fit =
     of_top [] fit = absurd fit
     of_top (payload ∷ rest) fit = (payload, rest, refl, fit.0)
 
--- the payload of the frame on top, whose record stands in this slot
+-- the payload of the frame on top, whose record is in this slot
 pub record HasTopPayload (old : LaneValue) (lane : Lane) (slot : Slot) : Type 0 where
   pub payload : List ℕ
   pub rest : List (List ℕ)
@@ -134,11 +134,11 @@ top_is_slot : (s : Stack) (frames : List stack.Frame) (slot : Slot) (part : List
 top_is_slot s [] slot part top = absurd top
 top_is_slot s (f ∷ frames) slot part top = ap (λ (p : Progress). with_reserved s p part) top
 
--- this payload is the first one, where there is one
+-- this payload is the first one, if there is one
 abbrev pub IsFirst : List ℕ → List (List ℕ) → Type 0
 IsFirst payload payloads = (first : List ℕ) (rest : List (List ℕ)) → payloads ≡ first ∷ rest → payload ≡ first
 
--- so many are kept in front of the last one
+-- the index of the last item is one less than their number
 pub last_of : {B : Type 0} (f : B → List ℕ) (items : List B) (kept : ℕ) (payload : List ℕ) (rest : List (List ℕ))
     → reverse (map f items) ≡ payload ∷ rest
     → kept ≡ length items

@@ -8,7 +8,7 @@ use Rattle.script_replay.specs.Lanes.{IsNewLaneOf}
 use Rattle.script_replay.specs.Places.{in_place, lane_at, AreSameBut, IsLaneFrom, StandsFrom}
 
 module _ {Z : Type 0} where
-  -- the lane that stands in a place, as it is lent
+  -- the lane that is in a place, as it is lent
   pub lent_from : (script : Script) (places : List (Option (Box LaneValue Z))) (cpu : ℕ) (before : Option LaneValue)
       (place : Option (Box LaneValue Z)) (lane : Box LaneValue Z)
       → cpu < length places
@@ -20,7 +20,7 @@ module _ {Z : Type 0} where
       let at : get_or places cpu None ≡ Some lane = get_or_default places cpu None place low ∙ sym is ∙ some in
       subst (StandsFrom script before) (ap in_place at) stands
 
-  -- what is put into a place stands there, and all others are the same
+  -- what is put into a place is there, and all others are the same
   pub put_there : (places : List (Option (Box LaneValue Z))) (cpu : ℕ) (lane : Box LaneValue Z)
       → cpu < length places
       → lane_at (slice_set places cpu (Some lane)) cpu ≡ Some lane.value

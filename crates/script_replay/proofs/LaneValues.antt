@@ -1,4 +1,4 @@
--- What a lane as a value tells of each lane that it is, and what a step of a ring that pushes no frame makes of it.
+-- What a lane as a value shows of each lane that it is, and what a step of a ring that pushes no frame makes of it.
 use Rattle.std.proofs.Common.{◌≡◌, ℕ, suc, ◌-◌, List, [], ◌∷◌, length, drop, map, refl, sym, ap, ◌∙◌, arith}
 use Rattle.std.proofs.lemmas.List.{length-map, length-reverse}
 use Rattle.trace_model.specs.Frames.{FrameState, waiting, reserved, left, Frame}

@@ -1,4 +1,4 @@
--- What is so between two lines of a script is so behind one line more.
+-- What holds between two lines of a script holds after one line more.
 use Rattle.std.proofs.Common.{◌≡◌, ◌≢◌, ℕ, ◌+◌, ◌<◌, List, [], ◌∷◌, ◌++◌, length, get_or, take, Option, Some, refl, sym, ap, ◌∙◌, subst, ⊎_elim, arith, append-nil}
 use Rattle.std.specs.Prelude.{Contains, All, IfSome, slice_set}
 use Rattle.std.specs.List.{slice_get}
@@ -40,7 +40,7 @@ use Rattle.script_replay.proofs.Placed.{from_is_lane, first_world, new_at, obeys
 pub log_more : (log new : List LogLine) (line : LogLine) (told : model.LogLine) → new ≡ log ++ line ∷ [] → shown_log_line line ≡ told → shown_log new ≡ shown_log log ++ told ∷ []
 log_more log new line told more same = ap shown_log more ∙ map-append shown_log_line log (line ∷ []) ∙ ap (λ (l : model.LogLine). shown_log log ++ l ∷ []) same
 
--- ---- in front of the first line
+-- ---- before the first line
 
 none_collected : (kept parcels : List Parcel) → kept ≡ [] → parcels ≡ [] → IsCollected kept parcels
 none_collected kept parcels none none' = subst (IsCollected kept) (none ∙ sym none') (record { same = same_itself kept; among = λ parcel has. has })

@@ -1,4 +1,4 @@
--- What is logged of exchanges: of one, and of some behind others.
+-- What is logged of exchanges: of one, and of some after others.
 use Rattle.std.proofs.Common.{◌≡◌, ℕ, List, [], ◌∷◌, ◌++◌, sym, ap, ◌∙◌, append_assoc, append-nil}
 use Rattle.std.proofs.lemmas.Grind.{flat_map-append}
 use Rattle.trace_model.specs.Steps.{Exchange}

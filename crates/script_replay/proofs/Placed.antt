@@ -33,14 +33,14 @@ one_new_lane n start a b some (s, none) (t, none') =
     let cores : a.core ≡ b.core = only a.core s ∙ sym (only b.core t) in
     λ i. record { core = cores i; payloads = (none ∙ sym none') i }
 
--- the value is the lane that stands at the CPU, whether it was made before or is made now
+-- the value is the lane at the CPU, whether it was made before or is made now
 pub from_is_lane : (script : Script) (cpu : ℕ) (place : Option LaneValue) (v : LaneValue) (lane : Lane) → IsWithinLimits script → cpu < script.cpus → IsLaneFrom script place v → IsLaneAt script cpu place lane → IsLane script.pages script.size script.start cpu v lane
 from_is_lane script cpu None v lane limits low (new, is_new, each) at =
     let pages = limits.min_pages in let cpus = limits.max_cpus in
     subst (IsLane script.pages script.size script.start cpu v) (one_new_lane script.pages script.start new lane (omega arith) is_new at) (each cpu (omega arith))
 from_is_lane script cpu (Some before) v lane limits low same at = subst (λ (x : LaneValue). IsLane script.pages script.size script.start cpu x lane) (sym same) at
 
--- ---- the world in front of the first line
+-- ---- the world before the first line
 
 pub first_world : (script : Script) → IsWithinLimits script → (w : World) × IsNewWorld script w
 first_world script limits =

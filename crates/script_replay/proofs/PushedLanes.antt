@@ -1,4 +1,4 @@
--- A frame that is pushed stands on top with its payload; one that is refused changes nothing.
+-- A frame that is pushed is on top with its payload; one that is refused changes nothing.
 use Rattle.std.proofs.Common.{◌≡◌, ◌≢◌, ℕ, List, [], ◌∷◌, ◌++◌, length, map, refl, sym, ap, ◌∙◌, subst, append-nil}
 use Rattle.trace_model.specs.Frames.{Refusal, Frame}
 use Rattle.trace_model.specs.Ring.{Core}
@@ -103,7 +103,7 @@ fits_behind payload lane told after fit (fails why is frames) =
     subst (λ (a : model.Answer). FitFrames after.frames (payloads_with payload a lane.payloads)) (sym is)
     (subst (λ (fs : List Frame). FitFrames fs lane.payloads) (sym frames) fit)
 
--- the value behind a push, whatever is answered
+-- the value after a push, whatever is answered
 pushed_lane : (n size start cpu : ℕ) (old new : LaneValue) (lane : Lane) (push : Event) (payload : List ℕ)
     (answer : Answer) (core : CoreValue)
     → IsLane n size start cpu old lane
@@ -151,7 +151,7 @@ made_push : (old : LaneValue) (push : Event) (payload : List ℕ) (a : Answer) (
 made_push old push payload a core of makes =
     subst (λ (e : model.Event). Makes old.core e a core) (event_is old.core push payload of) makes
 
--- it stands
+-- it is on top
 pub stands_pushed : (old : LaneValue) (push : Event) (payload : List ℕ) (a : Answer) (core : CoreValue)
     (payloads : List (List ℕ))
     → IsPushOf push payload
@@ -233,7 +233,7 @@ begun n size start cpu line moment lane payload a new first log p told =
       log = told_one line cpu x (shown_log first) (shown_log log) (told size p.told p.tells);
     }
 
--- of a push that stands nothing is logged
+-- of a push that isn't refused nothing is logged
 pub untold : (line cpu : ℕ) (a : Answer) (log : List LogLine) → a ≡ answer.Pushed → IsTold line cpu a log log
 untold line cpu a log is size told tells =
     let pushed_is : told ≡ pushed = subst (λ (y : Answer). Tells size y told) is tells in
@@ -272,7 +272,7 @@ written n size start cpu line lane push payload a between new first log more p i
 
 -- ---- a push that is refused
 
--- the model answers `pushed` where the ring does
+-- the model answers `pushed` if the ring does
 told_pushed : (size : ℕ) (a : Answer) (told : model.Answer) → Tells size a told → told ≡ pushed → a ≢ answer.Pushed → ⊥
 told_pushed size answer.Pushed told t is not = not refl
 told_pushed size answer.Going told t is not = let z : ⊥ = cc in z

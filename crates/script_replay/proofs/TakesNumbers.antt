@@ -1,4 +1,4 @@
--- The records of a page that was taken have numbers, and no more are missing in front of it than stand there.
+-- The records of a page that was taken have numbers, and the missing numbers before it are below its first one.
 use Rattle.std.proofs.Common.{◌≡◌, ℕ, ◌+◌, ◌^◌, ◌<◌, ◌≤◌, List, [], ◌∷◌, ◌++◌, length, map, take, Some, sym, ap, ◌∙◌, subst, arith, length-append}
 use Rattle.std.proofs.lemmas.List.{length-map, length-take, map-append}
 use Rattle.trace_model.specs.declared.limits.TheConstants.{MAX_SIZE, MAX_CPUS}

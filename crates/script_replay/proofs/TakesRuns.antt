@@ -1,4 +1,4 @@
--- Steps of the reader, one behind the other: so many are made, or its take is answered.
+-- Steps of the reader, one after the other: `count` are made, or its take is answered.
 use Rattle.std.proofs.Common.{◌≡◌, ◌≢◌, ℕ, suc, ◌+◌, ◌<◌, ◌≤◌, inl, inr, ⊎_elim, Bool, true, false, List, [], ◌∷◌, ◌++◌, refl, sym, ◌∙◌, subst, arith, length-append}
 use Rattle.std.specs.Prelude.{All}
 use Rattle.std.proofs.lemmas.List.Elements.{All-push}
@@ -81,7 +81,7 @@ read_more line cpu steps goes_on first between new log log_between new_log so_fa
           h.log k.log;
     }
 
--- behind them the value is a lane still
+-- after them the value is still a lane
 pub lane_of : {run : (n size : ℕ) → Lane → List Exchange → Lane → Type 0} (line cpu : ℕ) (v new : LaneValue)
     (log new_log : List LogLine)
     → IsLaneOf cpu v

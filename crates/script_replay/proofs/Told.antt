@@ -1,4 +1,4 @@
--- What an answer of a ring tells, in the log.
+-- What an answer of a ring puts into the log.
 use Rattle.std.proofs.Common.{◌≡◌, ℕ, List, ◌++◌}
 use Rattle.trace_model.specs.Steps as model
 use Rattle.world_model.specs.Log.{logged}
@@ -7,7 +7,7 @@ use Rattle.ring_frames.specs.Answers.{Tells}
 use Rattle.replay_log.specs.declared.line.LogLine.{LogLine}
 use Rattle.replay_log.specs.LogTypes.{shown_log}
 
--- it stands behind the log
+-- it is appended to the log
 abbrev pub IsTold : (line cpu : ℕ) → Answer → List LogLine → List LogLine → Type 0
 IsTold line cpu answer log more = (size : ℕ) (told : model.Answer)
     → Tells size answer told

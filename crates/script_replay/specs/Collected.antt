@@ -13,7 +13,7 @@ abbrev pub IsFound : Option LaneValue → (fill : ℕ) → Parcel → Type 0
 IsFound None fill parcel = ⊥
 IsFound (Some lane) fill parcel = Contains lane.taken parcel × (parcel.fill ≡ fill)
 
--- what a delivery brings, by what becomes of its parcel
+-- the outcome of a delivery, by what becomes of its parcel
 abbrev pub delivery_of : Added → Delivery
 delivery_of New = new_page
 delivery_of Known = known_page

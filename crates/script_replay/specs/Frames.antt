@@ -22,7 +22,7 @@ AsksTop old answer new = (n size start cpu : ℕ) (lane : Lane)
     → IsLane n size start cpu old lane
     → IsStep n size start lane.core (event_on_top lane.core.frames lane.payloads) answer new
 
--- the frame on top of this lane makes its step, and the value is the lane behind it
+-- the frame on top of this lane makes its step, and the value is the lane after it
 pub record IsSteppedOnce (n size start cpu : ℕ) (lane : Lane) (answer : Answer) (new : LaneValue) : Type 0 where
   pub told : model.Answer
   pub core : Core
@@ -35,13 +35,13 @@ StepsOnce old answer new = (n size start cpu : ℕ) (lane : Lane)
     → IsLane n size start cpu old lane
     → IsSteppedOnce n size start cpu lane answer new
 
--- the frame on top makes steps until so many are made or it is gone
+-- the frame on top makes steps until `count` are made or it is gone
 abbrev pub FollowsFrame : (count : ℕ) → (n size : ℕ) → Lane → List Exchange → Lane → Type 0
 FollowsFrame count n size before exchanges after =
     FrameRun n size (length before.core.frames) before exchanges after
     × IsStepped count (length before.core.frames) exchanges after
 
--- Amid that: so many steps are made by the frame on top of so many.
+-- Part of that: `steps` steps are made by the frame on top of a stack of `depth` frames.
 pub record IsAmid (depth steps n size : ℕ) (before : Lane) (exchanges : List Exchange) (after : Lane) : Type 0 where
   pub run : FrameRun n size depth before exchanges after
   pub made : length exchanges ≡ steps
@@ -67,7 +67,7 @@ push_event event.End = model.steps
 push_event (event.Read body) = model.steps
 push_event event.Wish = model.steps
 
--- a frame was to be pushed on this lane, and the value is the lane behind that
+-- a frame was to be pushed on this lane, and the value is the lane after that
 pub record IsPushed (n size start cpu : ℕ) (lane : Lane) (event : model.Event) (payload : List ℕ) (answer : Answer)
     (new : LaneValue)
     : Type 0 where

@@ -34,8 +34,8 @@ abbrev pub IsNewLaneOf : (n size start : ℕ) → LaneValue → Type 0
 IsNewLaneOf n size start v =
     (lane : Lane) × IsNewLane n start lane × ((cpu : ℕ) → cpu < MAX_CPUS → IsLane n size start cpu v lane)
 
--- Exchanges of this kind lead from a lane to another one, which the value after them is, and what is logged of them
--- stands behind the log.
+-- Exchanges of this kind lead from a lane to another one, which the value after them is, and what is logged of them is
+-- appended to the log.
 pub record Happens (run : (n size : ℕ) → Lane → List Exchange → Lane → Type 0) (line cpu n size start : ℕ)
     (before : Lane) (old_log : List LogLine) (new : LaneValue) (new_log : List LogLine)
     : Type 0 where

@@ -6,7 +6,7 @@ use Rattle.script_replay.specs.Value.{LaneValue}
 use Rattle.script_replay.specs.Lanes.{IsLane, IsNewLaneOf}
 
 module _ {Z : Type 0} where
-  -- what stands in a place
+  -- what is in a place
   abbrev pub in_place : Option (Box LaneValue Z) → Option LaneValue
   in_place None = None
   in_place (Some lane) = Some lane.value
@@ -24,7 +24,7 @@ abbrev pub IsLaneFrom : Script → Option LaneValue → LaneValue → Type 0
 IsLaneFrom script None v = IsNewLaneOf script.pages script.size script.start v
 IsLaneFrom script (Some before) v = v ≡ before
 
--- in the place a lane stands now: the one that was made, or a new one
+-- in the place there is a lane now: the one that was made, or a new one
 abbrev pub StandsFrom : Script → (before now : Option LaneValue) → Type 0
 StandsFrom script before None = ⊥
 StandsFrom script before (Some v) = IsLaneFrom script before v

@@ -26,8 +26,8 @@ pub record IsReplay (script : Script) (collectors : List (List Parcel)) (log : L
   pub log_is : shown_log log ≡ w.log
   pub collectors_are : AreCollected collectors w.delivered
 
--- What a collector keeps makes of a CPU's history: it has just the committed records that stand in the fill of one of
--- the pages that were delivered to it, under their own numbers, and misses just the numbers that were overwritten
+-- What a collector keeps makes of a CPU's history: it has exactly the committed records that are in the fill of one of
+-- the pages that were delivered to it, under their own numbers, and misses exactly the numbers that were overwritten
 -- unread before one of them.
 pub record KeepsExactly (history : List Action) (start : ℕ) (deeds : List Deed) (cpu : ℕ) (kept delivered : List Parcel)
     : Type 0 where
@@ -69,9 +69,9 @@ Join collectors = (one other : ℕ) (kept others : List Parcel)
     → IsLeastUpperBound kept others (kept ++ others)
 
 -- The headline. What is answered is the script's world. In it each CPU's parcels part its committed records, under
--- their own numbers, with just the numbers missing that were overwritten unread; each collector has just the records of
--- the pages that were delivered to it, and misses just the numbers that were overwritten unread before those;
--- collectors to which the same pages were delivered are the same; and any two have a least one above both.
+-- their own numbers, with exactly the numbers missing that were overwritten unread; each collector has exactly the
+-- records of the pages that were delivered to it, and misses exactly the numbers that were overwritten unread before
+-- those; collectors to which the same pages were delivered are the same; and any two have a least one above both.
 pub record IsHeadline (script : Script) (collectors : List (List Parcel)) (log : List LogLine) : Type 0 where
   pub world : World
   pub replay : IsReplay script collectors log world
@@ -106,7 +106,7 @@ IsOfRing (take_page cpu) = Unit {0}
 IsOfRing (wish cpu) = Unit {0}
 IsOfRing (deliver collector cpu fill) = ⊥
 
--- Behind so many lines: the lanes that were made, each at its CPU, the collectors and the log are those of the world
+-- After these lines: the lanes that were made, each at its CPU, the collectors and the log are those of the world
 -- there, and each lane that wasn't made is new.
 pub record IsAmid (script : Script) (lines : List (ℕ × Command)) (state : ReplayState) : Type 0 where
   pub world : World
@@ -117,14 +117,14 @@ pub record IsAmid (script : Script) (lines : List (ℕ × Command)) (state : Rep
   pub collectors_are : AreCollected state.collectors.items world.delivered
   pub log_is : shown_log state.log.items ≡ world.log
 
--- a command of this script may be obeyed behind some of its lines
+-- a command of this script may be obeyed after some of its lines
 pub record IsReady (script : Script) (command : Command) (state : ReplayState) : Type 0 where
   pub limits : IsWithinLimits script
   pub within : IsCommandWithin script.cpus script.collectors command
   pub lines : List (ℕ × Command)
   pub amid : IsAmid script lines state
 
--- one line more is obeyed, whichever are behind
+-- one line more is obeyed, whichever were obeyed before
 abbrev pub LeadsOn : Script → ℕ × Command → ReplayState → ReplayState → Type 0
 LeadsOn script line old new = (lines : List (ℕ × Command))
     → IsAmid script lines old

@@ -11,7 +11,7 @@ use Rattle.ring_frames.specs.declared.answer.Answer.{Answer}
 use Rattle.ring_frames.specs.declared.answer.Answer.TheVariants.{Pushed, Going, Reserved, Ended, Gone, Refused, Looking, Empty, Moving, Taken, Wished}
 use Rattle.script_replay.specs.Value.{LaneValue}
 
--- the reader makes one step; does its take go on?
+-- the reader makes one step, and its take continues or not
 pub record ReadsOnce (goes_on : Bool) (n size : ℕ) (before : Lane) (exchanges : List Exchange) (after : Lane)
     : Type 0 where
   pub answer : model.Answer
@@ -22,11 +22,11 @@ pub record ReadsOnce (goes_on : Bool) (n size : ℕ) (before : Lane) (exchanges 
   pub goes : goes_on ≡ true → answer ≡ reading
   pub answers : goes_on ≡ false → answer ≢ reading
 
--- the reader makes steps until so many are made or its take is answered
+-- the reader makes steps until `count` are made or its take is answered
 abbrev pub ReadsOn : (count : ℕ) → (n size : ℕ) → Lane → List Exchange → Lane → Type 0
 ReadsOn count n size before exchanges after = ReaderRun n size before exchanges after × IsRead count exchanges
 
--- Amid that: so many steps are made; does the take go on?
+-- Part of that: `steps` steps are made, and the take continues or is answered.
 pub record IsReading (steps : ℕ) (goes_on : Bool) (n size : ℕ) (before : Lane) (exchanges : List Exchange)
     (after : Lane)
     : Type 0 where

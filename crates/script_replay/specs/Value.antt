@@ -4,7 +4,7 @@ use Rattle.trace_model.specs.Parcel.{Parcel}
 use Rattle.ring_core.specs.Value.{CoreValue}
 use Rattle.script_replay.specs.declared.lane.Lane.TheInside.{Inside}
 
--- The ring; the payload of each frame that stands, the top one's first; the body for the next page that is taken, if
+-- The ring; the payload of each frame on the stack, the top one's first; the body for the next page that is taken, if
 -- there is one; the pages that were taken.
 pub record LaneValue : Type 0 where
   pub core : CoreValue

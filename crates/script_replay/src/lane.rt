@@ -10,13 +10,13 @@ use std::alloc::Global;
 use std::marker::Model;
 use trace_model::{MAX_FRAMES, NoMemory};
 
-/// The ring of a CPU. What a call leaves where memory is refused is not used.
+/// The ring of a CPU. What a call leaves if memory is refused is not used.
 #[derive(Drop)]
 pub struct Lane<'a> {
     core: Core,
-    /// The payload of each frame that stands, the top one's last.
+    /// The payload of each frame on the stack, the top one's last.
     payloads: Vec<&'a [u8]>,
-    /// The body that the reader puts into the ring for the next page, where it isn't yet to be made.
+    /// The body that the reader puts into the ring for the next page, if it is already made.
     body: Option<Body>,
     /// The pages that were taken, in order.
     taken: Vec<Parcel>,

@@ -29,7 +29,7 @@ fn new_lane<'a>(alloc: Global, script: &Script) -> Result<Box<Lane<'a>>, NoMemor
     Ok(Box::new(alloc, lane)?)
 }
 
-/// Makes the lane of this CPU, if none stands in its place.
+/// Makes the lane of this CPU, if there is none in its place.
 #[inline(always)]
 pub(crate) fn make_lane<'a>(
     alloc: Global,

@@ -1,4 +1,4 @@
-//! The replay of a script over the rings of its CPUs: its lines are obeyed, one behind the other.
+//! The replay of a script over the rings of its CPUs: its lines are obeyed, one after the other.
 ghost use Rattle.std.specs.Prelude.{◌≡◌, ℕ, ◌++◌, [], ◌∷◌, List, length, All, IsOkUnless, IfOk, OnOk};
 ghost use Rattle.text_model.specs.Log as model;
 ghost use Rattle.script_model.specs.Script as model_script;
@@ -140,8 +140,8 @@ fn deliver(
     Ok(())
 }
 
-/// A line of the script. What it leaves where memory is refused is not used. Each kind of line has a call of its own,
-/// in which the compiler knows the kind.
+/// A line of the script. What it leaves if memory is refused is not used. Each kind of line has a call of its own, in
+/// which the compiler knows the kind.
 #[inline(always)]
 fn obey<'a>(
     alloc: Global,
@@ -169,7 +169,7 @@ fn obey<'a>(
     }
 }
 
-/// So many collectors that keep nothing.
+/// `count` collectors that keep nothing.
 fn new_collectors(alloc: Global, count: usize) -> Result<Vec<Collector>, NoMemory>
     ensures count { IfOk result (λ collectors. length collectors.items ≡ count) }
     ensures new { IfOk result (λ collectors. All (λ kept. kept ≡ []) collectors.items) }

@@ -27,11 +27,11 @@ bind_err (Ok x) f e h = inr (x, refl, h)
 bind_err (Err d) f e h = inl (let same : d ≡ e = cc in ap (λ e. Err e) same)
 
 -- ---- the header
--- these values in front of what is read
+-- these values before what is read
 abbrev values_onto : List ℕ → Settings → Read Settings
 values_onto values x = Ok (values ++ x.0, x.1)
 
--- the value in front of what is read from the lines
+-- the value before what is read from the lines
 abbrev value_onto : ℕ → Settings → Read Settings
 value_onto v x = Ok (v ∷ x.0, x.1)
 
@@ -76,7 +76,7 @@ bind_onto : (v : ℕ) (values : List ℕ) (r : Read Settings) → ((r >>= values
 bind_onto v values (Ok x) = refl
 bind_onto v values (Err e) = refl
 
--- in front of the rest, lines that give settings are read as that
+-- lines that give settings are read as that, if the rest follows them
 pub settings_given : (end : ℕ) (front : List NumberedLine) (given : List Setting) (values : List ℕ) (others : List Setting) (rest : List NumberedLine)
     → GiveSettings front given values
     → settings_from end (given ++ others) (front ++ rest) ≡ (settings_from end others rest >>= values_onto values)
@@ -96,7 +96,7 @@ settings_given end (line ∷ front) (s ∷ given) [] others rest h = absurd h
 abbrev SettingFault : ℕ → List Setting → List NumberedLine → ℕ × LineFault → Type 0
 SettingFault end settings lines e = IsFaultySetting settings lines e.0 e.1 ⊎ (IsMissingSetting settings lines × (e ≡ (end, bad_line)))
 
--- a fault behind a line that gives its setting
+-- a fault after a line that gives its setting
 later_setting : (end : ℕ) (s : Setting) (settings : List Setting) (line : NumberedLine) (lines : List NumberedLine) (v : ℕ) (e : ℕ × LineFault)
     → value_in s line.1 ≡ Ok v → SettingFault end settings lines e → SettingFault end (s ∷ settings) (line ∷ lines) e
 later_setting end s settings line lines v e is (inl f) = inl record {

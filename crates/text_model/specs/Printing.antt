@@ -25,7 +25,7 @@ abbrev pub line_text : ℕ → ℕ → List ℕ
 line_text line cpu = decimal line ++ codes " c" ++ decimal cpu
 
 -- a page that was taken: its fill, the number of its first record, how many records it has, and how
--- many were missed in front of them
+-- many were missed before them
 abbrev pub page_text : ℕ → ℕ → ℕ → ℕ → List ℕ
 page_text fill first count missed =
     codes " taken fill " ++ decimal fill ++ codes " first " ++ decimal first
@@ -52,11 +52,11 @@ log_line_text (untaken_delivery line collector cpu fill) =
 abbrev pub printed_log_line : LogLine → List ℕ
 printed_log_line line = log_line_text line ++ 10 ∷ []
 
--- the line that tells which line of a script is at fault, and how
+-- the line that states which line of a script is at fault, and how
 abbrev pub printed_fault : ℕ → LineFault → List ℕ
 printed_fault number fault = fault_text number fault ++ 10 ∷ []
 
--- what an image tells of missed events
+-- what an image states of missed events
 abbrev pub missed_text : Missed → List ℕ
 missed_text none = codes "none"
 missed_text unknown = codes "unknown"
@@ -78,13 +78,13 @@ cause_text cut = codes "Cut"
 cause_text bad_length = codes "BadLength"
 cause_text time_overflow = codes "TimeOverflow"
 
--- what is wrong with an image; a word is told by its offset in bytes behind the header
+-- what is wrong with an image; a word is named by its offset in bytes, counted from the end of the header
 abbrev pub image_fault_text : ImageCause → List ℕ
 image_fault_text too_short = codes "TooShort"
 image_fault_text bad_size = codes "BadSize"
 image_fault_text bad_count = codes "BadCount"
 image_fault_text (bad_word cause at) = cause_text cause ++ codes " at " ++ decimal at
 
--- the line that tells what is wrong with an image
+-- the line that states what is wrong with an image
 abbrev pub printed_image_fault : ImageCause → List ℕ
 printed_image_fault cause = codes "image: " ++ image_fault_text cause ++ 10 ∷ []

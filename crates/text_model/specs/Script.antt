@@ -44,7 +44,7 @@ abbrev pub names_cpu : List ℕ → Bool
 names_cpu [] = false
 names_cpu (letter ∷ digits) = (letter == cpu_letter) && nat_lt 0 (length digits) && all_ascii_digits digits
 
--- the CPU that a field names, of so many CPUs
+-- the CPU that a field names, out of this number of CPUs
 unfoldable pub cpu_in : ℕ → List ℕ → Result ℕ LineFault
 cpu_in cpus field = if names_cpu field then number_below cpus (drop 1 field) else Err bad_line
 
@@ -104,7 +104,7 @@ GiveSettings (line ∷ lines) (s ∷ settings) (value ∷ values) =
     (value_in s line.1 ≡ Ok value) × GiveSettings lines settings values
 GiveSettings _ _ _ = ⊥
 
--- Of these settings, the lines in front of this one give the first, and this one not the next.
+-- Of these settings, the lines before this one give the first, and this one not the next.
 pub record IsFaultySetting (settings : List Setting) (lines : List NumberedLine)
     (number : ℕ) (fault : LineFault)
     : Type 0 where
@@ -136,6 +136,6 @@ fault_name bad_number = codes "BadNumber"
 fault_name bad_hex = codes "BadHex"
 fault_name out_of_range = codes "OutOfRange"
 
--- how a fault of a line is told, the end of the line aside
+-- how a fault of a line is printed, the end of the line aside
 abbrev pub fault_text : ℕ → LineFault → List ℕ
 fault_text number fault = codes "line " ++ decimal number ++ codes ": " ++ fault_name fault

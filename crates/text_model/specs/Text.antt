@@ -11,26 +11,26 @@ use Rattle.text_model.specs.declared.script_limits.TheConstants.{MAX_NUMBER_DIGI
 abbrev pub line_feed : ℕ
 line_feed = 10
 
--- the byte that stands between two fields
+-- the byte between two fields
 abbrev pub space : ℕ
 space = 32
 
--- the lines of a text without the empty one behind a last line feed
+-- the lines of a text without the empty one after a last line feed
 abbrev pub without_empty_end : List (List ℕ) → List (List ℕ)
 without_empty_end [] = []
 without_empty_end (line ∷ []) = if length line == 0 then [] else line ∷ []
 without_empty_end (line ∷ next ∷ lines) = line ∷ without_empty_end (next ∷ lines)
 
--- The lines of a text: what stands between its line feeds. The last line feed may lack, and begins no
+-- The lines of a text: what is between its line feeds. The last line feed may lack, and begins no
 -- line. A carriage return is a byte of its line.
 abbrev pub lines_of : List ℕ → List (List ℕ)
 lines_of text = without_empty_end (slice_split (λ b. b == line_feed) text)
 
--- The fields of a line: what stands between its spaces. A space too many leaves an empty field.
+-- The fields of a line: what is between its spaces. A space too many leaves an empty field.
 abbrev pub fields_of : List ℕ → List (List ℕ)
 fields_of line = slice_split (λ b. b == space) line
 
--- exactly one space stands between two fields, and none at either end: no field is empty
+-- exactly one space is between two fields, and none at either end: no field is empty
 abbrev pub is_well_spaced : List (List ℕ) → Bool
 is_well_spaced fields = list_all (λ field. nat_lt 0 (length field)) fields
 

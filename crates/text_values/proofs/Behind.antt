@@ -2,7 +2,7 @@
 use Rattle.std.proofs.Common.{◌≡◌, List, ◌++◌, append_assoc, ap, ◌∙◌}
 use Rattle.trace_model.specs.Sublist.{IsPrefix}
 
--- more is put behind what was there
+-- more is appended to what was there
 pub behind_put : {A : Type 0} (before so_far part out : List A) → IsPrefix before so_far → out ≡ so_far ++ part
     → IsPrefix before out
 behind_put {A} before so_far part out (rest, is) put =

@@ -45,18 +45,18 @@ eight_digits (a ∷ b ∷ c ∷ d ∷ e ∷ f ∷ g ∷ h ∷ i ∷ bytes) front
 eight_digits (a ∷ b ∷ c ∷ d ∷ e ∷ f ∷ g ∷ h ∷ []) front back eight is1 is2 = rw (is1, is2) refl
 
 -- ---- in parts
--- the digits of one part behind those of another
+-- the digits of one part, then those of another
 pub pairs_append : (front back : List ℕ) → pairs_of (front ++ back) ≡ pairs_of front ++ pairs_of back
 pairs_append [] back = refl
 pairs_append (b ∷ front) back = let rest = pairs_append front back in rw rest refl
 
--- a part is put, and the rest of what is left behind it
+-- a part is put, and then the rest after it
 pub part_more : (left part behind text so_far out : List ℕ) → left ≡ part ++ behind → so_far ++ pairs_of left ≡ text → out ≡ so_far ++ pairs_of part → out ++ pairs_of behind ≡ text
 part_more left part behind text so_far out cut before put =
     let whole : pairs_of left ≡ pairs_of part ++ pairs_of behind = ap pairs_of cut ∙ pairs_append part behind in
     rw put (rw append_assoc (sym (ap (λ (ds : List ℕ). so_far ++ ds) whole) ∙ before))
 
--- eight bytes, and what stands behind them, in the code's words
+-- eight bytes, and the rest after them, in the code's words
 pub eight_and_rest : (left : List ℕ) → 8 ≤ length left
     → left ≡ (get_or left 0 0 ∷ get_or left 1 0 ∷ get_or left 2 0 ∷ get_or left 3 0 ∷ get_or left 4 0 ∷ get_or left 5 0 ∷ get_or left 6 0 ∷ get_or left 7 0 ∷ []) ++ take (length left - 8) (drop 8 left)
 eight_and_rest [] some = absurd (omega arith)

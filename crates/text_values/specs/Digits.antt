@@ -6,6 +6,6 @@ use Rattle.std.specs.Char.{digit_char}
 abbrev pub pair_of : ℕ → List ℕ
 pair_of byte = digit_char (byte / 16) ∷ digit_char (byte % 16) ∷ []
 
--- those of bytes, one behind the other
+-- those of bytes, one after the other
 abbrev pub pairs_of : List ℕ → List ℕ
 pairs_of bytes = flat_map pair_of bytes

@@ -1,4 +1,4 @@
--- What the two threads of a ring hand back, as their promises say.
+-- What the two threads of a ring return, as their promises say.
 use Rattle.std.specs.Prelude.{Bool, false}
 use Rattle.std.proofs.Common.{◌≡◌, ℕ, ◌+◌, ◌≤◌, List, length, subst, sym, ap, ◌∙◌}
 use Rattle.trace_model.specs.declared.numbers.FillNo.{FillNo}
@@ -37,7 +37,7 @@ pub writer_by_gate : {Gate : Type 0} (answers : Gate → Who → (cpu fill : ℕ
 writer_by_gate {Gate} answers v w cpu fill fault view shut _ =
     (who.Writer, cpu, fill.0, subst (λ (r : RunningValue Gate). answers r.gate who.Writer cpu fill.0 false) view shut)
 
--- and so was a reader's that is told of as ended by it
+-- and so was a reader's that is reported as ended by it
 pub reader_by_gate : {Gate : Type 0} (answers : Gate → Who → (cpu fill : ℕ) → Bool → Type 0) (v w : RunningValue Gate)
     (gate : Gate) (cpu : ℕ) (stop : Stop) (fault : ReplayFault)
     → v ≡ w

@@ -5,7 +5,8 @@ use Rattle.trace_script.specs.declared.replay_fault.ReplayFault.{ReplayFault}
 use Rattle.trace_script.specs.declared.replay_fault.ReplayFault.TheVariants.{NoMemory}
 
 -- Neither those before nor the next one met a fault, and all of them are these.
-pub record IsOneMore {X : Type 0} (joined : Result (Vec X Global) ReplayFault) (next : Result X ReplayFault) (after : Vec X Global)
+pub record IsOneMore {X : Type 0} (joined : Result (Vec X Global) ReplayFault) (next : Result X ReplayFault)
+    (after : Vec X Global)
     : Type 0 where
   pub all : Vec X Global
   pub one : X

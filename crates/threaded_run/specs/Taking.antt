@@ -1,4 +1,4 @@
--- What a reader's thread hands back.
+-- What a reader's thread returns.
 use Rattle.std.specs.Prelude.{◌≡◌, ℕ, Bool, false, Result, Ok, Err}
 use Rattle.ring_shared.specs.Takes.{SameRing}
 use Rattle.line_writer.specs.declared.gate.Who.{Who}
@@ -7,7 +7,7 @@ use Rattle.reader_end.specs.Value.{ReaderEndValue}
 use Rattle.threaded_run.specs.declared.reading.Stop.{Stop}
 use Rattle.threaded_run.specs.declared.reading.Stop.TheVariants.{NoMemory, Shut}
 
--- where the gate stopped the reader of this CPU, it answered so
+-- if the gate stopped the reader of this CPU, it answered so
 abbrev pub IsStop : {Gate : Type 0} (answers : Gate → Who → (cpu fill : ℕ) → Bool → Type 0) → Gate
     → (cpu : ℕ) → Stop → Type 0
 IsStop answers gate cpu NoMemory = Unit {0}

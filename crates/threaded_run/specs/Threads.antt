@@ -1,7 +1,6 @@
 -- The two threads of each ring, and what they leave.
-use Rattle.std.specs.Prelude.{◌≡◌, ℕ, suc, Bool, false, List, [], ◌∷◌, length, Some, Vec}
+use Rattle.std.specs.Prelude.{◌≡◌, ℕ, suc, Bool, false, List, [], ◌∷◌, length, Some}
 use Rattle.std.specs.List.{slice_get}
-use Rattle.std.specs.declared.alloc.Global.{Global}
 use Rattle.script_model.specs.Script.{Script}
 use Rattle.trace_script.specs.declared.replay_fault.ReplayFault.{ReplayFault}
 use Rattle.trace_script.specs.declared.replay_fault.ReplayFault.TheVariants.{GateShut}
@@ -14,9 +13,9 @@ use Rattle.reader_end.specs.Value.{ReaderEndValue}
 use Rattle.threaded_run.specs.Runs.{shape_of, IsRunHistory, IsRunLedger}
 
 -- For each CPU of the script, these are the places of its writer's lines.
-pub record ArePlaces (script : Script) (places : List (Vec ℕ Global)) : Type 0 where
+pub record ArePlaces (script : Script) (places : List (List ℕ)) : Type 0 where
   pub count : length places ≡ script.cpus
-  pub each : (cpu : ℕ) (own : Vec ℕ Global) → slice_get places cpu ≡ Some own → AreLinesOf cpu script.commands own.items
+  pub each : (cpu : ℕ) (own : List ℕ) → slice_get places cpu ≡ Some own → AreLinesOf cpu script.commands own
 
 -- What contracts see of the two threads of a CPU's ring.
 pub record RunningValue (Gate : Type 0) : Type 0 where

@@ -12,7 +12,7 @@ use std::thread::{JoinHandle, Scope, Threads};
 use trace_model::NoMemory;
 use trace_script::ReplayFault;
 
-/// A collector's thread, and what it hands back.
+/// A collector's thread, and what it returns.
 pub(crate) type Collecting = JoinHandle<Result<Collector, NoMemory>>;
 
 /// Adds what comes until each sender is gone. A parcel that is at odds with others is dropped.
@@ -33,7 +33,7 @@ fn collect<R: Wait>(
     Ok(collector)
 }
 
-/// Starts so many collectors' threads. On a fault, those that were started before it are among the threads.
+/// Starts `count` collectors' threads. On a fault, those that were started before it are among the threads.
 pub(crate) fn start_collectors<'s, E, R: Wait + Sync>(
     rt: &'s R,
     scope: &Scope<'s, E>,

@@ -33,7 +33,7 @@ impl From<NoMemory> for Stop {
     }
 }
 
-/// What a reader's thread hands back keeps this: it is the same end, with what it took, or the gate stopped it.
+/// What a reader's thread returns keeps this: it is the same end, with what it took, or the gate stopped it.
 #[derive(Drop)]
 pub(crate) struct Takes<'a, G: Gate> {
     pub(crate) gate: &'a G,
@@ -67,8 +67,8 @@ fn pass_on<R: Wait, G: Gate>(
     Err(Stop::Shut(fill))
 }
 
-/// Takes pages, and passes each one on, until the writer's thread was over before a take that found nothing. Where
-/// there is nothing to take, it gives way to other threads.
+/// Takes pages, and passes each one on, until the writer's thread was over before a take that found nothing. If there
+/// is nothing to take, it gives way to other threads.
 pub(crate) fn take_pages<R: Wait, G: Gate>(
     rt: &R,
     alloc: Global,

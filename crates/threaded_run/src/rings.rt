@@ -6,7 +6,7 @@ ghost use Rattle.threaded_run.specs.Threads.{ArePlaces, AreRunning, AreRunLedger
 use crate::joining::with_next;
 use crate::threads::{Job, Running, complete, start};
 use crossbeam_channel::Sender;
-use line_writer::Gate;
+use line_writer::{Gate, Places};
 use page_numbers::Parcel;
 use run_audit::Ledger;
 use std::alloc::Global;
@@ -23,7 +23,7 @@ fn start_rings<'s, E, R: Threads + Wait + Sync, G: Gate>(
     scope: &Scope<'s, E>,
     alloc: Global,
     job: &Job<'s, G>,
-    places: &'s [Vec<usize>],
+    places: &'s [Places],
     over: &'s [AtomicBool],
     threads: &mut Vec<Running<'s, G>>,
 ) -> Result<(), ReplayFault>
@@ -44,7 +44,7 @@ fn start_rings<'s, E, R: Threads + Wait + Sync, G: Gate>(
             alloc,
             job,
             CpuId(cpu),
-            places[index].as_slice(),
+            &places[index],
             &over[index],
         )?;
         threads.push_reserved(running);
@@ -77,7 +77,7 @@ fn run_in<'s, E, R: Threads + Wait + Sync, G: Gate>(
     scope: &Scope<'s, E>,
     alloc: Global,
     job: &Job<'s, G>,
-    places: &'s [Vec<usize>],
+    places: &'s [Places],
     over: &'s [AtomicBool],
 ) -> Result<Vec<Ledger>, ReplayFault>
     requires places { ArePlaces job.now.script.now places.now }
@@ -99,7 +99,7 @@ pub(crate) fn run_rings<R: Threads + Wait + Sync, G: Gate>(
     alloc: Global,
     script: &Script,
     gate: &G,
-    places: &[Vec<usize>],
+    places: &[Places],
     over: &[AtomicBool],
     collectors: &[Sender<Parcel>],
 ) -> Result<Vec<Ledger>, ReplayFault>

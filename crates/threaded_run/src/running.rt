@@ -9,7 +9,7 @@ use crate::collecting::{Collecting, join_collectors, start_collectors};
 use crate::rings::run_rings;
 use collector::Collector;
 use crossbeam_channel::Sender;
-use line_writer::{Gate, lines_by_cpu};
+use line_writer::{Gate, Places, lines_by_cpu};
 use page_numbers::Parcel;
 use run_audit::Ledger;
 use std::alloc::Global;
@@ -28,7 +28,7 @@ pub struct Ran {
     pub ledgers: Vec<Ledger>,
 }
 
-/// For each of so many CPUs whether its writer is over: not yet.
+/// For each of `count` CPUs whether its writer is over: not yet.
 fn new_flags(alloc: Global, count: usize) -> Result<Vec<AtomicBool>, ReplayFault>
     ensures count { IfOk result (λ flags. vec_len flags ≡ count) }
     ensures fault { IfErr result (λ fault. fault ≢ GateShut) }
@@ -48,7 +48,7 @@ fn run_all<'s, E, R: Threads + Wait + Sync, G: Gate>(
     alloc: Global,
     script: &Script,
     gate: &G,
-    places: &[Vec<usize>],
+    places: &[Places],
     over: &[AtomicBool],
     senders: &mut Vec<Sender<Parcel>>,
     threads: &mut Vec<Collecting>,
@@ -76,7 +76,7 @@ fn run_in<'s, E, R: Threads + Wait + Sync, G: Gate>(
     alloc: Global,
     script: &Script,
     gate: &G,
-    places: &[Vec<usize>],
+    places: &[Places],
     over: &[AtomicBool],
 ) -> Result<Ran, ReplayFault>
     requires places { ArePlaces script.now places.now }
@@ -114,7 +114,7 @@ fn run_with<R: Threads + Wait + Sync, G: Gate>(
     alloc: Global,
     script: &Script,
     gate: &G,
-    places: &[Vec<usize>],
+    places: &[Places],
     over: &[AtomicBool],
 ) -> Result<Ran, ReplayFault>
     requires places { ArePlaces script.now places.now }

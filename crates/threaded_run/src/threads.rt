@@ -13,7 +13,7 @@ use crate::reading::{Stop, Takes, take_pages};
 use crate::settling::settle_ends;
 use crate::writing::{Writes, write_lines};
 use crossbeam_channel::Sender;
-use line_writer::{Gate, WriterEnd};
+use line_writer::{Gate, Places, WriterEnd};
 use page_numbers::Parcel;
 use reader_end::ReaderEnd;
 use ring_shared::{Writer, ring_at};
@@ -70,7 +70,7 @@ fn start_writer<'s, E, G: Gate>(
     scope: &Scope<'s, E>,
     job: &Job<'s, G>,
     cpu: CpuId,
-    places: &'s [usize],
+    places: &'s Places,
     end: WriterEnd,
     over: &'s AtomicBool,
 ) -> Result<PromisedHandle<Result<WriterEnd, FillNo>, Writes<'s, G>>, ReplayFault>
@@ -131,15 +131,15 @@ fn start_reader<'s, E, R: Wait + Sync, G: Gate>(
     }
 }
 
-/// Starts both threads of a new ring, the reader's first. If the writer's isn't started, the reader's is told that it
-/// is over, and joined.
+/// Starts both threads of a new ring, the reader's first. If the writer's isn't started, the reader's finds that the
+/// writer is over, and is joined.
 pub(crate) fn start<'s, E, R: Threads + Wait + Sync, G: Gate>(
     rt: &'s R,
     scope: &Scope<'s, E>,
     alloc: Global,
     job: &Job<'s, G>,
     cpu: CpuId,
-    places: &'s [usize],
+    places: &'s Places,
     over: &'s AtomicBool,
 ) -> Result<Running<'s, G>, ReplayFault>
     requires known { cpu.0 < job.now.script.now.cpus }

@@ -3,14 +3,14 @@ ghost use Rattle.std.specs.Prelude.{◌≡◌};
 ghost use Rattle.ring_steps.specs.NewRings.{first_writing};
 ghost use Rattle.line_writer.specs.Obeying.{AreLinesOf, Obeys};
 
-use line_writer::{Gate, WriterEnd, obey_lines};
+use line_writer::{Gate, Places, WriterEnd, obey_lines};
 use std::snapshot::Snapshot;
 use std::sync::atomic::{AtomicBool, Ordering};
 use std::thread::Promise;
 use trace_model::{CpuId, FillNo};
 use trace_script::Script;
 
-/// What a writer's thread hands back keeps this: the lines of its CPU are obeyed, or the gate stopped it.
+/// What a writer's thread returns keeps this: the lines of its CPU are obeyed, or the gate stopped it.
 #[derive(Drop)]
 pub(crate) struct Writes<'a, G: Gate> {
     pub(crate) gate: &'a G,
@@ -23,11 +23,11 @@ impl<'a, G: Gate> Promise<Result<WriterEnd, FillNo>> for Writes<'a, G> {
     ghost kept_by = { λ p r. Obeys G.answers p.gate.now p.cpu.0 p.script.now.commands p.was.value r };
 }
 
-/// Obeys the lines of the CPU's writer. Whatever comes of it, the reader is told that they are over.
+/// Obeys the lines of the CPU's writer. In every case the reader then finds that they are over.
 pub(crate) fn write_lines<G: Gate>(
     end: WriterEnd,
     script: &Script,
-    places: &[usize],
+    places: &Places,
     cpu: CpuId,
     gate: &G,
     over: &AtomicBool,

@@ -1,7 +1,7 @@
 //! Listings: what a collector has, in the order of time.
 //!
-//! Each CPU's records are walked by number, as lines. The walks of several CPUs are merged by moment, CPU and number;
-//! one alone gives the lines as they are. Where the moments of a CPU fall, the lines are then sorted in place.
+//! Each CPU's records are walked by number, as lines. The walks of several CPUs are merged by moment, CPU and number; a
+//! single walk gives the lines as they are. If the moments of a CPU fall, the lines are then sorted in place.
 #![tactic(auto)]
 
 mod by_time;

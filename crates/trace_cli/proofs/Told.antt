@@ -1,4 +1,4 @@
--- What is told of collectors is told of what was delivered to them, since they have and miss the same; so what is
+-- What is stated of collectors is stated of what was delivered to them, since they have and miss the same; so what is
 -- printed of them is the printing of the script's world.
 use Rattle.std.proofs.Common.{◌≡◌, ℕ, zero, suc, Bool, List, [], ◌∷◌, length, Some, refl, ap, ◌∙◌, arith}
 use Rattle.std.specs.List.{slice_get, AllZip}

@@ -19,7 +19,7 @@ pub record IsRunPrinting (script : Script) (bytes : List ℕ) : Type 0 where
   pub told : AllZip (TellsAudited (taken_in ran.ledgers.items)) ran.collectors.items shown
   pub printed : bytes ≡ printed_run shown
 
--- the printing of a run of the script, or the line that tells that a thread could not be started
+-- the printing of a run of the script, or the line that reports that a thread could not be started
 abbrev pub IsRunOutput : Script → List ℕ → ℕ → Type 0
 IsRunOutput script bytes status =
     (IsRunPrinting script bytes × (status ≡ DONE)) ⊎ ((bytes ≡ THREAD_LINE.now) × (status ≡ END_FAILED))

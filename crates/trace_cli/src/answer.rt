@@ -15,8 +15,8 @@ use std::io::ErrorKind;
 use std::sync::Wait;
 use std::thread::Threads;
 
-/// Why a command line asks for nothing whose words can't be given, by the kind of the error: memory was refused, or a
-/// word can't be read.
+/// The fault of a command line whose words can't be given, by the kind of the error: memory was refused, or a word
+/// can't be read.
 pub fn fault_of_words(kind: ErrorKind) -> CallFault
     ensures memory { kind ≡ ErrorKind.OutOfMemory → result ≡ CallFault.NoMemory }
     ensures unreadable { kind ≢ ErrorKind.OutOfMemory → result ≡ CallFault.Usage }

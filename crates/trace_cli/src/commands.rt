@@ -59,7 +59,7 @@ fn print_replay(alloc: Global, script: Script, log: bool) -> Result<Vec<u8>, NoM
     Ok(text)
 }
 
-/// The line that tells a script's fault.
+/// The line that states a script's fault.
 pub(crate) fn fault_line(alloc: Global, fault: ScriptFault) -> Result<Vec<u8>, NoMemory>
     ensures { IfOk result (λ line. line.items ≡ script_fault_text fault ++ 10 ∷ []) }
 {

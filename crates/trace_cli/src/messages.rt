@@ -52,7 +52,7 @@ impl EndFault {
         }
     }
 
-    /// The line that tells it.
+    /// The line that states it.
     pub fn message(self) -> &'static str
         ensures read { self ≡ EndFault.Read → result.now ≡ READ_FAILED.now }
         ensures write { self ≡ EndFault.Write → result.now ≡ WRITE_FAILED.now }

@@ -2,7 +2,7 @@
 use Rattle.std.proofs.Common.{◌≡◌, List, [], ◌∷◌, ◌++◌, fold, refl, ap, subst}
 use Rattle.trace_model.specs.History.{Action, WriterState, after_action, writer_after, MayAct, IsHistory}
 
--- each action is one that the frames allow, which stand behind this and the actions in front of it
+-- each action is one that the stack allows after this state and the actions before it
 abbrev pub AreAllowed : WriterState → List Action → Type 0
 AreAllowed w [] = Unit {0}
 AreAllowed w (a ∷ actions) = MayAct w.stack a × AreAllowed (after_action w.stack w.records a) actions

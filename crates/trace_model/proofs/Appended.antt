@@ -1,4 +1,4 @@
--- One more word behind others: the moment there, and what the words read as. A record appended.
+-- One more word after others: the moment there, and what the words read as. A record appended.
 use Rattle.std.proofs.Common.{◌≡◌, ◌⊎◌, inl, inr, ℕ, ◌+◌, ◌%◌, ◌^◌, ◌<◌, ◌≤◌, Bool, true, false, cond, leb, ltb, ◌||◌, List, [], ◌∷◌, ◌++◌, length, Some, None, unwrap_or, sum_by, refl, sym, ap, ◌∙◌, subst, ⊎_elim, arith, append_assoc, append-nil, true≢false}
 use Rattle.std.specs.List.{AllByRecursion, list_any}
 use Rattle.std.proofs.lemmas.List.{same_from_push}
@@ -49,7 +49,7 @@ since_stamp-push (x ∷ words) w is =
     by_test false true = refl
     by_test false false = refl
 
--- behind a stamp the moment is the stamp's time
+-- after a stamp the moment is the stamp's time
 pub moment_after-stamp : (time : ℕ) (words : List Word) (stamp : ℕ) → moment_after time (words ++ time_stamp stamp ∷ []) ≡ stamp
 moment_after-stamp time words stamp =
     let at = last_stamp-push time words (time_stamp stamp) in
@@ -63,7 +63,7 @@ stamp_of-none (padding delta skipped) time is = refl
 stamp_of-none (time_extend delta) time is = refl
 stamp_of-none (time_stamp stamp) time is = absurd (true≢false is)
 
--- behind any other word it is that much later
+-- after any other word it is that much later
 pub moment_after-push : (time : ℕ) (words : List Word) (w : Word) → is_stamp w ≡ false → moment_after time (words ++ w ∷ []) ≡ moment_after time words + delta_of w
 moment_after-push time words w is =
     let at = last_stamp-push time words w ∙ stamp_of-none w (last_stamp time words) is in
@@ -137,7 +137,7 @@ each-append (w ∷ words) more each all = (each.0, each-append words more each.1
 
 -- ---- data that is whole words
 
--- The data of a page with this time is just these words, and reads as these records.
+-- The data of a page with this time is exactly these words, and reads as these records.
 pub record ReadsAs (bytes : List ℕ) (time : ℕ) (records : List Record) (words : List Word) : Type 0 where
   pub whole : bytes ≡ joined words
   pub each : AllByRecursion IsWord words
@@ -239,7 +239,7 @@ ReadsAs-data_word bytes time records words delta payload reads small room whole 
     ReadsAs-same refl (λ i. records ++ one_record (moment_after time words + moves i) (data_word-payload delta payload i)) refl
     (ReadsAs-push_data bytes time records words w reads (data_word-IsData delta payload) (data_word-IsWord delta payload small whole some fits) (subst (λ (d : ℕ). moment_after time words + d < 2 ^ 64) (sym moves) room))
 
--- behind words, an encoding is one more record
+-- after words, an encoding is one more record
 pub ReadsAs-appended : (bytes : List ℕ) (time : ℕ) (records : List Record) (words : List Word) (delta : ℕ) (payload : List ℕ) → ReadsAs bytes time records words
     → delta < word_time_limit → moment_after time words + delta < 2 ^ 64 → length payload % 4 ≡ 0 → 4 ≤ length payload → length payload + 4 < 2 ^ 32
     → ReadsAs (bytes ++ encoding delta false payload) time (records ++ one_record (moment_after time words + delta) payload) (words ++ written_words delta false payload)
@@ -288,7 +288,7 @@ moment_of_last-push [] r = refl
 moment_of_last-push (x ∷ []) r = refl
 moment_of_last-push (x ∷ y ∷ records) r = moment_of_last-push (y ∷ records) r
 
--- where data ends in a record, the moment of the last record is the moment behind all words
+-- if data ends in a record, the moment of the last record is the moment after all words
 pub moment_after-last : (bytes : List ℕ) (time : ℕ) (records : List Record) (moment : ℕ) → (ends : EndsInRecord bytes) → records ≡ records_of time ends.words → EndsAt records moment → moment_after time ends.words ≡ moment
 moment_after-last bytes time records moment ends read at = ⊎_elim
     (λ none. absurd (let no_records : moment_of_last records ≡ None = ap moment_of_last read ∙ ap (λ (ws : List Word). moment_of_last (records_of time ws)) none in cc))

@@ -66,7 +66,7 @@ joined_regrouped ps qs rs = subst (IsSame ((ps ++ qs) ++ rs)) (append_assoc ps q
 pub joined_twice : (ps : List Parcel) → IsSame (ps ++ ps) ps
 joined_twice ps = below_both (ps ++ ps) ps (joined_below ps ps ps (below_itself ps) (below_itself ps)) (joined_left ps ps)
 
--- the joins of what lies below lie below
+-- the joins of what is below are below
 pub below_joined : (ps qs above others : List Parcel) → IsBelow ps above → IsBelow qs others → IsBelow (ps ++ qs) (above ++ others)
 below_joined ps qs above others a b = joined_below ps qs (above ++ others)
     (below_below ps above (above ++ others) a (joined_left above others))

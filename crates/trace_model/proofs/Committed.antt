@@ -126,7 +126,7 @@ committed_len-more h a = ⊎_elim
     (λ f. let e = ap (λ (g : List Action). length (reserved_records g)) (settled_more h a ∙ cond-false _ _ _ f) in omega arith)
     (either_way (is_settled (h ++ a ∷ [])))
 
--- the number of a fill's first record, where one action more was done
+-- the number of a fill's first record, after one more action
 pub first_more : (h : List Action) (a : Action) (i : ℕ) → i ≤ length (opens_of h) → get_or (0 ∷ opens_of h) i 0 ≤ committed_len h → get_or (0 ∷ opens_of (h ++ a ∷ [])) i 0 ≤ committed_len (h ++ a ∷ [])
 first_more h a i low le = let more = committed_len-more h a in
     let e = ap (λ (l : List ℕ). get_or (0 ∷ l) i 0) (opens_more [] h a) ∙ get_or-append (0 ∷ opens_of h) (opens_at h a) 0 i (let l : i < suc (length (opens_of h)) = omega arith in l) in omega arith

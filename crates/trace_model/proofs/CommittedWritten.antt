@@ -25,7 +25,7 @@ StandsAt-lt k [] r h = absurd h
 StandsAt-lt zero (x ∷ records) r h = omega arith
 StandsAt-lt (suc k) (x ∷ records) r h = omega (arith, StandsAt-lt k records r h)
 
--- behind one more record
+-- after one more record
 StandsAt-push : (k : ℕ) (records : List Reservation) (last r : Reservation) → StandsAt k (records ++ last ∷ []) r → StandsAt k records r ⊎ ((k ≡ length records) × (last ≡ r))
 StandsAt-push zero [] last r h = inr (refl, h)
 StandsAt-push (suc k) [] last r h = absurd h
@@ -67,12 +67,12 @@ abbrev HasNumber : ℕ → PushedFrame → Type 0
 HasNumber k (record_frame moment len number) = number ≡ Some k
 HasNumber k close_frame = ⊥
 
--- a frame with this number stands
+-- a frame with this number is on the stack
 abbrev Stands : ℕ → List PushedFrame → Type 0
 Stands k [] = ⊥
 Stands k (f ∷ stack) = HasNumber k f ⊎ Stands k stack
 
--- each record is written, or its frame stands; and either way it fills its slot
+-- each record is written, or its frame is on the stack; in both cases it fills its slot
 record IsKept (stack : List PushedFrame) (records : List Reservation) : Type 0 where
   frames : AllByRecursion (IsFrameOf records) stack
   each : (k : ℕ) (r : Reservation) → StandsAt k records r → IsWritten r ⊎ Stands k stack
@@ -209,7 +209,7 @@ each_fills : (records : List Reservation) → ((k : ℕ) (r : Reservation) → S
 each_fills [] h = tt
 each_fills (r ∷ records) h = (h 0 r refl, each_fills records (λ k q at. h (suc k) q at))
 
--- each reserved record fills its slot, whether its frame stands or has left
+-- each reserved record fills its slot, whether its frame is on the stack or has left
 pub reserved-FillsSlot : (history : List Action) → IsHistory history → AllByRecursion FillsSlot (reserved_records history)
 reserved-FillsSlot history keeps =
     let start : WriterState = record { stack = []; records = [] } in

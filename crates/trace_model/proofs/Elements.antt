@@ -1,4 +1,4 @@
--- The element at an index of two lists, one behind the other.
+-- The element at an index of two lists, one after the other.
 use Rattle.std.proofs.Common.{◌≡◌, ℕ, zero, suc, ◌+◌, ◌⊎◌, List, [], ◌∷◌, ◌++◌, length, Some, inl, inr, ⊎_elim, ap, ◌∙◌, arith}
 use Rattle.std.proofs.lemmas.Option.{none-some}
 use Rattle.std.specs.List.{slice_get}

@@ -30,7 +30,7 @@ pub length-cut_from : (from : ℕ) (cuts : List ℕ) (xs : List Reservation) →
 length-cut_from from [] xs = refl
 length-cut_from from (cut ∷ cuts) xs = ap suc (length-cut_from cut cuts xs)
 
--- a sublist stays the same behind which there is a cut, where the list does up to that cut
+-- a sublist with a cut after it stays the same, if the list does up to that cut
 pub cut-stays : {A : Type 0} (from : ℕ) (cuts more : List ℕ) (to : ℕ) (xs ys : List A) (i : ℕ) → IsRising from cuts to → i < length cuts → take (get_or (from ∷ cuts) (suc i) 0) ys ≡ take (get_or (from ∷ cuts) (suc i) 0) xs
     → get_or (cut_from from (cuts ++ more) ys) i [] ≡ get_or (cut_from from cuts xs) i []
 cut-stays from [] more to xs ys i r low same = absurd (omega arith)
@@ -38,7 +38,7 @@ cut-stays {A = A} from (cut ∷ cuts) more to xs ys zero r low same = let least 
     sym (drop-take from (cut - from) ys) ∙ ap (λ (m : ℕ). drop from (take m ys)) sum ∙ ap (drop {A = A} from) same ∙ ap (λ (m : ℕ). drop from (take m xs)) (sym sum) ∙ drop-take from (cut - from) xs
 cut-stays from (cut ∷ cuts) more to xs ys (suc i) r low same = cut-stays cut cuts more to xs ys i r.1 (omega arith) same
 
--- where an open stands, the number of records in front of it
+-- for an open, the number of records before it
 pub opens_at : List Action → Action → List ℕ
 opens_at front (push moment len) = []
 opens_at front push_close = []

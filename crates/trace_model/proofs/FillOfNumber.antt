@@ -1,4 +1,4 @@
--- The fill in which the record of a number lies.
+-- The fill in which the record of a number is.
 use Rattle.std.proofs.Common.{◌≡◌, ℕ, zero, suc, ◌+◌, ◌-◌, ◌<◌, ◌≤◌, List, [], ◌∷◌, length, get_or, take, drop, refl, sym, ap, ◌∙◌, subst, arith, length-drop, length-take-le}
 use Rattle.std.specs.List.{slice_get}
 use Rattle.std.proofs.lemmas.Option.{slice_get_past}
@@ -44,7 +44,7 @@ get_in_fill from [] xs (suc i) k low within = absurd (omega arith)
 get_in_fill from (cut ∷ cuts) xs zero k low within = get_in_take (cut - from) k (drop from xs) (let short = take_short (cut - from) (drop from xs) in omega arith) ∙ get_behind_drop from k xs
 get_in_fill from (cut ∷ cuts) xs (suc i) k low within = get_in_fill cut cuts xs i k (omega arith) within
 
--- a number in front of which this fill begins lies in it, or in a later one
+-- a number before which this fill begins is in it, or in a later one
 pub record LiesIn (cuts : List ℕ) (xs : List Reservation) (least number : ℕ) : Type 0 where
   pub fill : ℕ
   pub least_le : least ≤ fill

@@ -22,7 +22,7 @@ pub fill_len_ge : (records : List Reservation) → 8 * length records ≤ fill_l
 fill_len_ge [] = omega arith
 fill_len_ge (r ∷ records) = let here = encoded_len_ge r.len 0 true in let rest = len_behind_ge r.moment records in omega arith
 
--- fills that have room hold no more than that
+-- if fills have this much room, they hold at most that
 pub fills_hold : (room : ℕ) (fills : List (List Reservation)) → ((k : ℕ) → k < length fills → fill_len (get_or fills k []) ≤ room) → 8 * length (flat_map (λ fill. fill) fills) ≤ room * length fills
 fills_hold room [] rooms = omega arith
 fills_hold room (fill ∷ fills) rooms =

@@ -18,15 +18,15 @@ use Rattle.trace_model.proofs.Appended.{FitsTime-nil, FitsTime-push}
 use Rattle.trace_model.proofs.Places.{at_one, in_front, behind_it, splits_twice}
 use Rattle.trace_model.proofs.WordFaults.{front-fault, front_cases, HasWord-none, HasEnding-HasFault, IsWordFault-same}
 
--- ---- what the reader finds in front of a fault
+-- ---- what the reader finds before a fault
 
--- in front of a word that is faulty or cut, the words are those that the reader finds
+-- before a word that is faulty or cut, the words are those that the reader finds
 words_to_fault : (bytes : List ℕ) (words : List Word) (rest : List ℕ) (cause : Cause) → bytes ≡ joined words ++ rest → AllByRecursion IsWord words → IsWordFault rest cause → words_in bytes ≡ words
 words_to_fault bytes words rest cause whole each fault =
     ap words_in whole ∙ words_in-behind words rest each
     ∙ ap (λ (ws : List Word). words ++ ws) (words_in-none rest (front-fault rest cause fault)) ∙ append-nil words
 
--- a word whose time overflows is one of them, and stands behind those in front
+-- a word whose time overflows is one of them, after those before it
 words_to_overflow : (bytes : List ℕ) (time : ℕ) (words : List Word) (rest : List ℕ) → bytes ≡ joined words ++ rest → AllByRecursion IsWord words → (o : Overflows time words rest) → words_in bytes ≡ words ++ o.word ∷ words_in o.behind
 words_to_overflow bytes time words rest whole each o =
     ap words_in whole ∙ words_in-behind words rest each
@@ -111,7 +111,7 @@ moves_or (padding delta skipped) = inr (λ moves. moves)
 moves_or (time_extend delta) = inl tt
 moves_or (time_stamp time) = inr (λ moves. moves)
 
--- of words behind a front whose times fit, the first at which the time overflows
+-- of words after a front whose times fit, the first at which the time overflows
 record OverflowsIn (time : ℕ) (front words : List Word) : Type 0 where
   before : List Word
   word : Word
@@ -164,7 +164,7 @@ fits_or_overflows time front (w ∷ words) fits = step time front w words fits (
 abbrev pub IsReadOrFaulty : List ℕ → ℕ → Type 0
 IsReadOrFaulty bytes time = ((records : List Record) × Decodes bytes time records) ⊎ ((cause : Cause) × (at : ℕ) × FirstFault bytes time cause at)
 
--- words whose times fit, and behind them an ending
+-- words whose times fit, and after them an ending
 from_ending : (bytes : List ℕ) (time : ℕ) (words : List Word) (left : List ℕ) → bytes ≡ joined words ++ left → AllByRecursion IsWord words → FitsTime time words → IsEnding left → IsReadOrFaulty bytes time
 from_ending bytes time words left whole each fits ending = inl (records_of time words, record { words = words; rest = left; cut = record { whole = whole; each = each; ending = ending }; in_time = fits; read = refl })
 
@@ -173,7 +173,7 @@ FirstFault-from_word bytes time words left cut whole each fits some fault = reco
 FirstFault-from_word bytes time words left bad_length whole each fits some fault = record { words = words; rest = left; whole = whole; each = each; in_time = fits; at_is = refl; some_left = some; fault = fault }
 FirstFault-from_word bytes time words left time_overflow whole each fits some fault = absurd fault
 
--- words whose times fit, and no word behind them
+-- words whose times fit, and no word after them
 from_left : (bytes : List ℕ) (time : ℕ) (words : List Word) (left : List ℕ) → bytes ≡ joined words ++ left → AllByRecursion IsWord words → FitsTime time words → word_at_front left ≡ None → IsReadOrFaulty bytes time
 from_left bytes time words [] whole each fits none = from_ending bytes time words [] whole each fits (inl refl)
 from_left bytes time words (b ∷ left) whole each fits none = ⊎_elim

@@ -6,9 +6,9 @@ use Rattle.trace_model.specs.Record.{Record}
 use Rattle.trace_model.specs.Partition.{Piece, IsPartition, covered_count, first_from, first_of, IsNumberedFrom}
 use Rattle.trace_model.proofs.Elements.{some_is, get_in_front, get_behind}
 
--- ---- where a piece lies
+-- ---- where a piece is
 
--- the records of the piece at an index, with those in front of it and those behind it
+-- the records of the piece at an index, with those before it and those after it
 record CutAtPiece (records : List Record) (pieces : List Piece) (rest : List Record) (k : ℕ) (p : Piece) : Type 0 where
   before : List Record
   lost : List Record
@@ -46,7 +46,7 @@ cut_at_piece records (q ∷ pieces) rest (suc k) p (lost, behind, size, cut, par
       others = s.others;
     }
 
--- the first number is how many records stand in front
+-- the first number is how many records are before
 number_is : (number : ℕ) (pieces : List Piece) (k : ℕ) (p : Piece) (before lost : List Record) → slice_get pieces k ≡ Some p → IsPartition before (take k pieces) [] → length lost ≡ p.skipped
     → first_from number pieces k ≡ Some (number + (length before + length lost))
 number_is number [] k p before lost at partition size = absurd (none-some p at)
@@ -94,7 +94,7 @@ first_within records pieces rest k p first partition at is =
     let all = ap (length {A = Record}) s.whole ∙ length-append s.before (s.lost ++ (p.records ++ s.behind)) in
     let more = length-append s.lost (p.records ++ s.behind) in omega arith
 
--- ---- what pieces skip lies apart from their own records
+-- ---- what pieces skip is apart from their own records
 
 first_above : (number : ℕ) (pieces : List Piece) (k : ℕ) (p : Piece) (first : ℕ) → slice_get pieces k ≡ Some p → first_from number pieces k ≡ Some first → number + p.skipped ≤ first
 first_above number [] k p first at is = absurd (none-some p at)

@@ -68,7 +68,7 @@ full_act h reserve begins k = full_acts h reserve (opens_of-reserve h) (grown_re
 full_act h (leave payload) begins k = full_acts h (leave payload) (opens_of-leave h payload) (grown_leave (writer_after h).stack (writer_after h).records payload) k
 full_act h wished begins k = full_acts h wished (opens_of-wished h) (inl refl) k
 
--- behind a front in which it is so
+-- after a front in which it is so
 full_behind : (front behind : List Action) → ((f b : List Action) → front ++ behind ≡ f ++ open_fill ∷ b → tail_of f ≢ []) → FullIn front → FullIn (front ++ behind)
 full_behind front [] begins k = subst FullIn (sym (append-nil front)) k
 full_behind front (a ∷ behind) begins k =

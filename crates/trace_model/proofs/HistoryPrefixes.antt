@@ -3,7 +3,7 @@ use Rattle.std.proofs.Common.{◌≡◌, ◌⊎◌, inl, inr, ⊎_elim, ℕ, zer
 use Rattle.trace_model.specs.History.{Action, push, push_close, open_fill, reserve, leave, wished, Reservation, PushedFrame, record_frame, close_frame, WriterState, reservation_for, records_with_payload, after_reserve, records_after_leave, after_action, writer_after, reserved_records, is_settled, settled_prefix_within, settled_prefix}
 use Rattle.trace_model.specs.Sublist.{IsPrefix}
 
--- a frame that has no record yet, or one behind the first n
+-- a frame that has no record yet, or one after the first n
 abbrev pub HasNumberFrom : ℕ → Option ℕ → Type 0
 HasNumberFrom n None = Unit {0}
 HasNumberFrom n (Some number) = n ≤ number
@@ -73,7 +73,7 @@ pub writer-append : (w : WriterState) (front behind : List Action) → fold (λ 
 writer-append w [] behind = refl
 writer-append w (a ∷ front) behind = writer-append (after_action w.stack w.records a) front behind
 
--- where no frame stands, all that follows keeps the records
+-- if the stack is empty, all that follows keeps the records
 stack_cases : (stack : List PushedFrame) → (stack ≡ []) ⊎ ((f : PushedFrame) × (below : List PushedFrame) × (stack ≡ f ∷ below))
 stack_cases [] = inl refl
 stack_cases (f ∷ stack) = inr (f, stack, refl)

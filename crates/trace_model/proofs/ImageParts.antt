@@ -39,7 +39,7 @@ pub le64-from_le64 : (bytes : List ℕ) → 8 ≤ length bytes → AreBytes byte
 unfolding from_le64 le64
 le64-from_le64 bytes long small = le_bytes_8 (take 8 bytes) (from_le64 bytes) (length-take-le 8 bytes long) (AreBytes-take 8 bytes small) (sym (from_le64-take bytes))
 
--- eight bytes in front are the number that they read as, and the rest
+-- the first eight bytes are the number that they read as, and then comes the rest
 pub le64-front : (bytes : List ℕ) → 8 ≤ length bytes → AreBytes bytes → bytes ≡ le64 (from_le64 bytes) ++ drop 8 bytes
 le64-front bytes long small = sym (take-append-drop 8 bytes) ∙ ap (λ (b : List ℕ). b ++ drop 8 bytes) (sym (le64-from_le64 bytes long small))
 
@@ -136,7 +136,7 @@ HasHeader-same bytes time other_time commit other rest left h g =
     let b = HasHeader-is bytes other_time other left g in
     record { times = a.time_is ∙ sym b.time_is; commits = a.commit_is ∙ sym b.commit_is; rests = a.rest_is ∙ sym b.rest_is }
 
--- ---- the data, and what stands behind it
+-- ---- the data, and what follows it
 
 -- where the stated size is there, and the image isn't too long, the parts are there
 pub HasParts-of : (limit : ℕ) (bytes : List ℕ) (time : ℕ) (commit : Commit) (rest : List ℕ) → HasHeader bytes time commit rest → commit.size ≤ length rest → length bytes ≤ limit → HasParts limit bytes time commit (take commit.size rest) (drop commit.size rest)
@@ -166,11 +166,11 @@ HasParts-same limit other_limit bytes time other_time commit other contents othe
 
 -- ---- missed events
 
--- the number of bytes behind the data, where a count is stored there
+-- the number of bytes after the data, if a count is stored there
 counted_length : (behind ignored : List ℕ) (events : ℕ) → behind ≡ le64 events ++ ignored → 8 ≤ length behind
 counted_length behind ignored events is = omega (arith, ap length is, length-append (le64 events) ignored, length-le64 events)
 
--- where both flags are set, what is told is a count, and there is room for it
+-- if both flags are set, a count is stated, and there is room for it
 pub TellsMissed-room : (commit : Commit) (behind : List ℕ) (missed : Missed) → TellsMissed commit behind missed → commit.is_missed ≡ true → commit.is_stored ≡ true → 8 ≤ length behind
 TellsMissed-room commit behind none tells missed stored = absurd (false≢true (sym tells ∙ missed))
 TellsMissed-room commit behind unknown tells missed stored = absurd (false≢true (sym tells.1 ∙ stored))
@@ -188,7 +188,7 @@ TellsMissed-same commit behind (counted n) unknown a b = absurd (true≢false (s
 TellsMissed-same commit behind (counted n) (counted m) a b =
     ap counted (sym (from_le64-le64 n a.3.0 a.2) ∙ ap from_le64 (sym a.3.1 ∙ b.3.1) ∙ from_le64-le64 m b.3.0 b.2)
 
--- something is told, or a count is stated that isn't there
+-- something is stated, or a count is stated that isn't there
 pub data Telling (commit : Commit) (behind : List ℕ) : Type 0 where
   tells : (missed : Missed) → TellsMissed commit behind missed → Telling commit behind
   no_room : commit.is_missed ≡ true → commit.is_stored ≡ true → length behind < 8 → Telling commit behind

@@ -13,7 +13,7 @@ use Rattle.trace_model.proofs.Unique.{Decodes-unique}
 use Rattle.trace_model.proofs.FirstFaults.{read_or_faulty, Decodes-FirstFault, FirstFault-unique}
 use Rattle.trace_model.proofs.ImageParts.{length-le64, HasHeader-of, HasHeader-is, HasHeader-same, HasParts-of, HasParts-same, TellsMissed-room, TellsMissed-same, Telling, tells, no_room, telling}
 
--- ---- a fault excludes what comes behind it in the order
+-- ---- a fault excludes what comes after it in the order
 
 header_not_short : (bytes : List ℕ) (time : ℕ) (commit : Commit) (rest : List ℕ) → HasHeader bytes time commit rest → length bytes < 16 → ⊥
 header_not_short bytes time commit rest h short = let is = HasHeader-is bytes time commit rest h in let long = is.long in omega arith

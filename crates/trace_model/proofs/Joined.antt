@@ -1,4 +1,4 @@
--- The parcels of two collections, one behind the other, are the least above both.
+-- The parcels of two collections, one after the other, are the least above both.
 use Rattle.std.proofs.Common.{◌+◌, List, ◌++◌, length, ⊎_elim, ◌∙◌}
 use Rattle.trace_model.specs.Parcel.{Parcel}
 use Rattle.trace_model.specs.Collection.{Agree, IsBelow, IsLeastUpperBound}
@@ -28,7 +28,7 @@ joined_below ps qs above a b = record {
       (get_in_either ps qs h.index h.parcel h.at);
 }
 
--- what lies below parcels that agree agrees
+-- what is below parcels that agree agrees
 pub below_agrees : (parcels others : List Parcel) → IsBelow parcels others → Agree others → Agree parcels
 below_agrees ps qs b agree = record {
   one_record = λ cpu number r other h that. agree.one_record cpu number r other (b.has cpu number r h) (b.has cpu number other that);

@@ -69,7 +69,7 @@ length-joined_cons w words = length-append (bytes_of_word w) (joined words)
 pub length-joined_one : (w : Word) → length (joined (w ∷ [])) ≡ length (bytes_of_word w)
 length-joined_one w = ap length (append-nil (bytes_of_word w))
 
--- a data word takes its payload, and 4 bytes or 8 in front of it
+-- a data word takes its payload, and 4 bytes or 8 before it
 pub length-data_word : (delta : ℕ) (payload : List ℕ) → length (bytes_of_word (data_word delta payload)) ≡ cond (leb (length payload) 112) 4 8 + length payload
 length-data_word delta payload = by_form (leb (length payload) 112)
   where

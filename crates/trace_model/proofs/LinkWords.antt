@@ -1,4 +1,4 @@
--- The word of a link tells the link.
+-- The word of a link determines the link.
 use Rattle.std.proofs.Common.{◌≡◌, ◌≢◌, ℕ, ◌%◌, ◌^◌, ◌<◌, refl, arith}
 use Rattle.trace_model.specs.Links.{Mark, normal, header, update, Link, mark_code, word_of, FitsWord}
 

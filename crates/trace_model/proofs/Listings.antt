@@ -56,7 +56,7 @@ either_before a b = three a.moment b.moment
 pub ordered_tail : (x : Line) (lines : List Line) → IsTimeOrdered (x ∷ lines) → IsTimeOrdered lines
 ordered_tail x lines ordered k a b at next = ordered (suc k) a b at next
 
--- the first line stands before each other one
+-- the first line is before each other one
 pub before_all : (x : Line) (lines : List Line) → IsTimeOrdered (x ∷ lines) → (k : ℕ) (y : Line) → slice_get lines k ≡ Some y → IsBefore x y
 before_all x [] ordered k y at = absurd (none-some y at)
 before_all x (z ∷ lines) ordered zero y at = ordered 0 x y refl at
@@ -89,7 +89,7 @@ first_same x y xs ys ordered also (suc j, at) (zero, there) = some_is x y there
 first_same x y xs ys ordered also (suc j, at) (suc k, there) =
     absurd (not_before_itself x (before_before x y x (before_all x xs ordered k y there) (before_all y ys also j x at)))
 
--- a line behind the first one stands behind the first one of the other
+-- a line after the first one is after the first one of the other
 behind_first : (x y : Line) (xs ys : List Line) → x ≡ y → IsTimeOrdered (x ∷ xs) → (k : ℕ) (line : Line) → slice_get xs k ≡ Some line → Stands (y ∷ ys) line → Stands ys line
 behind_first x y xs ys same ordered k line at (zero, there) = absurd (not_again x xs ordered k (at ∙ sym there ∙ ap Some (sym same)))
 behind_first x y xs ys same ordered k line at (suc j, there) = (j, there)

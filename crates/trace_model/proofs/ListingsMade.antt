@@ -18,7 +18,7 @@ record HasLine (line : Line) (lines others : List Line) : Type 0 where
   has : Stands others line
   keeps : (l : Line) → Stands lines l → Stands others l
 
--- a line stands first or behind the first
+-- a line is the first or after the first
 first_or_behind : (x : Line) (lines : List Line) (l : Line) → Stands (x ∷ lines) l → (x ≡ l) ⊎ Stands lines l
 first_or_behind x lines l (zero, at) = inl (some_is x l at)
 first_or_behind x lines l (suc k, at) = inr (k, at)
@@ -156,7 +156,7 @@ stands_by (q ∷ ps) l (k, at) = ⊎_elim
     record { index = suc h.index; parcel = h.parcel; at = h.at; pair = h.pair })
     (get_in_either (lines_from q.cpu q.first q.records) (lines_of ps) k l at)
 
--- lines with one key are one line, where the parcels agree
+-- lines with one key are one line, if the parcels agree
 one_key : (ps : List Parcel) (a b : Line) → Agree ps → Stands (lines_of ps) a → Stands (lines_of ps) b → HasKeyOf a b → a ≡ b
 one_key ps a b agree there also key = λ i. record { moment = (same i).moment; cpu = key.cpu i; number = key.number i; bytes = (same i).bytes }
   where

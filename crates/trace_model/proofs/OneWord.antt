@@ -50,7 +50,7 @@ drop-front t d bytes = drop_at (first_word t d) bytes 4 (length-le32 (t + 32 * d
 fields_of : (t d : ℕ) → t < 32 → ((t + 32 * d) % 32 ≡ t) × ((t + 32 * d) / 32 ≡ d)
 fields_of t d low = (omega arith, omega arith)
 
--- a type and a delta in front: the rest of the word decides
+-- after a type and a delta, the rest of the word decides
 pub front_word : (t d : ℕ) (bytes : List ℕ) → t < 32 → d < 2 ^ 27 → word_at_front (first_word t d ++ bytes) ≡ word_behind t d bytes
 unfolding word_at_front
 front_word t d bytes low fits =
@@ -99,7 +99,7 @@ time_front t time rest make fits low kind =
     ∙ (λ i. Some (make (number i * 2 ^ 27 + time % 2 ^ 27), rest))
     ∙ ap (λ (n : ℕ). Some (make n, rest)) sum
 
--- a word in front is read back, and what is behind it is left
+-- a word at the front is read back, and what follows it is left
 pub word_at_front-word : (w : Word) (rest : List ℕ) → IsWord w → word_at_front (bytes_of_word w ++ rest) ≡ Some (w, rest)
 word_at_front-word (short_data d payload) rest is =
     let fits = is.0 in let whole = is.1 in let low = is.2 in let high = is.3 in
@@ -132,7 +132,7 @@ word_at_front-nil = refl
 
 -- ---- the other way: what is read as a word is that word's bytes
 
--- what is found at the front of the bytes, if anything, is a word whose bytes stand there
+-- what is found at the front of the bytes, if anything, is a word whose bytes are there
 abbrev IsFound : List ℕ → Option (Word × List ℕ) → Type 0
 IsFound bytes None = Unit {0}
 IsFound bytes (Some found) = (bytes ≡ bytes_of_word found.0 ++ found.1) × IsWord found.0

@@ -1,4 +1,4 @@
--- The numbers of the frames that stand: each is that of a record without bytes, no two frames have the same, and
+-- The numbers of the frames on the stack: each is that of a record without bytes, no two frames have the same, and
 -- none is that of a committed record.
 use Rattle.std.proofs.Common.{◌≡◌, ◌≢◌, ◌⊎◌, inl, inr, ℕ, zero, suc, ◌≤◌, List, [], ◌∷◌, ◌++◌, length, fold, Some, None, refl, sym, ap, ◌∙◌, subst, arith}
 use Rattle.std.specs.List.{slice_get}

@@ -79,7 +79,7 @@ len_behind-push prev (s ∷ fill) first r at = together (encoded_len s.len (s.mo
     together : (a x b c : ℕ) → x ≡ b + c → a + x ≡ a + b + c
     together a x b c e = omega arith
 
--- it takes what the writer reckons: behind none it is the page's first
+-- it takes as many bytes as the writer reckons: after none it is the page's first
 pub fill_len-first : (r : Reservation) → fill_len ([] ++ r ∷ []) ≡ encoded_len r.len 0 true
 fill_len-first r = plus_none (encoded_len r.len 0 true)
   where
@@ -111,7 +111,7 @@ holds_none reads none ends = record {
   ends = ends;
 }
 
--- a payload of an open record, written anew
+-- a payload of an open record, written again
 pub holds_written : (time : ℕ) (bytes : List ℕ) (fill : List Reservation) (k start len : ℕ) (s : Reservation) (part : List ℕ) → HoldsRecords time bytes fill → IsPlaceOf bytes k start len → slice_get fill k ≡ Some s → s.bytes ≡ None → length part ≡ len
     → HoldsRecords time (overwritten bytes start part) fill
 holds_written time bytes fill k start len s part h place found unwritten fills =
@@ -136,7 +136,7 @@ get_at [] behind x r (suc k) at found = absurd (omega arith)
 get_at (y ∷ front) behind x r zero at found = absurd (omega arith)
 get_at (y ∷ front) behind x r (suc k) at found = get_at front behind x r k (omega arith) found
 
--- the record of a place has the bytes that stand there
+-- the record of a place has the bytes that are there
 pub bytes_of_place : (time : ℕ) (bytes : List ℕ) (k start len : ℕ) (r : Record) → Decodes bytes time (records_in time bytes) → IsPlaceOf bytes k start len → slice_get (records_in time bytes) k ≡ Some r → r.bytes ≡ bytes_at start len bytes
 bytes_of_place time bytes k start len r reads place found =
     let within = place-within bytes start len place.place in
@@ -163,7 +163,7 @@ holds_finished time bytes fill k payload h are =
 
 -- ---- one record more
 
--- What a record put behind those of a fill leaves: its data, its time, and what is read there.
+-- What is left by a record that was put after those of a fill: its data, its time, and what is read there.
 pub record PutBehind (time : ℕ) (bytes : List ℕ) (first : Bool) (moment len delta time' : ℕ) (bytes' : List ℕ) : Type 0 where
   pub reads : Decodes bytes' time' (records_in time' bytes')
   pub records : records_in time' bytes' ≡ records_in time bytes ++ record { moment = moment; bytes = replicate (slot_len len) 0 } ∷ []

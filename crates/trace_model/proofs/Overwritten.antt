@@ -1,4 +1,4 @@
--- A payload overwritten where it stands: the words are the same but for that payload, and so are the records.
+-- A payload overwritten in place: the words are the same but for that payload, and so are the records.
 use Rattle.std.proofs.Common.{◌≡◌, ℕ, ◌+◌, ◌*◌, ◌/◌, ◌^◌, ◌<◌, ◌≤◌, Bool, true, false, cond, ◌||◌, List, [], ◌∷◌, ◌++◌, length, map, take, drop, Option, unwrap_or, sum_by, refl, sym, ap, ◌∙◌, subst, arith, append_assoc, length-append}
 use Rattle.std.specs.List.{AllByRecursion, list_any}
 use Rattle.std.proofs.lemmas.List.{take_at, drop_at, map-append}
@@ -21,7 +21,7 @@ with_payload (padding delta skipped) new = padding delta skipped
 with_payload (time_extend delta) new = time_extend delta
 with_payload (time_stamp time) new = time_stamp time
 
--- the bytes of a data word in front of its payload
+-- the bytes of a data word before its payload
 abbrev pub head_of : Word → List ℕ
 head_of (short_data delta payload) = first_word (length payload / 4) delta
 head_of (long_data delta payload) = first_word 0 delta ++ le32 (length payload + 4)
@@ -43,7 +43,7 @@ head_of_ge (padding delta skipped) is = absurd is
 head_of_ge (time_extend delta) is = absurd is
 head_of_ge (time_stamp time) is = absurd is
 
--- what stands in front of a payload is as long whatever the payload
+-- what comes before a payload has the same length whatever the payload
 pub length-head : (w : Word) (new : List ℕ) → IsData w → length (head_of (with_payload w new)) ≡ length (head_of w)
 length-head (short_data delta payload) new is = length-le32 (length new / 4 + 32 * delta) ∙ sym (length-le32 (length payload / 4 + 32 * delta))
 length-head (long_data delta payload) new is = long (length new + 4) ∙ sym (long (length payload + 4))
@@ -192,7 +192,7 @@ FitsTime-same time words others same fits front w behind e moves =
     subst (λ (m : ℕ). m < 2 ^ 64) (moment_after-same time (h.before ++ h.here ∷ []) (front ++ w ∷ []) alike)
     (fits h.before h.here h.after h.cut (MovesTime-from_bare h.here (subst MovesTime (sym h.at) (MovesTime-bare w moves))))
 
--- the records of words don't see the payloads in front
+-- the records of words don't see the payloads before them
 records_at-same : (time : ℕ) (front others : List Word) (w : Word) → map bare front ≡ map bare others → records_at time front w ≡ records_at time others w
 records_at-same time front others w same = by_word w
   where
@@ -214,14 +214,14 @@ records_behind-same time (w ∷ words) front others same =
 
 -- ---- the place of a payload
 
--- what stands in front of the payload, and what behind it
+-- what comes before the payload, and what after it
 abbrev pub before_place : {bytes : List ℕ} {start len : ℕ} → IsPlaceIn bytes start len → List ℕ
 before_place p = joined p.front ++ head_of p.word
 
 abbrev pub after_place : {bytes : List ℕ} {start len : ℕ} → IsPlaceIn bytes start len → List ℕ
 after_place p = joined p.behind ++ p.rest
 
--- words with one data word among them, joined: the bytes in front of its payload, the payload, and the rest
+-- words with one data word among them, joined: the bytes before its payload, the payload, and the rest
 joined-around : (front : List Word) (w : Word) (behind : List Word) (head payload rest : List ℕ) → bytes_of_word w ≡ head ++ payload
     → joined (front ++ w ∷ behind) ++ rest ≡ (joined front ++ head) ++ payload ++ (joined behind ++ rest)
 joined-around front w behind head payload rest is =
@@ -248,7 +248,7 @@ module _ (bytes : List ℕ) (start len : ℕ) (p : IsPlaceIn bytes start len) wh
   place-end : length (before_place p ++ payload_of p.word) ≡ start + len
   place-end = length-append (before_place p) (payload_of p.word) ∙ (λ i. before_is i + sym p.len_is i)
 
-  -- a place lies within the bytes
+  -- a place is within the bytes
   pub place-within : start + len ≤ length bytes
   place-within = omega (arith, ap length place-split, length-append (before_place p ++ payload_of p.word) (after_place p), place-end)
 
@@ -258,7 +258,7 @@ module _ (bytes : List ℕ) (start len : ℕ) (p : IsPlaceIn bytes start len) wh
   pub place-drop : drop (start + len) bytes ≡ after_place p
   place-drop = ap (drop (start + len)) place-split ∙ drop_at (before_place p ++ payload_of p.word) (after_place p) (start + len) place-end
 
-  -- the payload is the bytes that stand there
+  -- the payload is the bytes there
   pub place-payload : bytes_at start len bytes ≡ payload_of p.word
   place-payload =
       ap (λ (b : List ℕ). take len (drop start b)) (place-split ∙ append_assoc (before_place p) (payload_of p.word) (after_place p))

@@ -73,7 +73,7 @@ cut-past from (cut ∷ cuts) xs (suc i) past = cut-past cut cuts xs i (omega ari
 pub tail_is : (h : List Action) → tail_of h ≡ tail_at (opens_of h) (reserved_records h)
 tail_is h = ap (λ (i : ℕ). get_or (fills_of h) i []) (let e = length-cut_from 0 (opens_of h) (reserved_records h) in let it : length (fills_of h) - 1 ≡ length (opens_of h) = omega arith in it)
 
--- ---- what records take behind others
+-- ---- what records take after others
 
 one_more : (e h s a b c d : ℕ) → e ≤ 8 → 4 ≤ b → 4 ≤ c → (e + h) + s + 0 ≤ ((a + b) + c) + ((d + h) + s + 0)
 one_more e h s a b c d small wide slot = omega arith
@@ -90,7 +90,7 @@ front_ge len = cond_both (nat_le (slot_len len) 112) 4 8 (λ (k : ℕ). 4 ≤ k)
 add_le : (a b c : ℕ) → b ≤ c → a + b ≤ a + c
 add_le a b c le = omega arith
 
--- a record behind these takes no more than another and then one of its length, whatever their moments
+-- a record after these takes at most what another and then one of its length take, whatever their moments
 behind_more : (prev : ℕ) (xs : List Reservation) (s : Reservation) (moment moment' len : ℕ)
     → len_behind prev (xs ++ record { moment = moment; len = len; bytes = None } ∷ []) ≤ len_behind prev (xs ++ (s ∷ record { moment = moment'; len = len; bytes = None } ∷ []))
 behind_more prev [] s moment moment' len = one_more (if nat_lt (moment - prev) (2 ^ 27) then 0 else 8) (if nat_le (slot_len len) 112 then 4 else 8) (slot_len len)
@@ -148,7 +148,7 @@ room_alike size cuts xs ys same room i = let e = fill_len-alike cuts xs ys i sam
 pub refilled : (size : ℕ) (cuts cuts' : List ℕ) (xs xs' : List Reservation) → cuts' ≡ cuts → map plain xs' ≡ map plain xs → HaveRoom size cuts xs → HaveRoom size cuts' xs'
 refilled size cuts cuts' xs xs' a b room = subst (λ (l : List ℕ). HaveRoom size l xs') (sym a) (room_alike size cuts xs xs' b room)
 
--- behind the last fill there is none
+-- after the last fill there is none
 room_past : (size : ℕ) (cuts : List ℕ) (xs : List Reservation) (i : ℕ) → length cuts < i → fill_len (get_or (cut_from 0 cuts xs) i []) ≤ size
 room_past size cuts xs i past = subst (λ (l : List Reservation). fill_len l ≤ size) (sym (cut-past 0 cuts xs i past)) (let z : 0 ≤ size = omega arith in z)
 
@@ -178,7 +178,7 @@ not_nil : (front behind : List Action) (x : Action) → [] ≡ front ++ x ∷ be
 not_nil [] behind x e = cc
 not_nil (y ∷ front) behind x e = cc
 
--- an index in a list with one element more is the last one, or stands in the list
+-- an index in a list with one element more is the last one, or is an index of the list
 snoc_index : (h front behind : List Action) (a x : Action) → h ++ a ∷ [] ≡ front ++ x ∷ behind → ((h ≡ front) × (a ≡ x)) ⊎ ((rest : List Action) × (h ≡ front ++ x ∷ rest))
 snoc_index [] [] behind a x e = inl (refl, first_is a x [] behind e)
 snoc_index [] (y ∷ front) behind a x e = absurd (not_nil front behind x (rest_is a y [] (front ++ x ∷ behind) e))

@@ -1,4 +1,4 @@
--- The numbers in front of a parcel's image: its bytes decide them, and where there are enough bytes, they are there.
+-- The numbers before a parcel's image: its bytes decide them, and if there are enough bytes, they are there.
 use Rattle.std.proofs.Common.{◌≡◌, ℕ, ◌+◌, ◌≤◌, List, ◌++◌, length, drop, sym, ap, ◌∙◌, arith, length-append, length-drop}
 use Rattle.std.proofs.lemmas.List.{drop-drop}
 use Rattle.trace_model.specs.FirstFault.{AreBytes}
@@ -36,7 +36,7 @@ HasNumbers-of bytes small long =
       long = omega (arith, length-drop 32 bytes);
     }
 
--- the bytes decide the numbers, and what stands behind them
+-- the bytes decide the numbers, and what follows them
 pub record NumbersAre (bytes : List ℕ) (cpu fill first missed : ℕ) (image : List ℕ) : Type 0 where
   pub cpu_is : cpu ≡ from_le64 bytes
   pub fill_is : fill ≡ from_le64 (drop 8 bytes)

@@ -13,7 +13,7 @@ use Rattle.trace_model.proofs.ParcelParts.{length-with_numbers, HasNumbers-of, H
 
 -- ---- one image
 
--- the bytes decide the parcel, its records and what the image tells
+-- the bytes decide the parcel, its records and what the image states
 pub HasImage-same : (bytes : List ℕ) (parcel other : Parcel) (told tells : Missed) → HasImage bytes parcel told → HasImage bytes other tells → (parcel ≡ other) × (told ≡ tells)
 HasImage-same bytes parcel other told tells h g =
     let same = HasNumbers-same bytes parcel.cpu other.cpu parcel.fill other.fill parcel.first other.first parcel.missed other.missed h.image g.image h.numbers g.numbers in
@@ -23,7 +23,7 @@ HasImage-same bytes parcel other told tells h g =
       one.2,
     )
 
--- ---- a fault excludes what comes behind it in the order
+-- ---- a fault excludes what comes after it in the order
 
 numbers_not_short : (bytes : List ℕ) (cpu fill first missed : ℕ) (image : List ℕ) → HasNumbers bytes cpu fill first missed image → length bytes < 48 → ⊥
 numbers_not_short bytes cpu fill first missed image h short =
@@ -167,7 +167,7 @@ agrees_or_not (counted events) missed =
     (λ high. inr (λ is. omega (arith, is.0)))
     (cases_lt 0 missed)
 
--- an image's fault, where the numbers are there
+-- an image's fault, if the numbers are there
 fault_from : (bytes : List ℕ) (cause : ImageCause) → HasBadImage bytes cause → IsFaultyParcel bytes
 fault_from bytes too_short f = let long = f.numbers.long in let short = f.fault in absurd (omega arith)
 fault_from bytes bad_size f = (bad_image bad_size, f)
@@ -210,7 +210,7 @@ pub length-bytes_of_parcel : (parcel : Parcel) (time : ℕ) (contents : List ℕ
 length-bytes_of_parcel parcel time contents size fits =
     omega (arith, length-with_numbers parcel.cpu parcel.fill parcel.first parcel.missed (image_of time contents parcel.missed size), length-image_of time contents parcel.missed size fits)
 
--- what an image tells of the number that it was written with agrees with it
+-- what an image states of the number that it was written with agrees with it
 told_agrees : (missed : ℕ) (some room : Bool) → some ≡ ltb 0 missed → AgreesWith (cond (some && room) (counted missed) (cond some unknown none)) missed
 told_agrees missed true true is = (ltb-true 0 missed (sym is), refl)
 told_agrees missed true false is = ltb-true 0 missed (sym is)

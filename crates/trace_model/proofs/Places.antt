@@ -140,7 +140,7 @@ Decodes-overwritten_last bytes time records start len new p ends fills reads =
       subst (Decodes (overwritten bytes start new) time) (h.2.is ∙ ap (λ (rs : List Record). h.2.front ++ record { moment = h.2.moment; bytes = new } ∷ rs) none) h.1,
     )
 
--- the same, where the records in front of the last one are known
+-- the same, if the records before the last one are known
 pub Decodes-overwritten_end : (bytes : List ℕ) (time : ℕ) (front : List Record) (r : Record) (start len : ℕ) (new : List ℕ) → IsPlaceIn bytes start len → start + len ≡ length bytes → length new ≡ len → Decodes bytes time (front ++ r ∷ [])
     → Decodes (overwritten bytes start new) time (front ++ record { moment = r.moment; bytes = new } ∷ [])
 Decodes-overwritten_end bytes time front r start len new p ends fills reads =
@@ -152,7 +152,7 @@ Decodes-overwritten_end bytes time front r start len new p ends fills reads =
 
 -- ---- two places
 
--- where a list is split twice: at one element, or the first in front of the second, or the other way
+-- how two splits of one list are related: at one element, or the first before the second, or the other way
 pub data SplitsTwice {X : Type 0} (xs : List X) (x : X) (ys : List X) (zs : List X) (z : X) (ws : List X) : Type 0 where
   at_one : (xs ≡ zs) → (x ≡ z) → (ys ≡ ws) → SplitsTwice xs x ys zs z ws
   in_front : (more : List X) → (zs ≡ xs ++ x ∷ more) → (ys ≡ more ++ z ∷ ws) → SplitsTwice xs x ys zs z ws
@@ -187,7 +187,7 @@ count_split : (front : List Word) (w : Word) (more : List Word) → IsData w →
 count_split front w more is = ap length (records_of-around 0 front w more is) ∙ length-append (records_of 0 front) (record { moment = moment_after 0 (front ++ w ∷ []); bytes = payload_of w } ∷ records_behind 0 (front ++ w ∷ []) more)
     ∙ (let e : suc (length (records_behind 0 (front ++ w ∷ []) more)) ≡ 1 + length (records_behind 0 (front ++ w ∷ []) more) = omega arith in ap (λ (n : ℕ). length (records_of 0 front) + n) e)
 
--- Two places of records in the same data: the same, or the one of the smaller number in front.
+-- Two places of records in the same data: the same, or the one of the smaller number first.
 pub data ArePlaces (number start len other_number other_start other_len : ℕ) : Type 0 where
   same_place : (number ≡ other_number) → (start ≡ other_start) → (len ≡ other_len) → ArePlaces number start len other_number other_start other_len
   earlier : (number < other_number) → (start + len + 4 ≤ other_start) → ArePlaces number start len other_number other_start other_len
@@ -197,7 +197,7 @@ module _ (bytes : List ℕ) (start len : ℕ) (p : IsPlaceIn bytes start len) (o
   same_words : p.front ++ p.word ∷ p.behind ≡ q.front ++ q.word ∷ q.behind
   same_words = IsJoined-words_unique bytes (p.front ++ p.word ∷ p.behind) (q.front ++ q.word ∷ q.behind) p.rest q.rest p.cut q.cut
 
-  -- how two places of one data stand to each other
+  -- how two places of one data are related
   place-order : SplitsTwice p.front p.word p.behind q.front q.word q.behind
   place-order = splits_twice p.front p.word p.behind q.front q.word q.behind same_words
 
@@ -210,7 +210,7 @@ ordered_before front w more others v start len other_start is is_too cut stop be
     let head = head_of_ge v is_too in
     (omega arith, omega arith)
 
--- two places in one data are one, or the one with the smaller number ends a word in front of the other
+-- two places in one data are one, or the one with the smaller number ends a word before the other
 pub places-apart : (bytes : List ℕ) (number start len other_number other_start other_len : ℕ) → IsPlaceOf bytes number start len → IsPlaceOf bytes other_number other_start other_len
     → ArePlaces number start len other_number other_start other_len
 places-apart bytes number start len other_number other_start other_len place other =
@@ -243,7 +243,7 @@ places_unique bytes number start len other_number other_start other_len place ot
 pub words_in-IsPlaceIn : (bytes : List ℕ) (start len : ℕ) → (p : IsPlaceIn bytes start len) → words_in bytes ≡ p.front ++ p.word ∷ p.behind
 words_in-IsPlaceIn bytes start len p = words_in-IsJoined bytes (p.front ++ p.word ∷ p.behind) p.rest p.cut
 
--- each data word has its payload's place, and its record the number of those in front
+-- each data word has its payload's place, and its record the number of those before
 pub IsPlaceOf-made : (bytes : List ℕ) (front : List Word) (w : Word) (behind : List Word) (rest : List ℕ) (number start len : ℕ) → IsJoined bytes (front ++ w ∷ behind) rest → IsData w
     → number ≡ length (records_of 0 front) → start ≡ length (joined front) + length (head_of w) → len ≡ length (payload_of w) → IsPlaceOf bytes number start len
 IsPlaceOf-made bytes front w behind rest number start len cut is count at long = record {
@@ -319,7 +319,7 @@ IsPlaceOf-overwritten bytes number start len at size new place q fills =
 EndsInRecord-words : (bytes : List ℕ) (words : List Word) (rest : List ℕ) → (ends : EndsInRecord bytes) → IsJoined bytes words rest → ends.words ≡ words
 EndsInRecord-words bytes words rest ends cut = IsJoined-words_unique bytes ends.words words [] rest (IsJoined-whole bytes ends.words ends.whole ends.each) cut
 
--- data that ends in a record, and more words behind it
+-- data that ends in a record, and more words after it
 joined-behind : (bytes : List ℕ) (more : List Word) → (ends : EndsInRecord bytes) → AllByRecursion IsWord more → IsJoined (bytes ++ joined more) (ends.words ++ more) []
 joined-behind bytes more ends each = IsJoined-whole (bytes ++ joined more) (ends.words ++ more)
     (ap (λ (b : List ℕ). b ++ joined more) ends.whole ∙ sym (flat_map-append bytes_of_word ends.words more))
@@ -359,7 +359,7 @@ IsPlaceOf-first delta payload start whole some fits ends =
     (IsJoined-whole (encoding delta true payload) (data_word 0 payload ∷ []) refl (data_word-IsWord 0 payload (omega arith) whole some fits, tt))
     (data_word-IsData 0 payload) refl (ap length (sym (data_word-payload 0 payload))) ends
 
--- the place of a record behind others: its number is how many they are
+-- the place of a record after others: its number is how many they are
 pub IsPlaceOf-new : (bytes : List ℕ) (time : ℕ) (records : List Record) (delta : ℕ) (payload : List ℕ) (start : ℕ) → EndsInRecord bytes → Decodes bytes time records
     → delta < word_time_limit → length payload % 4 ≡ 0 → 4 ≤ length payload → length payload + 4 < 2 ^ 32 → start + length payload ≡ length (bytes ++ encoding delta false payload)
     → IsPlaceOf (bytes ++ encoding delta false payload) (length records) start (length payload)

@@ -1,4 +1,4 @@
--- Records that were written one behind the other are read back.
+-- Records that were written one after the other are read back.
 use Rattle.std.proofs.Common.{◌≡◌, ℕ, ◌+◌, ◌-◌, ◌%◌, ◌≤◌, Bool, true, false, List, [], ◌∷◌, ◌++◌, length, inl, refl, sym, ap, ◌∙◌, subst, arith, append_assoc, append-nil}
 use Rattle.std.specs.List.{AllByRecursion}
 use Rattle.trace_model.specs.Record.{Record}
@@ -19,7 +19,7 @@ slot_some n fills = subst (λ (k : ℕ). 4 ≤ k) fills (slot_len_ge_four n)
 pub encoding_of-writable : (prev : ℕ) (r : Record) (first : Bool) → IsWritable r → encoding_of prev r first ≡ encoding (r.moment - prev) first r.bytes
 encoding_of-writable prev r first is = ap (encoding (r.moment - prev) first) (padded_whole r.bytes is.1)
 
--- a record behind others, by its encoding
+-- a record after others, by its encoding
 pub Decodes-encoding_of : (bytes : List ℕ) (time : ℕ) (records : List Record) (prev : ℕ) (r : Record) → EndsInRecord bytes → Decodes bytes time records → EndsAt records prev
     → prev ≤ r.moment → IsWritable r → Decodes (bytes ++ encoding_of prev r false) time (records ++ r ∷ [])
 Decodes-encoding_of bytes time records prev r ends reads at later is =
@@ -47,7 +47,7 @@ EndsInRecord-encoding_of_first prev r is =
     subst EndsInRecord (sym (encoding_of-writable prev r true is))
     (EndsInRecord-first (r.moment - prev) r.bytes (slot_whole (length r.bytes) is.1) (slot_some (length r.bytes) is.1) is.2)
 
--- more records behind those that the data holds
+-- more records after those that the data holds
 pub Decodes-encodings_behind : (records : List Record) (bytes : List ℕ) (time : ℕ) (before : List Record) (prev : ℕ) → EndsInRecord bytes → Decodes bytes time before → EndsAt before prev
     → NeverFallsFrom prev records → AllByRecursion IsWritable records → Decodes (bytes ++ encodings_behind prev records) time (before ++ records)
 Decodes-encodings_behind [] bytes time before prev ends reads at rises each =

@@ -42,7 +42,7 @@ leaves-front bytes = cond_both (ltb (length bytes) 4) None _ (LeavesLess (length
     (λ long. leaves-behind (length bytes) (from_le32 bytes % 32) (from_le32 bytes / 32) (drop 4 bytes)
     (let e = length-drop 4 bytes in let h = ltb-false (length bytes) 4 long in omega arith))
 
--- behind a word there are fewer bytes
+-- after a word there are fewer bytes
 pub word_at_front_lt : (bytes : List ℕ) (w : Word) (rest : List ℕ) → word_at_front bytes ≡ Some (w, rest) → length rest < length bytes
 word_at_front_lt bytes w rest found = subst (LeavesLess (length bytes)) found (leaves-front bytes)
 
@@ -69,7 +69,7 @@ words_within-enough zero m bytes few many = let none = nil_from_length bytes (le
 words_within-enough (suc n) zero bytes few many = let none = nil_from_length bytes (let e : length bytes ≡ 0 = omega arith in e) in ap (words_within (suc n)) none ∙ words_within-nil (suc n) ∙ ap (words_within 0) (sym none)
 words_within-enough (suc n) (suc m) bytes few many = next_same n m bytes (λ w rest less. words_within-enough n m rest (omega arith) (omega arith)) (word_at_front bytes) refl
 
--- where a word stands at the front, it is the first of the words, and then come those behind it
+-- if a word is at the front, it is the first of the words, and then come those after it
 pub words_in-found : (bytes : List ℕ) (w : Word) (rest : List ℕ) → word_at_front bytes ≡ Some (w, rest) → words_in bytes ≡ w ∷ words_in rest
 unfolding words_in next
 words_in-found bytes w rest found = first (length bytes) refl
@@ -80,7 +80,7 @@ words_in-found bytes w rest found = first (length bytes) refl
         let less = word_at_front_lt bytes w rest found in
         ap (λ (k : ℕ). words_within k bytes) some ∙ ap (next n) found ∙ ap (λ (ws : List Word). w ∷ ws) (words_within-enough n (length rest) rest (omega arith) (omega arith))
 
--- where none stands, there are no words
+-- if none is there, there are no words
 pub words_in-none : (bytes : List ℕ) → word_at_front bytes ≡ None → words_in bytes ≡ []
 unfolding words_in next
 words_in-none bytes none = first (length bytes)
@@ -91,7 +91,7 @@ words_in-none bytes none = first (length bytes)
 
 -- ---- any bytes are words and what is left
 
--- the bytes are these words and then bytes at the front of which no word stands
+-- the bytes are these words and then bytes at the front of which there is no word
 pub record IsReadTo (bytes : List ℕ) (words : List Word) (left : List ℕ) : Type 0 where
   pub whole : bytes ≡ joined words ++ left
   pub each : AllByRecursion IsWord words
@@ -126,6 +126,6 @@ read_to (suc n) bytes few small (Some f) e =
       },
     )
 
--- what the reader finds in any bytes stands there, one word behind the other, up to where no word stands
+-- what the reader finds in any bytes is there, one word after the other, up to where there is no word
 pub words_in-IsReadTo : (bytes : List ℕ) → AreBytes bytes → (left : List ℕ) × IsReadTo bytes (words_in bytes) left
 words_in-IsReadTo bytes small = read_to (length bytes) bytes (omega arith) small (word_at_front bytes) refl

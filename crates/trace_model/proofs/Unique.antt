@@ -9,14 +9,14 @@ use Rattle.trace_model.specs.Reading.{word_at_front, words_within, words_in, rec
 use Rattle.trace_model.proofs.Lengths.{bytes_of_word_ge, length-joined_cons}
 use Rattle.trace_model.proofs.OneWord.{word_at_front-word, word_at_front-ending, word_at_front-nil}
 
--- no word stands at the front of an ending
+-- no word is at the front of an ending
 pub word_at_front-IsEnding : (rest : List ℕ) → IsEnding rest → word_at_front rest ≡ None
 word_at_front-IsEnding rest ending = ⊎_elim
     (λ none. ap word_at_front none ∙ word_at_front-nil)
     (λ pad. ap word_at_front pad.1 ∙ word_at_front-ending pad.0)
     ending
 
--- words are no more than their bytes
+-- there are at most as many words as bytes of them
 pub length-words : (words : List Word) → length words ≤ length (joined words)
 length-words [] = omega arith
 length-words (w ∷ words) =

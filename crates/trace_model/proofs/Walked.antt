@@ -19,7 +19,7 @@ words_in-behind (w ∷ front) rest each =
     words_in-found (joined (w ∷ front) ++ rest) w (joined front ++ rest) (ap word_at_front (append_assoc (bytes_of_word w) (joined front) rest) ∙ word_at_front-word w (joined front ++ rest) each.0)
     ∙ ap (λ (ws : List Word). w ∷ ws) (words_in-behind front rest each.1)
 
--- in data that reads, a data word behind words that were read is a record with its place
+-- in data that reads, a data word after words that were read is a record with its place
 pub IsPlaceOf-read : (bytes : List ℕ) (time : ℕ) (records : List Record) (front : List Word) (rest : List ℕ) (w : Word) (behind : List ℕ) (start len : ℕ) → Decodes bytes time records
     → bytes ≡ joined front ++ rest → AllByRecursion IsWord front → word_at_front rest ≡ Some (w, behind) → IsData w
     → start + len ≡ length (joined front) + length (bytes_of_word w) → len ≡ length (payload_of w) → IsPlaceOf bytes (length (records_of 0 front)) start len
@@ -41,7 +41,7 @@ IsPlaceOf-read bytes time records front rest w behind start len reads whole each
     all : reads.words ≡ front ++ w ∷ words_in behind
     all = sym (words_in-IsJoined bytes reads.words reads.rest reads.cut) ∙ ap words_in whole ∙ words_in-behind front rest each ∙ ap (λ (ws : List Word). front ++ ws) (words_in-found rest w behind found)
 
--- a front of a list that is split: the split is behind the front or within it
+-- a front of a list that is split: the split is after the front or within it
 split_or : {X : Type 0} (xs : List X) (x : X) (ys front rest : List X) → xs ++ x ∷ ys ≡ front ++ rest → ((more : List X) × (xs ≡ front ++ more)) ⊎ ((more : List X) × (front ≡ xs ++ x ∷ more))
 split_or xs x ys [] rest e = inl (xs, refl)
 split_or [] x ys (a ∷ front) rest e = inr (front, (let h : a ≡ x = cc in ap (λ b. b ∷ front) h))
@@ -53,7 +53,7 @@ split_or {X = X} (y ∷ xs) x ys (a ∷ front) rest e =
     (λ h. inr (h.0, (λ i. sym first i ∷ h.1 i)))
     (split_or xs x ys front rest tails)
 
--- a place lies within the words that were read, or a word's head behind them
+-- a place is within the words that were read, or after the first four bytes that follow them
 pub place-beside : (bytes : List ℕ) (start len : ℕ) (front : List Word) (rest : List ℕ) → IsPlaceIn bytes start len → bytes ≡ joined front ++ rest → AllByRecursion IsWord front
     → (start + len ≤ length (joined front)) ⊎ (length (joined front) + 4 ≤ start)
 place-beside bytes start len front rest p whole each = ⊎_elim
@@ -63,7 +63,7 @@ place-beside bytes start len front rest p whole each = ⊎_elim
     let size = ap (λ (ws : List Word). length (joined ws)) h.1 ∙ ap length (flat_map-append bytes_of_word p.front (p.word ∷ h.0)) ∙ length-append (joined p.front) (bytes_of_word p.word ++ joined h.0) ∙ ap (λ (n : ℕ). length (joined p.front) + n) (length-append (bytes_of_word p.word) (joined h.0)) in omega arith))
     (split_or p.front p.word p.behind front (words_in rest) (sym (words_in-IsJoined bytes (p.front ++ p.word ∷ p.behind) p.rest p.cut) ∙ ap words_in whole ∙ words_in-behind front rest each))
 
--- a place within a word that stands behind those read is that word's payload
+-- a place within a word that follows those read is that word's payload
 pub place-here : (bytes : List ℕ) (start len : ℕ) (front : List Word) (rest : List ℕ) (w : Word) (behind : List ℕ) → IsPlaceIn bytes start len → bytes ≡ joined front ++ rest → AllByRecursion IsWord front
     → word_at_front rest ≡ Some (w, behind) → length (joined front) < start → start ≤ length (joined front) + length (bytes_of_word w)
     → IsData w × (len ≡ length (payload_of w)) × (start + len ≡ length (joined front) + length (bytes_of_word w))

@@ -1,4 +1,4 @@
--- What stands at the front of the bytes: a whole word, an ending padding, or one fault.
+-- What is at the front of the bytes: a whole word, an ending padding, or one fault.
 use Rattle.std.proofs.Common.{◌≡◌, ◌≢◌, ℕ, ◌+◌, ◌-◌, ◌*◌, ◌%◌, ◌^◌, ◌<◌, ◌≤◌, ◌⊎◌, inl, inr, ⊎_elim, Bool, true, false, cond, ltb, eqb, List, [], ◌∷◌, length, take, drop, Option, Some, None, is_some, refl, sym, ap, ◌∙◌, arith, length-append, length-drop}
 use Rattle.std.proofs.lemmas.Bool.{cond-true, cond-false, lt-ltb, le-ltb, le-leb, lt-leb, eq-eqb, ne_eqb, cases_lt, cases_eq, false≢true}
 use Rattle.trace_model.specs.Words.{Word, le32, short_data, long_data, padding, time_extend, time_stamp, ending_padding}
@@ -114,7 +114,7 @@ front-stamp bytes is head =
     front_is bytes (omega arith) ∙ stamp_behind _ (delta_at_front bytes) (drop 4 bytes) is
     ∙ part_of-whole 4 (drop 4 bytes) (λ high. time_stamp (from_le32 high * 2 ^ 27 + delta_at_front bytes)) (omega (arith, length-drop 4 bytes))
 
--- ---- each fault: no word stands there
+-- ---- each fault: there is no word
 
 time_cut : (bytes : List ℕ) → 4 ≤ length bytes → length bytes < 8 → HasHighBits bytes → word_at_front bytes ≡ None
 time_cut bytes long short high =
@@ -126,7 +126,7 @@ time_cut bytes long short high =
     (λ more. stamp_behind (type_at_front bytes) d (drop 4 bytes) more ∙ part_of-cut 4 (drop 4 bytes) (λ high. time_stamp (from_le32 high * 2 ^ 27 + d)) past)
     (cases_lt (type_at_front bytes) 31)
 
--- where a length is stated, no word stands if no part with that length does
+-- if a length is stated, there is no word if no part with that length is there
 stated : (bytes : List ℕ) → 4 ≤ length bytes → StatesLength bytes → ((make : List ℕ → Word) → part_with_length (drop 4 bytes) make ≡ None) → word_at_front bytes ≡ None
 stated bytes long (inl is) none = front_is bytes long ∙ long_behind _ (delta_at_front bytes) (drop 4 bytes) is ∙ none (long_data (delta_at_front bytes))
 stated bytes long (inr is) none = front_is bytes long ∙ padding_behind _ (delta_at_front bytes) (drop 4 bytes) is.0 is.1 ∙ none (padding (delta_at_front bytes))
@@ -295,7 +295,7 @@ from_head bytes long =
     (cases_lt (type_at_front bytes) 29))
     (cases_lt (type_at_front bytes) 1)
 
--- where some byte is left, one of the three stands at the front
+-- if some byte is left, one of the three is at the front
 pub front_cases : (bytes : List ℕ) → 1 ≤ length bytes → HasWord bytes ⊎ (HasEnding bytes ⊎ HasFault bytes)
 unfolding Front
 front_cases bytes some = ⊎_elim

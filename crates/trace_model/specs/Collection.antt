@@ -1,5 +1,5 @@
--- What a collector holds: records under their CPU and number, and missing numbers. It is told by
--- parcels: the union of what each of a list of parcels has and misses, whatever their order and repeats.
+-- What a collector holds: records under their CPU and number, and missing numbers. It is defined by
+-- a list of parcels: the union of what each of them has and misses, whatever their order and repeats.
 use Rattle.std.specs.Prelude.{◌≡◌, ℕ, List, Some}
 use Rattle.std.specs.List.{slice_get}
 use Rattle.trace_model.specs.Record.{Record}

@@ -1,6 +1,6 @@
--- What is wrong at the front of a page's data where neither a whole word nor an ending padding stands.
--- kernel/trace/ring_buffer.c (rb_event_data_length, rb_event_length) trusts its own pages. To look for
--- what is wrong, in the order of IsWordFault, is this project's own; what is right is told in
+-- What is wrong at the front of a page's data if neither a whole word nor an ending padding is there.
+-- kernel/trace/ring_buffer.c (rb_event_data_length, rb_event_length) trusts its own pages. The search for
+-- what is wrong, in the order of IsWordFault, is this project's own; what is right is stated in
 -- docs/FORMATS.md, "How data is read".
 use Rattle.std.specs.Prelude.{◌≡◌, ◌≢◌, ℕ, ◌+◌, ◌*◌, ◌/◌, ◌%◌, ◌<◌, ◌≤◌, ◌⊎◌, IsSome, List, ◌++◌, length, drop}
 use Rattle.trace_model.specs.Words.{ending_padding}
@@ -21,7 +21,7 @@ type_at_front bytes = from_le32 bytes % 32
 abbrev pub delta_at_front : List ℕ → ℕ
 delta_at_front bytes = from_le32 bytes / 32
 
--- the number in the four bytes behind these: a length, or the high bits of a time
+-- the number in the four bytes after the first four: a length, or the high bits of a time
 abbrev pub number_behind : List ℕ → ℕ
 number_behind bytes = from_le32 (drop 4 bytes)
 
@@ -33,7 +33,7 @@ CountsWords bytes = (1 ≤ type_at_front bytes) × (type_at_front bytes ≤ 28)
 abbrev pub StatesLength : List ℕ → Type 0
 StatesLength bytes = (type_at_front bytes ≡ 0) ⊎ ((type_at_front bytes ≡ 29) × (1 ≤ delta_at_front bytes))
 
--- types 30 and 31, an extend and a stamp, have the high bits of a time behind them
+-- types 30 and 31, an extend and a stamp, have the high bits of a time after them
 abbrev pub HasHighBits : List ℕ → Type 0
 HasHighBits bytes = 30 ≤ type_at_front bytes
 
@@ -44,7 +44,7 @@ pub record HasGoodLength (bytes : List ℕ) : Type 0 where
   pub whole : number_behind bytes % 4 ≡ 0
   pub fits : 4 + number_behind bytes ≤ length bytes
 
--- one to three bytes are left; or four to seven, where a number belongs behind the first four
+-- one to three bytes are left; or four to seven, and a number belongs after the first four
 abbrev pub IsCutInHead : List ℕ → Type 0
 IsCutInHead bytes =
     ((1 ≤ length bytes) × (length bytes < 4))
@@ -67,14 +67,14 @@ IsWordFault bytes cut = IsCutInHead bytes ⊎ ((HasBadLength bytes → ⊥) × I
 IsWordFault bytes bad_length = (IsCutInHead bytes → ⊥) × HasBadLength bytes
 IsWordFault bytes time_overflow = ⊥
 
--- a whole word stands at the front
+-- a whole word is at the front
 abbrev pub HasWord : List ℕ → Type 0
 HasWord bytes = IsSome (word_at_front bytes)
 
--- an ending padding stands at the front
+-- an ending padding is at the front
 abbrev pub HasEnding : List ℕ → Type 0
 HasEnding bytes = (ignored : List ℕ) × (bytes ≡ ending_padding ++ ignored)
 
--- what stands at the front is at fault
+-- the front is at fault
 abbrev pub HasFault : List ℕ → Type 0
 HasFault bytes = (cause : Cause) × IsWordFault bytes cause

@@ -1,6 +1,6 @@
--- The first fault of the data of a page: what stands in front of it, and what is wrong there. It stands
--- beside Decodes of Words: data with a time has one reading or one first fault. The causes and their
--- order are told in docs/FORMATS.md, "Record words".
+-- The first fault of the data of a page: what is before it, and what is wrong there. It is the counterpart
+-- of Decodes in Words: data with a time has one reading or one first fault. The causes and their
+-- order are stated in docs/FORMATS.md, "Record words".
 use Rattle.std.specs.Prelude.{◌≡◌, ◌≢◌, ℕ, ◌^◌, ◌<◌, ◌≤◌, List, [], ◌∷◌, ◌++◌, length, slice_index}
 use Rattle.std.specs.List.{AllByRecursion}
 use Rattle.trace_model.specs.Words.{Word, bytes_of_word, IsWord, joined, moment_after, MovesTime, FitsTime}
@@ -10,7 +10,7 @@ use Rattle.trace_model.specs.Faults.{Cause, cut, bad_length, time_overflow, IsWo
 abbrev pub AreBytes : List ℕ → Type 0
 AreBytes bytes = (i : ℕ) → slice_index bytes i < 256
 
--- behind these words a whole word stands at the front that moves the time, and the moment there doesn't
+-- after these words a whole word that moves the time is at the front, and the moment there doesn't
 -- fit 64 bits
 pub record Overflows (time : ℕ) (words : List Word) (rest : List ℕ) : Type 0 where
   pub word : Word
@@ -20,7 +20,7 @@ pub record Overflows (time : ℕ) (words : List Word) (rest : List ℕ) : Type 0
   pub moves : MovesTime word
   pub past : 2 ^ 64 ≤ moment_after time (words ++ word ∷ [])
 
--- what is wrong at the front of what is left behind these words
+-- what is wrong at the front of what is left after these words
 abbrev pub IsFaultBehind : ℕ → List Word → List ℕ → Cause → Type 0
 IsFaultBehind time words rest cut = IsWordFault rest cut
 IsFaultBehind time words rest bad_length = IsWordFault rest bad_length

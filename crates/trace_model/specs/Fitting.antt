@@ -1,4 +1,4 @@
--- What each action asks of the fills in front of it, and what a frame that is about to begin a fill still needs:
+-- What each action asks of the fills before it, and what a frame that is about to begin a fill still needs:
 -- the packing of records in pages, action by action.
 -- After kernel/trace/ring_buffer.c (rb_reserve_next_event, rb_move_tail).
 use Rattle.std.specs.Prelude.{◌≡◌, ◌≢◌, ℕ, ◌≤◌, Bool, true, IsTrue, List, [], ◌∷◌, ◌++◌, length, Some, None, slice_index_or}
@@ -14,7 +14,7 @@ abbrev pub IsRising : ℕ → List ℕ → ℕ → Type 0
 IsRising from [] to = from ≤ to
 IsRising from (cut ∷ cuts) to = (from ≤ cut) × IsRising cut cuts to
 
--- the records behind the last cut
+-- the records after the last cut
 abbrev pub tail_at : List ℕ → List Reservation → List Reservation
 tail_at cuts records = slice_index_or (cut_from 0 cuts records) (length cuts) []
 
@@ -24,7 +24,7 @@ HaveRoom size cuts records = (i : ℕ) → fill_len (slice_index_or (cut_from 0 
 
 -- ---- actions
 
--- what an action asks of the fills in front of it
+-- what an action asks of the fills before it
 abbrev pub IsFit : ℕ → List Action → Action → Type 0
 IsFit size front (push moment len) = Unit {0}
 IsFit size front push_close = Unit {0}

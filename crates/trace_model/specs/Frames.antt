@@ -8,7 +8,7 @@ use Rattle.trace_model.specs.History.{PushedFrame, record_frame, close_frame}
 -- ---- the stack
 
 -- A record frame writes one record, pushed with its moment and its payload's length in bytes; a close
--- frame only leaves the tail, where that holds a record.
+-- frame only leaves the tail, if that holds a record.
 pub data Kind : Type 0 where
   for_record : (moment len : ℕ) → Kind
   for_close : Kind
@@ -38,7 +38,7 @@ pushed_onto kind waiting below = pushed_frame kind waiting ∷ below
 pushed_onto kind (reserved number) below = pushed_frame kind (reserved number) ∷ below
 pushed_onto kind left below = below
 
--- a frame of the stack, whatever writer or ring it stands in
+-- a frame of the stack, whatever writer or ring it belongs to
 pub record StackFrame : Type 0 where
   pub kind : Kind
   pub state : FrameState
@@ -57,7 +57,7 @@ pub data Role : Type 0 where
 
 -- How far a frame has come with the ring's words. idle: it has noted nothing. noted: the number of begun fills
 -- when it found that it needs a page, which is the number of the fill to open. page: the page at that fill's
--- position. next: the page behind that. releasing: it closes fills. wishing: none is left to close, and it looks
+-- position. next: the page after that. releasing: it closes fills. wishing: none is left to close, and it looks
 -- for the reader's wish.
 pub data Phase : Type 0 where
   idle : Phase
@@ -85,7 +85,7 @@ stack_of (frame ∷ below) = record { kind = frame.kind; state = frame.state } �
 abbrev pub pushed_frames : List Frame → List PushedFrame
 pushed_frames frames = pushed_of (stack_of frames)
 
--- the fill that a frame is about to open, where it has noted one
+-- the fill that a frame is about to open, if it has noted one
 abbrev pub noted_fill : Phase → Option ℕ
 noted_fill idle = None
 noted_fill (looking o) = Some o
@@ -97,7 +97,7 @@ noted_fill (opening o page) = Some o
 noted_fill releasing = None
 noted_fill wishing = None
 
--- the fill to open, where at its position stands the UPDATE that the frame owns: it has set that, and not
+-- the fill to open, if the frame owns the UPDATE at its position: it has set that, and not
 -- yet cleared it
 abbrev pub owned_update : Phase → Option ℕ
 owned_update idle = None

@@ -7,7 +7,7 @@ use Rattle.trace_model.specs.Words.{slot_len, padded}
 
 -- push: a record frame of this moment, for a payload of len bytes. push_close: a close frame, which only
 -- leaves the tail page. leave: of the frame on top, with the payload that it wrote, or without a record.
--- open_fill and reserve are of the frame on top. wished: where no frame stands, the outermost one, which has
+-- open_fill and reserve are of the frame on top. wished: when the stack is empty, the outermost frame, which has
 -- left, found that the reader wants the tail page, and goes on to begin the next fill.
 pub data Action : Type 0 where
   push : (moment len : ℕ) → Action
@@ -44,7 +44,7 @@ last_moment [] = 0
 last_moment (r ∷ []) = r.moment
 last_moment (r ∷ s ∷ records) = last_moment (s ∷ records)
 
--- a record of this moment, for a payload of len bytes, behind these: a moment below the last one's is
+-- a record of this moment, for a payload of len bytes, after these: a moment below the last one's is
 -- raised to it
 abbrev pub reservation_for : (moment len : ℕ) → List Reservation → Reservation
 reservation_for moment len records = record {
@@ -79,7 +79,7 @@ abbrev pub records_after_leave : PushedFrame → Option (List ℕ) → List Rese
 records_after_leave (record_frame moment len number) payload records = records_with_payload number payload records
 records_after_leave close_frame payload records = records
 
--- what an action makes of it; where no frame stands, reserve and leave do nothing
+-- what an action makes of it; if the stack is empty, reserve and leave do nothing
 abbrev pub after_action : List PushedFrame → List Reservation → Action → WriterState
 after_action stack records (push moment len) = record {
   stack = record_frame moment len None ∷ stack;
@@ -104,7 +104,7 @@ writer_after history = fold (λ w a. after_action w.stack w.records a) record { 
 abbrev pub reserved_records : List Action → List Reservation
 reserved_records history = (writer_after history).records
 
--- no frame stands
+-- the stack is empty
 abbrev pub is_settled : List Action → Bool
 is_settled history = has_none (writer_after history).stack
   where
@@ -112,18 +112,18 @@ is_settled history = has_none (writer_after history).stack
     has_none [] = true
     has_none (f ∷ stack) = false
 
--- of the prefixes of at most n actions, the longest behind which no frame stands
+-- of the prefixes of at most n actions, the longest after which the stack is empty
 abbrev pub settled_prefix_within : ℕ → List Action → List Action
 settled_prefix_within zero history = []
 settled_prefix_within (suc n) history =
     if is_settled (take (suc n) history) then take (suc n) history else settled_prefix_within n history
 
--- the longest prefix of a history behind which no frame stands
+-- the longest prefix of a history after which the stack is empty
 abbrev pub settled_prefix : List Action → List Action
 settled_prefix history = settled_prefix_within (length history) history
 
--- A reserved record as it is read. Until its frame has left its bytes are told as zeros; none of the
--- committed records of a history is such.
+-- A reserved record as it is read. Until its frame has left, its bytes are taken as zeros; none of the
+-- committed records of a history is in that state.
 abbrev pub as_record : Reservation → Record
 as_record r = record { moment = r.moment; bytes = unwrap_or r.bytes (replicate r.len 0) }
 
@@ -138,15 +138,15 @@ MayReserve [] = ⊥
 MayReserve (record_frame moment len number ∷ stack) = number ≡ None
 MayReserve (close_frame ∷ stack) = ⊥
 
--- a fill is begun for a frame that has no record yet: a record frame that wants one, or a close frame; or, where
--- none stands, by the outermost one, which has left
+-- a fill is begun for a frame that has no record yet: a record frame that needs one, or a close frame; or, if
+-- the stack is empty, by the outermost frame, which has left
 abbrev pub MayOpen : List PushedFrame → Type 0
 MayOpen [] = ⊤
 MayOpen (record_frame moment len number ∷ stack) = number ≡ None
 MayOpen (close_frame ∷ stack) = ⊤
 
--- A frame that has reserved leaves with a payload that takes just the slot which it was pushed for, to the
--- last byte or with zeros behind it; any other frame leaves with none.
+-- A frame that has reserved leaves with a payload that takes exactly the slot which it was pushed for, to the
+-- last byte or with zeros after it; any other frame leaves with none.
 abbrev pub MayLeave : List PushedFrame → Option (List ℕ) → Type 0
 MayLeave [] payload = ⊥
 MayLeave (record_frame moment len None ∷ stack) payload = payload ≡ None
@@ -154,13 +154,13 @@ MayLeave (record_frame moment len (Some number) ∷ stack) None = ⊥
 MayLeave (record_frame moment len (Some number) ∷ stack) (Some payload) = slot_len (length payload) ≡ slot_len len
 MayLeave (close_frame ∷ stack) payload = payload ≡ None
 
--- a wish is found where no frame stands
+-- a wish is found only when the stack is empty
 abbrev pub MayWish : List PushedFrame → Type 0
 MayWish [] = ⊤
 MayWish (f ∷ stack) = ⊥
 
--- What may be done while these frames stand. A push may come at any time; to reserve and to leave are of the
--- frame on top, so one stands.
+-- What may be done while the stack holds these frames. A push may come at any time; to reserve and to leave
+-- are of the frame on top, so there must be one.
 abbrev pub MayAct : List PushedFrame → Action → Type 0
 MayAct stack (push moment len) = ⊤
 MayAct stack push_close = ⊤
@@ -169,8 +169,7 @@ MayAct stack reserve = MayReserve stack
 MayAct stack (leave payload) = MayLeave stack payload
 MayAct stack wished = MayWish stack
 
--- The discipline of the stack: each action is one that the frames standing behind the actions in front
--- of it allow.
+-- The discipline of the stack: each action is one that the stack after the actions before it allows.
 abbrev pub IsHistory : List Action → Type 0
 IsHistory history = (front behind : List Action) (a : Action) → history ≡ front ++ a ∷ behind
     → MayAct (writer_after front).stack a

@@ -1,6 +1,6 @@
--- Page images: a page as it is handed out, its header in front. After kernel/trace/ring_buffer.c (struct
+-- Page images: a page as the reader gets it, its header first. After kernel/trace/ring_buffer.c (struct
 -- buffer_data_page, RB_MISSED_EVENTS, RB_MISSED_STORED, ring_buffer_read_page); what is this project's
--- own is told in docs/FORMATS.md, "Page image".
+-- own is stated in docs/FORMATS.md, "Page image".
 use Rattle.std.specs.Prelude.{◌≡◌, ℕ, ◌+◌, ◌-◌, ◌*◌, ◌^◌, ◌<◌, ◌≤◌, ◌⊎◌, Bool, true, false, ◌&&◌, if◌then◌else◌, nat_lt, nat_le, List, [], ◌++◌, length, replicate}
 use Rattle.std.specs.Int.{to_le_bytes, from_le_bytes, w64}
 use Rattle.trace_model.specs.Record.{Record}
@@ -18,8 +18,8 @@ unfoldable pub from_le64 : List ℕ → ℕ
 from_le64 bytes = from_le_bytes w64 bytes
 
 -- The commit word: bits 0 to 29 are the size of the data in bytes, bit 30 says that a count of missed events
--- is stored, bit 31 that events were missed in front of the page. Bits 32 to 63 mean nothing: kernels set
--- them all where bit 31 is set.
+-- is stored, bit 31 that events were missed before the page. Bits 32 to 63 mean nothing: kernels set
+-- them all if bit 31 is set.
 pub record Commit : Type 0 where
   pub size : ℕ
   pub is_stored : Bool
@@ -34,7 +34,7 @@ commit_word commit =
     + (if commit.is_missed then 2 ^ 31 else 0)
     + 2 ^ 32 * commit.ignored
 
--- The bytes begin with a header: the time of the page and its commit word. The rest stands behind it.
+-- The bytes begin with a header: the time of the page and its commit word. The rest follows.
 pub record HasHeader (bytes : List ℕ) (time : ℕ) (commit : Commit) (rest : List ℕ) : Type 0 where
   pub whole : bytes ≡ le64 time ++ (le64 (commit_word commit) ++ rest)
   pub time_fits : time < 2 ^ 64
@@ -42,20 +42,20 @@ pub record HasHeader (bytes : List ℕ) (time : ℕ) (commit : Commit) (rest : L
   pub ignored_fits : commit.ignored < 2 ^ 32
 
 -- The bytes are the parts of an image of at most `limit` bytes: a header, data of the size that it
--- states, and what stands behind the data.
+-- states, and what follows the data.
 pub record HasParts (limit : ℕ) (bytes : List ℕ) (time : ℕ) (commit : Commit) (contents behind : List ℕ) : Type 0 where
   pub header : HasHeader bytes time commit (contents ++ behind)
   pub size_is : length contents ≡ commit.size
   pub length_fits : length bytes ≤ limit
 
--- what an image tells of events that were missed in front of it: none were; some were, of unknown number; how many
+-- what an image states of events that were missed before it: none were; some were, of unknown number; how many
 pub data Missed : Type 0 where
   none : Missed
   unknown : Missed
   counted : (events : ℕ) → Missed
 
--- The commit word and the bytes behind the data tell this of missed events. The count stands right behind the
--- data, and bytes behind it are ignored; bit 30 alone means nothing.
+-- The commit word and the bytes after the data state this of missed events. The count is right after the
+-- data, and bytes after it are ignored; bit 30 alone means nothing.
 abbrev pub TellsMissed : Commit → List ℕ → Missed → Type 0
 TellsMissed commit behind none = commit.is_missed ≡ false
 TellsMissed commit behind unknown = (commit.is_missed ≡ true) × (commit.is_stored ≡ false)
@@ -83,7 +83,7 @@ DecodesImage = DecodesImageWithin MAX_IMAGE
 
 -- ---- the image that is written
 
--- there is room for a count behind the data
+-- there is room for a count after the data
 abbrev pub has_room : List ℕ → ℕ → Bool
 has_room contents size = nat_le (length contents + 8) size
 
@@ -104,7 +104,7 @@ commit_of contents missed size = record {
 abbrev pub filled : List ℕ → List ℕ → ℕ → List ℕ
 filled contents stored size = contents ++ (stored ++ replicate (size - length contents - length stored) 0)
 
--- what is stored behind the data: the count, or nothing
+-- what is stored after the data: the count, or nothing
 abbrev pub stored_count : List ℕ → ℕ → ℕ → List ℕ
 stored_count contents missed size = if stores_count contents missed size then le64 missed else []
 
@@ -115,14 +115,14 @@ image_of time contents missed size =
     ++ (le64 (commit_word (commit_of contents missed size))
     ++ filled contents (stored_count contents missed size) size)
 
--- what that image tells of this number of missed events
+-- what that image states of this number of missed events
 abbrev pub missed_told : List ℕ → ℕ → ℕ → Missed
 missed_told contents missed size =
     if stores_count contents missed size then counted missed else (if nat_lt 0 missed then unknown else none)
 
 -- ---- what is wrong with an image
 
--- too_short: there is no header. bad_size: the stated size is above the number of bytes behind the header, or
+-- too_short: there is no header. bad_size: the stated size is above the number of bytes after the header, or
 -- the image is too long. bad_count: the stored count isn't there. bad_word: the data has this first fault.
 pub data ImageCause : Type 0 where
   too_short : ImageCause

@@ -14,7 +14,7 @@ EncodingHasItsLength = (len delta : ℕ) (first : Bool) (payload : List ℕ) →
     → length (encoding delta first payload) ≡ encoded_len len delta first
 
 -- records whose moments never fall, written as the data of a page with the first one's moment as its
--- time, are read back; where there are none, at any time
+-- time, are read back; if there are none, at any time
 abbrev pub EncodingsReadBack : Type 0
 EncodingsReadBack = (records : List Record) (time : ℕ) → NeverFalls records → AllByRecursion IsWritable records
     → Decodes (page_encoding records) (first_moment_or time records) records

@@ -1,11 +1,11 @@
--- The links of a ring: each tells which page stands at a position, and in which fill.
+-- The links of a ring: each states which page is at a position, and in which fill.
 -- After Documentation/trace/ring-buffer-design.rst, "Making the Ring Buffer Lockless": the two low bits
--- of a page's next pointer say HEADER or UPDATE. That the fill's number stands in the link too is this
+-- of a page's next pointer say HEADER or UPDATE. That the fill's number is in the link too is this
 -- project's own, and so is the word (docs/FORMATS.md, "Link word").
 use Rattle.std.specs.Prelude.{◌≡◌, ◌≢◌, ℕ, ◌+◌, ◌*◌, ◌%◌, ◌^◌, ◌<◌}
 use Rattle.trace_model.specs.declared.limits.TheConstants.{LINK_PAGES, LINK_FILLS}
 
--- normal: nothing is told of the page. header: the page is the head. update: a writer moves the head
+-- normal: nothing is stated of the page. header: the page is the head. update: a writer moves the head
 -- away from the page.
 pub data Mark : Type 0 where
   normal : Mark

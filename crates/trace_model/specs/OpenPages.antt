@@ -27,7 +27,7 @@ abbrev pub first_moment : List Reservation → ℕ
 first_moment [] = 0
 first_moment (r ∷ records) = r.moment
 
--- Data of this time holds the records of a fill: it reads as them, takes just the bytes that they need, and one more
+-- Data of this time holds the records of a fill: it reads as them, takes exactly the bytes that they need, and one more
 -- may follow.
 pub record HoldsRecords (time : ℕ) (bytes : List ℕ) (fill : List Reservation) : Type 0 where
   pub reads : Decodes bytes time (records_in time bytes)

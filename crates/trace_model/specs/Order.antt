@@ -1,4 +1,4 @@
--- The order of records in time, where a list of them ends, and what a writer can put.
+-- The order of records in time, the last moment of a list of them, and what a writer can put.
 use Rattle.std.specs.Prelude.{◌≡◌, ℕ, ◌+◌, ◌^◌, ◌<◌, ◌≤◌, ⊤, List, [], ◌∷◌, length, Option, Some, None}
 use Rattle.trace_model.specs.declared.limits.TheConstants.{MOMENT_LIMIT}
 use Rattle.trace_model.specs.Record.{Record}
@@ -19,7 +19,7 @@ abbrev pub first_moment_or : ℕ → List Record → ℕ
 first_moment_or time [] = time
 first_moment_or time (r ∷ records) = r.moment
 
--- behind a moment, no record has a smaller moment than the one before it
+-- after a moment, no record has a smaller moment than the one before it
 abbrev pub NeverFallsFrom : ℕ → List Record → Type 0
 NeverFallsFrom moment [] = ⊤
 NeverFallsFrom moment (r ∷ records) = (moment ≤ r.moment) × NeverFallsFrom r.moment records

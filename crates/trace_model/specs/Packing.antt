@@ -1,4 +1,4 @@
--- The fills of a CPU: which records stand in which page, and when a new page is begun.
+-- The fills of a CPU: which records are in which page, and when a new page is begun.
 -- After kernel/trace/ring_buffer.c (rb_reserve_next_event, rb_move_tail): a record that doesn't fit in
 -- what the tail page has left goes to the next page. docs/FORMATS.md, "Record words", "The ring".
 use Rattle.std.specs.Prelude.{◌≡◌, ◌≢◌, ℕ, ◌+◌, ◌-◌, ◌<◌, ◌≤◌, Bool, true, false, IsTrue, fold, List, [], ◌∷◌, ◌++◌, length, take, drop, map, Option, Some, None, slice_index_or}
@@ -6,7 +6,7 @@ use Rattle.std.specs.List.{AllByRecursion}
 use Rattle.trace_model.specs.Words.{encoded_len, page_encoding}
 use Rattle.trace_model.specs.History.{Action, push, push_close, open_fill, reserve, leave, wished, Reservation, PushedFrame, record_frame, close_frame, writer_after, reserved_records, reservation_for, as_record}
 
--- how many records were reserved in front of each open, in order
+-- how many records were reserved before each open, in order
 abbrev pub opens_behind : List Action → List Action → List ℕ
 opens_behind front [] = []
 opens_behind front (push moment len ∷ behind) = opens_behind (front ++ push moment len ∷ []) behind
@@ -33,7 +33,7 @@ fills_of history = cut_from 0 (opens_of history) (reserved_records history)
 abbrev pub tail_of : List Action → List Reservation
 tail_of history = slice_index_or (fills_of history) (length (fills_of history) - 1) []
 
--- how many bytes records take in one page, the first of them behind one of moment prev
+-- how many bytes records take in one page, the first of them after a record of moment prev
 abbrev pub len_behind : ℕ → List Reservation → ℕ
 len_behind prev [] = 0
 len_behind prev (r ∷ records) = encoded_len r.len (r.moment - prev) false + len_behind r.moment records
@@ -53,7 +53,7 @@ FillHasItsLength = (records : List Reservation)
     → AllByRecursion FillsSlot records
     → fill_len records ≡ length (page_encoding (map as_record records))
 
--- the record fits in a page of this size behind these
+-- the record fits in a page of this size after these
 abbrev pub FitsBehind : ℕ → List Reservation → Reservation → Type 0
 FitsBehind size records r = fill_len (records ++ r ∷ []) ≤ size
 
@@ -79,15 +79,15 @@ is_wished history = fold wished_after false history
     wished_after found (leave payload) = found
     wished_after found wished = true
 
--- The tail page may be left without a record that wants it: for the close frame on top; or, where no frame
--- stands, for the reader, who wished for it.
+-- The tail page may be left without a record that needs the next one: for the close frame on top; or, if the
+-- stack is empty, for the reader, who wished for it.
 abbrev pub MayCloseTail : List Action → List PushedFrame → Type 0
 MayCloseTail front [] = IsTrue (is_wished front)
 MayCloseTail front (record_frame moment len number ∷ stack) = ⊥
 MayCloseTail front (close_frame ∷ stack) = Unit {0}
 
--- What was done is packed in pages of this size: each fill has room in one; what is reserved fits behind
--- its fill; and a fill is begun only behind one that isn't empty, for a record that doesn't fit, by a close
+-- What was done is packed in pages of this size: each fill has room in one; what is reserved fits after
+-- its fill; and a fill is begun only after one that isn't empty, for a record that doesn't fit, by a close
 -- frame, or for the reader's wish.
 pub record IsPacked (history : List Action) (size : ℕ) : Type 0 where
   pub rooms : (k : ℕ) → k < length (fills_of history) → fill_len (slice_index_or (fills_of history) k []) ≤ size

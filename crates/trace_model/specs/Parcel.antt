@@ -5,7 +5,7 @@ use Rattle.std.specs.List.{slice_get}
 use Rattle.trace_model.specs.Record.{Record}
 use Rattle.trace_model.specs.Partition.{Piece, first_of}
 
--- first: the number of the first record. missed: how many numbers are missing in front of it.
+-- first: the number of the first record. missed: how many numbers are missing before it.
 pub record Parcel : Type 0 where
   pub cpu : ℕ
   pub fill : ℕ
@@ -20,14 +20,14 @@ pub record IsPairOf (parcel : Parcel) (cpu number : ℕ) (r : Record) : Type 0 w
   pub number_is : number ≡ parcel.first + index
   pub record_is : slice_get parcel.records index ≡ Some r
 
--- the number is missing in front of the parcel's records
+-- the number is missing before the parcel's records
 pub record IsMissingOf (parcel : Parcel) (cpu number : ℕ) : Type 0 where
   pub cpu_is : cpu ≡ parcel.cpu
   pub low : parcel.first ≤ number + parcel.missed
   pub high : number < parcel.first
 
--- The parcel is one piece of a partition: its records, how many numbers are missing in front, and as its first
--- number the count of all that stands in front of them.
+-- The parcel is one piece of a partition: its records, how many numbers are missing before them, and as its first
+-- number the count of all that are before them.
 pub record IsGenuine (parcel : Parcel) (pieces : List Piece) : Type 0 where
   pub index : ℕ
   pub piece_is : slice_get pieces index ≡ Some record { skipped = parcel.missed; records = parcel.records }

@@ -1,18 +1,18 @@
--- Parcels as bytes: four numbers, and the image of the page behind them. All of it is this project's own, told in
+-- Parcels as bytes: four numbers, and the image of the page after them. All of it is this project's own, stated in
 -- docs/FORMATS.md, "Parcel bytes".
 use Rattle.std.specs.Prelude.{◌≡◌, ℕ, ◌+◌, ◌^◌, ◌<◌, ◌≤◌, List, ◌++◌, length}
 use Rattle.trace_model.specs.Image.{le64, Missed, none, unknown, counted, DecodesImage, image_of, ImageCause, too_short, bad_size, bad_count, bad_word, FirstImageFault}
 use Rattle.trace_model.specs.Parcel.{Parcel}
 use Rattle.trace_model.specs.declared.limits.TheConstants.{MAX_CPUS}
 
--- What holds of each parcel: there is such a CPU, its records have numbers below 2^64, and so many numbers stand
--- in front of them.
+-- What holds of each parcel: there is such a CPU, its records have numbers below 2^64, and it misses at most as
+-- many numbers as there are before its first one.
 pub record IsParcel (parcel : Parcel) : Type 0 where
   pub cpu_known : parcel.cpu < MAX_CPUS
   pub numbers_fit : parcel.first + length parcel.records < 2 ^ 64
   pub missed_fit : parcel.missed ≤ parcel.first
 
--- four numbers, and the bytes behind them
+-- four numbers, and the bytes after them
 abbrev pub with_numbers : ℕ → ℕ → ℕ → ℕ → List ℕ → List ℕ
 with_numbers cpu fill first missed image = le64 cpu ++ (le64 fill ++ (le64 first ++ (le64 missed ++ image)))
 
@@ -22,7 +22,7 @@ abbrev pub bytes_of_parcel : Parcel → ℕ → List ℕ → ℕ → List ℕ
 bytes_of_parcel parcel time contents size =
     with_numbers parcel.cpu parcel.fill parcel.first parcel.missed (image_of time contents parcel.missed size)
 
--- The bytes begin with these four numbers, and what stands behind them is long enough for an image's header.
+-- The bytes begin with these four numbers, and what follows them is long enough for an image's header.
 pub record HasNumbers (bytes : List ℕ) (cpu fill first missed : ℕ) (image : List ℕ) : Type 0 where
   pub whole : bytes ≡ with_numbers cpu fill first missed image
   pub cpu_fits : cpu < 2 ^ 64
@@ -31,14 +31,14 @@ pub record HasNumbers (bytes : List ℕ) (cpu fill first missed : ℕ) (image : 
   pub missed_fits : missed < 2 ^ 64
   pub long : 16 ≤ length image
 
--- What an image tells of missed events agrees with this number of them.
+-- What an image states of missed events agrees with this number of them.
 abbrev pub AgreesWith : Missed → ℕ → Type 0
 AgreesWith none missed = missed ≡ 0
 AgreesWith unknown missed = 0 < missed
 AgreesWith (counted events) missed = (0 < missed) × (events ≡ missed)
 
--- The bytes have the numbers of this parcel, its CPU is one, and the image behind them reads as its records and
--- tells this of missed events.
+-- The bytes have the numbers of this parcel, its CPU is one, and the image after them reads as its records and
+-- states this of missed events.
 pub record HasImage (bytes : List ℕ) (parcel : Parcel) (told : Missed) : Type 0 where
   pub image : List ℕ
   pub numbers : HasNumbers bytes parcel.cpu parcel.fill parcel.first parcel.missed image
@@ -57,8 +57,8 @@ pub record DecodesParcel (bytes : List ℕ) (parcel : Parcel) : Type 0 where
 -- ---- what is wrong with a parcel's bytes
 
 -- bad_cpu: there is no such CPU. bad_image: the image has this fault, or the bytes are too short for one.
--- number_overflow: the number behind the last record's is above 2^64 - 1. missed_too_many: more numbers are missing
--- than stand in front of the first one. missed_differs: the image tells otherwise of missed events than the numbers.
+-- number_overflow: the number after the last record's is above 2^64 - 1. missed_too_many: more numbers are
+-- missing than are before the first one. missed_differs: the image states otherwise of missed events than the numbers.
 pub data ParcelCause : Type 0 where
   bad_cpu : ParcelCause
   bad_image : (cause : ImageCause) → ParcelCause
@@ -94,7 +94,7 @@ pub record HasOverflow (bytes : List ℕ) : Type 0 where
   pub image : HasImage bytes parcel told
   pub past : 2 ^ 64 ≤ parcel.first + length parcel.records
 
--- they fit, and more are missing in front of the first one than stand there
+-- they fit, and more are missing before the first one than there are
 pub record HasTooManyMissed (bytes : List ℕ) : Type 0 where
   pub parcel : Parcel
   pub told : Missed
@@ -102,7 +102,7 @@ pub record HasTooManyMissed (bytes : List ℕ) : Type 0 where
   pub numbers_fit : parcel.first + length parcel.records < 2 ^ 64
   pub past : parcel.first < parcel.missed
 
--- all is well, but the image tells otherwise of what is missing
+-- all is well, but the image states otherwise of what is missing
 pub record HasOtherMissed (bytes : List ℕ) : Type 0 where
   pub parcel : Parcel
   pub told : Missed

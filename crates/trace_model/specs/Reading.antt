@@ -11,18 +11,18 @@ use Rattle.trace_model.specs.Words.{Word, short_data, long_data, padding, time_e
 unfoldable pub from_le32 : List ℕ → ℕ
 from_le32 bytes = from_le_bytes w32 bytes
 
--- what a word of n bytes makes of them, and the bytes behind them, if there are n
+-- what a word of n bytes makes of them, and the bytes after them, if there are n
 abbrev pub part_of : {X : Type 0} → ℕ → List ℕ → (List ℕ → X) → Option (X × List ℕ)
 part_of n bytes make = if nat_lt (length bytes) n then None else Some (make (take n bytes), drop n bytes)
 
--- the same for bytes with a length of four bytes in front that counts itself
+-- the same for bytes with a length of four bytes first, which counts itself
 abbrev pub part_with_length : {X : Type 0} → List ℕ → (List ℕ → X) → Option (X × List ℕ)
 part_with_length bytes make =
     if nat_lt (length bytes) 4 then None
     else (if nat_lt (from_le32 bytes) 4 then None
     else (if from_le32 bytes % 4 == 0 then part_of (from_le32 bytes - 4) (drop 4 bytes) make else None))
 
--- the word whose first four bytes have this type and delta, out of the bytes behind them
+-- the word whose first four bytes have this type and delta, made of the bytes after them
 abbrev pub word_behind : ℕ → ℕ → List ℕ → Option (Word × List ℕ)
 word_behind type_len delta bytes =
     if type_len == 0 then part_with_length bytes (long_data delta)
@@ -31,7 +31,7 @@ word_behind type_len delta bytes =
     else (if type_len == 30 then part_of 4 bytes (λ high. time_extend (from_le32 high * 2 ^ 27 + delta))
     else part_of 4 bytes (λ high. time_stamp (from_le32 high * 2 ^ 27 + delta)))))
 
--- the word at the front and what is behind it, if a whole one stands there; an ending padding is none
+-- the word at the front and what is after it, if a whole one is there; an ending padding is none
 unfoldable pub word_at_front : List ℕ → Option (Word × List ℕ)
 word_at_front bytes =
     if nat_lt (length bytes) 4 then None else word_behind (from_le32 bytes % 32) (from_le32 bytes / 32) (drop 4 bytes)

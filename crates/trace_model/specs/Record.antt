@@ -1,7 +1,7 @@
 -- A record of the trace: when it was made, and its bytes.
 use Rattle.std.specs.Prelude.{◌≡◌, ℕ, ◌%◌, List, length}
 
--- The bytes are as they stand in a page, with the zeros behind them: whole words, of four bytes each
+-- The bytes are as they are in a page, with the zeros after them: whole words, of four bytes each
 -- (docs/FORMATS.md, "Record words").
 pub record Record : Type 0 where
   pub moment : ℕ

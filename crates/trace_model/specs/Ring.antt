@@ -12,7 +12,7 @@ use Rattle.trace_model.specs.Sublist.{IsPrefix}
 
 -- ---- links and positions
 
--- the link into the position of a fill, in a ring of n positions: fill f lies at position f % n
+-- the link into the position of a fill, in a ring of n positions: fill f is at position f % n
 abbrev pub link_into : ℕ → List Link → ℕ → Link
 link_into n links f = slice_index_or links (f % n) (normal_link 0 0)
 
@@ -35,7 +35,7 @@ pub record Held : Type 0 where
 abbrev pub empty_page : Held
 empty_page = record { first = 0; records = [] }
 
--- A fill that the reader took: how many records were lost in front of it since the last one taken, and
+-- A fill that the reader took: how many records were lost before it since the last one taken, and
 -- its own.
 pub record Taken : Type 0 where
   pub fill : ℕ
@@ -50,7 +50,7 @@ pub data ReaderPhase : Type 0 where
   swapping : (page fill : ℕ) → ReaderPhase
 
 -- hint: the least fill that the reader doesn't know to be taken or lost. seen: the greatest number of closed
--- fills that it has seen. expected: the number behind the last record that it took. taken: the fills that it
+-- fills that it has seen. expected: the number after the last record that it took. taken: the fills that it
 -- took, in order.
 pub record Reader : Type 0 where
   pub phase : ReaderPhase
@@ -91,7 +91,7 @@ window_of c = record { head = c.head; done = c.done; opened = c.opened }
 abbrev pub first_reader : ℕ → Reader
 first_reader start = record { phase = loading_link; hint = start; seen = start; expected = 0; taken = [] }
 
--- The state of a new ring of n positions whose first fill has this number: fill f lies on page f % n, the
+-- The state of a new ring of n positions whose first fill has this number: fill f is on page f % n, the
 -- head is the first fill and the tail, and the spare is page n.
 pub record IsStart (n start : ℕ) (c : Core) : Type 0 where
   pub positions : length c.links ≡ n
@@ -118,14 +118,14 @@ pub record IsStart (n start : ℕ) (c : Core) : Type 0 where
 abbrev pub Moves : List Frame → ℕ → ℕ → Type 0
 Moves frames k f = (frame : Frame) × (slice_get frames k ≡ Some frame) × (owned_update frame.phase ≡ Some f)
 
--- just one frame on the stack has set it
+-- exactly one frame on the stack has set it
 pub record IsMoved (frames : List Frame) (f : ℕ) : Type 0 where
   pub by : ℕ
   pub moves : Moves frames by f
   pub alone : (k : ℕ) → Moves frames k f → k ≡ by
 
--- The link into the position of a fill behind the head tells that fill; or it still tells the fill that was
--- lost there, which is so just where a frame has set this UPDATE and not yet cleared it.
+-- The link into the position of a fill after the head states that fill; or it still states the fill that was
+-- lost there, which is so if and only if a frame has set this UPDATE and not yet cleared it.
 pub data IsBehindHead (n : ℕ) (c : Core) (f : ℕ) : Type 0 where
   told : link_into n c.links f ≡ normal_link (page_at n c.order f) f
       → ((k : ℕ) → Moves c.frames k f → ⊥)
@@ -136,7 +136,7 @@ pub data IsBehindHead (n : ℕ) (c : Core) (f : ℕ) : Type 0 where
       → IsMoved c.frames f
       → IsBehindHead n c f
 
--- The link to the head is its HEADER; or the HEADER is owed by a move of the head that still stands.
+-- The link to the head is its HEADER; or that HEADER is still to be stored by a move of the head.
 pub data IsAtHead (n : ℕ) (c : Core) : Type 0 where
   marked : link_into n c.links c.head ≡ header_link (page_at n c.order c.head) c.head
       → IsAtHead n c
@@ -189,7 +189,7 @@ pub record AreFillsOf (start : ℕ) (history : List Action) (taken : List Taken)
 abbrev pub IsTaken : Core → ℕ → Type 0
 IsTaken c f = (k : ℕ) × (t : Taken) × (slice_get c.reader.taken k ≡ Some t) × (t.fill ≡ f)
 
--- the records that stand in the fills below this one, as they are by now
+-- the records in the fills below this one, as they are by now
 abbrev pub records_before_fill : List Action → ℕ → ℕ → List Record
 records_before_fill history start f =
     map as_record (take (first_of_fill history start f) (reserved_records history))
@@ -203,9 +203,9 @@ IsSwapReady n c (swapping page fill) = c.spare_link ≡ header_link (page_at n c
 
 -- The ring, between any two steps. Each position has a link, and each page a body; the pages go round; the
 -- window keeps its order, from the first fill on, and the fills begun are those of the history; the reader wishes
--- for no fill that isn't begun; links behind the head, and to it, are as above; pages hold their fills; what is
--- closed is committed, and a fill that is lost was lost in a full ring; and what a frame or the reader has seen is
--- no more than was true.
+-- for no fill that isn't begun; links after the head, and to it, are as above; pages hold their fills; what is
+-- closed is committed, and a fill that is lost was lost in a full ring; and what a frame or the reader knows of
+-- the counts is at most what they are.
 pub record IsRing (n start : ℕ) (c : Core) : Type 0 where
   pub positions : length c.links ≡ n
   pub bodies : length c.held ≡ n + 1

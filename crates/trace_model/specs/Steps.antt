@@ -22,9 +22,9 @@ pub data Event : Type 0 where
   reads : Event
   wishes : Event
 
--- going: the frame stands and hasn't reserved. reserved_as: its record has this number. pending, full:
+-- going: the frame is on the stack and hasn't reserved. reserved_as: its record has this number. pending, full:
 -- it was ended, with a frame below it or with none. gone: it has left the stack. reading: the take goes
--- on. empty: no closed fill is unread, so many are closed. moving: a head move stands in the way, and
+-- on. empty: no closed fill is unread, and this many are closed. moving: a head move is in progress, and
 -- fills below this one are taken or lost. swapped: a fill is taken. wished_for: the reader wished for this fill.
 pub data Answer : Type 0 where
   pushed : Answer
@@ -66,11 +66,11 @@ contents_of c page = slice_index_or c.held page empty_page
 abbrev pub tail_page : Core → ℕ
 tail_page c = slice_index_or c.open_pages (length c.open_pages - 1) 0
 
--- the reservation of a record of this moment, for a payload of len bytes, where it is made now
+-- the reservation of a record of this moment, for a payload of len bytes, if it is made now
 abbrev pub new_reservation : Core → (moment len : ℕ) → Reservation
 new_reservation c moment len = reservation_for moment len (reserved_records c.history)
 
--- the state in which a record is reserved: it stands last in the tail page
+-- the state in which a record is reserved: it is the last in the tail page
 abbrev pub with_reservation : Core → Reservation → Core
 with_reservation c r =
     let tail : Held = contents_of c (tail_page c) in
@@ -106,7 +106,7 @@ held_with_payload (Some number) payload h = record {
       else records_with_payload (Some (number - h.first)) payload h.records;
 }
 
--- the number of the record that a frame leaves behind
+-- the number of the record that a frame reserved
 abbrev pub own_number : Kind → FrameState → Option ℕ
 own_number (for_record moment len) state = number_of state
 own_number for_close state = None
@@ -225,11 +225,11 @@ pub data LookStep (n : ℕ) (c : Core) (frame : Frame) (below : List Frame)
       → after ≡ in_phase c frame below (looking_next helper noted page)
       → LookStep n c frame below noted answer after
 
--- the head, which lies on this page as this fill, is lost: its HEADER is an UPDATE
+-- the head, which is on this page as this fill, is lost: its HEADER is an UPDATE
 abbrev pub with_head_claimed : ℕ → Core → (noted page lost : ℕ) → Core
 with_head_claimed n c noted page lost = record (with_link n c noted (update_link page lost)) { head = c.head + 1 }
 
--- A compare and exchange of that link from HEADER to UPDATE: where it succeeds, the head is lost and the frame
+-- A compare and exchange of that link from HEADER to UPDATE: if it succeeds, the head is lost and the frame
 -- owns the UPDATE.
 pub data ClaimStep (n : ℕ) (c : Core) (frame : Frame) (below : List Frame)
     (noted page : ℕ) (answer : Answer) (after : Core)
@@ -450,7 +450,7 @@ pub data LoadDoneStep (c : Core) (page fill : ℕ) (answer : Answer) (after : Co
       → after ≡ reader_saw c (storing_link page fill)
       → LoadDoneStep c page fill answer after
 
--- the spare's link as it is stored before a swap: it will lead to the fill behind the one that is taken
+-- the spare's link as it is stored before a swap: it will lead to the fill after the one that is taken
 abbrev pub next_header : ℕ → Core → ℕ → Link
 next_header n c fill = header_link (page_at n c.order (suc fill)) (suc fill)
 
@@ -468,7 +468,7 @@ taken_fill c page fill = record {
   held = contents_of c page;
 }
 
--- the reader behind a take of this fill
+-- the reader after a take of this fill
 abbrev pub reader_after : Core → ℕ → ℕ → Reader
 reader_after c page fill = record {
   phase = loading_link;
@@ -478,7 +478,7 @@ reader_after c page fill = record {
   taken = c.reader.taken ++ taken_fill c page fill ∷ [];
 }
 
--- The state in which the head was taken: the spare stands at its position, empty, and leads on; the page that
+-- The state in which the head was taken: the spare is at its position, empty, and leads on; the page that
 -- was the head is the spare.
 abbrev pub after_swap : ℕ → Core → ℕ → ℕ → Core
 after_swap n c page fill = record c {
@@ -511,7 +511,7 @@ ReadStep n c (loading_done page fill) answer after = LoadDoneStep c page fill an
 ReadStep n c (storing_link page fill) answer after = StoreStep n c page fill answer after
 ReadStep n c (swapping page fill) answer after = SwapStep n c page fill answer after
 
--- the reader wishes for the fill behind those that it knows to be closed
+-- the reader wishes for the fill after those that it knows to be closed
 abbrev pub with_wish : Core → Core
 with_wish c = record c { wish = c.reader.seen + 1 }
 
@@ -521,7 +521,7 @@ with_wish c = record c { wish = c.reader.seen + 1 }
 abbrev pub IsTooLong : ℕ → ℕ → Type 0
 IsTooLong size len = (size < len) ⊎ (size < encoded_len len 0 true)
 
--- one frame more may stand
+-- there is room for one more frame
 abbrev pub HasRoom : Core → Type 0
 HasRoom c = length c.frames < MAX_FRAMES
 

@@ -23,23 +23,23 @@ pub data Happening : Type 0 where
   took_one : Happening
   lost_one : Happening
 
--- the counts behind a happening: each moves one of them by one
+-- the counts after a happening: each moves one of them by one
 abbrev pub window_after : Window → Happening → Window
 window_after w opened_one = record { head = w.head; done = w.done; opened = w.opened + 1 }
 window_after w released_one = record { head = w.head; done = w.done + 1; opened = w.opened }
 window_after w took_one = record { head = w.head + 1; done = w.done; opened = w.opened }
 window_after w lost_one = record { head = w.head + 1; done = w.done; opened = w.opened }
 
--- When each may happen, behind this history: a fill is begun where a position is free; one is closed
--- where it isn't the tail and each push has its leave; the head is taken where it is closed, and lost only
--- where it is closed and the ring is full.
+-- When each may happen, after this history: a fill is begun only if a position is free; one is closed
+-- only if it isn't the tail and each push has its leave; the head is taken only if it is closed, and lost
+-- only if it is closed and the ring is full.
 abbrev pub MayHappen : ℕ → List Action → Window → Happening → Type 0
 MayHappen n history w opened_one = w.opened < w.head + n
 MayHappen n history w released_one = (w.done + 1 < w.opened) × IsTrue (is_settled history)
 MayHappen n history w took_one = w.head < w.done
 MayHappen n history w lost_one = (w.head < w.done) × (w.opened ≡ w.head + n)
 
--- the happening may happen, behind this history, and makes the one window of the other
+-- the happening may happen, after this history, and makes the one window of the other
 pub record WindowStep (n : ℕ) (history : List Action) (before : Window) (happening : Happening) (after : Window)
     : Type 0 where
   pub may : MayHappen n history before happening
@@ -75,12 +75,12 @@ abbrev pub MayPass : ℕ → List Action → Window → Option Happening → Typ
 MayPass n history w None = Unit {0}
 MayPass n history w (Some what) = MayHappen n history w what
 
--- the window behind it
+-- the window after it
 abbrev pub window_behind : Window → Option Happening → Window
 window_behind w None = w
 window_behind w (Some what) = window_after w what
 
--- Behind a history, the deeds lead from one window to another.
+-- After a history, the deeds lead from one window to another.
 abbrev pub WindowRunFrom : ℕ → List Action → Window → List Deed → Window → Type 0
 WindowRunFrom n history before [] after = before ≡ after
 WindowRunFrom n history before (acts a ∷ deeds) after =
@@ -101,7 +101,7 @@ WindowRun n start deeds window = WindowRunFrom n [] (first_window start) deeds w
 abbrev pub IsCrowded : ℕ → Window → Type 0
 IsCrowded n w = w.opened ≡ w.done + n
 
--- The counts keep their order, and no more than n fills are begun from the head on.
+-- The counts keep their order, and at most n fills are begun from the head on.
 pub record IsWindow (n : ℕ) (w : Window) : Type 0 where
   pub head_le : w.head ≤ w.done
   pub done_lt : w.done < w.opened

@@ -1,7 +1,7 @@
 -- Record words: how a record is written, and what the data of a page reads as.
 -- After include/linux/ring_buffer.h (enum ring_buffer_type, struct ring_buffer_event) and
 -- kernel/trace/ring_buffer.c (rb_update_event, rb_add_timestamp, rb_update_read_stamp); what is
--- this project's own is told in docs/FORMATS.md, "Record words".
+-- this project's own is stated in docs/FORMATS.md, "Record words".
 use Rattle.std.specs.Prelude.{◌≡◌, ℕ, ◌+◌, ◌-◌, ◌*◌, ◌/◌, ◌%◌, ◌^◌, ◌<◌, ◌≤◌, max, ◌⊎◌, ⊤, Bool, true, false, if◌then◌else◌, nat_lt, nat_le, List, [], ◌∷◌, ◌++◌, length, replicate, flat_map, sum_by, Option, Some, None, unwrap_or}
 use Rattle.std.specs.Int.{to_le_bytes, w32}
 use Rattle.std.specs.List.{AllByRecursion, list_any}
@@ -15,8 +15,8 @@ le32 n = to_le_bytes w32 n
 abbrev pub first_word : ℕ → ℕ → List ℕ
 first_word type_len delta = le32 (type_len + 32 * delta)
 
--- One word of the data of a page, with all that belongs to it. Data has its payload behind the
--- word (short form) or behind the word and a length (long form); padding is skipped; an extend adds
+-- One word of the data of a page, with all that belongs to it. Data has its payload after the
+-- word (short form) or after the word and a length (long form); padding is skipped; an extend adds
 -- to the time and a stamp sets it.
 pub data Word : Type 0 where
   short_data : (delta : ℕ) (payload : List ℕ) → Word
@@ -88,17 +88,17 @@ abbrev pub last_stamp : ℕ → List Word → ℕ
 last_stamp time [] = time
 last_stamp time (w ∷ words) = last_stamp (unwrap_or (stamp_of w) time) words
 
--- the words behind the last stamp
+-- the words after the last stamp
 abbrev pub since_stamp : List Word → List Word
 since_stamp [] = []
 since_stamp (w ∷ words) =
     if list_any is_stamp words then since_stamp words else (if is_stamp w then words else w ∷ words)
 
--- the moment of a record whose word is the last of these: the last stamp, and all deltas behind it
+-- the moment of a record whose word is the last of these: the last stamp, and all deltas after it
 abbrev pub moment_after : ℕ → List Word → ℕ
 moment_after time words = last_stamp time words + sum_by delta_of (since_stamp words)
 
--- the record that a word holds, if it is data; in front of it stand these words
+-- the record that a word holds, if it is data; these words are before it
 abbrev pub records_at : ℕ → List Word → Word → List Record
 records_at time front (short_data delta payload) =
     record { moment = moment_after time (front ++ short_data delta payload ∷ []); bytes = payload } ∷ []
@@ -108,7 +108,7 @@ records_at time front (padding delta skipped) = []
 records_at time front (time_extend delta) = []
 records_at time front (time_stamp stamp) = []
 
--- the records of the second words, which stand behind the first
+-- the records of the second words, which follow the first
 abbrev pub records_behind : ℕ → List Word → List Word → List Record
 records_behind time front [] = []
 records_behind time front (w ∷ words) = records_at time front w ++ records_behind time (front ++ w ∷ []) words
@@ -149,7 +149,7 @@ pub record Decodes (bytes : List ℕ) (time : ℕ) (records : List Record) : Typ
 abbrev pub slot_len : ℕ → ℕ
 slot_len len = 4 * ((max len 1 + 3) / 4)
 
--- a payload as it stands in a page: zeros behind it
+-- a payload as it is in a page: with zeros after it
 abbrev pub padded : List ℕ → List ℕ
 padded bytes = bytes ++ replicate (slot_len (length bytes) - length bytes) 0
 
@@ -157,7 +157,7 @@ padded bytes = bytes ++ replicate (slot_len (length bytes) - length bytes) 0
 abbrev pub data_word : ℕ → List ℕ → Word
 data_word delta payload = if nat_le (length payload) 112 then short_data delta payload else long_data delta payload
 
--- a delta that doesn't fit its 27 bits stands in an extend in front; where a record begins its page,
+-- a delta that doesn't fit its 27 bits is put into an extend before the word; if a record begins its page,
 -- none is written, as the page's time is its moment
 abbrev pub written_words : ℕ → Bool → List ℕ → List Word
 written_words delta true payload = data_word 0 payload ∷ []
@@ -168,7 +168,7 @@ written_words delta false payload =
 abbrev pub encoding : ℕ → Bool → List ℕ → List ℕ
 encoding delta first payload = joined (written_words delta first payload)
 
--- how a record is written behind one of moment prev, or as the first of its page
+-- how a record is written after one of moment prev, or as the first of its page
 abbrev pub encoding_of : ℕ → Record → Bool → List ℕ
 encoding_of prev r first = encoding (r.moment - prev) first (padded r.bytes)
 
@@ -179,7 +179,7 @@ encoded_len len delta first =
     + (if nat_le (slot_len len) 112 then 4 else 8)
     + slot_len len
 
--- records one behind the other, the first of them behind one of moment prev
+-- records one after the other, the first of them after a record of moment prev
 abbrev pub encodings_behind : ℕ → List Record → List ℕ
 encodings_behind prev [] = []
 encodings_behind prev (r ∷ records) = encoding_of prev r false ++ encodings_behind r.moment records

@@ -18,7 +18,7 @@ pub const MAX_IMAGE: usize = 65_536;
 /// The most CPUs: a CPU's number is below this.
 pub const MAX_CPUS: u32 = 256;
 
-/// The most frames that stand on the writer's stack of one ring at a time.
+/// The most frames that are on the writer's stack of one ring at a time.
 pub const MAX_FRAMES: usize = 4;
 
 /// The longest input of the program, in bytes: 2^28.
@@ -27,12 +27,12 @@ pub const MAX_INPUT: usize = 268_435_456;
 /// A moment that is written is below this: 2^59.
 pub const MOMENT_LIMIT: u64 = 576_460_752_303_423_488;
 
-/// The number of a ring's first fill, where nothing else is said.
+/// The number of a ring's first fill, if nothing else is said.
 pub const START_FILL: u64 = 0;
 
 /// How many pages a link can name, 2^14: a page's number is below this.
 pub const LINK_PAGES: u64 = 16_384;
 
-/// How many fills a link can name, 2^48: their numbers are below this. A fill is opened only where the
-/// one `pages` after it can be named too, so no fill is opened behind `LINK_FILLS - 1 - pages`.
+/// How many fills a link can name, 2^48: their numbers are below this. A fill is opened only if the
+/// one `pages` after it can be named too, so no fill is opened after `LINK_FILLS - 1 - pages`.
 pub const LINK_FILLS: u64 = 281_474_976_710_656;

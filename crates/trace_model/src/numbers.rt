@@ -1,4 +1,4 @@
-//! The numbers by which records, fills and CPUs are told apart, and the error where memory is refused.
+//! The numbers by which records, fills and CPUs are distinguished, and the error if memory is refused.
 ghost use Rattle.trace_model.specs.declared.numbers.NoMemory.{NoMemory};
 
 use std::alloc::{AllocError, AllocFailed};

@@ -90,7 +90,7 @@ pair_put text left old new after high low value so_far is small more =
           ∙ ap (λ (bs : List ℕ). old ++ bs) (sym (pairs_push digits high low so_far.even));
     }
 
--- those of one part behind those of another
+-- the bytes of one part, then those of another
 pairs_append : (front back : List ℕ) → length front % 2 ≡ 0 → bytes_of_pairs (front ++ back) ≡ bytes_of_pairs front ++ bytes_of_pairs back
 pairs_append [] back even = refl
 pairs_append (a ∷ []) back even = absurd (omega (arith, even))
@@ -120,7 +120,7 @@ pub pair_is_byte : (high low value : ℕ) → value ≡ pair_value high low → 
 pair_is_byte high low value is small = let pair = pair_of high low (omega (arith, is)) in omega (arith, is, pair.3)
 
 -- ---- what is pushed
--- the values of four pairs fit together, and each is a byte where they are worth less than no digit
+-- the values of four pairs fit together, and each is a byte if they are together less than NO_DIGIT
 pub two_fit : (a b : ℕ) → a ≤ 8192 → b ≤ 8192 → Fits w16 (a + b)
 two_fit a b first second = omega arith
 
@@ -149,7 +149,7 @@ room_left len room len' room' more some one same = omega arith
 pub some_room : (len room more : ℕ) → len + suc more ≤ room → len < room
 some_room len room more some = omega arith
 
--- eight bytes of a text, and what stands behind them, in the code's words
+-- eight bytes of a text, and the rest after them, in the code's words
 pub eight_and_rest : (left : List ℕ) → 8 ≤ length left
     → left ≡ get_or left 0 0 ∷ get_or left 1 0 ∷ get_or left 2 0 ∷ get_or left 3 0 ∷ get_or left 4 0 ∷ get_or left 5 0 ∷ get_or left 6 0 ∷ get_or left 7 0 ∷ take (length left - 8) (drop 8 left)
 eight_and_rest [] some = absurd (omega arith)
@@ -257,7 +257,7 @@ payload_there text left rest old new put feed more =
 pub dash_there : (text rest old : List ℕ) → text ≡ 45 ∷ 10 ∷ rest → IsPayloadCut text rest old old
 dash_there text rest old is = record { field = codes "-"; payload = []; are = is; spells = dash_payload (codes "-") refl; put = sym (append-nil old) }
 
--- pairs are put, and then those at the front of what is left
+-- pairs are put, and then those at the beginning of what is left
 pub pairs_then : (r : Result (Bor (List ℕ)) NoMemory) (text left old between new : List ℕ) → ArePut text left old between → PutsPairs r left between new → PutsPairs r text old new
 pairs_then (Ok rest) text left old between new first (put, ends) = (put_then text left rest.now old between new first put, ends)
 pairs_then (Err e) text left old between new first (some, put) =

@@ -33,7 +33,7 @@ use Rattle.trace_script.specs.ScriptTypes.{values_of, script_of}
 abbrev pub Read : Type 0 → Type 0
 Read X = Result X (ℕ × LineFault)
 
--- a fault stays one, whatever would come behind it
+-- a fault stays one, whatever would follow it
 fails_then : {X Y : Type 0} (fault : script.ScriptFault) (read : Read X) (f : X → Read Y) → FailsAt fault read → FailsAt fault (read >>= f)
 fails_then {X} (scripts.BadLine n) read f h = ap (λ (read : Read X). read >>= f) h
 fails_then {X} (scripts.BadNumber n) read f h = ap (λ (read : Read X). read >>= f) h
@@ -158,7 +158,7 @@ Commands = List (ℕ × Command)
 abbrev commands_onto : Commands → Commands → Read Commands
 commands_onto front commands = Ok (front ++ commands)
 
--- the commands of the lines behind, and this one in front of them
+-- this command, then those of the lines after it
 abbrev rest_then : ℕ → ℕ → ℕ → List NumberedLine → Command → Read Commands
 rest_then cpus collectors number rest command = commands_from cpus collectors rest >>= λ commands. Ok ((number, command) ∷ commands)
 
@@ -200,7 +200,7 @@ commands_end cpus collectors all left front so_far h =
     ∙ ap (λ (ls : List NumberedLine). commands_from cpus collectors ls >>= commands_onto front) h
     ∙ ap (λ (cs : Commands). let r : Read Commands = Ok cs in r) (append-nil front)
 
--- a fault that is handed on is the same one
+-- a fault that is passed on is the same one
 pub same_fault : {X Y : Type 0} (r : Result X script.ScriptFault) (handed own fault : script.ScriptFault) → r ≡ Err handed → handed ≡ own → r ≡ Err fault
     → (let other : Result Y script.ScriptFault = Err own in other) ≡ Err fault
 same_fault r handed own fault is same refused = cc
@@ -270,7 +270,7 @@ begins_there text end passed rest header behind start left none whole h first (c
     begins_as text end header behind start left others commands (subst (λ (t : List ℕ). settings_from end model.header_settings (significant_lines_after 0 t) ≡ Ok (values_of header, behind)) whole
     (subst (λ (n : ℕ). settings_from end model.header_settings (significant_lines_after n rest) ≡ Ok (values_of header, behind)) none h)) first each some
 
--- pieces that are read one behind the other make a script
+-- pieces that are read one after the other make a script
 script_made : (end : ℕ) (lines : List NumberedLine) (header : Header) (behind : List NumberedLine) (start : ℕ) (left : List NumberedLine) (commands : Commands)
     → settings_from end model.header_settings lines ≡ Ok (values_of header, behind) → start_from header.pages behind ≡ Ok (start, left)
     → commands_from header.cpus header.collectors left ≡ Ok commands → script_from end lines ≡ Ok (script_of header start commands)

@@ -17,7 +17,7 @@ same_some m n h = cc
 none_is_no_some : (n : ℕ) → None ≡ Some n → ⊥
 none_is_no_some n h = absurd (cc)
 
--- where the first separator stands
+-- where the first separator is
 place_found : (p : ℕ → Bool) (bytes : List ℕ) (place : ℕ) → Some place ≡ position p bytes → (position_or_len p bytes < length bytes) × (position_or_len p bytes ≡ place)
 place_found p bytes place h =
     elim (cases_Bool (ltb (position_or_len p bytes) (length bytes))) [
@@ -32,7 +32,7 @@ place_missing p bytes h =
       | inr not_there ↦ ltb-false _ _ not_there
     ]
 
--- the first part, and the parts of what stands behind it
+-- the first part, and the parts of the rest after it
 pub parts_behind : (p : ℕ → Bool) (bytes : List ℕ) (place : ℕ) → Some place ≡ position p bytes
     → slice_split p bytes ≡ take place bytes ∷ slice_split p (take (length bytes - (place + 1)) (drop (place + 1) bytes))
 parts_behind p bytes place h =
@@ -89,7 +89,7 @@ first_line text line rest h =
 last_line_at : (b : ℕ) (text : List ℕ) → without_empty_end ((b ∷ text) ∷ []) ≡ (b ∷ text) ∷ []
 last_line_at b text = cond-false (length (b ∷ text) == 0) _ _ (ne_eqb (length (b ∷ text)) 0 (omega arith))
 
--- the last line, where no line feed ends it
+-- the last line, if no line feed ends it
 last_line : (text : List ℕ) → 0 < length text → slice_split (λ b. b == 10) text ≡ text ∷ [] → lines_of text ≡ text ∷ []
 last_line [] some h = absurd (omega arith)
 last_line (b ∷ text) some h = ap without_empty_end h ∙ last_line_at b text
@@ -98,7 +98,7 @@ not_empty : (text : List ℕ) → (length text == 0) ≡ false → 0 < length te
 not_empty [] some = cc
 not_empty (b ∷ text) some = omega arith
 
--- what cut_at says of the next line and of what stands behind it
+-- what cut_at states of the next line and of the rest after it
 pub next_line : (text line : List ℕ) (o : Option (Bor (List ℕ))) (r none : Bor (List ℕ)) → r ≡ unwrap_or o none → none.now ≡ [] → (length text == 0) ≡ false
     → MatchOption o (slice_split (λ b. b == 10) text ≡ line ∷ []) (λ rest. slice_split (λ b. b == 10) text ≡ line ∷ slice_split (λ b. b == 10) rest.now)
     → MatchOption o (line ≡ text) (λ rest. ⊤)
@@ -140,7 +140,7 @@ unfolding end_line_after
 end_line_after_all passed text h = omega (arith, ap (λ (lines : List (List ℕ)). length lines) h)
 
 -- ---- one turn over the lines, in the code's words
--- how many lines stand in front after one more, and that line's number
+-- how many lines are passed after one more, and that line's number
 abbrev IsNext : ℕ → ℕ → ℕ → Type 0
 IsNext passed number after = (number ≡ passed + 1) × (after ≡ passed + 1)
 

@@ -76,7 +76,7 @@ begins_with cpus collectors text rest command fields spells are =
       shorter = omega (arith, ap (λ (bs : List ℕ). length bs) are, length-append (line_of fields) (10 ∷ rest));
     }
 
--- ---- the fields of a text, behind the name of a CPU
+-- ---- the fields of a text, after the name of a CPU
 pub count_read : (field : List ℕ) (n : ℕ) → decimal_in field ≡ Ok n → MIN_LINE_STEPS ≤ n → n ≤ MAX_LINE_STEPS → count_in field ≡ Ok n
 unfolding count_in
 count_read field n h low high = rw h (cond-true _ _ _ (and_from _ _ (le-leb MIN_LINE_STEPS n low) (le-leb n MAX_LINE_STEPS high)))
@@ -99,7 +99,7 @@ delivery_joined k x f text given named filled rest is given_is named_is filled_i
     let behind : named ≡ (x ++ 32 ∷ f) ++ 10 ∷ rest = named_is ∙ ap (λ (bs : List ℕ). x ++ 32 ∷ bs) filled_is ∙ sym (append_assoc x (32 ∷ f) (10 ∷ rest)) in
     is ∙ ap (λ (bs : List ℕ). 100 ∷ 32 ∷ bs) (given_is ∙ ap (λ (bs : List ℕ). k ++ 32 ∷ bs) behind ∙ sym (append_assoc k (32 ∷ (x ++ 32 ∷ f)) (10 ∷ rest)))
 
--- ---- a line behind the name of a CPU
+-- ---- a line after the name of a CPU
 pub steps_behind : (cpu : ℕ) (text front old : List ℕ) (o : Option UsualLine)
     → IfSome o (λ line. (cpus collectors : ℕ) → BeginsBehindCpu cpus collectors cpu front line.rest.now (shown_order [] line.order)) → text ≡ front
     → MatchOption o (old ≡ old) (λ line. (cpus collectors : ℕ) → IsUsualBehindCpu cpus collectors cpu text old old line)

@@ -86,7 +86,7 @@ number_ends field i number some few whole digits value small =
     (subst (λ (ds : List ℕ). all_ascii_digits ds ≡ true) all digits)
     (value ∙ ap (λ (ds : List ℕ). digits_value 10 ds) all) small
 
--- ---- a number at the front of a line
+-- ---- a number at the beginning of a line
 pub short_value : (line : List ℕ) (at number : ℕ) → at < 19 → all_ascii_digits (take at line) ≡ true → number ≡ digits_value 10 (take at line) → number < 10 ^ 18
 short_value line at number short digits value =
     let few : length (take at line) ≤ 18 = omega (arith, length-take at line) in
@@ -107,7 +107,7 @@ short_decimal line at number below short some digits value =
     let len = length-take-le at line (omega arith) in
     number_whole (take at line) number (omega (arith, len)) (omega (arith, len)) digits value (omega (arith, small))
 
--- ---- a CPU's name at the front of a line
+-- ---- a CPU's name at the beginning of a line
 named_cpu : (digits : List ℕ) (n : ℕ) → decimal_in digits ≡ Ok n → names_cpu (99 ∷ digits) ≡ true
 unfolding decimal_in
 named_cpu digits n h =

@@ -1,4 +1,4 @@
--- The commands of a script as they are kept: an order each, and the payloads one behind the other.
+-- The commands of a script as they are kept: an order each, and the payloads one after the other.
 use Rattle.std.specs.Prelude.{◌≡◌, ℕ, zero, suc, ◌-◌, ◌<◌, ◌≤◌, ⊤, List, [], ◌∷◌, ◌++◌, length, take, drop, Option, Some, None, Result, Ok, Err}
 use Rattle.text_model.specs.Script as text
 use Rattle.text_model.specs.Script.{NumberedLine}
@@ -28,13 +28,13 @@ shown_order payload (Deliver collector cpu fill) = deliver collector cpu.0 fill.
 abbrev pub part : List ℕ → ℕ → ℕ → List ℕ
 part bytes start end = take (end - start) (drop start bytes)
 
--- The commands of kept lines, where the first one's payload begins at start among these bytes.
+-- The commands of kept lines, if the first one's payload begins at start among these bytes.
 abbrev pub commands_kept : List ℕ → ℕ → List KeptLine → List (ℕ × model.Command)
 commands_kept bytes start [] = []
 commands_kept bytes start (line ∷ lines) =
     (line.number, shown_order (part bytes start line.end) line.order) ∷ commands_kept bytes line.end lines
 
--- Each payload ends behind its start, and the last one ends where these many bytes do.
+-- Each payload ends at or after its start, and the last one ends at len.
 abbrev pub AreKept : ℕ → ℕ → List KeptLine → Type 0
 AreKept start len [] = start ≡ len
 AreKept start len (line ∷ lines) = (start ≤ line.end) × AreKept line.end len lines
@@ -45,7 +45,8 @@ start_of start lines zero = start
 start_of start [] (suc i) = start
 start_of start (line ∷ lines) (suc i) = start_of line.end lines i
 
--- what a function put behind these bytes, and whether, is the reading of a payload; if memory ran out, it has no fault
+-- what a function appended to these bytes, and its answer, are the reading of a payload; if memory ran out, it has no
+-- fault
 abbrev pub PutsPayload : Result (Unit {0}) LineFault → List ℕ → List ℕ → Result (List ℕ) text.LineFault → Type 0
 PutsPayload (Ok _) old new read = (payload : List ℕ) × (new ≡ old ++ payload) × (read ≡ Ok payload)
 PutsPayload (Err fault) old new read = Fails fault read
@@ -63,7 +64,7 @@ PutsCommandAt (Ok order) old new read =
     (payload : List ℕ) × (new ≡ old ++ payload) × (read ≡ Ok (shown_order payload order))
 PutsCommandAt (Err fault) old new read = FailsAtLine fault read
 
--- the same of the first of these lines, if there is one, with its number and the lines behind it
+-- the same of the first of these lines, if there is one, with its number and the lines after it
 abbrev pub PutsNext : ℕ → ℕ → Result (Option Order) ScriptFault → List ℕ → List ℕ
     → List NumberedLine → ℕ → List NumberedLine → Type 0
 PutsNext cpus collectors (Ok None) old new lines number behind = (lines ≡ []) × (new ≡ old)
@@ -74,7 +75,7 @@ PutsNext cpus collectors (Err fault) old new lines number behind = (line : List 
     × (lines ≡ (number, line) ∷ behind)
     × PutsCommandAt (Err fault) old new (numbered_reading number (command_in cpus collectors line))
 
--- the lines in front of the ones behind spell these commands
+-- the lines before the remaining ones spell these commands
 pub record ReadAs (cpus collectors : ℕ) (lines : List NumberedLine) (commands : List (ℕ × model.Command))
     (behind : List NumberedLine)
     : Type 0 where

@@ -72,7 +72,7 @@ TellsFirstFault text (script.BadHex number) = FirstScriptFault text number bad_h
 TellsFirstFault text (script.OutOfRange number) = FirstScriptFault text number out_of_range
 TellsFirstFault text script.NoMemory = BeginsAsScript text
 
--- how a fault is told, the end of the line aside
+-- how a fault is printed, without the end of the line
 abbrev pub script_fault_text : ScriptFault → List ℕ
 script_fault_text (script.BadLine number) = fault_text number bad_line
 script_fault_text (script.BadNumber number) = fault_text number bad_number

@@ -4,7 +4,7 @@ use Rattle.text_model.specs.Text.{fields_of}
 use Rattle.trace_script.specs.declared.fields.Fields.{Fields}
 use Rattle.trace_script.specs.declared.fields.Fields.TheVariants.{One, Two, Three, More}
 
--- the fields, where what stands behind the third one counts as one, whatever it is; none of a line that has one alone
+-- the fields, with all that follows the third one as one field, whatever it is; none of a line with a single field
 abbrev pub fields_seen : Fields → List (List ℕ)
 fields_seen One = []
 fields_seen (Two first second) = first.now ∷ second.now ∷ []
@@ -18,7 +18,7 @@ AreFields (Two first second) fields = fields ≡ first.now ∷ second.now ∷ []
 AreFields (Three first second third) fields = fields ≡ first.now ∷ second.now ∷ third.now ∷ []
 AreFields (More first second third rest) fields = fields ≡ first.now ∷ second.now ∷ third.now ∷ fields_of rest.now
 
--- what stands behind the third field is one field
+-- what follows the third field is one field
 abbrev pub IsWhole : Fields → Type 0
 IsWhole (More first second third rest) = length (fields_of rest.now) ≡ 1
 IsWhole _ = ⊤

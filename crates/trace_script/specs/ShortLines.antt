@@ -7,6 +7,6 @@ use Rattle.trace_script.specs.declared.kept_lines.ShortLine.{ShortLine}
 abbrev pub widened : ShortLine → KeptLine
 widened line = record { number = line.number; end = line.end; order = line.order }
 
--- all commands: the short ones, and those behind them
+-- all commands: the short ones, then the long ones
 abbrev pub all_lines : List ShortLine → List KeptLine → List KeptLine
 all_lines short long = map widened short ++ long

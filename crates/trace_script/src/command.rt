@@ -11,7 +11,7 @@ pub enum Command<'a> {
         moment: Moment,
         payload: &'a [u8],
     },
-    /// Let the frame on top make so many steps, from 1 to 1,000,000, if it stands so long.
+    /// Let the frame on top make `count` steps, from 1 to 1,000,000, or fewer if it is gone before.
     Step {
         cpu: CpuId,
         count: u64,
@@ -30,7 +30,7 @@ pub enum Command<'a> {
     Close {
         cpu: CpuId,
     },
-    /// Let the reader make so many steps, from 1 to 1,000,000, if its take lasts so long.
+    /// Let the reader make `count` steps, from 1 to 1,000,000, or fewer if its take ends before.
     StepReader {
         cpu: CpuId,
         count: u64,

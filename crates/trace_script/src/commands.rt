@@ -1,4 +1,4 @@
-//! The commands of a script, as they are kept, and the payloads one behind the other.
+//! The commands of a script, as they are kept, and the payloads one after the other.
 
 ghost use Rattle.std.specs.Prelude.{◌≡◌, ◌≤◌, length};
 ghost use Rattle.trace_script.specs.Kept.{part};

@@ -11,9 +11,9 @@ use trace_model::NoMemory;
 /// Why a text is no script. The number is that of the first line at fault, from 1.
 #[derive(Clone, Copy, Debug, PartialEq, Eq, Error)]
 pub enum ScriptFault {
-    /// The line has a space too many, a word that there isn't, a wrong number of fields, or a field that
-    /// is to name a CPU and doesn't; or another line of the header is due there. Where the text ends
-    /// before its header does, this is the line behind its last one.
+    /// The line has a space too many, a word that there isn't, a wrong number of fields, or a field that is to name a
+    /// CPU and doesn't; or another line of the header is due there. If the text ends before its header does, this is
+    /// the number of the line after its last one.
     #[error("line {0}: BadLine")]
     BadLine(u64),
     /// A field is no decimal number of 1 to 20 digits below 2^64.
@@ -38,7 +38,7 @@ impl<T: Drop> From<AllocFailed<T>> for ScriptFault {
     }
 }
 
-/// What is wrong with a line, wherever it stands.
+/// What is wrong with a line, wherever it is.
 #[derive(Clone, Copy, Debug, PartialEq, Eq)]
 pub enum LineFault {
     BadLine,

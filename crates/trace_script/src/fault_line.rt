@@ -10,7 +10,8 @@ use trace_model::NoMemory;
 
 /// Puts the number of a line and the name of its fault. On an error a part of that may be put.
 fn put_line_fault(out: &mut Vec<u8>, line: u64, name: &[u8]) -> Result<(), NoMemory>
-    ensures text { OnOk result (out.new.items ≡ out.old.items ++ (codes "line " ++ decimal line ++ codes ": " ++ name.now)) }
+    ensures text { OnOk result
+        (out.new.items ≡ out.old.items ++ (codes "line " ++ decimal line ++ codes ": " ++ name.now)) }
     ensures behind { IsPrefix out.old.items out.new.items }
 {
     let mut buffer = Buffer::new();
@@ -21,7 +22,7 @@ fn put_line_fault(out: &mut Vec<u8>, line: u64, name: &[u8]) -> Result<(), NoMem
     Ok(())
 }
 
-/// Puts the line that tells the fault. On an error a part of that may be put.
+/// Puts the line that states the fault. On an error a part of it may be put.
 fn put_line(out: &mut Vec<u8>, fault: ScriptFault) -> Result<(), NoMemory>
     ensures text { OnOk result (out.new.items ≡ out.old.items ++ (script_fault_text fault ++ 10 ∷ [])) }
     ensures behind { IsPrefix out.old.items out.new.items }
@@ -37,8 +38,8 @@ fn put_line(out: &mut Vec<u8>, fault: ScriptFault) -> Result<(), NoMemory>
     Ok(())
 }
 
-/// Puts the line that tells the fault, as `docs/FORMATS.md`, "Printed text", has it. If memory is refused, the text is
-/// as before.
+/// Puts the line that states the fault, in the form of `docs/FORMATS.md`, "Printed text". If memory is refused, the
+/// text is as before.
 pub fn put_fault(out: &mut Vec<u8>, fault: ScriptFault) -> Result<(), NoMemory>
     ensures text { OnOk result (out.new.items ≡ out.old.items ++ (script_fault_text fault ++ 10 ∷ [])) }
     ensures kept { OnErr result (out.new.items ≡ out.old.items) }

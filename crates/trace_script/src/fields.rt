@@ -11,7 +11,7 @@ pub enum Fields<'a> {
     One,
     Two(&'a [u8], &'a [u8]),
     Three(&'a [u8], &'a [u8], &'a [u8]),
-    /// Three fields, and what stands behind the space after them: one field, or more.
+    /// Three fields, and the text after the space that ends the third: one field, or more.
     More(&'a [u8], &'a [u8], &'a [u8], &'a [u8]),
 }
 
@@ -34,7 +34,7 @@ pub fn fields_of(line: &[u8]) -> Fields<'_>
     Fields::More(first, second, third, rest)
 }
 
-/// Whether exactly one space stands between two fields of a line, and none at either end.
+/// Whether exactly one space separates any two fields of a line, and none is at either end.
 pub fn is_well_spaced(line: &[u8]) -> bool
     ensures { result ≡ is_well_spaced (fields_of line.now) }
 {
@@ -51,7 +51,7 @@ pub fn is_well_spaced(line: &[u8]) -> bool
     }
 }
 
-/// Whether what stands behind the third field is one field.
+/// Whether what follows the third field is one field.
 pub fn is_whole(fields: Fields) -> bool
     ensures { IsTrue result ↔ IsWhole fields.entry }
 {

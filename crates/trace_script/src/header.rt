@@ -20,7 +20,7 @@ use trace_model::{LINK_FILLS, MAX_PAGES, MAX_SIZE, MIN_PAGES, MIN_SIZE, START_FI
 /// The values of a script's header.
 #[derive(Clone, Copy, Debug)]
 pub struct Header {
-    /// The pages of a ring, its spare aside.
+    /// The pages of a ring, without its spare.
     pub pages: usize,
     /// The data size of a page, in bytes.
     pub size: usize,
@@ -30,14 +30,14 @@ pub struct Header {
     pub collectors: u16,
 }
 
-/// A line of the header, or the start line behind it.
+/// A line of the header, or the start line after it.
 #[derive(Clone, Copy)]
 pub enum Setting {
     Pages,
     Size,
     Cpus,
     Collectors,
-    /// Of rings of so many pages.
+    /// Of rings of this number of pages.
     Start(usize),
 }
 
@@ -50,7 +50,7 @@ pub struct Limits {
 }
 
 impl Setting {
-    /// The word in front of the value.
+    /// The word before the value.
     fn word(self) -> &'static [u8]
         ensures { result.now ≡ (setting_of self).word }
     {

@@ -2,7 +2,7 @@
 
 use crate::order::Order;
 
-/// A command as it is kept, its payload aside.
+/// A command as it is kept, without its payload.
 #[derive(Clone, Copy, Debug)]
 pub struct KeptLine {
     /// The number of its line among all lines of the text, from 1.

@@ -9,7 +9,7 @@ use std::marker::Model;
 use std::mem::size_of;
 use trace_model::NoMemory;
 
-/// A command as it is kept, while its numbers fit 32 bits: 24 bytes, its payload aside.
+/// A command as it is kept, while its numbers fit 32 bits: 24 bytes, without its payload.
 #[derive(Clone, Copy, Debug)]
 pub struct ShortLine {
     /// The number of its line among all lines of the text, from 1.
@@ -19,7 +19,7 @@ pub struct ShortLine {
     pub order: Order,
 }
 
-// A script of many lines takes so much for each.
+// This is the memory of each line of a long script.
 const _: () = prove!(size_of::<ShortLine>() == 24);
 
 impl ShortLine {
@@ -58,7 +58,7 @@ fn shortened(line: KeptLine) -> Option<ShortLine>
 #[derive(Debug, Drop)]
 pub struct KeptLines {
     short: Vec<ShortLine>,
-    /// The first command that doesn't fit 32 bits, and all behind it.
+    /// The first command that doesn't fit 32 bits, and all after it.
     long: Vec<KeptLine>,
 }
 
@@ -86,18 +86,7 @@ impl KeptLines {
         }
     }
 
-    /// Puts a command behind all others that doesn't fit 32 bits, or that has such a one in front of it.
-    #[cold]
-    #[inline(never)]
-    fn push_long(&mut self, line: KeptLine) -> Result<(), NoMemory>
-        ensures pushed { OnOk result (self.new ≡ self.old ++ line ∷ []) }
-        ensures refused { OnErr result (self.new ≡ self.old) }
-    {
-        self.long.push(line)?;
-        Ok(())
-    }
-
-    /// Puts a command behind all others. What is rare gets a copy, so that the command itself needs no memory.
+    /// Appends a command.
     #[inline(always)]
     pub fn push(&mut self, line: KeptLine) -> Result<(), NoMemory>
         ensures pushed { OnOk result (self.new ≡ self.old ++ line ∷ []) }
@@ -109,11 +98,8 @@ impl KeptLines {
                 return Ok(());
             }
         }
-        self.push_long(KeptLine {
-            number: line.number,
-            end: line.end,
-            order: line.order,
-        })
+        self.long.push(line)?;
+        Ok(())
     }
 
     /// How many there are.
@@ -134,7 +120,7 @@ impl KeptLines {
         self.long[index - self.short.len()]
     }
 
-    /// Where the payload of the command at this index begins: where that of the command before it ends.
+    /// The start of the payload of the command at this index: the end of that of the command before it.
     pub fn start(&self, index: usize) -> usize
         requires { index < length self.now }
         ensures { result ≡ start_of 0 self.now index }

@@ -1,4 +1,4 @@
-//! The reader of the script text: what script a text spells, and the line that tells its first fault.
+//! The reader of the script text: what script a text spells, and the line that states its first fault.
 //!
 //! A script is lines of fields, which `docs/FORMATS.md`, "Script", describes.
 #![tactic(auto)]

@@ -14,7 +14,7 @@ fn line_end(text: &[u8]) -> Option<usize>
     memchr(b'\n', text)
 }
 
-/// What stands in front of the first line feed, and what stands behind it, if there is one.
+/// The text before the first line feed, and the text after it, if there is one.
 fn line_cut(text: &[u8]) -> (&[u8], Option<&[u8]>)
     ensures parts { MatchOption result.1
         (slice_split (λ b. b == 10) text.now ≡ result.0.now ∷ [])
@@ -35,7 +35,7 @@ fn space_at(line: &[u8]) -> Option<usize>
     line.iter().position(|b| *b == b' ')
 }
 
-/// What stands in front of the first space, and what stands behind it, if there is one.
+/// The text before the first space, and the text after it, if there is one.
 pub fn field_cut(line: &[u8]) -> (&[u8], Option<&[u8]>)
     ensures parts { MatchOption result.1
         (slice_split (λ b. b == 32) line.now ≡ result.0.now ∷ [])
@@ -61,7 +61,7 @@ pub struct NumberedLine<'a> {
 pub struct Lines<'a> {
     /// The text from the next line on.
     pub rest: &'a [u8],
-    /// How many lines stand in front of it.
+    /// How many lines were passed before it.
     pub passed: u64,
     ghost bounded: { passed + length rest.now < 2 ^ 63 },
 }
@@ -110,7 +110,7 @@ impl<'a> Lines<'a> {
         })
     }
 
-    /// Goes on with what stands behind the next line.
+    /// Passes the next line: this is the text after it.
     #[inline(always)]
     pub fn pass_to(&mut self, rest: &'a [u8])
         requires { length rest.now < length self.old.rest.now }

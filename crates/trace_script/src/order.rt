@@ -1,9 +1,9 @@
-//! A command of a script, its payload aside.
+//! A command of a script, without its payload.
 
 use crate::command::Command;
 use trace_model::{CpuId, FillNo, Moment};
 
-/// What a line of a script asks for, but for the payload.
+/// What a line of a script asks for, without the payload.
 #[derive(Clone, Copy, Debug)]
 pub enum Order {
     Begin {

@@ -156,7 +156,7 @@ fn order_of_four(
     Err(LineFault::BadLine)
 }
 
-/// The command of a line's fields, where what stands behind the third one counts as one.
+/// The command of a line's fields, with all that follows the third one as one field.
 fn order_of(
     cpus: u32,
     collectors: u16,
@@ -178,8 +178,8 @@ fn order_of(
     }
 }
 
-/// What is wrong with a line that has these fields, where this is wrong with them: a fault of the line's form counts
-/// before one of a value.
+/// The fault of a line with these fields, if this fault was found in them: a fault of the line's form counts before one
+/// of a value.
 fn fault_of(line: &[u8], fields: Fields, fault: LineFault) -> LineFault
     requires { AreFields fields (fields_of line.now) }
     ensures { (cpus collectors : ℕ) → Fails fault (command_of cpus collectors (fields_seen fields.entry))
@@ -194,9 +194,10 @@ fn fault_of(line: &[u8], fields: Fields, fault: LineFault) -> LineFault
     fault
 }
 
-/// The command that a line spells, for so many CPUs and collectors. Its payload is put behind those that are there.
+/// The command that a line spells, for these numbers of CPUs and collectors. Its payload is appended to those that are
+/// there.
 ///
-/// A line whose fields spell a command is of the right form, so that the form is looked at only where they don't.
+/// A line whose fields spell a command is of the right form, so that the form is looked at only if they don't.
 pub fn order_in(
     cpus: u32,
     collectors: u16,

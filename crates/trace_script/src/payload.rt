@@ -11,10 +11,10 @@ use crate::fault::LineFault;
 use crate::fields::is_letter;
 use trace_model::NoMemory;
 
-/// More than eight digits are worth together, and so more than any byte: what is no digit is worth so much.
+/// The value of what is no digit: more than eight digits have together, and so more than any byte.
 const NO_DIGIT: u16 = 4096;
 
-/// What each byte is worth as the first hexadecimal digit of a pair, and `NO_DIGIT` where it is none.
+/// The value of each byte as the first hexadecimal digit of a pair, and `NO_DIGIT` if it is none.
 static HIGH_VALUES: [u16; 256] = [
     4096, 4096, 4096, 4096, 4096, 4096, 4096, 4096, 4096, 4096, 4096, 4096, 4096, 4096, 4096, 4096,
     4096, 4096, 4096, 4096, 4096, 4096, 4096, 4096, 4096, 4096, 4096, 4096, 4096, 4096, 4096, 4096,
@@ -34,7 +34,7 @@ static HIGH_VALUES: [u16; 256] = [
     4096, 4096, 4096, 4096, 4096, 4096, 4096, 4096, 4096, 4096, 4096, 4096, 4096,
 ];
 
-/// What each byte is worth as the second hexadecimal digit of a pair, and `NO_DIGIT` where it is none.
+/// The value of each byte as the second hexadecimal digit of a pair, and `NO_DIGIT` if it is none.
 static LOW_VALUES: [u16; 256] = [
     4096, 4096, 4096, 4096, 4096, 4096, 4096, 4096, 4096, 4096, 4096, 4096, 4096, 4096, 4096, 4096,
     4096, 4096, 4096, 4096, 4096, 4096, 4096, 4096, 4096, 4096, 4096, 4096, 4096, 4096, 4096, 4096,
@@ -70,7 +70,7 @@ fn low_value(byte: u8) -> u16
     LOW_VALUES[byte as usize]
 }
 
-/// The byte that a pair of hexadecimal digits spells, and `NO_DIGIT` or more where one of them is none.
+/// The byte that a pair of hexadecimal digits spells, and `NO_DIGIT` or more if one of them is none.
 #[inline(always)]
 fn pair_value(high: u8, low: u8) -> u16
     ensures value { result ≡ pair_value high low }
@@ -80,7 +80,7 @@ fn pair_value(high: u8, low: u8) -> u16
     high_value(high) + low_value(low)
 }
 
-/// Puts the bytes of the pairs of digits at the front of a text, eight at a time, and answers what stands behind them.
+/// Appends the bytes of the pairs of digits at a text's beginning, eight at a time, and returns the rest of the text.
 #[inline(always)]
 fn put_eights<'a>(payloads: &mut Vec<u8>, text: &'a [u8]) -> &'a [u8]
     ensures { ArePut text.now result.now payloads.old.items payloads.new.items }
@@ -169,8 +169,8 @@ fn put_each<'a>(payloads: &mut Vec<u8>, text: &'a [u8]) -> Result<&'a [u8], NoMe
     Ok(left)
 }
 
-/// Puts the bytes that the pairs of hexadecimal digits at the front of a text spell behind those that are there, and
-/// answers what stands behind all these pairs. If memory is refused, some of the bytes may be put.
+/// Appends the bytes that the pairs of hexadecimal digits at a text's beginning spell, and returns the text after all
+/// these pairs. If memory is refused, some of the bytes may be appended.
 #[inline(never)]
 fn put_pairs<'a>(payloads: &mut Vec<u8>, text: &'a [u8]) -> Result<&'a [u8], NoMemory>
     ensures { PutsPairs result text.now payloads.old.items payloads.new.items }
@@ -180,9 +180,8 @@ fn put_pairs<'a>(payloads: &mut Vec<u8>, text: &'a [u8]) -> Result<&'a [u8], NoM
     put_each(payloads, behind_fours)
 }
 
-/// The payload at the front of a text, up to the line feed that ends it: its bytes are put behind those that are there,
-/// and what stands behind the line feed is answered. None, and nothing put, where there is no payload of this form,
-/// or no memory.
+/// The payload at a text's beginning, up to the line feed that ends it: its bytes are appended, and the text after the
+/// line feed is returned. None, and nothing appended, if there is no payload of this form, or no memory.
 #[inline(always)]
 pub fn payload_cut<'a>(payloads: &mut Vec<u8>, text: &'a [u8]) -> Option<&'a [u8]>
     ensures { MatchOption result (payloads.new.items ≡ payloads.old.items) (λ rest.
@@ -214,7 +213,7 @@ fn are_hex_digits(bytes: &[u8]) -> bool
     bytes.iter().all(|b| char::from(*b).is_digit(16))
 }
 
-/// Puts the bytes that a field spells behind those that are there. Memory is refused only to a field that spells some.
+/// Appends the bytes that a field spells. Memory is refused only to a field that spells some.
 pub fn put_payload(payloads: &mut Vec<u8>, field: &[u8]) -> Result<(), LineFault>
     ensures { PutsPayload result payloads.old.items payloads.new.items (payload_in field.now) }
 {

@@ -1,5 +1,5 @@
 //! The reader of a script's text: line by line, in one pass.
-ghost use Rattle.std.specs.Prelude.{◌≡◌, length, IfOk, IfErr};
+ghost use Rattle.std.specs.Prelude.{◌≡◌, [], length, IfOk, IfErr};
 ghost use Rattle.text_model.specs.ScriptReading.{numbered_reading, significant_lines_after};
 ghost use Rattle.script_model.specs.Script.{ParsesScript, command_in};
 ghost use Rattle.script_model.specs.ScriptReading.{commands_from, script_in};
@@ -19,7 +19,7 @@ use crate::usual::usual_line;
 use std::alloc::Global;
 use trace_model::FillNo;
 
-/// The command of a line, whose payload is put behind those that are there.
+/// The command of a line, whose payload is appended to those that are there.
 fn order_at(
     cpus: u32,
     collectors: u16,
@@ -53,7 +53,7 @@ fn next_of_any_form(
     Ok(Some(order))
 }
 
-/// The same, where nearly all lines are of a usual form.
+/// The same, by a shorter way for a line of a usual form, which nearly all lines have.
 #[inline(always)]
 fn next_order(
     cpus: u32,
@@ -73,6 +73,17 @@ fn next_order(
     next_of_any_form(cpus, collectors, lines, payloads)
 }
 
+/// Room for that many bytes, or none if that much is refused at once: then it is made little by little.
+#[inline(always)]
+fn room_for(alloc: Global, bytes: usize) -> Vec<u8>
+    ensures { result.items ≡ [] }
+{
+    match Vec::with_capacity(alloc, bytes) {
+        Ok(room) => room,
+        Err(_) => Vec::new(alloc),
+    }
+}
+
 /// The commands of the lines that are left.
 fn read_commands(
     alloc: Global,
@@ -86,9 +97,8 @@ fn read_commands(
         → BeginAsCommands cpus collectors (significant_lines_after lines.old.passed lines.old.rest.now) }
 {
     let mut kept = KeptLines::new(alloc);
-    let mut payloads = Vec::new(alloc);
-    // Two digits spell a byte of a payload. If so much room is refused at once, it is made little by little.
-    let _room = payloads.reserve(lines.rest.len() / 2);
+    // Two digits spell a byte of a payload.
+    let mut payloads = room_for(alloc, lines.rest.len() / 2);
     while let Some(order) = next_order(cpus, collectors, lines, &mut payloads)? {
         let line = KeptLine {
             number: lines.passed,

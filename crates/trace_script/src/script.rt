@@ -62,7 +62,7 @@ impl Script {
         }
     }
 
-    /// The pages of a ring, its spare aside.
+    /// The pages of a ring, without its spare.
     pub fn pages(&self) -> usize
         ensures pages { result ≡ self.now.pages }
         ensures least { MIN_PAGES ≤ result }

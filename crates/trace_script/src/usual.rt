@@ -1,5 +1,5 @@
-//! Lines as nearly all of a long script are, each read from its front to its line feed in one pass. Whatever isn't of
-//! the right form, with numbers of few digits within their limits, is left to the reader of any line.
+//! The forms that nearly all lines of a long script have, each read in one pass up to its line feed. A line of another
+//! form, and one with a number of many digits or outside its limits, is left to the reader of any line.
 ghost use Rattle.std.specs.Prelude.{◌≡◌, ℕ, List, [], ◌∷◌, ◌++◌, Ok, IfSome, MatchOption};
 ghost use Rattle.text_model.specs.Script.{decimal_in, payload_in, cpu_in};
 ghost use Rattle.script_model.specs.Script.{count_in, SpellsCommand};
@@ -12,14 +12,14 @@ use crate::values::{cpu_cut, number_cut};
 use script_model::{MAX_LINE_STEPS, MIN_LINE_STEPS};
 use trace_model::{CpuId, FillNo, Moment};
 
-/// What a line asks for, its payload aside, and what stands behind the line.
+/// What a line asks for, without its payload, and the text after the line.
 #[derive(Clone, Copy)]
 pub struct UsualLine<'a> {
     pub order: Order,
     pub rest: &'a [u8],
 }
 
-/// The order of a word that stands with a CPU alone.
+/// The order of a word alone with a CPU.
 #[inline(always)]
 fn order_alone(word: u8, cpu: CpuId) -> Option<Order>
     ensures { IfSome result (λ order. (cpus collectors : ℕ) (x : List ℕ) → cpu_in cpus x ≡ Ok cpu.0
@@ -34,7 +34,7 @@ fn order_alone(word: u8, cpu: CpuId) -> Option<Order>
     }
 }
 
-/// The order of a word that stands with a CPU and a number of steps.
+/// The order of a word with a CPU and a number of steps.
 #[inline(always)]
 fn steps_order(word: u8, cpu: CpuId, count: u64) -> Option<Order>
     ensures { IfSome result (λ order. (cpus collectors : ℕ) (x k : List ℕ) → cpu_in cpus x ≡ Ok cpu.0
@@ -48,7 +48,7 @@ fn steps_order(word: u8, cpu: CpuId, count: u64) -> Option<Order>
     }
 }
 
-/// The order of a word that stands with a CPU, a moment and a payload.
+/// The order of a word with a CPU, a moment and a payload.
 #[inline(always)]
 fn record_order(word: u8, cpu: CpuId, moment: Moment) -> Option<Order>
     ensures { IfSome result (λ order. (cpus collectors : ℕ) (x t hex payload : List ℕ) → cpu_in cpus x ≡ Ok cpu.0
@@ -63,7 +63,7 @@ fn record_order(word: u8, cpu: CpuId, moment: Moment) -> Option<Order>
     }
 }
 
-/// What stands behind `cX s ` or `cX r `.
+/// The line's order and the text after it, from what follows `cX s ` or `cX r `.
 #[inline(always)]
 fn steps_line(word: u8, cpu: CpuId, text: &[u8]) -> Option<UsualLine<'_>>
     ensures { IfSome result (λ line. (cpus collectors : ℕ)
@@ -80,7 +80,7 @@ fn steps_line(word: u8, cpu: CpuId, text: &[u8]) -> Option<UsualLine<'_>>
     })
 }
 
-/// What stands behind `cX b ` or `cX w `.
+/// The same from what follows `cX b ` or `cX w `.
 #[inline(always)]
 fn record_line<'a>(
     word: u8,
@@ -97,7 +97,7 @@ fn record_line<'a>(
     Some(UsualLine { order, rest })
 }
 
-/// What stands behind `cX `.
+/// The same from what follows `cX `.
 #[inline(always)]
 fn line_of_cpu<'a>(cpu: CpuId, text: &'a [u8], payloads: &mut Vec<u8>) -> Option<UsualLine<'a>>
     ensures { MatchOption result (payloads.new.items ≡ payloads.old.items) (λ line. (cpus collectors : ℕ)
@@ -146,8 +146,8 @@ fn delivery_line(cpus: u32, collectors: u16, text: &[u8]) -> Option<UsualLine<'_
     })
 }
 
-/// The first line of a text, if it is a usual one: its payload is put behind those that are there. None, and nothing
-/// put, says nothing of the text.
+/// The first line of a text, if it is a usual one: its payload is appended to those that are there. None, and nothing
+/// appended, says nothing of the text.
 #[inline(always)]
 pub fn usual_line<'a>(
     cpus: u32,

@@ -13,8 +13,8 @@ use script_model::{MAX_LINE_STEPS, MIN_LINE_STEPS};
 use text_model::MAX_NUMBER_DIGITS;
 use trace_model::CpuId;
 
-/// The number whose last digit is this, behind the digits of another; None where the byte is no
-/// digit, or the number doesn't fit 64 bits.
+/// The number whose last digit is this, after the digits of another; None if the byte is no digit, or the number
+/// doesn't fit 64 bits.
 fn with_digit(front: u64, digit: u8) -> Option<u64>
     ensures { SomeIff result
         (IsInRange 48 57 digit × (front * 10 + (digit - 48) < 2 ^ 64)) (front * 10 + (digit - 48)) }
@@ -46,14 +46,14 @@ pub fn number_of(field: &[u8]) -> Result<u64, LineFault>
 /// Numbers of fewer digits than these fit 64 bits.
 const SHORT_DIGITS: usize = 19;
 
-/// A number at the front of a text, and what stands behind the byte that ends it.
+/// A number at a text's beginning, and the text after the byte that ends it.
 #[derive(Clone, Copy)]
 pub struct NumberCut<'a> {
     pub number: u64,
     pub rest: &'a [u8],
 }
 
-/// The number at the front of a text, if it is a short one and this byte ends it. None says nothing of the text.
+/// The number at the text's beginning, if it is a short one and this byte ends it. None says nothing of the text.
 #[inline(always)]
 pub fn number_cut(text: &[u8], end: u8) -> Option<NumberCut<'_>>
     ensures { IfSome result (λ cut. IsNumberCut text.now end cut) }
@@ -75,7 +75,7 @@ pub fn number_cut(text: &[u8], end: u8) -> Option<NumberCut<'_>>
     None
 }
 
-/// The CPU, of so many, that the front of a text names, if a space ends the name. None says nothing of the text.
+/// The CPU, one of `cpus`, that the text's beginning names, if a space ends the name. None says nothing of the text.
 #[inline(always)]
 pub fn cpu_cut(cpus: u32, text: &[u8]) -> Option<NumberCut<'_>>
     ensures { IfSome result (λ cut. IsCpuCut cpus text.now cut) }
@@ -128,7 +128,7 @@ fn cpu_digits(field: &[u8]) -> Option<&[u8]>
     Some(digits)
 }
 
-/// The CPU that a field names, of so many CPUs.
+/// The CPU, one of `cpus`, that a field names.
 #[tactic(auto, unfolding(text_model::specs::Script::cpu_in))]
 pub fn cpu_of(cpus: u32, field: &[u8]) -> Result<CpuId, LineFault>
     ensures gives { Gives (λ cpu. cpu.0) result (cpu_in cpus field.now) }

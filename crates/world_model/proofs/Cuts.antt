@@ -1,4 +1,4 @@
--- The pages that a reader took from a ring part what the ring's frames committed, and what is missing in front of one
+-- The pages that a reader took from a ring part what the ring's frames committed, and what is missing before one
 -- was lost between it and the one before.
 use Rattle.std.proofs.Common.{◌≡◌, ◌≢◌, ℕ, zero, suc, ◌+◌, ◌-◌, ◌<◌, ◌≤◌, List, [], ◌∷◌, length, get_or, map, Some, refl, sym, ap, ◌∙◌, subst, ⊎_elim, arith}
 use Rattle.std.specs.Prelude.{Contains, ◌↔◌}
@@ -36,7 +36,7 @@ use Rattle.world_model.proofs.Lookups.{element_at, contains_at, get_map, get_fro
 
 -- ---- first numbers
 
--- the first piece has in front of it what it skips
+-- the first piece has before it what it skips
 first_at_zero : (number : ℕ) (pieces : List Piece) (p : Piece) (first : ℕ) → slice_get pieces 0 ≡ Some p → first_from number pieces 0 ≡ Some first → first ≡ number + p.skipped
 first_at_zero number [] p first at is = absurd (none-some p at)
 first_at_zero number (s ∷ pieces) p first at is = sym (some_is (number + s.skipped) first is) ∙ ap (λ (q : Piece). number + q.skipped) (some_is s p at)

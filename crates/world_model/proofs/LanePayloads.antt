@@ -1,4 +1,4 @@
--- There is a payload for each frame that stands, as long as it was pushed for.
+-- There is a payload for each frame on the stack, as long as it was pushed for.
 use Rattle.std.proofs.Common.{◌≡◌, ℕ, zero, suc, ◌-◌, List, [], ◌∷◌, length, drop, refl, sym, ap, ◌∙◌, subst, arith}
 use Rattle.trace_model.specs.Words.{slot_len, padded}
 use Rattle.trace_model.specs.Frames.{Kind, for_record, FrameState, waiting, reserved, left, Frame}
@@ -18,7 +18,7 @@ as_many (frame ∷ below) (payload ∷ payloads) fit = ap suc (as_many below pay
 
 -- ---- a step that pushes none
 
--- where as many frames stand, all payloads are left
+-- if there are as many frames, all payloads are left
 all_left : (frames : List Frame) (payloads : List (List ℕ)) → length payloads ≡ length frames → payloads_left frames payloads ≡ payloads
 all_left frames payloads same = ap (λ (k : ℕ). drop k payloads) (let e : length payloads - length frames ≡ zero = omega arith in e)
 

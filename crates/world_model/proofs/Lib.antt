@@ -12,5 +12,5 @@ pub mod OneWorld
 pub mod RunDeeds
 pub mod Cuts
 pub mod GenuineWorlds
--- frames and takes come to their ends
+-- frames and takes end
 pub mod LineEnds

@@ -1,4 +1,4 @@
--- A frame and a take that a line steps come to their ends: each step lowers a rank.
+-- A frame and a take that a line steps have an end: each step lowers a rank.
 use Rattle.std.proofs.Common.{◌≡◌, ◌≢◌, ℕ, ◌+◌, ◌<◌, ◌≤◌, List, [], ◌∷◌, length, refl, sym, ap, ◌∙◌, subst, arith}
 use Rattle.trace_model.specs.Words.{padded}
 use Rattle.trace_model.specs.Frames.{FrameState, waiting, reserved, left, number_of, Frame}

@@ -9,7 +9,7 @@ use Rattle.script_model.specs.Script.{Command, begin_frame, step_frame, finish_f
 use Rattle.link_marks.proofs.StepsDetermined.{steps_are_determined}
 use Rattle.world_model.specs.Lanes.{Lane, lane_behind, lane_with, FrameRun, IsStepped, LacksFrame, StepsFrame, lacks_to_step, steps_on, FinishesFrame, lacks_to_finish, finishes, PushesFrame, FinishesPushed, WritesFrame, ReaderRun, IsAnswered, IsRead, Wishes, LineRun}
 
--- both the exchanges and the state behind them are the same
+-- both the exchanges and the state after them are the same
 abbrev pub SameLine : (xs ys : List Exchange) (one other : Lane) → Type 0
 SameLine xs ys one other = (xs ≡ ys) × (one ≡ other)
 
@@ -38,7 +38,7 @@ module _ (n size : ℕ) where
       let (rest, last) = frames_same depth (lane_behind before core) one other xs ys (omega arith) run (subst (λ (c : Core). FrameRun n size depth (lane_behind before c) ys other) (sym state) run') in
       (longer x y xs ys (same_exchange x y events answer) rest, last)
 
-  -- a shorter run hasn't come to its frame's end
+  -- a shorter run doesn't reach its frame's end
   frames_shorter : (depth : ℕ) (before one other : Lane) (xs ys : List Exchange) → length xs < length ys → FrameRun n size depth before xs one → FrameRun n size depth before ys other → length one.core.frames ≡ depth
   frames_shorter depth before one other xs [] low run run' = absurd (omega arith)
   frames_shorter depth before one other [] (y ∷ ys) low run (stands, event, core, step, run') = subst (λ (l : Lane). length l.core.frames ≡ depth) run stands

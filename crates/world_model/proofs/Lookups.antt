@@ -24,7 +24,7 @@ module _ {A : Type 0} where
   get_set_other (x ∷ xs) (suc i) zero y apart = refl
   get_set_other (x ∷ xs) (suc i) (suc j) y apart = get_set_other xs i j y (λ e. apart (ap suc e))
 
-  -- what passes a test stands among what it keeps
+  -- what passes a test is among what it keeps
   pub kept_by : (test : A → Bool) (xs : List A) (k : ℕ) (x : A) → slice_get xs k ≡ Some x → test x ≡ true → (j : ℕ) × (slice_get (filter test xs) j ≡ Some x)
   kept_by test [] k x at passes = absurd (none-some x at)
   kept_by test (y ∷ ys) zero x at passes = let here : test y ≡ true = ap test (some_is y x at) ∙ passes in

@@ -1,4 +1,4 @@
--- Every run of a ring has deeds, step by step, and together they tell the state that it leads to.
+-- Every run of a ring has deeds, step by step, and together they determine the state that it leads to.
 use Rattle.std.proofs.Common.{◌≡◌, ℕ, ◌+◌, ◌<◌, ◌≤◌, List, [], ◌∷◌, ◌++◌, length, refl, sym, ap, ◌∙◌, subst, ⊎_elim, arith, append_assoc, append-nil}
 use Rattle.std.specs.Prelude.{Contains}
 use Rattle.std.proofs.lemmas.List.{length-append}

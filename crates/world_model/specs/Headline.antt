@@ -1,5 +1,5 @@
 -- What the pages of a script's world are: of each CPU, the committed records of whole fills, under their own numbers,
--- with just the numbers missing in front of them that were overwritten unread.
+-- with exactly those numbers missing before them that were overwritten unread.
 use Rattle.std.specs.Prelude.{◌≡◌, ℕ, suc, ◌<◌, ◌≤◌, ◌==◌, ◌↔◌, List, length, map, filter, Contains, Some}
 use Rattle.std.specs.List.{slice_get}
 use Rattle.trace_model.specs.Record.{Record}
@@ -21,7 +21,7 @@ use Rattle.world_model.specs.RunDeeds.{IsRunToldBy}
 abbrev pub parcels_from : ℕ → List Parcel → List Parcel
 parcels_from cpu parcels = filter (λ parcel. parcel.cpu == cpu) parcels
 
--- a parcel as a piece: what is missing in front of it, and its records
+-- a parcel as a piece: what is missing before it, and its records
 abbrev pub piece_in : Parcel → Piece
 piece_in parcel = record { skipped = parcel.missed; records = parcel.records }
 
@@ -33,12 +33,12 @@ pub record IsWhole (history : List Action) (start : ℕ) (parcel : Parcel) : Typ
   pub first_is : parcel.first ≡ (fill_of history start parcel.fill).first
   pub records_are : parcel.records ≡ map as_record (fill_of history start parcel.fill).records
 
--- the record of this number stands in a fill of the history
+-- the record of this number is in this fill of the history
 abbrev pub StandsIn : (history : List Action) (start fill number : ℕ) → Type 0
 StandsIn history start fill number =
     (first_of_fill history start fill ≤ number) × (number < first_of_fill history start (suc fill))
 
--- The record of this number was overwritten unread in front of a fill: it stands in one that was lost, behind all
+-- The record of this number was overwritten unread before a fill: it is in one that was lost, after all
 -- that were taken before that fill.
 pub record IsOverwrittenBefore (history : List Action) (start : ℕ) (deeds : List Deed) (fill number : ℕ) : Type 0 where
   pub lost : ℕ
@@ -51,7 +51,7 @@ pub record IsOverwrittenBefore (history : List Action) (start : ℕ) (deeds : Li
 -- made a packed history. Steps lead to this state from a new ring, and the deeds are those of these steps, one step
 -- after the other: so a fill was lost only if the step that lost it found it closed and the ring full. Together the
 -- deeds are the history, the window and the takes of this state. The parcels are the fills that were taken, in order,
--- each whole; they part the committed records; and the numbers that are missing before one are just those of the
+-- each whole; they part the committed records; and the numbers that are missing before one are exactly those of the
 -- records that were overwritten unread between it and the one that was taken before it, or the start.
 pub record IsCut (n size start : ℕ) (c : Core) (parcels : List Parcel) : Type 0 where
   pub is_history : IsHistory c.history
@@ -74,8 +74,8 @@ pub record IsCut (n size start : ℕ) (c : Core) (parcels : List Parcel) : Type 
 abbrev pub IsOneOf : List Parcel → (cpu : ℕ) → Parcel → Type 0
 IsOneOf parcels cpu parcel = Contains parcels parcel × (parcel.cpu ≡ cpu)
 
--- What the parcels that were delivered to a collector make of a CPU's history: the collector has just the committed
--- records that stand in the fill of one of them, under their own numbers, and misses just the numbers that were
+-- What the parcels that were delivered to a collector make of a CPU's history: the collector has exactly the committed
+-- records that are in the fill of one of them, under their own numbers, and misses exactly the numbers that were
 -- overwritten unread before one of them.
 pub record IsExact (history : List Action) (start : ℕ) (deeds : List Deed) (cpu : ℕ) (delivered : List Parcel)
     : Type 0 where

@@ -8,16 +8,16 @@ use Rattle.script_model.specs.Script.{Command, begin_frame, step_frame, finish_f
 
 -- ---- a ring and what its frames are to write
 
--- The ring of a CPU, and the payload of each frame that stands, the top one's first. A close frame has an empty one.
+-- The ring of a CPU, and the payload of each frame on the stack, the top one's first. A close frame has an empty one.
 pub record Lane : Type 0 where
   pub core : Core
   pub payloads : List (List ℕ)
 
--- no frame stands in a new ring
+-- a new ring has no frame on its stack
 abbrev pub IsNewLane : ℕ → ℕ → Lane → Type 0
 IsNewLane n start lane = IsStart n start lane.core × (lane.payloads ≡ [])
 
--- the payloads of the frames that still stand, where the top ones may be gone
+-- the payloads of the frames that are still on the stack, from which the top ones may be gone
 abbrev pub payloads_left : List Frame → List (List ℕ) → List (List ℕ)
 payloads_left frames payloads = drop (length payloads - length frames) payloads
 
@@ -25,7 +25,7 @@ payloads_left frames payloads = drop (length payloads - length frames) payloads
 abbrev pub lane_behind : Lane → Core → Lane
 lane_behind lane core = record { core = core; payloads = payloads_left core.frames lane.payloads }
 
--- the payloads of the frames that stand, where one more was to be pushed
+-- the payloads of the frames on the stack, if one more was to be pushed
 abbrev pub payloads_with : List ℕ → Answer → List (List ℕ) → List (List ℕ)
 payloads_with payload pushed payloads = payload ∷ payloads
 payloads_with payload going payloads = payloads
@@ -73,7 +73,7 @@ abbrev pub event_on_top : List Frame → List (List ℕ) → Event
 event_on_top [] payloads = steps
 event_on_top (frame ∷ below) payloads = event_in frame.state payloads
 
--- The frame that is on top of so many makes steps, one behind the other, while it stands.
+-- The frame that is on top of a stack of this depth makes steps, one after the other, until it is gone.
 abbrev pub FrameRun : (n size depth : ℕ) → Lane → List Exchange → Lane → Type 0
 FrameRun n size depth before [] after = before ≡ after
 FrameRun n size depth before (x ∷ exchanges) after =
@@ -87,18 +87,18 @@ FrameRun n size depth before (x ∷ exchanges) after =
 abbrev pub IsGone : (depth : ℕ) → Lane → Type 0
 IsGone depth lane = length lane.core.frames < depth
 
--- so many steps were made, or the frame is gone before
+-- this many steps were made, or the frame was gone before
 abbrev pub IsStepped : (count depth : ℕ) → List Exchange → Lane → Type 0
 IsStepped count depth exchanges after =
     (length exchanges ≤ count) × ((length exchanges ≡ count) ⊎ IsGone depth after)
 
--- no frame stands, which is answered
+-- the stack is empty, which is answered
 pub record LacksFrame (n size : ℕ) (before : Lane) (exchanges : List Exchange) (after : Lane) : Type 0 where
   pub none : before.core.frames ≡ []
   pub exchanges_are : exchanges ≡ record { event = steps; answer = refused no_frame } ∷ []
   pub stays : after ≡ before
 
--- the frame on top makes at most so many steps, and stops where it is gone
+-- the frame on top makes at most this many steps, and stops when it is gone
 pub data StepsFrame (n size count : ℕ) (before : Lane) (exchanges : List Exchange) (after : Lane) : Type 0 where
   lacks_to_step : LacksFrame n size before exchanges after → StepsFrame n size count before exchanges after
   steps_on : before.core.frames ≢ []
@@ -124,7 +124,7 @@ pub record PushesFrame (n size : ℕ) (event : Event) (payload : List ℕ) (befo
   pub step : Step n size before.core event x.answer core
   pub after_is : after ≡ lane_with before payload x.answer core
 
--- behind a push with this answer: the frame that was pushed is finished; where none was, nothing is done
+-- after a push with this answer: the frame that was pushed is finished; if none was, nothing is done
 abbrev pub FinishesPushed : (n size : ℕ) → Answer → Lane → List Exchange → Lane → Type 0
 FinishesPushed n size pushed before exchanges after = FinishesFrame n size before exchanges after
 FinishesPushed n size going before exchanges after = ⊥
@@ -152,7 +152,7 @@ pub record WritesFrame (n size : ℕ) (event : Event) (payload : List ℕ) (befo
 
 -- ---- the reader
 
--- The reader makes steps, one behind the other, while its take goes on.
+-- The reader makes steps, one after the other, while its take goes on.
 abbrev pub ReaderRun : (n size : ℕ) → Lane → List Exchange → Lane → Type 0
 ReaderRun n size before [] after = before ≡ after
 ReaderRun n size before (x ∷ exchanges) after =
@@ -168,7 +168,7 @@ IsAnswered [] = ⊥
 IsAnswered (x ∷ []) = x.answer ≢ reading
 IsAnswered (x ∷ next ∷ exchanges) = IsAnswered (next ∷ exchanges)
 
--- so many steps were made, or the take was answered before
+-- this many steps were made, or the take was answered before
 abbrev pub IsRead : (count : ℕ) → List Exchange → Type 0
 IsRead count exchanges = (length exchanges ≤ count) × ((length exchanges ≡ count) ⊎ IsAnswered exchanges)
 

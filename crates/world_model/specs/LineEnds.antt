@@ -5,7 +5,7 @@ use Rattle.link_marks.specs.Reached.{IsReached}
 use Rattle.link_marks.specs.Ranks.{frame_limit, reader_limit}
 use Rattle.world_model.specs.Lanes.{Lane, FrameRun, ReaderRun, IsAnswered}
 
--- a frame that still stands has made no more steps than these
+-- a frame that is still on the stack has made at most this many steps
 abbrev pub FrameRunsAreShort : Type 0
 FrameRunsAreShort = (n size start depth : ℕ) (before after : Lane) (exchanges : List Exchange)
     → 1 ≤ depth

@@ -6,7 +6,7 @@ use Rattle.text_model.specs.Log.{LogLine, Delivery, delivery_line}
 use Rattle.text_model.specs.Log as log
 
 -- the line of a page that was taken: its fill, its first record's number, how many records it has, and how many were
--- lost in front of them
+-- lost before them
 abbrev pub taken_line : (line cpu : ℕ) → Taken → LogLine
 taken_line line cpu t = log.taken line cpu t.fill t.held.first (length t.held.records) t.skipped
 

@@ -1,4 +1,4 @@
--- The world of a script: what its lines make of the rings and of the collectors, one behind the other.
+-- The world of a script: what its lines make of the rings and of the collectors, one after the other.
 -- docs/FORMATS.md, "Script" and "Log".
 use Rattle.std.specs.Prelude.{◌≡◌, ℕ, List, [], ◌∷◌, ◌++◌, length, map, flat_map, All, Contains, slice_set, Some}
 use Rattle.std.specs.List.{slice_get}
@@ -20,7 +20,7 @@ pub record World : Type 0 where
   pub delivered : List (List Parcel)
   pub log : List LogLine
 
--- The world in front of the first line: rings that are new, and collectors to which nothing was delivered.
+-- The world before the first line: rings that are new, and collectors to which nothing was delivered.
 pub record IsNewWorld (script : Script) (w : World) : Type 0 where
   pub cpus : length w.lanes ≡ script.cpus
   pub new : All (IsNewLane script.pages script.start) w.lanes
@@ -125,18 +125,18 @@ Obeys script line (take_page cpu) before after = RunsLine script line (take_page
 Obeys script line (wish cpu) before after = RunsLine script line (wish cpu) cpu before after
 Obeys script line (deliver collector cpu fill) before after = DeliversFill line collector cpu fill before after
 
--- the commands are obeyed, one behind the other, and lead from one world to another
+-- the commands are obeyed, one after the other, and lead from one world to another
 abbrev pub ObeysAll : Script → List (ℕ × Command) → World → World → Type 0
 ObeysAll script [] before after = before ≡ after
 ObeysAll script (line ∷ lines) before after =
     (between : World) × Obeys script line.0 line.1 before between × ObeysAll script lines between after
 
--- A world behind so many lines of a script, from one in front of the first on.
+-- A world after these lines of a script, from one before the first line on.
 pub record WorldBehind (script : Script) (lines : List (ℕ × Command)) (w : World) : Type 0 where
   pub new : World
   pub is_new : IsNewWorld script new
   pub obeyed : ObeysAll script lines new w
 
--- The world of a script: that behind all of its lines.
+-- The world of a script: that after all of its lines.
 abbrev pub WorldOf : Script → World → Type 0
 WorldOf script w = WorldBehind script script.commands w

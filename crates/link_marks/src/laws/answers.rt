@@ -1,4 +1,4 @@
-//! Laws of a ring's answers: when a frame is refused, and what the reader is told.
+//! Laws of a ring's answers: when a frame is refused, and what the reader's answers say.
 ghost use Rattle.link_marks.specs.AnswerLaws.{CrowdedIsRight, EmptyIsRight, MovingIsRight, RefusalsAreDue, SwappedIsRight, WornIsRight};
 
 /// A frame is refused as crowded only where no page is released, and as worn only where the tail is the last
@@ -9,8 +9,8 @@ pub fn refusals_are_right()
     ensures due { RefusalsAreDue }
 {}
 
-/// The reader finds nothing only where nothing closed is unread; it is sent away only by a move of the head
-/// whose UPDATE stands; and it takes just the head, closed, and holds it as taken.
+/// The reader finds nothing only if nothing closed is unread; it is sent away only by a move of the head
+/// whose UPDATE is set; and it takes only the head, closed, and holds it as taken.
 pub fn reader_answers_are_right()
     ensures none { EmptyIsRight }
     ensures moves { MovingIsRight }

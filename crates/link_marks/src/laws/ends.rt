@@ -1,9 +1,9 @@
-//! Laws of how a ring's frames and its reader come to their ends.
+//! Laws of the ends of a ring's frames and takes.
 ghost use Rattle.link_marks.specs.FrameOutcomes.{FramesLeave, FramesReserve};
 ghost use Rattle.link_marks.specs.Ranks.{EndsComeToAnEnd, FramesAreNearTheirEnd, StepsComeToAnEnd, TakesAreNearTheirAnswer, TakesComeToAnAnswer};
 ghost use Rattle.link_marks.specs.WriterRanks.{WriterStepsComeToAnEnd, WritersAreNearTheirEnd};
 
-/// Where nothing comes between, each step of a frame that stands behind it lowers a number that is small from the
+/// If nothing comes between, each step after which a frame is still on the stack lowers a number that is small from the
 /// start.
 pub fn frames_come_to_an_end()
     ensures steps { StepsComeToAnEnd }
@@ -11,7 +11,7 @@ pub fn frames_come_to_an_end()
     ensures near { FramesAreNearTheirEnd }
 {}
 
-/// So does each step of a take that goes on behind it.
+/// So does each step after which a take goes on.
 pub fn takes_come_to_an_answer()
     ensures steps { TakesComeToAnAnswer }
     ensures near { TakesAreNearTheirAnswer }
@@ -24,7 +24,7 @@ pub fn frames_reserve_or_leave()
     ensures leave { FramesLeave }
 {}
 
-/// Where the reader steps in between, each step of a frame that hasn't reserved and stands behind it lowers a number
+/// If the reader steps in between, each step of a frame that hasn't reserved and stays on the stack lowers a number
 /// that is small from the start, by what the writer knows of the fills that are passed.
 pub fn writers_come_to_an_end()
     ensures steps { WriterStepsComeToAnEnd }

@@ -6,14 +6,14 @@ pub fn runs_are_histories()
     ensures histories { RunsAreHistories }
 {}
 
-/// An event appends to it what its answer tells, and nothing else: a push its push, an end its leave with the payload,
+/// An event appends to it what its answer states, and nothing else: a push its push, an end its leave with the payload,
 /// and a step of the frame on top what that frame does.
 pub fn steps_append()
     ensures append { StepsAppend }
     ensures one { AppendedIsOne }
 {}
 
-/// The fills have room in their pages, and each was begun where one had to be: behind one that isn't empty, for
+/// The fills have room in their pages, and each was begun only when one had to be: after one that isn't empty, for
 /// a record that doesn't fit, by a close frame or for the reader's wish; so only the last can be empty, and the
 /// reader takes no empty page.
 pub fn runs_are_packed()

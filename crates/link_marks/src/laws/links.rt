@@ -1,21 +1,21 @@
-//! Laws of a ring's links: each stands once, one is the HEADER, and an UPDATE has an owner.
+//! Laws of a ring's links: each occurs once, one is the HEADER, and an UPDATE has an owner.
 ghost use Rattle.link_marks.specs.LinkLaws.{HeadersAreOwed, HeadersAreSetOnce, LinksFitWords, LinksStandOnce, OneHeader, OwnersClear, StepsRaiseLinks, UpdatesAreClaimed};
 
 /// Each link of the ring has a word, and so has the spare's, if the ring has fewer than
-/// `LINK_PAGES` pages: the page and the fill that it tells have room in one.
+/// `LINK_PAGES` pages: the page and the fill that it states have room in one.
 pub fn links_fit_words()
     ensures fit { LinksFitWords }
 {}
 
-/// Each step leaves a link or makes it a later one: so a link value stands once at its position, and a compare
+/// Each step leaves a link or makes it a later one: so a link value occurs once at its position, and a compare
 /// and exchange that comes late fails.
 pub fn links_stand_once()
     ensures steps { StepsRaiseLinks }
     ensures once { LinksStandOnce }
 {}
 
-/// One position has a HEADER at most, and it tells the head; of one move of the head at most one step sets it,
-/// over the NORMAL that waited for it, where none stands or with the swap that takes the one before.
+/// One position has a HEADER at most, and it states the head; of one move of the head at most one step sets it,
+/// over the NORMAL that waited for it, if there is none or with the swap that takes the one before.
 pub fn one_header()
     ensures alone { OneHeader }
     ensures owed { HeadersAreOwed }

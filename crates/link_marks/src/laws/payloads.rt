@@ -1,7 +1,7 @@
-//! Laws of a record's payload: where it lies until its frame ends, and what the end writes.
+//! Laws of a record's payload: its page until its frame ends, and what the end writes.
 ghost use Rattle.link_marks.specs.PayloadLaws.{EndsWriteOnePage, ReservedDiffer, ReservedLiesOpen};
 
-/// A record that a frame has reserved lies in one page, that of a fill that isn't closed, and has no bytes yet; and
+/// A record that a frame has reserved is in one page, that of a fill that isn't closed, and has no bytes yet; and
 /// no two frames have reserved the same one.
 pub fn reserved_records_lie_open()
     ensures lies { ReservedLiesOpen }

@@ -15,8 +15,8 @@ pub fn steps_keep_ring()
     ensures runs { ReachedIsRing }
 {}
 
-/// No more than `MAX_FRAMES` frames stand, only the bottom one has left, closes fills and looks for a wish, and
-/// where none stands all fills but the tail are closed.
+/// At most `MAX_FRAMES` frames are on the stack, only the bottom one has left, closes fills and looks for a wish, and
+/// if the stack is empty all fills but the tail are closed.
 pub fn stacks_come_to_rest()
     ensures few { FewFramesStand }
     ensures bottom { OnlyTheBottomHasLeft }

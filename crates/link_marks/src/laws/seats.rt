@@ -23,7 +23,7 @@ pub fn private_steps_commute()
 {}
 
 /// What a frame has seen of a link that it is about to set has room in a word. A head that it is about to claim has its
-/// HEADER while it is the head; so a claim that fails tells that the head was moved on.
+/// HEADER while it is the head; so a claim that fails shows that the head was moved on.
 pub fn frames_have_seen_links()
     ensures seen { FramesHaveSeenLinks }
     ensures claims { ClaimsFailBehindTheHead }

@@ -34,7 +34,7 @@ impl WriterStack {
     ghost use Rattle.nested_writer.specs.declared.frame.Purpose.TheVariants.{Record, Close};
     ghost use Rattle.nested_writer.specs.declared.frame.Progress.TheVariants.{Waiting, Through, Reserved, Left};
 
-    /// The frame on top has come so far.
+    /// The frame on top has this progress from now on.
     #[inline(always)]
     fn go_on(&mut self, progress: Progress)
         ensures { (top : Frame) (below : List Frame) → IsTop self.old top below
@@ -145,9 +145,9 @@ impl WriterStack {
         place
     }
 
-    /// What the frame on top was pushed with, where it is a record frame that tried nothing yet, and its record is one
-    /// as nearly all are: in the short form, behind another one, and far enough from the page's end for any such
-    /// record. `None` may stand for one that is near the end too.
+    /// What the frame on top was pushed with, if it is a record frame that tried nothing yet, and its record is one
+    /// as nearly all are: in the short form, after another one, and far enough from the page's end for any such
+    /// record. `None` may be the answer for one that is near the end too.
     #[inline(always)]
     pub fn plain_top(&self) -> Option<Pushed>
         requires stack { Stands self.now }
@@ -163,7 +163,7 @@ impl WriterStack {
         Some(pushed)
     }
 
-    /// Reserves the record of the frame on top, which `plain_top` told.
+    /// Reserves the record of the frame on top, which `plain_top` answered.
     #[inline(always)]
     fn hold_plain(&mut self, pushed: Pushed) -> Slot
         requires stack { Stands self.old }
@@ -189,8 +189,8 @@ impl WriterStack {
         slot
     }
 
-    /// Reserves the record of the frame on top, which `plain_top` told, and answers its number: what `allot` does with
-    /// it.
+    /// Reserves the record of the frame on top, which `plain_top` answered, and answers its number: what `allot` does
+    /// with it.
     #[inline(always)]
     pub fn reserve_plain(&mut self, pushed: Pushed) -> u64
         requires stack { Stands self.old }
@@ -288,8 +288,8 @@ impl WriterStack {
         }
     }
 
-    /// Reserves the record of the frame on top, whose moment is raised to that of the last one, or tells that a page is
-    /// needed; a reserved frame gets its place again. For a close frame a page is needed where the tail holds a record
+    /// Reserves the record of the frame on top, whose moment is raised to that of the last one, or answers that a page
+    /// is needed; a reserved frame gets its place again. For a close frame a page is needed if the tail holds a record
     /// and no page was added since its first call; else it gets a place of length 0. A frame that is refused as
     /// `Crowded` or `Worn` leaves without a record.
     #[inline(always)]

@@ -6,7 +6,7 @@ use crate::stack::WriterStack;
 /// How a frame was ended.
 #[derive(Clone, Copy, Debug, PartialEq, Eq)]
 pub enum Ended {
-    /// A frame stands below it: its record is committed once that one, and all below, have left too.
+    /// There is a frame below it: its record is committed once that one, and all below, have left too.
     Pending,
     /// It is the bottom frame, which stays until all closed fills are released.
     Full,
@@ -78,7 +78,7 @@ impl WriterStack {
     }
 
     /// Whether the tail holds a record, so that it can be closed for the reader: then a page may be added once for the
-    /// bottom frame, the only one that stands, which has left.
+    /// bottom frame, the only one on the stack, which has left.
     pub fn ask_close(&mut self) -> bool
         requires bottom { IsAtBottom self.old.frames }
         ensures asked { IsTrue result ↔ self.old.tail.bytes ≢ [] }
@@ -106,7 +106,7 @@ impl WriterStack {
         true
     }
 
-    /// Takes the bottom frame off, which has left, where all fills but the tail are released.
+    /// Takes the bottom frame off, which has left; all fills but the tail must be released.
     #[inline(always)]
     pub fn pop_bottom(&mut self)
         requires bottom { IsAtBottom self.old.frames }

@@ -17,7 +17,7 @@ impl WriterStack {
     ghost use Rattle.nested_writer.specs.Lent.{Lent, lent_bytes, with_bytes};
     ghost use Rattle.nested_writer.specs.Lending.{LendsTop, IsLent, with_top};
 
-    /// Why nothing is lent, if the frame on top has reserved nothing, or none stands.
+    /// Why nothing is lent, if the frame on top has reserved nothing, or the stack is empty.
     #[inline(never)]
     fn lends_none(&self) -> WriteFault
         requires { self.now.frames ≡ [] ⊎ LacksSlot self.now.frames }
@@ -30,7 +30,7 @@ impl WriterStack {
         WriteFault::NotReserved
     }
 
-    /// Where the record of the frame on top stands.
+    /// The slot of the record of the frame on top.
     #[inline(always)]
     pub fn top_slot(&self) -> Result<Slot, WriteFault>
         ensures no_frame { result ≡ Err WriteFault.NoFrame ↔ self.now.frames ≡ [] }

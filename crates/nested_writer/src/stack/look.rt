@@ -46,7 +46,7 @@ impl WriterStack {
         self.done + self.older.len() as u64 + 1
     }
 
-    /// Whether no frame stands.
+    /// Whether the stack is empty.
     #[inline(always)]
     pub fn is_empty(&self) -> bool
         ensures { IsTrue result ↔ self.now.frames ≡ [] }
@@ -54,7 +54,7 @@ impl WriterStack {
         self.top.is_none()
     }
 
-    /// How many frames stand.
+    /// How many frames are on the stack.
     #[inline(always)]
     pub fn depth(&self) -> usize
         ensures frames { result ≡ length self.now.frames }
@@ -75,7 +75,7 @@ impl WriterStack {
         self.top.get()
     }
 
-    /// Whether only the bottom frame stands, ended or refused.
+    /// Whether only the bottom frame is on the stack, ended or refused.
     #[inline(always)]
     pub fn is_at_bottom(&self) -> bool
         ensures { IsTrue result ↔ IsAtBottom self.now.frames }
@@ -86,8 +86,8 @@ impl WriterStack {
         }
     }
 
-    /// Whether a page may be added: the frame on top was told that it needs one, or the bottom frame was asked to close
-    /// the tail, and none was added since.
+    /// Whether a page may be added: the frame on top got the answer that it needs one, or the bottom frame was asked to
+    /// close the tail, and none was added since.
     #[inline(always)]
     pub fn awaits_page(&self) -> bool
         ensures { IsTrue result ↔ MayAddPage self.now self.now.frames }

@@ -1,8 +1,8 @@
-//! Pages that come to the stack, and go.
+//! Pages that are added to the stack, and released from it.
 //!
-//! A ring uses them so: as it begins a fill, it hands in the body of the page at that position; as it closes one, it
-//! lays the page handed out back there, with its number, its first record's number and all records written, for the
-//! reader to take; and where it comes to rest, the tail is the only page left, of which all records are committed too.
+//! A ring uses them so: as it begins a fill, it passes in the body of the page at that position; as it closes one, it
+//! puts the released page back there, with its number, its first record's number and all records written, for the
+//! reader to take; and when it is at rest, the tail is the only page left, of which all records are committed too.
 use crate::payload::Payload;
 use crate::stack::WriterStack;
 use page_image::{Body, Page};
@@ -21,8 +21,8 @@ impl WriterStack {
     ghost use Rattle.nested_writer.specs.Kept.{SameSeat};
     ghost use Rattle.nested_writer.specs.IsStack.{IsStack, Stands};
 
-    /// Begins the next fill in this body, for the frame on top, which was told that it needs a page, or which was asked
-    /// to close the tail; no page was added since.
+    /// Begins the next fill in this body, for the frame on top, which got the answer that it needs a page, or which was
+    /// asked to close the tail; no page was added since.
     pub fn add_page(&mut self, body: Body)
         requires stack { Stands self.old }
         requires size { length body ≡ self.old.size }
@@ -48,8 +48,8 @@ impl WriterStack {
         self.older.push(tail);
     }
 
-    /// Releases the oldest page, where it isn't the tail and only the bottom frame stands, which has left: the first
-    /// fill that isn't closed, of which all records are committed.
+    /// Releases the oldest page, which isn't the tail, while only the bottom frame is on the stack, which has left: the
+    /// first fill that isn't closed, of which all records are committed.
     pub fn drop_front(&mut self) -> Page
         requires more { 0 < length self.old.older }
         requires bottom { IsAtBottom self.old.frames }
@@ -84,7 +84,7 @@ impl WriterStack {
         }
     }
 
-    /// The tail page of a stack on which no frame stands, the only open one, of which all records are committed.
+    /// The tail page of an empty stack, the only open one, of which all records are committed.
     pub fn into_tail(self) -> Page
         requires none { self.frames ≡ [] }
         ensures tail { result ≡ self.tail }

@@ -11,7 +11,7 @@ use record_words::size_of;
 use std::collections::VecDeque;
 use trace_model::{MAX_FRAMES, MOMENT_LIMIT};
 
-/// Puts the frame on top, if one stands, in front of those below it.
+/// Puts the frame on top, if there is one, before those below it.
 #[inline(never)]
 fn cover(top: &Top, below: &mut VecDeque<Frame>)
     requires { length below.old.items < deque_capacity below.old }
@@ -35,7 +35,7 @@ impl WriterStack {
     ghost use Rattle.nested_writer.specs.declared.frame.Purpose.TheVariants.{Record, Close};
     ghost use Rattle.nested_writer.specs.declared.frame.Progress.TheVariants.{Waiting};
 
-    /// One frame more on top, where fewer than `MAX_FRAMES` stand.
+    /// One frame more on top; fewer than `MAX_FRAMES` must be on the stack.
     #[inline(always)]
     fn push(&mut self, purpose: Purpose)
         requires { length self.old.frames < MAX_FRAMES }
@@ -75,7 +75,7 @@ impl WriterStack {
         Ok(())
     }
 
-    /// `begin`, whatever stands.
+    /// `begin`, whatever is on the stack.
     #[inline(never)]
     fn begin_any(&mut self, moment: u64, len: usize) -> Result<(), WriteFault>
         ensures too_deep { result ≡ Err WriteFault.TooDeep ↔ MAX_FRAMES ≤ length self.old.frames }
@@ -134,7 +134,7 @@ impl WriterStack {
         Ok(())
     }
 
-    /// Pushes a frame that leaves the tail page, where that holds a record.
+    /// Pushes a frame that leaves the tail page if that holds a record.
     pub fn begin_close(&mut self) -> Result<(), WriteFault>
         ensures too_deep { result ≡ Err WriteFault.TooDeep ↔ MAX_FRAMES ≤ length self.old.frames }
         ensures begun { IsOk result ↔ length self.old.frames < MAX_FRAMES }

@@ -11,10 +11,10 @@ use crate::frame::{Frame, Progress, Purpose, Pushed, Slot};
 use record_words::{Place, SHORT_LIMIT};
 use std::marker::Model;
 
-/// Which fields tell the frame on top.
+/// Which fields hold the frame on top.
 #[derive(Clone, Copy)]
 enum Phase {
-    /// No frame stands.
+    /// The stack is empty.
     Idle,
     /// A record frame that noted nothing, for a payload of 1 to `SHORT_LIMIT` bytes: what it was pushed with.
     Waits,
@@ -30,17 +30,17 @@ enum Phase {
     Other,
 }
 
-/// The frame on top, if one stands.
+/// The frame on top, if there is one.
 #[derive(Drop)]
 pub(crate) struct Top {
     phase: Phase,
-    /// What a record frame was pushed with, but one that `other` tells.
+    /// What a record frame was pushed with, except for one that `other` holds.
     pushed: Pushed,
     /// The number of begun fills that a frame noted which tries.
     noted: Option<u64>,
-    /// Where the record of a frame stands that holds one.
+    /// The slot of a frame whose record is reserved.
     slot: Slot,
-    /// The frame that no other field tells.
+    /// The frame that no other field holds.
     other: Frame,
 }
 
@@ -77,7 +77,7 @@ impl Top {
         }
     }
 
-    /// Whether no frame stands.
+    /// Whether the stack is empty.
     #[inline(always)]
     pub(crate) fn is_none(&self) -> bool
         ensures { IsTrue result ↔ self.now ≡ None }
@@ -120,8 +120,8 @@ impl Top {
         }
     }
 
-    /// What the frame was pushed with, where it is a record frame that tried nothing yet, for a payload of 1 to
-    /// `SHORT_LIMIT` bytes; `None` may stand for such a frame too.
+    /// What the frame was pushed with, if it is a record frame that tried nothing yet, for a payload of 1 to
+    /// `SHORT_LIMIT` bytes; `None` may be the answer for such a frame too.
     #[inline(always)]
     pub(crate) fn waiting(&self) -> Option<Pushed>
         ensures frame { IfSome result (λ pushed. self.now
@@ -136,7 +136,7 @@ impl Top {
         }
     }
 
-    /// The slot, where a record is reserved.
+    /// The slot, if a record is reserved.
     #[inline(always)]
     pub(crate) fn slot(&self) -> Option<Slot>
         ensures some { IfSome result (λ slot. IsTopSlot (option_to_list self.now) slot) }
@@ -157,7 +157,7 @@ impl Top {
         matches!(self.phase, Phase::Holds)
     }
 
-    /// No frame stands from now on.
+    /// The stack is empty from now on.
     #[inline(always)]
     pub(crate) fn clear(&mut self)
         ensures { self.new ≡ None }
@@ -214,8 +214,8 @@ impl Top {
         self.slot = slot;
     }
 
-    /// What the frame was pushed with, and what it noted, where it is a record frame whose record isn't reserved yet;
-    /// `None` may stand for such a frame too.
+    /// What the frame was pushed with, and what it noted, if it is a record frame whose record isn't reserved yet;
+    /// `None` may be the answer for such a frame too.
     #[inline(always)]
     pub(crate) fn trying(&self) -> Option<(Pushed, Option<u64>)>
         ensures { IfSome result (λ tries. self.now
@@ -228,7 +228,7 @@ impl Top {
         }
     }
 
-    /// The frame noted that so many fills were begun.
+    /// The frame noted that `opened` fills were begun.
     #[inline(always)]
     pub(crate) fn note(&mut self, opened: u64)
         ensures { (frame : Frame) → self.old ≡ Some frame
@@ -261,7 +261,7 @@ impl Top {
         self.pushed = Pushed { moment, len };
     }
 
-    /// The frame has come so far.
+    /// The frame has this progress from now on.
     pub(crate) fn go_on(&mut self, progress: Progress)
         ensures { (frame : Frame) → self.old ≡ Some frame
             → self.new ≡ Some (record frame { progress = progress }) }

@@ -1,4 +1,4 @@
-//! A record that is written at once, where no frame stands and it fits in the tail.
+//! A record that is written at once, if the stack is empty and it fits in the tail.
 use crate::stack::WriterStack;
 use record_words::{EXTEND_FROM, SHORT_LIMIT, size_of};
 use trace_model::MOMENT_LIMIT;
@@ -101,9 +101,9 @@ impl WriterStack {
         Wrote::Record
     }
 
-    /// Writes a record of this moment and payload in one call, where no frame stands and it fits in the tail: what
-    /// `begin`, `allot`, the payload's copy into what `top_mut` lends, `end` and `pop_bottom` do. No frame stands
-    /// behind it. Anywhere else, and where `begin` would refuse it, nothing changes.
+    /// Writes a record of this moment and payload in one call, if the stack is empty and it fits in the tail: what
+    /// `begin`, `allot`, the payload's copy into what `top_mut` lends, `end` and `pop_bottom` do. The stack is empty
+    /// after it. Otherwise, and if `begin` would refuse it, nothing changes.
     #[inline(always)]
     pub fn write_alone(&mut self, moment: u64, payload: &[u8]) -> Wrote
         requires stack { Stands self.old }
@@ -152,7 +152,7 @@ impl WriterStack {
         self.top.leave(moment, len);
     }
 
-    /// Where no frame stands, one stands again at the bottom, which has left: that of a record of this moment and of a
+    /// Puts a frame that has left on the empty stack: that of a record of this moment and of a
     /// payload of `len` bytes. Then fills can be closed, or the tail be asked for, until `pop_bottom` takes it off.
     #[inline(never)]
     pub fn stand_again(&mut self, moment: u64, len: usize)
@@ -167,9 +167,9 @@ impl WriterStack {
         self.put_left(moment, len);
     }
 
-    /// Writes a record of this moment and payload in one call, where no frame stands and it fits in the tail: what
+    /// Writes a record of this moment and payload in one call, if the stack is empty and it fits in the tail: what
     /// `begin`, `allot`, the payload's copy into what `top_mut` lends, and `end` do. Its frame stays at the bottom
-    /// for `pop_bottom`. Anywhere else, and where `begin` would refuse it, nothing changes.
+    /// for `pop_bottom`. Otherwise, and if `begin` would refuse it, nothing changes.
     #[inline(always)]
     pub fn write(&mut self, moment: u64, payload: &[u8]) -> Wrote
         requires stack { Stands self.old }

@@ -1,4 +1,4 @@
-//! What stands in front of the data of an image, and the count behind it.
+//! What comes before the data of an image, and the count after it.
 ghost use Rattle.std.specs.Prelude.{◌≡◌, ◌≢◌, ℕ, ◌+◌, ◌≤◌, ◌<◌, List, length, drop, IfOk, IfErr};
 ghost use Rattle.trace_model.specs.Image.{from_le64, commit_word, commit_of as commit_written, TellsMissed};
 ghost use Rattle.trace_model.specs.declared.limits.TheConstants.{MAX_SIZE};
@@ -25,7 +25,7 @@ const MISSED: u64 = 1 << 31;
 pub(crate) struct Commit {
     /// How many bytes the records take.
     pub(crate) size: usize,
-    /// A count of missed events stands behind the records, if any were missed.
+    /// A count of missed events is stored after the records, if any were missed.
     is_stored: bool,
     /// Events were missed.
     is_missed: bool,
@@ -60,8 +60,8 @@ fn commit_of(word: u64) -> Commit
 }
 
 impl Commit {
-    /// The commit word of an image that is written: for a page with this size and so many bytes of records, in front of
-    /// which so many events were missed. Their count is stored where there is room for it.
+    /// The commit word of an image that is written: for a page with this size and `end` bytes of records, before
+    /// which `missed` events were missed. Their count is stored if there is room for it.
     pub(crate) fn written(end: usize, missed: u64, size: usize) -> Commit
         requires limit { size ≤ MAX_SIZE }
         requires end { end ≤ size }
@@ -76,7 +76,7 @@ impl Commit {
         }
     }
 
-    /// A count of missed events stands behind the records.
+    /// A count of missed events is stored after the records.
     pub(crate) fn stores_count(self) -> bool
         ensures { result ≡ self.is_stored }
     {
@@ -112,7 +112,7 @@ pub(crate) fn read_header(bytes: &[u8]) -> Result<Header, ImageFault>
     Ok(Header { time, commit })
 }
 
-/// What is told of missed events, where these bytes stand behind the records.
+/// What is stated of missed events, if these bytes are those after the records.
 pub(crate) fn read_missed(commit: Commit, behind: &[u8]) -> Result<Missed, ImageFault>
     ensures told { IfOk result (λ missed. (ignored : ℕ)
         → TellsMissed (commit_with commit ignored) behind.now (missed_of missed)) }

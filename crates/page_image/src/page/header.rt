@@ -1,4 +1,4 @@
-//! What a page tells of itself.
+//! What a page states of itself.
 use crate::page::Page;
 use trace_model::{FillNo, RecordNo};
 

@@ -11,7 +11,7 @@ impl Page {
     ghost use Rattle.page_image.specs.Contents.{IsPage, records_of_page};
 
     /// The page as an image: a header of 16 bytes, the data, the count of missed events if there were any and eight
-    /// bytes are left for it, and zeros up to the page's size. `missed` is how many events were missed in front of
+    /// bytes are left for it, and zeros up to the page's size. `missed` is how many events were missed before
     /// the page.
     pub fn write_image(&self, alloc: Global, missed: u64) -> Result<Vec<u8>, NoMemory>
         ensures image { IfOk result (λ image.

@@ -10,7 +10,7 @@ use std::alloc::{AllocError, Global};
 use std::sync::Arc;
 use trace_model::{CpuId, FillNo, NoMemory, RecordNo};
 
-/// Puts a number behind the bytes, its lowest byte first.
+/// Puts a number after the bytes, its lowest byte first.
 #[tactic(auto, unfolding(trace_model::specs::Image::le64))]
 fn put_number(bytes: &mut Vec<u8>, number: u64) -> Result<(), AllocError>
     ensures { OnOk result (bytes.new.items ≡ bytes.old.items ++ le64 number) }
@@ -28,7 +28,7 @@ impl NumberedPage {
     ghost use Rattle.page_numbers.specs.Faults.{IsRefusedAs};
     ghost use Rattle.page_numbers.specs.Written.{page_under, bytes_of_page};
 
-    /// The page of this image under the numbers in front of it. Memory is asked for after all faults.
+    /// The page of this image under the numbers before it. Memory is asked for after all faults.
     pub(crate) fn of_image(
         alloc: Global,
         cpu: CpuId,
@@ -63,7 +63,7 @@ impl NumberedPage {
         })
     }
 
-    /// The numbers as bytes, and behind them the page's image, which tells of missed events what the numbers do.
+    /// The numbers as bytes, and after them the page's image, which states of missed events what the numbers do.
     pub(crate) fn to_bytes(&self, alloc: Global) -> Result<Vec<u8>, NoMemory>
         ensures bytes { IfOk result (λ bytes. bytes.items
             ≡ bytes_of_page self.now.cpu.0 self.now.page.value self.now.missed) }

@@ -41,7 +41,7 @@ impl Parcel {
         })
     }
 
-    /// The parcel as bytes: its numbers, and its page's image, which tells of missed events what the parcel does.
+    /// The parcel as bytes: its numbers, and its page's image, which states of missed events what the parcel does.
     pub fn to_bytes(&self, alloc: Global) -> Result<Vec<u8>, NoMemory>
         ensures written { IfOk result (λ bytes. IsWritten self.now bytes.items) }
         ensures reads { IfOk result (λ bytes. DecodesParcel bytes.items self.now) }

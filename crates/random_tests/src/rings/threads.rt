@@ -43,7 +43,7 @@ fn payload_of(number: u64) -> [u8; 12] {
     [a, b, c, d, a, b, c, d, a, b, c, d]
 }
 
-/// How much of it is written.
+/// How many bytes of it are written.
 fn len_of(number: u64) -> usize
     ensures { result ≤ 12 }
 {
@@ -54,7 +54,7 @@ fn len_of(number: u64) -> usize
     }
 }
 
-/// Copies the front of a payload that has room in a slot.
+/// Copies the beginning of a payload, as far as it has room in a slot.
 fn fill(slot: &mut [u8], payload: &[u8])
     ensures { length slot.new ≡ length slot.old }
 {
@@ -218,7 +218,7 @@ fn check_records(rt: &impl Abort, page: &Page) {
 }
 
 impl Seen {
-    /// A page goes on after the last one and what is missing between them, and its records have their numbers.
+    /// A page continues after the last one and what is missing between them, and its records have their numbers.
     fn see(self, rt: &impl Abort, page: &Page, missed: u64) -> Seen {
         let (fill, first) = (page.fill().0, page.first().0);
         if let Some(last) = self.fill {
@@ -234,7 +234,7 @@ impl Seen {
         }
     }
 
-    /// So many records were read, are missing, or are of the tail.
+    /// `total` records were read, are missing, or are of the tail.
     fn check_total(self, rt: &impl Abort, settled: &Settled, total: u64) {
         let mut unread = 0;
         if let Some(tail) = settled.unread() {
@@ -248,7 +248,7 @@ impl Seen {
 }
 
 impl Reading {
-    /// One take, and a wish where it finds nothing.
+    /// One take, and a wish if it finds nothing.
     fn take(&mut self, rt: &impl Abort, body: Body) -> Body
         ensures { self.new.table ≡ self.old.table }
     {

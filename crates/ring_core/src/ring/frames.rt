@@ -31,7 +31,7 @@ impl Core {
         self.frames.push_close()
     }
 
-    /// The frame on top ends with the payload that stands in its slot.
+    /// The frame on top ends with the payload that is in its slot.
     #[inline(always)]
     pub(crate) fn end(&mut self) -> Answer
         requires ring { IsRing self.old }
@@ -67,7 +67,7 @@ impl Core {
         self.frames.begin_anew()
     }
 
-    /// The frame on top goes on in this phase.
+    /// The frame on top continues in this phase.
     #[inline(always)]
     pub(crate) fn go_on(&mut self, phase: Phase) -> Turned
         ensures answer { result ≡ Going }

@@ -1,5 +1,5 @@
-//! The steps of a frame that needs a page, up to the fill's beginning: it looks for a free position, and where there
-//! is none moves the head.
+//! The steps of a frame that needs a page, up to the fill's beginning: it looks for a free position, and moves the head
+//! if there is none.
 use crate::ring::Core;
 use link_marks::{Mark, header, normal, update};
 use ring_frames::{Phase, Role, Turned};
@@ -64,7 +64,7 @@ impl Core {
         self.go_on(phase)
     }
 
-    /// Sets the UPDATE in place of the HEADER, where that tells that this page is the head, as the fill a round before
+    /// Sets the UPDATE in place of the HEADER, if that states that this page is the head, as the fill a round before
     /// the noted one.
     fn claim_head(&mut self, noted: u64, page: u16) -> bool
         ensures claimed { result ≡ true → (lost : ℕ) × ClaimsHead self.old noted page lost self.new }

@@ -108,7 +108,7 @@ fn first_homes(
     Ok(homes)
 }
 
-/// What is at home under this number: an empty page, where it isn't the tail's.
+/// What is at home under this number: an empty page, unless it is the tail's.
 fn first_home(
     alloc: Global,
     page: usize,

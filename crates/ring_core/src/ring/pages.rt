@@ -1,4 +1,4 @@
-//! The steps by which pages come to the writer and go: a fill is begun, fills are closed, and the reader's wish is
+//! The steps by which the writer gets and gives up pages: a fill is begun, fills are closed, and the reader's wish is
 //! looked for.
 use crate::ring::Core;
 use ring_frames::Turned;
@@ -56,7 +56,7 @@ impl Core {
         Turned::Going
     }
 
-    /// A load of the reader's wish: where it is for the tail, and the tail holds a record and isn't the last fill, the
+    /// A load of the reader's wish: if it is for the tail, and the tail holds a record and isn't the last fill, the
     /// frame closes it; else it closes what was begun meanwhile, or is gone.
     #[inline(always)]
     pub(crate) fn load_wish(&mut self) -> Turned

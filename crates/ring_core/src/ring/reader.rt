@@ -16,7 +16,7 @@ impl Core {
     ghost use Rattle.ring_core.specs.Steps.{Makes, IsRing};
     ghost use Rattle.ring_core.specs.Taking.{with_spare_home, with_head_taken};
 
-    /// The reader makes one step. It keeps the body only where it takes a page.
+    /// The reader makes one step. It keeps the body only if it takes a page.
     #[inline(never)]
     pub(crate) fn read(&mut self, body: Body) -> Answer
         requires ring { IsRing self.old }
@@ -33,7 +33,7 @@ impl Core {
         }
     }
 
-    /// The reader goes on in this phase, with this hint.
+    /// The reader continues in this phase, with this hint.
     fn reader_at(&mut self, phase: ReaderPhase, hint: u64)
         ensures { self.new ≡ record self.old { reader = record self.old.reader { phase = phase; hint = hint } } }
     {
@@ -92,7 +92,7 @@ impl Core {
         Answer::Looking(body)
     }
 
-    /// A store of the link of the reader's page: it will lead to the fill behind the one that is taken.
+    /// A store of the link of the reader's page: it will lead to the fill after the one that is taken.
     fn store_link(&mut self, page: u16, fill: u64, body: Body) -> Answer
         requires ring { IsRing self.old }
         requires phase { self.old.reader.phase ≡ StoringLink page fill }
@@ -138,7 +138,8 @@ impl Core {
         self.homes[page as usize].take()
     }
 
-    /// The head, which is on this page as this fill, is the reader's, whose own page stands in its place.
+    /// The head, which is on this page as this fill, becomes the reader's, and the reader's own page is put in its
+    /// place.
     fn take(&mut self, page: u16, fill: u64, taken: Page) -> Answer
         requires next { fill + 1 < LINK_FILLS }
         requires expected { self.old.reader.expected ≤ taken.first }
@@ -163,7 +164,7 @@ impl Core {
         Answer::Taken(taken, missed)
     }
 
-    /// The reader wishes for the fill behind those that it knows to be closed.
+    /// The reader wishes for the fill after those that it knows to be closed.
     pub(crate) fn make_wish(&mut self) -> Answer
         requires ring { IsRing self.old }
         ensures step { Makes self.old model.wishes result self.new }

@@ -11,8 +11,8 @@ impl Core {
     ghost use Rattle.ring_core.specs.Answers.{event_of, IsWhole, StepsPayloads, StepsTop};
     ghost use Rattle.ring_core.specs.Steps.{Makes, IsRing, HasItsSize, GivesBodyBack};
 
-    /// One event, which is one step of the ring's model: its answer tells the model's, and the ring is in the state
-    /// behind it. The body of a `Read` comes back with every answer but `Taken`.
+    /// One event, which is one step of the ring's model: its answer means the model's, and the ring is in the state
+    /// after it. The body of a `Read` is returned with every answer but `Taken`.
     #[inline(always)]
     pub fn step(&mut self, event: Event) -> Answer
         requires ring { IsRing self.old }
@@ -29,7 +29,7 @@ impl Core {
         self.obey(event)
     }
 
-    /// Hands the event to the function of its kind.
+    /// Passes the event to the function of its kind.
     #[inline(always)]
     fn obey(&mut self, event: Event) -> Answer
         requires ring { IsRing self.old }

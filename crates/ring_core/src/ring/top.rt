@@ -19,7 +19,7 @@ impl Core {
 
     /// The payload in the slot of the frame on top, to be written: it acts as the slice of its bytes. All else stays as
     /// it is, so the payloads of the other frames; and the ring is in the same state whatever is written. Refused with
-    /// `NoFrame` if none stands, and with `NotReserved` if the one on top has no record.
+    /// `NoFrame` if there is no frame, and with `NotReserved` if the one on top has no record.
     #[inline(always)]
     pub fn top_mut(&mut self) -> Result<&mut Payload, WriteFault>
         requires ring { IsRing self.old }

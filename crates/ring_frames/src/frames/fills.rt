@@ -1,4 +1,4 @@
-//! The halves of those steps by which pages come to the writer and go, and of the look for the reader's wish, that
+//! The halves of those steps by which the writer gets and gives up pages, and of the look for the reader's wish, that
 //! are made in the frames.
 use crate::frames::Frames;
 use crate::phase::{Phase, Turned};
@@ -19,7 +19,7 @@ impl Frames {
     ghost use Rattle.ring_frames.specs.Steps.{IsFrames};
     ghost use Rattle.ring_frames.specs.Fills.{OpensFill, Releases, LooksForWish, GrantsNone};
 
-    /// The next fill, which the frame on top noted, is begun in this body, and the frame begins anew.
+    /// The next fill, which the frame on top noted, is begun in this body, and the frame begins again.
     #[inline(always)]
     pub fn open(&mut self, body: Body) -> Turned
         requires frames { IsFrames self.old }
@@ -47,7 +47,7 @@ impl Frames {
         page
     }
 
-    /// The tail page, of a writer of which no frame stands: all else that it wrote is closed.
+    /// The tail page, of a writer with no frame on its stack: all else that it wrote is closed.
     pub fn into_tail(self) -> Page
         requires none { self.stack.frames ≡ [] }
         ensures written { (start : ℕ) (history : List Action)
@@ -58,8 +58,8 @@ impl Frames {
         stack.into_tail()
     }
 
-    /// What is made of the reader's wish: where it is for the tail, and the tail holds a record and isn't the last
-    /// fill, the frame on top notes the next fill; else it closes what was begun meanwhile, or is gone.
+    /// What is made of the reader's wish: if it is for the tail, and the tail holds a record and isn't the last fill,
+    /// the frame on top notes the next fill; else it closes what was begun meanwhile, or is gone.
     #[inline(always)]
     pub fn load_wish(&mut self, wish: u64) -> Turned
         requires frames { IsFrames self.old }

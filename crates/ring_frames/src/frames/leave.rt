@@ -11,7 +11,7 @@ impl Frames {
     ghost use Rattle.ring_frames.specs.Steps.{MakesPrivate, IsShown};
     ghost use Rattle.ring_frames.specs.Phases.{with_left_phase, left_answer, told, closing_phase};
 
-    /// The frame on top ends with the payload that stands in its slot.
+    /// The frame on top ends with the payload that is in its slot.
     #[inline(always)]
     pub fn end(&mut self) -> Answer
         requires shown { IsShown self.old }
@@ -58,7 +58,7 @@ impl Frames {
         }
     }
 
-    /// The frame on top, which has left, closes fills, or where none is left to close looks for a wish.
+    /// The frame on top, which has left, closes fills, or if none is left to close looks for a wish.
     #[inline(always)]
     pub(crate) fn start_closing(&mut self)
         ensures { self.new ≡ record self.old { phase = closing_phase self.old.stack } }

@@ -24,7 +24,7 @@ impl Frames {
         }
     }
 
-    /// A frame is pushed that leaves the tail page, where that holds a record.
+    /// A frame is pushed that leaves the tail page, if that holds a record.
     pub fn push_close(&mut self) -> Answer
         requires shown { IsShown self.old }
         ensures step { MakesPrivate self.old model.pushes_close result self.new }
@@ -37,7 +37,7 @@ impl Frames {
         }
     }
 
-    /// The frame that was pushed has noted nothing; `covers` tells whether one stands below it.
+    /// The frame that was pushed has noted nothing; `covers` says whether there is one below it.
     #[inline(always)]
     fn push_phase(&mut self, covers: bool) -> Answer
         requires room { length self.old.below < MAX_FRAMES }

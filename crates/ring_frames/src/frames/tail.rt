@@ -23,9 +23,9 @@ impl Frames {
     ghost use Rattle.ring_frames.specs.Phases.{with_left_phase, left_answer, told};
     ghost use Rattle.ring_frames.specs.Steps.{MakesPrivate, IsFrames, IsShown, GoesOnIn, IsNotedIn, BeginsAnew, LeavesWithout, IsCloseTop};
 
-    /// What the frame on top was pushed with, where it is a record frame that tried nothing yet, and its record is one
-    /// as nearly all are: in the short form, behind another one, and far enough from the page's end for any such
-    /// record. `None` may stand for one that is near the end too.
+    /// What the frame on top was pushed with, if it is a record frame that tried nothing yet, and its record is one as
+    /// nearly all are: in the short form, after another one, and far enough from the page's end for any such record.
+    /// `None` may be the answer for one that is near the end too.
     #[inline(always)]
     pub fn plain_top(&self) -> Option<Pushed>
         requires shown { IsShown self.now }
@@ -34,7 +34,7 @@ impl Frames {
         self.stack.plain_top()
     }
 
-    /// The record of the frame on top, which `plain_top` told, is reserved in the tail page: its number.
+    /// The record of the frame on top, as `plain_top` answered it, is reserved in the tail page: its number.
     #[inline(always)]
     pub fn reserve_plain(&mut self, pushed: Pushed) -> RecordNo
         requires frames { IsFrames self.old }
@@ -90,7 +90,7 @@ impl Frames {
     }
 
     /// A fill was begun since the frame on top noted what to open: a record frame tries again, a close frame has what
-    /// it wanted and leaves, and one that has left goes on to close fills. Where another frame has begun the fill, that
+    /// it wanted and leaves, and one that has left continues to close fills. If another frame has begun the fill, that
     /// is a step by itself.
     #[inline(always)]
     pub fn begin_anew(&mut self) -> Turned
@@ -106,7 +106,7 @@ impl Frames {
         self.anew()
     }
 
-    /// The frame on top begins anew, by what it is.
+    /// The frame on top begins again, by what it is.
     #[inline(always)]
     fn anew(&mut self) -> Turned
         requires shown { IsShown self.old }
@@ -132,7 +132,7 @@ impl Frames {
         }
     }
 
-    /// The frame on top goes on in this phase.
+    /// The frame on top continues in this phase.
     #[inline(always)]
     pub fn go_on(&mut self, phase: Phase) -> Turned
         ensures answer { result ≡ Going }

@@ -17,8 +17,8 @@ impl Frames {
     ghost use Rattle.ring_frames.specs.Lending.{FitsFrame, LeavesOthers, LendsTop, StaysFrames};
     ghost use Rattle.ring_frames.specs.Steps.{IsShown};
 
-    /// Where the record of the frame on top stands. Refused with `NoFrame` where none stands, and with `NotReserved`
-    /// where the one on top has no record.
+    /// Where the record of the frame on top is. Refused with `NoFrame` if there is no frame, and with `NotReserved` if
+    /// the one on top has no record.
     #[inline(always)]
     pub fn top_slot(&self) -> Result<Slot, WriteFault>
         ensures no_frame { result ≡ Err WriteFault.NoFrame ↔ self.now.stack.frames ≡ [] }

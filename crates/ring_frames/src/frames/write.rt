@@ -14,10 +14,10 @@ impl Frames {
     ghost use Rattle.ring_frames.specs.Fills.{LooksForWish};
     ghost use Rattle.ring_frames.specs.AtOnce.{with_left_frame, WritesAtOnce, IsWrittenAlone};
 
-    /// Writes a record of this moment and payload in one call, where no frame stands and it fits in the tail. No frame
-    /// is left then: it is as if the record's frame had left and looked for no wish yet, which `is_wished`, and where
-    /// that says so `stay`, make up for. Anywhere else, and where `push` would refuse it as too long for a page or at
-    /// too late a moment, nothing changes.
+    /// Writes a record of this moment and payload in one call, if no frame is on the stack and the record fits in the
+    /// tail. No frame is left then, as if the record's frame had left and not looked for the reader's wish yet. The
+    /// caller looks for it by `is_wished` and, if that answers true, by `stay`. In all other cases, and if `push` would
+    /// refuse the record as too long for a page or at too late a moment, nothing changes.
     #[inline(always)]
     pub fn write(&mut self, moment: u64, payload: &[u8]) -> Wrote
         requires frames { IsFrames self.old }
@@ -31,8 +31,8 @@ impl Frames {
         self.stack.write_alone(moment, payload)
     }
 
-    /// Whether the reader's wish is for the next fill, where none but the tail is open: else a frame that has left, and
-    /// looks for it, is gone.
+    /// Whether the reader's wish is for the next fill, if only the tail is open. If it isn't, a frame that has left and
+    /// looks for it is gone.
     #[inline(always)]
     pub fn is_wished(&self, wish: u64) -> bool
         ensures unasked { result ≡ false → (moment len : ℕ)
@@ -44,8 +44,8 @@ impl Frames {
         wish.wrapping_sub(1) == self.stack.done()
     }
 
-    /// The frame of a record of this moment and of `len` bytes, which was written at once and has left, stands at the
-    /// bottom, and looks for this wish.
+    /// The frame of a record of this moment and of `len` bytes, which was written at once and has left, is put at the
+    /// bottom of the stack, and looks for this wish.
     #[inline(never)]
     pub fn stay(&mut self, moment: u64, len: usize, wish: u64) -> Turned
         requires none { self.old.stack.frames ≡ [] }

@@ -96,7 +96,7 @@ impl Reader {
         Turn::Looking(body)
     }
 
-    /// A store of the link of the reader's page: it will lead to the fill behind the one that is taken.
+    /// A store of the link of the reader's page: it will lead to the fill after the one that is taken.
     fn store_link(&mut self, page: u16, fill: u64, body: Body) -> Turn
         requires reader { IsReader self.old }
         requires anew { self.old.empty_at ≡ None }

@@ -12,9 +12,9 @@ impl Reader {
     ghost use Rattle.ring_shared.specs.Takes.{IsReader, IsTake, TakesSteps, EmptyAfter, SameRing, IsOfSize, empty_of};
 
     /// Takes the oldest page that is closed and unread, for which `body`, of the ring's data size in bytes, goes into
-    /// the ring; with any other answer a body of that size comes back. It answers as soon as one of its steps does. It
+    /// the ring; with any other answer a body of that size is returned. It answers as soon as one of its steps does. It
     /// makes at most two steps for each page of the ring and eight; if none of these has an answer, it answers
-    /// `Moving`, and the next take goes on where this one came to.
+    /// `Moving`, and the next take continues where this one stopped.
     pub fn take(&mut self, body: Body) -> Take
         requires reader { IsReader self.old }
         requires size { length body ≡ self.old.shape.size }
@@ -56,8 +56,8 @@ impl Reader {
         Take::Moving(FillNo(self.at.hint), body)
     }
 
-    /// Wishes for the tail page to be closed, behind the fills that the reader knows to be closed: answers the number
-    /// of the fill that it wished for. A writer that finds nothing left to close looks for the wish.
+    /// Wishes for the tail page to be closed, after the fills that the reader knows to be closed: answers the number of
+    /// the fill that it wished for. A writer that finds nothing left to close looks for the wish.
     pub fn wish(&mut self) -> FillNo
         requires reader { IsReader self.old }
         ensures fill { result.0 ≡ self.old.part.reader.seen }
@@ -71,14 +71,14 @@ impl Reader {
         fill
     }
 
-    /// The number of closed fills that the last take answered, where it found nothing to take.
+    /// The number of closed fills that the last take answered, if it found nothing to take.
     pub fn empty_at(&self) -> Option<u64>
         ensures { result ≡ self.now.empty_at }
     {
         self.empty_at
     }
 
-    /// The body of a page that was taken, to be handed in for another one.
+    /// The body of a page that was taken, to be given for another one.
     pub fn give_back(&mut self, page: Page) -> Body
         ensures size { length result ≡ page.size }
         ensures stays { self.new ≡ self.old }

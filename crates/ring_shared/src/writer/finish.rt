@@ -1,17 +1,17 @@
-//! The frame on top, stepped as far as it comes by itself.
+//! The frame on top, stepped as far as it gets by itself.
 use crate::writer::Writer;
 use nested_writer::WriteFault;
 use nested_writer::frame::{Frame, Progress, Purpose};
 use ring_frames::{Answer, Phase, Turned};
 use trace_model::RecordNo;
 
-/// What comes of the frame on top.
+/// What `finish_top` makes of the frame on top.
 enum Finished {
     /// Its record is reserved.
     Reserved,
     /// It is gone.
     Gone,
-    /// It was refused, or none stands.
+    /// It was refused, or there is none.
     Refused(WriteFault),
 }
 
@@ -21,7 +21,7 @@ enum Aim {
     Record,
     /// It is gone.
     End,
-    /// It makes one step: it has reserved, or none stands.
+    /// It makes one step: it has reserved, or there is none.
     Step,
 }
 
@@ -40,7 +40,7 @@ impl Writer {
 
     /// Steps a close frame, or one that was ended or refused, until it is gone, and any other record frame until its
     /// record is reserved, in a slot that holds only zeros, or it is refused. It answers the refusal that it met, if
-    /// any, else as its last step does. Each of its steps is one of `step`; where no frame stands, it is refused with
+    /// any, else as its last step does. Each of its steps is one of `step`; if there is no frame, it is refused with
     /// `NoFrame`.
     #[inline(always)]
     pub fn finish_top(&mut self) -> Answer
@@ -69,7 +69,7 @@ impl Writer {
         }
     }
 
-    /// `finish_top`, whatever the frame on top, if any: what comes of it.
+    /// `finish_top`, whatever the frame on top, if any, with what it makes of that frame.
     #[inline(never)]
     fn finish_any(&mut self) -> Finished
         requires writer { IsWriter self.old }
@@ -216,7 +216,7 @@ impl Writer {
     }
 }
 
-/// The answer, as far as the frame on top doesn't tell it.
+/// The answer, without what the frame on top states itself.
 fn brief(answer: Answer) -> Finished
     requires { IsNumberOrRefused answer }
     ensures { IsBrief answer result }
@@ -227,7 +227,7 @@ fn brief(answer: Answer) -> Finished
     }
 }
 
-/// The answer, where it isn't `Going`.
+/// The answer, if it isn't `Going`.
 fn unless_going(answer: Answer) -> Option<Answer>
     ensures going { result ≡ None → answer ≡ Going }
     ensures other { (last : Answer) → result ≡ Some last → (last ≡ answer) × (answer ≢ Going) }
@@ -238,7 +238,7 @@ fn unless_going(answer: Answer) -> Option<Answer>
     }
 }
 
-/// The refusal that was met first, behind this answer.
+/// The refusal that was met first, after this answer.
 pub(crate) fn met_first(met: Option<WriteFault>, answer: Answer) -> Option<WriteFault>
     ensures { result ≡ met_behind met answer }
 {

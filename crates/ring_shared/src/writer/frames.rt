@@ -1,4 +1,4 @@
-//! What frames do in private: each of it is one load more, by which the writer's seat knows of it.
+//! What frames do in private. Each such call makes one load more, by which the writer's seat knows of it.
 use crate::writer::Writer;
 use nested_writer::frame::Pushed;
 use ring_frames::{Answer, Turned};
@@ -24,7 +24,7 @@ impl Writer {
     ghost use Rattle.ring_shared.specs.Rooms.{rooms, IsOneMore};
 
     /// A writer begins: a frame is pushed for a record of this moment, below `MOMENT_LIMIT`, and of a payload of `len`
-    /// bytes. `Pushed`; or refused, and nothing changed: `TooDeep` where four frames stand, `TooLong` where the record
+    /// bytes. `Pushed`; or refused, and nothing changed: `TooDeep` if there are four frames, `TooLong` if the record
     /// has no room on an empty page, `LateMoment`, the first of these that holds.
     #[inline(always)]
     pub fn begin(&mut self, moment: u64, len: usize) -> Answer
@@ -39,7 +39,7 @@ impl Writer {
         self.frames.push(moment, len)
     }
 
-    /// A frame is pushed that leaves the tail page, where that holds a record. `Pushed`, or refused as `TooDeep`.
+    /// A frame is pushed that leaves the tail page, if that holds a record. `Pushed`, or refused as `TooDeep`.
     pub fn begin_close(&mut self) -> Answer
         requires writer { IsWriter self.old }
         ensures makes { MakesSome self.old model.pushes_close result self.new }
@@ -52,8 +52,8 @@ impl Writer {
         self.frames.push_close()
     }
 
-    /// The frame on top, whose record is reserved, ends with the payload that stands in its slot. `Ended`; or refused,
-    /// and nothing changed, as `NoFrame` or as `NotReserved`.
+    /// The frame on top, whose record is reserved, ends with the payload that is in its slot. `Ended`; or refused, and
+    /// nothing changed, as `NoFrame` or as `NotReserved`.
     #[inline(always)]
     pub fn end(&mut self) -> Answer
         requires writer { IsWriter self.old }
@@ -83,7 +83,7 @@ impl Writer {
         self.frames.reserve()
     }
 
-    /// The record of the frame on top, which is as nearly all are, is reserved: its number.
+    /// Reserves the record of the frame on top, which is one as nearly all are, and answers its number.
     #[inline(always)]
     pub(crate) fn reserve_plain(&mut self, pushed: Pushed) -> RecordNo
         requires writer { IsWriter self.old }
@@ -96,7 +96,7 @@ impl Writer {
         self.frames.reserve_plain(pushed)
     }
 
-    /// A fill was begun since the frame on top noted what to open, so that it begins anew.
+    /// A fill was begun since the frame on top noted what to open, so that it begins again.
     #[inline(never)]
     pub(crate) fn begin_anew(&mut self) -> Turned
         requires writer { IsWriter self.old }

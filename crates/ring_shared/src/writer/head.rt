@@ -1,5 +1,5 @@
 //! The steps of a frame that needs a page, up to the fill's beginning, each on the word of one link: it looks for a
-//! free position, and where there is none moves the head.
+//! free position, and moves the head if there is none.
 use crate::writer::Writer;
 use link_marks::Mark;
 use ring_frames::{Phase, Role, Turned};

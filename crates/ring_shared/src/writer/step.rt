@@ -16,11 +16,10 @@ impl Writer {
     ghost use Rattle.ring_shared.specs.Nearer.{IsNearer};
     ghost use Rattle.ring_shared.specs.Rooms.{rooms, IsOneMore};
 
-    /// One step of the frame on top, in its phase: a step on one word, or one that touches none. `Going` while it
-    /// stands and has reserved nothing or has left; `Reserved` with its record's number, whose slot holds only zeros
-    /// when it is reserved; `Gone` once it has left the stack. Refused with `NoFrame` where no frame stands; and a
-    /// frame that needs a page is refused, and leaves, as `Crowded` where no page is released, as `Worn` behind the
-    /// last fill.
+    /// One step of the frame on top, in its phase: a step on one word, or one that touches none. `Going` while it is on
+    /// the stack and has reserved nothing or has left; `Reserved` with its record's number, whose slot holds only zeros
+    /// when it is reserved; `Gone` once it has left the stack. Refused with `NoFrame` if there is no frame; and a frame
+    /// that needs a page is refused, and leaves, as `Crowded` if no page is released, as `Worn` after the last fill.
     #[inline(always)]
     pub fn step(&mut self) -> Answer
         requires writer { IsWriter self.old }
@@ -44,7 +43,7 @@ impl Writer {
         }
     }
 
-    /// One step of the frame on top, which has more to do at the words: it is called where that is rare.
+    /// One step of the frame on top, which has more to do at the words. It is called rarely.
     #[inline(never)]
     fn turn(&mut self) -> Turned
         requires writer { IsWriter self.old }

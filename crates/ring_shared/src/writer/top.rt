@@ -15,8 +15,8 @@ impl Writer {
     ghost use Rattle.ring_shared.specs.Rooms.{IsTopRoom};
     ghost use Rattle.ring_shared.specs.Lending.{FitsFrame, LendsTop, StaysWriter};
 
-    /// Where the record of the frame on top is. Refused with `NoFrame` if none stands, and with `NotReserved` if the one
-    /// on top has no record.
+    /// Where the record of the frame on top is. Refused with `NoFrame` if there is no frame, and with `NotReserved` if
+    /// the one on top has no record.
     #[inline(always)]
     pub(crate) fn top_slot(&self) -> Result<Slot, WriteFault>
         ensures no_frame { result ≡ Err WriteFault.NoFrame ↔ self.now.frames.stack.frames ≡ [] }
@@ -28,8 +28,8 @@ impl Writer {
     }
 
     /// The payload of the frame on top, to be written: it acts as the slice of its bytes. All else stays as it is, so
-    /// the payloads of the other frames; and it touches no word of the ring. Refused with `NoFrame` if none stands, and
-    /// with `NotReserved` if the one on top has no record.
+    /// the payloads of the other frames; and it touches no word of the ring. Refused with `NoFrame` if there is no
+    /// frame, and with `NotReserved` if the one on top has no record.
     #[inline(always)]
     pub fn top_mut(&mut self) -> Result<&mut Payload, WriteFault>
         requires writer { IsWriter self.old }

@@ -1,4 +1,4 @@
-//! A page turn of the frame on top: its steps one after the other, each where its phase is due.
+//! A page turn of the frame on top: its steps one after the other, each when its phase is due.
 use crate::writer::Writer;
 use ring_frames::Phase;
 
@@ -22,7 +22,7 @@ impl Writer {
         self.open_if_due();
     }
 
-    /// `look`, where that is due: the link into the position of the fill to open is loaded.
+    /// `look`, if that is due: the link into the position of the fill to open is loaded.
     #[inline(always)]
     fn look_if_due(&mut self)
         requires writer { IsWriter self.old }
@@ -34,7 +34,7 @@ impl Writer {
         }
     }
 
-    /// `claim`, where that is due: the head is lost.
+    /// `claim`, if that is due: the head is lost.
     #[inline(always)]
     fn claim_if_due(&mut self)
         requires writer { IsWriter self.old }
@@ -46,7 +46,7 @@ impl Writer {
         }
     }
 
-    /// `look_next`, where that is due: the link behind the page that is passed is loaded.
+    /// `look_next`, if that is due: the link after the page that is passed is loaded.
     #[inline(always)]
     fn look_next_if_due(&mut self)
         requires writer { IsWriter self.old }
@@ -58,7 +58,7 @@ impl Writer {
         }
     }
 
-    /// `mark`, where that is due: the next page becomes the head.
+    /// `mark`, if that is due: the next page becomes the head.
     #[inline(always)]
     fn mark_if_due(&mut self)
         requires writer { IsWriter self.old }
@@ -76,7 +76,7 @@ impl Writer {
         }
     }
 
-    /// `clear`, where that is due: the UPDATE of the claim is replaced.
+    /// `clear`, if that is due: the UPDATE of the claim is replaced.
     #[inline(always)]
     fn clear_if_due(&mut self)
         requires writer { IsWriter self.old }
@@ -88,7 +88,7 @@ impl Writer {
         }
     }
 
-    /// `open`, where that is due: the page is the tail.
+    /// `open`, if that is due: the page is the tail.
     #[inline(always)]
     fn open_if_due(&mut self)
         requires writer { IsWriter self.old }

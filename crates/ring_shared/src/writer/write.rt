@@ -17,8 +17,8 @@ impl Writer {
     ghost use Rattle.ring_shared.specs.WholeWrites.{IsWritten, IsRefusedWrite, IsReserved, EndsRecord};
 
     /// Writes a record of this moment and payload in one call: what `begin`, `finish_top`, the payload's copy into what
-    /// `top_mut` lends, `end` and `finish_top` do together, nested in the frames that stand. Refused as `begin` is,
-    /// or as `Crowded` or `Worn`, and then no record is left behind.
+    /// `top_mut` lends, `end` and `finish_top` do together, nested in the frames on the stack. Refused as `begin` is,
+    /// or as `Crowded` or `Worn`, and then no record is left.
     #[inline(always)]
     pub fn write(&mut self, moment: u64, payload: &[u8]) -> Result<(), WriteFault>
         requires writer { IsWriter self.old }
@@ -63,7 +63,7 @@ impl Writer {
         Ok(())
     }
 
-    /// A frame is pushed for a record, which is reserved: where it lies.
+    /// Pushes a frame for a record, and reserves the record: the answer is its slot.
     fn reserve_record(&mut self, moment: u64, len: usize) -> Result<Slot, WriteFault>
         requires writer { IsWriter self.old }
         ensures reserved { (slot : Slot) → result ≡ Ok slot
@@ -93,7 +93,7 @@ impl Writer {
         }
     }
 
-    /// The frame on top, whose record lies in this slot, ends; where none stands below it, it makes steps until it is
+    /// The frame on top, whose record is in this slot, ends; if there is none below it, it makes steps until it is
     /// gone.
     fn end_record(&mut self, slot: Slot)
         requires writer { IsWriter self.old }
@@ -110,7 +110,7 @@ impl Writer {
     }
 }
 
-/// Puts the payload to the front of the slot, and zeros behind it.
+/// Puts the payload to the beginning of the slot, and zeros after it.
 fn put_padded(slot: &mut [u8], payload: &[u8])
     requires { length payload.now ≤ length slot.old }
     ensures { slot.new ≡ payload.now ++ replicate (length slot.old - length payload.now) 0 }
@@ -120,7 +120,7 @@ fn put_padded(slot: &mut [u8], payload: &[u8])
     behind.fill(0);
 }
 
-/// Whether the frame that was ended stands on, as the only one.
+/// Whether the frame that was ended stays on the stack, as the only one.
 fn stands_alone(answer: Answer) -> bool
     ensures { result ≡ true ↔ answer ≡ HasEnded Full }
 {

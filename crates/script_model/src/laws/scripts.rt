@@ -55,7 +55,7 @@ pub fn command_reads_back()
         command_in cpus collectors (command_text command) ≡ Ok command }
 {}
 
-/// A script within its limits, whose commands stand in the lines right behind the start line, has a text,
+/// A script within its limits, whose commands are in the lines right after the start line, has a text,
 /// which reads back as the script.
 pub fn script_reads_back()
     ensures { (script : Script) (commands : List Command) → IsWithinLimits script →

@@ -10,7 +10,7 @@ use trace_model::NoMemory;
 /// More steps than a frame or a take makes in a ring of the most pages.
 pub(crate) const MOST_STEPS: u64 = 8192;
 
-/// Puts the payload to the front of the slot, and zeros behind it.
+/// Puts the payload to the beginning of the slot, and zeros after it.
 #[inline(always)]
 fn put_padded(slot: &mut [u8], payload: &[u8])
     requires { length payload.now ≤ length slot.old }
@@ -27,7 +27,7 @@ impl<'a> Lane<'a> {
     ghost use Rattle.script_replay.specs.Lanes.{IsLaneOf, Has, HasLine};
     ghost use Rattle.script_replay.specs.Frames.{AsksTop, StepsOnce, FollowsFrame};
 
-    /// Lets the frame on top make so many steps, if it stands so long.
+    /// Lets the frame on top make `count` steps, or fewer if it is gone before.
     #[inline(never)]
     pub(crate) fn step(
         &mut self,
@@ -58,7 +58,7 @@ impl<'a> Lane<'a> {
         self.follow(at, MOST_STEPS, log)
     }
 
-    /// The frame on top makes steps until so many are made or it is gone, so that fewer payloads are kept.
+    /// The frame on top makes steps until `count` are made or it is gone, so that fewer payloads are kept.
     #[inline(always)]
     fn follow(&mut self, at: At, count: u64, log: &mut Vec<LogLine>) -> Result<(), NoMemory>
         requires lane { IsLaneOf at.cpu.0 self.old }
@@ -88,7 +88,7 @@ impl<'a> Lane<'a> {
         answer
     }
 
-    /// One step of the ring's frame on top: if its record is reserved, this is written, and ended.
+    /// One step of the ring's frame on top: if its record is reserved, its payload is written, and it ends.
     #[inline(always)]
     fn ask_top(&mut self) -> Answer
         requires { (cpu : ℕ) × IsLaneOf cpu self.old }

@@ -78,7 +78,7 @@ impl<'a> Lane<'a> {
         }
     }
 
-    /// Pushes a frame, and keeps its payload where it stands.
+    /// Pushes a frame, and keeps its payload if it isn't refused.
     #[inline(always)]
     fn push(&mut self, event: Event, payload: &'a [u8]) -> Result<Answer, NoMemory>
         requires lane { (cpu : ℕ) × IsLaneOf cpu self.old }

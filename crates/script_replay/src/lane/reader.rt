@@ -16,7 +16,7 @@ impl<'a> Lane<'a> {
     ghost use Rattle.script_replay.specs.Lanes.{IsLaneOf, Has, HasLine};
     ghost use Rattle.script_replay.specs.Takes.{ReadsOnce, ReadsOn, Keeps, KeepsPage, MayKeep};
 
-    /// Lets the reader make so many steps, if its take lasts so long.
+    /// Lets the reader make `count` steps, or fewer if its take ends before.
     pub(crate) fn step_reader(
         &mut self,
         alloc: Global,
@@ -55,7 +55,7 @@ impl<'a> Lane<'a> {
         tell(at, answer, log)
     }
 
-    /// The reader makes steps until so many are made or it answers.
+    /// The reader makes steps until `count` are made or it answers.
     fn read(
         &mut self,
         alloc: Global,
@@ -76,7 +76,7 @@ impl<'a> Lane<'a> {
         Ok(())
     }
 
-    /// One step of the reader: does its take go on?
+    /// One step of the reader: the answer says whether its take continues.
     fn read_once(&mut self, alloc: Global, at: At, log: &mut Vec<LogLine>) -> Result<bool, NoMemory>
         requires { IsLaneOf at.cpu.0 self.old }
         ensures { IfOk result (λ goes_on. Has (ReadsOnce goes_on) at.line at.cpu.0
@@ -100,7 +100,7 @@ impl<'a> Lane<'a> {
         }
     }
 
-    /// Keeps what an answer of the reader brings, a body or a page: does the take go on?
+    /// Keeps what an answer of the reader brings, a body or a page. The answer says whether the take continues.
     fn keep(&mut self, alloc: Global, cpu: CpuId, answer: Answer) -> Result<bool, NoMemory>
         requires { MayKeep cpu.0 answer }
         ensures { IfOk result (λ goes_on. Keeps cpu.0 answer goes_on self.old self.new) }

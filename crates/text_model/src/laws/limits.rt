@@ -10,7 +10,7 @@ pub fn constants_are()
     ensures size_step { SIZE_STEP ≡ 4 }
 {}
 
-/// How a fault of a line is told.
+/// How a fault of a line is printed.
 pub fn fault_texts_are()
     ensures line { (n : ℕ) → fault_text n bad_line ≡ codes "line " ++ decimal n ++ codes ": BadLine" }
     ensures number { (n : ℕ) → fault_text n bad_number ≡ codes "line " ++ decimal n ++ codes ": BadNumber" }

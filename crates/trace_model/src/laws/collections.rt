@@ -5,7 +5,7 @@ ghost use Rattle.trace_model.specs.Parcel.{Parcel};
 ghost use Rattle.trace_model.specs.Collection.{Agree, IsBelow, IsSame, IsLeastUpperBound};
 ghost use Rattle.trace_model.specs.Listing.{Line, IsListing};
 
-/// Two lists of parcels have a least collection above both just where all of them agree; and then it
+/// Two lists of parcels have a least collection above both if and only if all of them agree; and then it
 /// is what they have and miss together.
 pub fn joined_is_least()
     ensures least { (parcels others : List Parcel) →
@@ -30,7 +30,7 @@ pub fn collections_are_ordered()
 
 /// The order and the repeats of parcels change nothing: the same parcels are the same collection, one that
 /// comes once more leaves it the same, and joining commutes, regroups and forgets what is joined twice.
-/// Parcels lie below more parcels, and what lies below parcels that agree agrees too.
+/// Parcels are below more parcels, and what is below parcels that agree agrees too.
 pub fn order_and_repeats_change_nothing()
     ensures below_more { (parcels others : List Parcel) →
         ((p : Parcel) → Contains parcels p → Contains others p) → IsBelow parcels others }
@@ -49,7 +49,7 @@ pub fn order_and_repeats_change_nothing()
         IsBelow parcels others → Agree others → Agree parcels }
 {}
 
-/// What parcels have decides their listing, in which each record stands once. Parcels that agree have a
+/// What parcels have decides their listing, in which each record is once. Parcels that agree have a
 /// listing, and in it a CPU and a number have one line at most.
 pub fn listings_are_one()
     ensures one { (parcels others : List Parcel) (lines other_lines : List Line) →

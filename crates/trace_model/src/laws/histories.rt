@@ -32,7 +32,7 @@ pub fn reserved_records_fill_slots()
         → AllByRecursion FillsSlot (reserved_records history) }
 {}
 
-/// Of a history that keeps the discipline of the stack, each committed record has been written, by just
+/// Of a history that keeps the discipline of the stack, each committed record has been written, by exactly
 /// as many bytes as its slot has.
 pub fn committed_records_are_written()
     ensures { (history : List Action) → IsHistory history

@@ -8,7 +8,7 @@ pub fn fill_len_is_encoding_len()
     ensures reckoned { FillHasItsLength }
 {}
 
-/// In a packed history every fill but the last holds a record: a page is begun only behind one that isn't empty.
+/// In a packed history every fill but the last holds a record: a page is begun only after one that isn't empty.
 pub fn packed_fills_hold_records()
     ensures full { PackedFillsAreFull }
 {}

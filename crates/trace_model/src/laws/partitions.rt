@@ -5,8 +5,8 @@ ghost use Rattle.trace_model.specs.Partition.{Piece, IsPartition, IsNumberedFrom
 ghost use Rattle.trace_model.specs.Parcel.{Parcel, AreGenuine};
 ghost use Rattle.trace_model.specs.Collection.{Agree, Has, Misses};
 
-/// Each piece of a partition has a first number, which is how many records of the whole list stand in front
-/// of the piece's own; from that number on these are the records of the whole list.
+/// Each piece of a partition has a first number, which is how many records of the whole list are before
+/// the piece's own; from that number on these are the records of the whole list.
 pub fn pieces_have_first_numbers()
     ensures some { (records : List Record) (pieces : List Piece) (rest : List Record) (index : ℕ) (piece : Piece) →
         IsPartition records pieces rest → slice_get pieces index ≡ Some piece →

@@ -6,7 +6,7 @@ ghost use Rattle.trace_model.specs.Laws.{EncodingHasItsLength, EncodingsReadBack
 ghost use Rattle.trace_model.specs.Record.{Record, IsRecord};
 ghost use Rattle.trace_model.specs.Words.{Decodes};
 
-/// A payload that fills its slot takes just the bytes that the writer reckons with.
+/// A payload that fills its slot takes exactly the bytes that the writer reckons with.
 pub fn encoding_len()
     ensures reckoned { EncodingHasItsLength }
 {}
@@ -45,7 +45,7 @@ pub fn places_are_unique()
     ensures unique { PlacesAreUnique }
 {}
 
-/// What stands at the front of data that isn't empty: a whole word, an ending padding or a fault,
+/// What is at the front of data that isn't empty: a whole word, an ending padding or a fault,
 /// one of the three and only one, and only one fault.
 pub fn front_of_data()
     ensures one { (bytes : List ℕ) → 1 ≤ length bytes

@@ -6,7 +6,7 @@ ghost use Rattle.link_marks.specs.RingLaws.{MayAsk};
 ghost use Rattle.world_model.specs.Lanes.{Lane, IsNewLane, HasPayloads, event_on_top, LineRun};
 ghost use Rattle.world_model.specs.LineEnds.{FrameRunsAreShort, ReaderRunsAreShort};
 
-/// What a line has with a ring are steps of it, one list of them and no other; where it stops is said.
+/// What a line does with a ring is a run of its steps: one list of them and no other.
 pub fn lines_are_runs()
     ensures run { (n size : ℕ) (command : Command) (before after : Lane) (exchanges : List Exchange) →
         LineRun n size command before exchanges after → Run n size before.core exchanges after.core }
@@ -15,7 +15,7 @@ pub fn lines_are_runs()
         (exchanges ≡ others) × (after ≡ other) }
 {}
 
-/// Behind any lines there is a payload for each frame that stands, as long as it was pushed for; so the frame on
+/// After any lines there is a payload for each frame on the stack, as long as it was pushed for; so the frame on
 /// top may always be asked for its next step, the end of its record among them.
 pub fn payloads_are_of_frames()
     ensures new { (n start : ℕ) (lane : Lane) → IsNewLane n start lane → HasPayloads lane }
@@ -26,7 +26,7 @@ pub fn payloads_are_of_frames()
         MayAsk lane.core (event_on_top lane.core.frames lane.payloads) }
 {}
 
-/// What a line asks of a frame until it is gone, and of the reader until it answers, comes to an end.
+/// What a line asks of a frame until it is gone, and of the reader until it answers, has an end.
 pub fn lines_come_to_an_end()
     ensures frames { FrameRunsAreShort }
     ensures takes { ReaderRunsAreShort }

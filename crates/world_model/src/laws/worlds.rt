@@ -13,8 +13,8 @@ ghost use Rattle.world_model.specs.World.{World, Obeys, WorldBehind, WorldOf};
 ghost use Rattle.world_model.specs.RunDeeds.{AreDeedsOf, IsRunToldBy};
 ghost use Rattle.world_model.specs.Headline.{IsGenuineWorld};
 
-/// A script has one world at most, behind any of its lines and behind all of them; and a line that is obeyed leads
-/// from the world in front of it to one behind it.
+/// A script has one world at most, after any of its lines and after all of them; and a line that is obeyed leads
+/// from the world before it to one after it.
 pub fn one_world()
     ensures behind { (script : Script) (lines : List (ℕ × Command)) (one other : World) → IsWithinLimits script →
         WorldBehind script lines one → WorldBehind script lines other → one ≡ other }
@@ -25,7 +25,7 @@ pub fn one_world()
         WorldBehind script (lines ++ (line, command) ∷ []) after }
 {}
 
-/// The deeds of a run of a new ring, step by step, tell the state that it leads to: its history, its window and its
+/// The deeds of a run of a new ring, step by step, determine the state that it leads to: its history, window and
 /// takes. And in each step, a fill that the head passed without being taken was closed, and a whole round of fills is
 /// begun from it on: none is lost early.
 pub fn runs_have_deeds()
@@ -36,9 +36,9 @@ pub fn runs_have_deeds()
         (before.head < after.done) × (before.head + n ≤ after.opened) }
 {}
 
-/// In the world of a script, behind any of its lines, the parcels of each CPU part its committed records, each under
-/// its own number, with just the numbers of overwritten fills missing between them; they agree; only what was taken
-/// is delivered; and each collector has just the records of the pages that were delivered to it, and misses just the
+/// In the world of a script, after any of its lines, the parcels of each CPU part its committed records, each under
+/// its own number, with exactly the numbers of overwritten fills missing between them; they agree; only what was taken
+/// is delivered; and each collector has exactly the records of the pages delivered to it, and misses exactly the
 /// numbers that were overwritten unread before those.
 pub fn worlds_are_genuine()
     ensures behind { (script : Script) (lines : List (ℕ × Command)) (w : World) → IsWithinLimits script →

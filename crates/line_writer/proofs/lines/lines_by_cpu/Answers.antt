@@ -48,8 +48,8 @@ loop-place-preserved c =
     let was = c.loop-place.invariant.placed in
     elim c.match-writer_of.branch [
       | in-Some+in_ok-push w ↦ record {
-        count = ap (λ (v : Vec (Vec ℕ Global) Global). vec_len v) w.lists-is ∙ count;
-        placed = subst (λ (v : Vec (Vec ℕ Global) Global). ArePlaced script.commands (place + 1) v.items)
+        count = ap (λ (v : Vec (List ℕ) Global). vec_len v) w.lists-is ∙ count;
+        placed = subst (λ (v : Vec (List ℕ) Global). ArePlaced script.commands (place + 1) v.items)
             (sym w.lists-is)
             (one_more script.commands place (shown_line c.line.result) at c.loop-place.lists.items w.in-Some.cpu
             w.index_mut.result.now w.push.new.self w.in-Some.ensures
@@ -60,11 +60,11 @@ loop-place-preserved c =
             let ok = c.loop-place.lists.ok in
             omega (arith, ok.0, ok.1))
             w.index_mut.ensures.value)
-            w.in_ok-push.ensures.items was);
+            w.in_ok-push.ensures.pushed was);
       }
       | in_default w ↦ record {
-        count = ap (λ (v : Vec (Vec ℕ Global) Global). vec_len v) w.lists-is ∙ count;
-        placed = subst (λ (v : Vec (Vec ℕ Global) Global). ArePlaced script.commands (place + 1) v.items)
+        count = ap (λ (v : Vec (List ℕ) Global). vec_len v) w.lists-is ∙ count;
+        placed = subst (λ (v : Vec (List ℕ) Global). ArePlaced script.commands (place + 1) v.items)
             (sym w.lists-is)
             (none_more script.commands place (shown_line c.line.result) at c.loop-place.lists.items w.in_default.ensures
             was);

@@ -1,46 +1,54 @@
-use Rattle.std.proofs.Common.{◌≡◌, ℕ, List, get_or, Some, subst}
-use Rattle.std.specs.List.{slice_get}
+use Rattle.std.proofs.Common.{◌≡◌, ℕ, ◌<◌, List, length, get_or, Some, sym, subst, arith}
+use Rattle.std.specs.List.{slice_get, AllZip}
 use Rattle.script_model.specs.Script.{Command}
 use Rattle.script_model.specs.ScriptLimits.{IsCommandWithin}
 use Rattle.trace_script.specs.ScriptTypes.{shown_line}
 use Rattle.line_model.specs.Lines.{writer_lines}
 use Rattle.line_model.specs.ReplayedLines.{commands_of}
-use Rattle.line_writer.proofs.LinesMade.{next_line, is_place, one_line, all_lines, element}
+use Rattle.line_writer.specs.Obeying.{IsLineAt}
+use Rattle.line_writer.proofs.LinesMade.{IsNextLine, next_line, is_place, one_line, all_lines, element}
 use Rattle.line_writer.proofs.obeying.obey_places.Goals as goal
+
+-- the line of the place that is read
+line_of : (commands : List (ℕ × Command)) (places : List ℕ) (lines : List Command) (index place : ℕ)
+    → AllZip (IsLineAt commands) places lines
+    → index < length places
+    → place ≡ get_or places index 0
+    → IsNextLine commands lines index place
+line_of commands places lines index place are low is =
+    subst (λ (k : ℕ). IsNextLine commands lines index k) (sym is) (next_line commands places lines index 0 are low)
 
 pub line-requires : goal.line-requires
 line-requires g c =
     is_place c.args.script.now.commands c.commands-commands.result.now
-    (writer_lines c.args.cpu.0 (commands_of c.args.script.now.commands)) c.loop-place.place-index
-    (get_or c.args.places.now c.loop-place.place-index 0) c.commands-commands.ensures.commands
-    (next_line c.args.script.now.commands c.args.places.now
-    (writer_lines c.args.cpu.0 (commands_of c.args.script.now.commands)) c.loop-place.place-index 0 c.requires.places
-    c.loop-place-test.true)
+    (writer_lines c.args.cpu.0 (commands_of c.args.script.now.commands)) c.loop-index.index
+    c.place-place.result c.commands-commands.ensures.commands
+    (line_of c.args.script.now.commands c.args.places.now (writer_lines c.args.cpu.0 (commands_of c.args.script.now.commands)) c.loop-index.index
+    c.place-place.result c.requires.places (omega (arith, c.len-index-end.ensures)) c.place-place.ensures)
 
 pub obey_line-requires-clause-within : goal.obey_line-requires-clause-within
 obey_line-requires-clause-within g c κs within = (
   c.args.script.now.cpus,
   c.args.script.now.collectors,
   element (λ (line : ℕ × Command). IsCommandWithin c.args.script.now.cpus
-      c.args.script.now.collectors line.1) c.args.script.now.commands (get_or c.args.places.now c.loop-place.place-index 0)
+      c.args.script.now.collectors line.1) c.args.script.now.commands c.place-place.result
       (shown_line c.line.result) c.commands-commands.ensures.limits.each_command
-      (subst (λ (l : List (ℕ × Command)). slice_get l (get_or c.args.places.now c.loop-place.place-index 0) ≡ Some (shown_line c.line.result))
+      (subst (λ (l : List (ℕ × Command)). slice_get l c.place-place.result ≡ Some (shown_line c.line.result))
       c.commands-commands.ensures.commands c.line.ensures),
 )
 
-pub loop-place-preserved : goal.loop-place-preserved
-loop-place-preserved g c =
+pub loop-index-preserved : goal.loop-index-preserved
+loop-index-preserved g c =
     one_line c.args.script.now.commands c.commands-commands.result.now
-    (writer_lines c.args.cpu.0 (commands_of c.args.script.now.commands)) c.loop-place.place-index
-    (get_or c.args.places.now c.loop-place.place-index 0) (shown_line c.line.result)
-    c.args.lane.now c.loop-place.lane c.obey_line.new.lane c.commands-commands.ensures.commands
-    (next_line c.args.script.now.commands c.args.places.now
-    (writer_lines c.args.cpu.0 (commands_of c.args.script.now.commands)) c.loop-place.place-index 0 c.requires.places
-    c.loop-place-test.true)
-    c.line.ensures c.loop-place.invariant c.in_ok-obey_line.ensures.line
+    (writer_lines c.args.cpu.0 (commands_of c.args.script.now.commands)) c.loop-index.index
+    c.place-place.result (shown_line c.line.result)
+    c.args.lane.now c.loop-index.lane c.obey_line.new.lane c.commands-commands.ensures.commands
+    (line_of c.args.script.now.commands c.args.places.now (writer_lines c.args.cpu.0 (commands_of c.args.script.now.commands)) c.loop-index.index
+    c.place-place.result c.requires.places (omega (arith, c.len-index-end.ensures)) c.place-place.ensures)
+    c.line.ensures c.loop-index.invariant c.in_ok-obey_line.ensures.line
 
 pub returns-clause-lines : goal.returns-clause-lines
 returns-clause-lines g c =
     all_lines c.args.script.now.commands c.args.places.now
-    (writer_lines c.args.cpu.0 (commands_of c.args.script.now.commands)) c.loop-place.place-index c.args.lane.now
-    c.loop-place.lane c.requires.places c.loop-place-test.false c.loop-place.invariant
+    (writer_lines c.args.cpu.0 (commands_of c.args.script.now.commands)) c.loop-index.index c.args.lane.now
+    c.loop-index.lane c.requires.places (omega (arith, c.len-index-end.ensures)) c.loop-index.invariant

@@ -3,7 +3,7 @@ use Rattle.std.specs.Prelude.{codes}
 use Rattle.std.specs.Fmt.{decimal}
 use Rattle.replay_log.proofs.printer.put_taken.Goals as goal
 
--- four words, each with a number behind it
+-- four words, each with a number after it
 four_put : (before first second third out w x y z k l m n : List ℕ) → first ≡ before ++ (w ++ k)
     → second ≡ first ++ (x ++ l) → third ≡ second ++ (y ++ m) → out ≡ third ++ (z ++ n)
     → out ≡ before ++ (w ++ k ++ x ++ l ++ y ++ m ++ z ++ n)

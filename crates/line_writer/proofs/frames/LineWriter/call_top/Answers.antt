@@ -1,9 +1,7 @@
 use Rattle.std.specs.Prelude.{Result, Ok, Err, OnErr}
 use Rattle.std.specs.Result.{is_err}
-use Rattle.std.proofs.Common.{◌≡◌, true, List, [], sym, ◌∙◌, subst}
+use Rattle.std.proofs.Common.{◌≡◌, true, sym, ◌∙◌, subst}
 use Rattle.trace_model.specs.Steps.{steps}
-use Rattle.nested_writer.specs.declared.frame.Slot.{Slot}
-use Rattle.nested_writer.specs.Calls.{IsTopSlot}
 use Rattle.ring_shared.specs.Calls.{MakesSome}
 use Rattle.ring_shared.specs.Nearer.{IsNearer}
 use Rattle.line_writer.specs.declared.frames.LineWriter.{LineWriter}

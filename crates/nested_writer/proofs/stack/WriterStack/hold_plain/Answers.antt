@@ -47,7 +47,7 @@ after c = plain_put (shown c.self.inside) c.args.pushed (plain c) c.put_plain-pl
 found : (c : goal.After-hold) → (c.self.inside.top ≡ Some (waits_of c.args.pushed)) × (c.self.inside.below.items ≡ (plain c).below)
 found c = top_is c.self.inside.top c.self.inside.below.items (waits_of c.args.pushed) (plain c).below c.self.invariant.top_first (plain c).on_top
 
--- the fields tell the stack with the record put
+-- the fields show the stack with the record put
 abbrev shown_after : goal.After-hold → Stack
 shown_after c = record (shown c.self.inside) { tail = c.put_plain-place.new.self.page; frames = frames_from c.hold.new.self c.self.inside.below.items; last_moment = c.args.pushed.moment }
 

@@ -15,7 +15,7 @@ use Rattle.ring_frames.specs.Answers.{KeepsPayloads}
 use Rattle.ring_frames.proofs.Payloads.{allotted_kept, ended_kept, kept_then, through_lacks}
 use Rattle.ring_frames.proofs.frames.Frames.leave_closed.Goals as goal
 
--- a close frame is on top that noted other than so many begun fills
+-- a close frame is on top that noted another number of begun fills than there are
 abbrev HasPassed : FramesValue → Type 0
 HasPassed v = (noted : ℕ) × IsCloseTop v noted × (noted ≢ opened v.stack)
 

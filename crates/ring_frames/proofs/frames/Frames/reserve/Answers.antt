@@ -18,7 +18,7 @@ use Rattle.ring_frames.specs.Answers.{KeepsPayloads}
 use Rattle.ring_frames.proofs.Payloads.{allotted_kept, ended_kept, kept_then, zeros_reserved}
 use Rattle.ring_frames.proofs.frames.Frames.reserve.Goals as goal
 
--- a frame stands, and this one is on top
+-- there is a frame, and this one is on top
 some_top : (frames : List Frame) → frames ≢ [] → (top : Frame) × (rest : List Frame) × (frames ≡ top ∷ rest)
 some_top [] none = absurd (none refl)
 some_top (top ∷ rest) none = (top, rest, refl)

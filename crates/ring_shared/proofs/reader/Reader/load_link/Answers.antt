@@ -14,7 +14,7 @@ use Rattle.ring_shared.proofs.TakeSteps.{Stays, nothing, passed_below_hint}
 use Rattle.ring_shared.proofs.Fields.{SeesLink, fields, positions, shown, at_header, at_update, at_owed, at_passed, header_answers_so, update_answers_so, owed_answers_so, passed_answers_so}
 use Rattle.ring_shared.proofs.reader.Reader.load_link.Goals as goal
 
--- sent away by a move of the head, where the reader's hint is this fill
+-- sent away by a move of the head, if the reader's hint is this fill
 sent_away : (v : ReaderValue) (after : Reading) (reader : ring.Reader) (fill : ℕ) → Stays v.shape v.part after reader → reader.taken ≡ v.part.reader.taken → reader.expected ≡ v.part.reader.expected
     → reader.seen ≡ v.part.reader.seen → reader.hint ≡ fill → v.part.reader.hint ≤ fill → IsSentAway v.shape v.part fill after
 sent_away v after reader fill s taken expected seen hint low =

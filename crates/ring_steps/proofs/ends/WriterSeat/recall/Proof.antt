@@ -1,4 +1,5 @@
--- The seat's invariant says only that there is a proof. An entailment is a proposition, so that proof may be opened in front of the walk that Rattle made.
+-- The seat's invariant says only that there is a proof. An entailment is a proposition, so that proof may be opened
+-- before the walk that Rattle made.
 use mathlib.Core.Logic.{∥∥₁_elim}
 use seplogic.Bi.Basic.{Entails-prop}
 use base.Logic.{via, mono_r}

@@ -1,0 +1,5 @@
+use Rattle.ring_shared.specs.Calls.{IsWriter}
+use Rattle.recorder.proofs.recording.record.Given as goal
+
+abbrev pub invariant-loop-moment : goal.invariant-loop-moment
+invariant-loop-moment l = IsWriter l.writer

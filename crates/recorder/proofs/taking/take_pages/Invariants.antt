@@ -1,0 +1,6 @@
+use Rattle.std.specs.Prelude.{◌≡◌, length}
+use Rattle.ring_shared.specs.Takes.{IsReader}
+use Rattle.recorder.proofs.taking.take_pages.Given as goal
+
+abbrev pub invariant-loop : goal.invariant-loop
+invariant-loop l = IsReader l.reader × (l.reader.shape.size ≡ 64) × (length l.body ≡ 64)
