@@ -14,7 +14,7 @@ use Rattle.collector.specs.declared.ranges.Content.{Content}
 use Rattle.collector.specs.declared.ranges.Content.TheVariants.{Kept, Missing}
 use Rattle.collector.specs.declared.ranges.Ranges.{Ranges}
 use Rattle.collector.specs.declared.index.Index.{Index}
-use Rattle.collector.specs.Ranges.{Tells, TellSame, AreApart, IsLaid, IsCopy}
+use Rattle.collector.specs.Ranges.{HasContent, TellSame, AreApart, IsLaid, IsCopy}
 use Rattle.collector.specs.Index.{TellsOf, AreAllApart, TellSameOf}
 use Rattle.collector.proofs.Places.{get_pushed, get_set_here, get_set_other}
 use Rattle.collector.proofs.Spans.{keys_tell_same}
@@ -22,22 +22,22 @@ use Rattle.collector.proofs.Spans.{keys_tell_same}
 -- ---- one CPU's ranges
 
 pub tells_of : (index : Index) (cpu n : ℕ) (content : Content) (ranges : Ranges)
-    → slice_get index.cpus.items cpu ≡ Some ranges → TellsOf index cpu n content → Tells ranges n content
+    → slice_get index.cpus.items cpu ≡ Some ranges → TellsOf index cpu n content → HasContent ranges n content
 tells_of index cpu n content ranges at t = let there = t.at in
-    subst (λ (x : Ranges). Tells x n content) (let e : t.ranges ≡ ranges = some_is t.ranges ranges (sym there ∙ at) in e) t.tells
+    subst (λ (x : Ranges). HasContent x n content) (let e : t.ranges ≡ ranges = some_is t.ranges ranges (sym there ∙ at) in e) t.tells
 
 -- of a CPU after the last one nothing is stated
 pub tells_none : (index : Index) (cpu n : ℕ) (content : Content) → slice_get index.cpus.items cpu ≡ None → TellsOf index cpu n content → ⊥
 tells_none index cpu n content none t = none-some t.ranges (sym none ∙ t.at)
 
 pub untold_of : (index : Index) (cpu number end : ℕ) (ranges : Ranges) (o : Option Content) → slice_get index.cpus.items cpu ≡ Some ranges
-    → IfNone o ((n : ℕ) (content : Content) → number ≤ n → n < end → Tells ranges n content → ⊥)
+    → IfNone o ((n : ℕ) (content : Content) → number ≤ n → n < end → HasContent ranges n content → ⊥)
     → IfNone o ((n : ℕ) (content : Content) → number ≤ n → n < end → TellsOf index cpu n content → ⊥)
 untold_of index cpu number end ranges None at untold = λ n content from below t. untold n content from below (tells_of index cpu n content ranges at t)
 untold_of index cpu number end ranges (Some content) at untold = untold
 
 pub untold_here_of : (index : Index) (cpu number : ℕ) (ranges : Ranges) (o : Option Content) → slice_get index.cpus.items cpu ≡ Some ranges
-    → IfNone o ((content : Content) → Tells ranges number content → ⊥)
+    → IfNone o ((content : Content) → HasContent ranges number content → ⊥)
     → IfNone o ((content : Content) → TellsOf index cpu number content → ⊥)
 untold_here_of index cpu number ranges None at untold = λ content t. untold content (tells_of index cpu number content ranges at t)
 untold_here_of index cpu number ranges (Some content) at untold = untold
@@ -45,7 +45,7 @@ untold_here_of index cpu number ranges (Some content) at untold = untold
 -- ---- ranges appended
 
 module _ (old new : Index) (ranges : Ranges) (items_are : new.cpus.items ≡ old.cpus.items ++ ranges ∷ [])
-    (untold : (n : ℕ) (content : Content) → Tells ranges n content → ⊥) where
+    (untold : (n : ℕ) (content : Content) → HasContent ranges n content → ⊥) where
   came : (cpu : ℕ) (x : Ranges) → slice_get new.cpus.items cpu ≡ Some x → (slice_get old.cpus.items cpu ≡ Some x) ⊎ ((cpu ≡ length old.cpus.items) × (x ≡ ranges))
   came cpu x at = get_pushed old.cpus.items ranges cpu x (ap (λ (xs : List Ranges). slice_get xs cpu) (sym items_are) ∙ at)
 
@@ -54,7 +54,7 @@ module _ (old new : Index) (ranges : Ranges) (items_are : new.cpus.items ≡ old
     (λ t. record { ranges = t.ranges; at = ap (λ (xs : List Ranges). slice_get xs cpu) items_are ∙ get_in_front old.cpus.items (ranges ∷ []) cpu t.ranges t.at; tells = t.tells }),
     (λ t. ⊎_elim
         (λ (there : slice_get old.cpus.items cpu ≡ Some t.ranges). record { ranges = t.ranges; at = there; tells = t.tells })
-        (λ (p : (cpu ≡ length old.cpus.items) × (t.ranges ≡ ranges)). absurd (untold n content (subst (λ (x : Ranges). Tells x n content) p.1 t.tells)))
+        (λ (p : (cpu ≡ length old.cpus.items) × (t.ranges ≡ ranges)). absurd (untold n content (subst (λ (x : Ranges). HasContent x n content) p.1 t.tells)))
         (came cpu t.ranges t.at)),
   )
 
@@ -78,10 +78,10 @@ module _ (old new : Index) (cpu : ℕ) (before after : Ranges) (at : slice_get o
   other : (q : ℕ) → q ≢ cpu → slice_get new.cpus.items q ≡ slice_get old.cpus.items q
   other q apart = ap (λ (xs : List Ranges). slice_get xs q) items_are ∙ get_set_other old.cpus.items cpu q after apart
 
-  was : (n : ℕ) (content : Content) → (TellsOf old cpu n content ↔ Tells before n content)
+  was : (n : ℕ) (content : Content) → (TellsOf old cpu n content ↔ HasContent before n content)
   was n content = (tells_of old cpu n content before at, λ t. record { ranges = before; at = at; tells = t })
 
-  is : (n : ℕ) (content : Content) → (TellsOf new cpu n content ↔ Tells after n content)
+  is : (n : ℕ) (content : Content) → (TellsOf new cpu n content ↔ HasContent after n content)
   is n content = (tells_of new cpu n content after here, λ t. record { ranges = after; at = here; tells = t })
 
   pub others_same : (q : ℕ) → q ≢ cpu → TellSameOf old new q
@@ -96,7 +96,7 @@ module _ (old new : Index) (cpu : ℕ) (before after : Ranges) (at : slice_get o
     (λ t. (was n content).1 ((same n content).1 ((is n content).0 t))),
   )
 
-  pub here_laid : (low first end parcel : ℕ) → IsLaid (Tells before) (Tells after) low first end parcel
+  pub here_laid : (low first end parcel : ℕ) → IsLaid (HasContent before) (HasContent after) low first end parcel
       → IsLaid (TellsOf old cpu) (TellsOf new cpu) low first end parcel
   here_laid low first end parcel laid = record {
     missing = λ n from below. (is n Missing).1 (laid.missing n from below);

@@ -14,7 +14,7 @@ use Rattle.collector.specs.declared.ranges.Content.TheVariants.{Kept, Missing}
 use Rattle.collector.specs.declared.index.Index.{Index}
 use Rattle.collector.specs.Ranges.{IsLaid, IsCopy}
 use Rattle.collector.specs.Index.{TellsOf, AreAllApart, TellSameOf, IsIn, IsTold, IsIndexed}
-use Rattle.collector.specs.Shown.{IsShown}
+use Rattle.collector.specs.Shown.{IsContentAt}
 use Rattle.collector.proofs.Places.{get_pushed, get_last, get_within}
 use Rattle.collector.proofs.Indexes.{copies_apart, copies_same}
 
@@ -62,7 +62,7 @@ indexed_agree ps index x = record {
 pub shown_of : (ps : List Parcel) (index : Index) → IsIndexed ps index → (cpu number end : ℕ) (o : Option Content)
     → IfSome o (λ content. (n : ℕ) → number ≤ n → n < end → TellsOf index cpu n content)
     → IfNone o ((n : ℕ) (content : Content) → number ≤ n → n < end → TellsOf index cpu n content → ⊥)
-    → (n : ℕ) → number ≤ n → n < end → IsShown ps cpu n o
+    → (n : ℕ) → number ≤ n → n < end → IsContentAt ps cpu n o
 shown_of ps index x cpu number end (Some (Kept i)) told untold n from below = x.kept cpu n i (told n from below)
 shown_of ps index x cpu number end (Some Missing) told untold n from below = x.missing cpu n (told n from below)
 shown_of ps index x cpu number end None told untold n from below = record {
@@ -72,7 +72,7 @@ shown_of ps index x cpu number end None told untold n from below = record {
 
 pub shown_here : (ps : List Parcel) (index : Index) → IsIndexed ps index → (cpu number : ℕ) (o : Option Content)
     → IfSome o (λ content. TellsOf index cpu number content)
-    → IfNone o ((content : Content) → TellsOf index cpu number content → ⊥) → IsShown ps cpu number o
+    → IfNone o ((content : Content) → TellsOf index cpu number content → ⊥) → IsContentAt ps cpu number o
 shown_here ps index x cpu number (Some (Kept i)) told untold = x.kept cpu number i told
 shown_here ps index x cpu number (Some Missing) told untold = x.missing cpu number told
 shown_here ps index x cpu number None told untold = record {

@@ -14,20 +14,20 @@ use Rattle.collector.specs.declared.ranges.Content.{Content}
 use Rattle.collector.specs.declared.ranges.Content.TheVariants.{Kept, Missing}
 use Rattle.collector.specs.Index.{IsIn}
 use Rattle.collector.specs.Entries.{numbered}
-use Rattle.collector.specs.Shown.{IsUnknown, IsShown}
+use Rattle.collector.specs.Shown.{IsUnknown, IsContentAt}
 use Rattle.collector.proofs.Indexing.{record_at}
 use Rattle.collector.proofs.Records.{next_is}
 
 -- ---- what is matched
 
-pub shown_kept : (ps : List Parcel) (cpu n i : ℕ) (o : Option Content) → o ≡ Some (Kept i) → IsShown ps cpu n o → IsIn ps i cpu n
-shown_kept ps cpu n i o e shown = let here : IsShown ps cpu n (Some (Kept i)) = subst (IsShown ps cpu n) e shown in here
+pub shown_kept : (ps : List Parcel) (cpu n i : ℕ) (o : Option Content) → o ≡ Some (Kept i) → IsContentAt ps cpu n o → IsIn ps i cpu n
+shown_kept ps cpu n i o e shown = let here : IsContentAt ps cpu n (Some (Kept i)) = subst (IsContentAt ps cpu n) e shown in here
 
-pub shown_missing : (ps : List Parcel) (cpu n : ℕ) (o : Option Content) → o ≡ Some Missing → IsShown ps cpu n o → Misses ps cpu n
-shown_missing ps cpu n o e shown = let here : IsShown ps cpu n (Some Missing) = subst (IsShown ps cpu n) e shown in here
+pub shown_missing : (ps : List Parcel) (cpu n : ℕ) (o : Option Content) → o ≡ Some Missing → IsContentAt ps cpu n o → Misses ps cpu n
+shown_missing ps cpu n o e shown = let here : IsContentAt ps cpu n (Some Missing) = subst (IsContentAt ps cpu n) e shown in here
 
-pub shown_none : (ps : List Parcel) (cpu n : ℕ) (o : Option Content) → o ≡ None → IsShown ps cpu n o → IsUnknown ps cpu n
-shown_none ps cpu n o e shown = let here : IsShown ps cpu n None = subst (IsShown ps cpu n) e shown in here
+pub shown_none : (ps : List Parcel) (cpu n : ℕ) (o : Option Content) → o ≡ None → IsContentAt ps cpu n o → IsUnknown ps cpu n
+shown_none ps cpu n o e shown = let here : IsContentAt ps cpu n None = subst (IsContentAt ps cpu n) e shown in here
 
 pub in_within : (ps : List Parcel) (i cpu n : ℕ) → IsIn ps i cpu n → i < length ps
 in_within ps i cpu n x = slice_get_within ps i x.parcel x.at

@@ -15,7 +15,7 @@ use Rattle.collector.specs.declared.beside.Beside.TheVariants.{Alike, Records, A
 use Rattle.collector.specs.Sound.{AreSound}
 use Rattle.collector.specs.Index.{IsIn}
 use Rattle.collector.specs.Entries.{record_of}
-use Rattle.collector.specs.Shown.{IsUnknown, IsShown}
+use Rattle.collector.specs.Shown.{IsUnknown, IsContentAt}
 use Rattle.collector.specs.Beside.{pair_of, IsTaken, IsBeside, IsSameAt, FitTogether}
 use Rattle.collector.specs.Faults.{IsClashAt, IsTakenAndMissingAt, IsInFront, AgreeInFront}
 use Rattle.collector.proofs.Indexing.{record_at}
@@ -24,11 +24,11 @@ in_taken : (ps : List Parcel) (i cpu n : ℕ) → IsIn ps i cpu n → IsTaken ps
 in_taken ps i cpu n x = let found = record_at x.parcel cpu n x.cpu_is x.from x.below in
     (found.0, record { index = i; parcel = x.parcel; at = x.at; pair = found.1 })
 
-known_of : (ps : List Parcel) (cpu n : ℕ) (content : Content) → IsShown ps cpu n (Some content) → (IsTaken ps cpu n) ⊎ (Misses ps cpu n)
+known_of : (ps : List Parcel) (cpu n : ℕ) (content : Content) → IsContentAt ps cpu n (Some content) → (IsTaken ps cpu n) ⊎ (Misses ps cpu n)
 known_of ps cpu n (Kept i) shown = inl (in_taken ps i cpu n shown)
 known_of ps cpu n Missing shown = inr shown
 
-pub beside_of : (ps qs : List Parcel) (cpu n : ℕ) (o p : Option Content) → IsShown ps cpu n o → IsShown qs cpu n p → IsBeside ps qs cpu n (pair_of o p)
+pub beside_of : (ps qs : List Parcel) (cpu n : ℕ) (o p : Option Content) → IsContentAt ps cpu n o → IsContentAt qs cpu n p → IsBeside ps qs cpu n (pair_of o p)
 beside_of ps qs cpu n None None a b = inl (a, b)
 beside_of ps qs cpu n None (Some content) a b = inl (a, known_of qs cpu n content b)
 beside_of ps qs cpu n (Some content) None a b = inr (known_of ps cpu n content a, b)

@@ -13,7 +13,7 @@ use Rattle.collector.specs.declared.ranges.Content.{Content}
 use Rattle.collector.specs.declared.ranges.Span.{Span}
 use Rattle.collector.specs.declared.ranges.Ranges.{Ranges}
 use Rattle.collector.specs.declared.ranges.Content.TheVariants.{Kept, Missing}
-use Rattle.collector.specs.Ranges.{Tells, TellSame, IsFree, KeepsEdges, IsLaid}
+use Rattle.collector.specs.Ranges.{HasContent, TellSame, IsFree, KeepsEdges, IsLaid}
 
 -- ---- one key
 
@@ -54,7 +54,7 @@ module _ (old mid new : BTreeMap ℕ Span) (first place : ℕ) (span front : Spa
   others_are q not_first not_place = others_stay mid new first (Some front) front_set q not_first
       ∙ others_stay old mid place (Some span) behind_set q not_place
 
-  old_told : (number : ℕ) (content : Content) → Tells record { spans = old } number content → Tells record { spans = new } number content
+  old_told : (number : ℕ) (content : Content) → HasContent record { spans = old } number content → HasContent record { spans = new } number content
   old_told number content t = ⊎_elim
       (λ (e : t.first ≡ first).
       let same : t.span ≡ span = let a = t.at in let b = subst (λ (q : ℕ). get nat_cmp old q ≡ Some t.span) e t.at in cc in
@@ -70,7 +70,7 @@ module _ (old mid new : BTreeMap ℕ Span) (first place : ℕ) (span front : Spa
       record { first = t.first; span = t.span; at = others_are t.first apart not_place ∙ t.at; from = t.from; below = t.below; content_is = t.content_is })
       (cases_eq t.first first)
 
-  new_told : (number : ℕ) (content : Content) → Tells record { spans = new } number content → Tells record { spans = old } number content
+  new_told : (number : ℕ) (content : Content) → HasContent record { spans = new } number content → HasContent record { spans = old } number content
   new_told number content t = ⊎_elim
       (λ (e : t.first ≡ first).
       let same : t.span ≡ front = let b = subst (λ (q : ℕ). get nat_cmp new q ≡ Some t.span) e t.at in let h = front_set.1 in cc in
@@ -126,13 +126,13 @@ tell_same old mid new a b number content =
 
 -- what a set has set
 pub record IsSet (old new : Ranges) (first end : ℕ) (content : Content) : Type 0 where
-  pub inside : (n : ℕ) → first ≤ n → n < end → Tells new n content
-  pub alone : (n : ℕ) (other : Content) → first ≤ n → n < end → Tells new n other → other ≡ content
-  pub in_front : (n : ℕ) (other : Content) → n < first → (Tells old n other ↔ Tells new n other)
-  pub behind : (n : ℕ) (other : Content) → end ≤ n → (Tells old n other ↔ Tells new n other)
+  pub inside : (n : ℕ) → first ≤ n → n < end → HasContent new n content
+  pub alone : (n : ℕ) (other : Content) → first ≤ n → n < end → HasContent new n other → other ≡ content
+  pub in_front : (n : ℕ) (other : Content) → n < first → (HasContent old n other ↔ HasContent new n other)
+  pub behind : (n : ℕ) (other : Content) → end ≤ n → (HasContent old n other ↔ HasContent new n other)
 
 pub both_laid : (old ready mid new : Ranges) (low first end parcel : ℕ) → low ≤ first → first ≤ end → TellSame old ready
-    → IsSet ready mid low first Missing → IsSet mid new first end (Kept parcel) → IsLaid (Tells old) (Tells new) low first end parcel
+    → IsSet ready mid low first Missing → IsSet mid new first end (Kept parcel) → IsLaid (HasContent old) (HasContent new) low first end parcel
 both_laid old ready mid new low first end parcel up on same a b = record {
   missing = λ n from below. (b.in_front n Missing below).0 (a.inside n from below);
   missing_alone = λ n content from below t. a.alone n content from below ((b.in_front n content below).1 t);
@@ -144,8 +144,8 @@ both_laid old ready mid new low first end parcel up on same a b = record {
       (tell_same_at n content (same n content) (a.behind n content (omega arith))) (b.behind n content ge);
 }
   where
-    tell_same_at : (n : ℕ) (content : Content) {x y z : Ranges} → (Tells x n content ↔ Tells y n content)
-        → (Tells y n content ↔ Tells z n content) → (Tells x n content ↔ Tells z n content)
+    tell_same_at : (n : ℕ) (content : Content) {x y z : Ranges} → (HasContent x n content ↔ HasContent y n content)
+        → (HasContent y n content ↔ HasContent z n content) → (HasContent x n content ↔ HasContent z n content)
     tell_same_at n content f g = ((λ t. g.0 (f.0 t)), (λ t. f.1 (g.1 t)))
 
 -- ---- a parcel laid where nothing is stated

@@ -11,7 +11,7 @@ use Rattle.collector.specs.declared.ranges.Content.{Content}
 use Rattle.collector.specs.declared.ranges.Content.TheVariants.{Kept, Missing}
 use Rattle.collector.specs.Sound.{AreSound}
 use Rattle.collector.specs.Index.{IsIn}
-use Rattle.collector.specs.Shown.{IsShown}
+use Rattle.collector.specs.Shown.{IsContentAt}
 use Rattle.collector.specs.Runs.{is_missed}
 use Rattle.collector.proofs.Indexing.{record_at}
 
@@ -20,15 +20,15 @@ has_in ps i cpu n h =
     let found = record_at h.parcel cpu n h.cpu_is h.from h.below in
     (found.0, record { index = i; parcel = h.parcel; at = h.at; pair = found.1 })
 
-pub shown_missing : (ps : List Parcel) (cpu n : ℕ) (o : Option Content) → o ≡ Some Missing → IsShown ps cpu n o → Misses ps cpu n
-shown_missing ps cpu n o e shown = subst (IsShown ps cpu n) e shown
+pub shown_missing : (ps : List Parcel) (cpu n : ℕ) (o : Option Content) → o ≡ Some Missing → IsContentAt ps cpu n o → Misses ps cpu n
+shown_missing ps cpu n o e shown = subst (IsContentAt ps cpu n) e shown
 
-pub shown_not_missing : (ps : List Parcel) (cpu n : ℕ) (o : Option Content) → Agree ps → (o ≡ Some Missing → ⊥) → IsShown ps cpu n o → Misses ps cpu n → ⊥
+pub shown_not_missing : (ps : List Parcel) (cpu n : ℕ) (o : Option Content) → Agree ps → (o ≡ Some Missing → ⊥) → IsContentAt ps cpu n o → Misses ps cpu n → ⊥
 shown_not_missing ps cpu n (Some (Kept i)) agree not shown m = let h = has_in ps i cpu n shown in agree.not_missing cpu n h.0 h.1 m
 shown_not_missing ps cpu n (Some Missing) agree not shown m = not refl
 shown_not_missing ps cpu n None agree not shown m = shown.not_missing m
 
-pub shown_no_record : (ps : List Parcel) (cpu n : ℕ) (o : Option Content) → Agree ps → ((i : ℕ) → o ≡ Some (Kept i) → ⊥) → IsShown ps cpu n o → (r : Record) → Has ps cpu n r → ⊥
+pub shown_no_record : (ps : List Parcel) (cpu n : ℕ) (o : Option Content) → Agree ps → ((i : ℕ) → o ≡ Some (Kept i) → ⊥) → IsContentAt ps cpu n o → (r : Record) → Has ps cpu n r → ⊥
 shown_no_record ps cpu n (Some (Kept i)) agree not shown r h = not i refl
 shown_no_record ps cpu n (Some Missing) agree not shown r h = agree.not_missing cpu n r h shown
 shown_no_record ps cpu n None agree not shown r h = shown.no_record r h

@@ -8,14 +8,14 @@ use Rattle.collector.specs.declared.ranges.Content.{Content}
 use Rattle.collector.specs.declared.ranges.Content.TheVariants.{Kept, Missing}
 use Rattle.collector.specs.declared.ranges.Ranges.{Ranges}
 use Rattle.collector.specs.declared.index.Index.{Index}
-use Rattle.collector.specs.Ranges.{Tells, AreApart}
+use Rattle.collector.specs.Ranges.{HasContent, AreApart}
 use Rattle.collector.specs.Sound.{AreSound}
 
 -- the ranges of the CPU state this of the number
 pub record TellsOf (index : Index) (cpu number : ℕ) (content : Content) : Type 0 where
   pub ranges : Ranges
   pub at : slice_get index.cpus.items cpu ≡ Some ranges
-  pub tells : Tells ranges number content
+  pub tells : HasContent ranges number content
 
 -- no range of a CPU reaches into a later one
 abbrev pub AreAllApart : Index → Type 0

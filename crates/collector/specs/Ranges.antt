@@ -12,7 +12,7 @@ abbrev pub HasSpan : Ranges → ℕ → Span → Type 0
 HasSpan ranges first span = get nat_cmp ranges.spans first ≡ Some span
 
 -- some range has the number, and states this of it
-pub record Tells (ranges : Ranges) (number : ℕ) (content : Content) : Type 0 where
+pub record HasContent (ranges : Ranges) (number : ℕ) (content : Content) : Type 0 where
   pub first : ℕ
   pub span : Span
   pub at : HasSpan ranges first span
@@ -41,7 +41,7 @@ pub record IsFree (ranges : Ranges) (low end : ℕ) : Type 0 where
 
 -- both state the same of each number
 abbrev pub TellSame : Ranges → Ranges → Type 0
-TellSame old new = (number : ℕ) (content : Content) → (Tells old number content ↔ Tells new number content)
+TellSame old new = (number : ℕ) (content : Content) → (HasContent old number content ↔ HasContent new number content)
 
 -- both have the same ranges
 abbrev pub IsCopy : Ranges → Ranges → Type 0

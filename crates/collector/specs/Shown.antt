@@ -13,7 +13,7 @@ pub record IsUnknown (parcels : List Parcel) (cpu number : ℕ) : Type 0 where
   pub not_missing : Misses parcels cpu number → ⊥
 
 -- the number's record is one of the kept parcel at this index, or it is missing, or neither
-abbrev pub IsShown : List Parcel → ℕ → ℕ → Option Content → Type 0
-IsShown parcels cpu number (Some (Kept index)) = IsIn parcels index cpu number
-IsShown parcels cpu number (Some Missing) = Misses parcels cpu number
-IsShown parcels cpu number None = IsUnknown parcels cpu number
+abbrev pub IsContentAt : List Parcel → ℕ → ℕ → Option Content → Type 0
+IsContentAt parcels cpu number (Some (Kept index)) = IsIn parcels index cpu number
+IsContentAt parcels cpu number (Some Missing) = Misses parcels cpu number
+IsContentAt parcels cpu number None = IsUnknown parcels cpu number

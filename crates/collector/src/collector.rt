@@ -31,7 +31,7 @@ impl Collector {
     ghost use Rattle.std.specs.Prelude.{◌≡◌, ℕ, ◌+◌, ◌<◌, ◌≤◌, List, [], ◌∷◌, ◌++◌, length, take, slice_get, Some, IfOk, OnOk, OnErr};
     ghost use Rattle.trace_model.specs.Collection.{Agree};
     ghost use Rattle.collector.specs.Sound.{AreSound};
-    ghost use Rattle.collector.specs.Shown.{IsShown};
+    ghost use Rattle.collector.specs.Shown.{IsContentAt};
     ghost use Rattle.collector.specs.Index.{IsIndexed};
 
     /// A collector that keeps no parcel.
@@ -65,8 +65,8 @@ impl Collector {
 
     /// What is known of a number of a CPU and of those after it.
     pub(crate) fn stretch(&self, cpu: CpuId, number: u64) -> Stretch
-        ensures here { IsShown self.now cpu.0 number result.content }
-        ensures shown { (n : ℕ) → number ≤ n → n < result.end → IsShown self.now cpu.0 n result.content }
+        ensures here { IsContentAt self.now cpu.0 number result.content }
+        ensures shown { (n : ℕ) → number ≤ n → n < result.end → IsContentAt self.now cpu.0 n result.content }
         ensures goes_on { number < u64.MAX → number < result.end }
         ensures agree { Agree self.now }
     {

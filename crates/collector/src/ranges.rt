@@ -2,7 +2,7 @@
 ghost use Rattle.std.specs.Prelude.{◌≡◌, ◌≢◌, ℕ, ◌+◌, ◌^◌, ◌<◌, ◌≤◌, ◌↔◌, Some, None, IsSome, IsTrue, IfSome, IfNone, IfOk, OnOk, OnErr};
 ghost use Rattle.std.specs.Ordering.{nat_cmp};
 ghost use Rattle.std.specs.BTreeMap.{get};
-ghost use Rattle.collector.specs.Ranges.{HasSpan, AreApart, Tells, TellSame, IsMarked, IsCut, IsFree, KeepsEdges, IsLaid, IsCopy};
+ghost use Rattle.collector.specs.Ranges.{HasSpan, AreApart, HasContent, TellSame, IsMarked, IsCut, IsFree, KeepsEdges, IsLaid, IsCopy};
 ghost use Rattle.collector.specs.declared.ranges.Content.{Content};
 ghost use Rattle.collector.specs.declared.ranges.Span.{Span};
 
@@ -82,7 +82,7 @@ fn clear_between(spans: &mut BTreeMap<u64, Span>, front: u64, end: u64)
 impl Ranges {
     /// Nothing is known of any number.
     pub(crate) fn new(alloc: Global) -> Ranges
-        ensures untold { (number : ℕ) (content : Content) → Tells result number content → ⊥ }
+        ensures untold { (number : ℕ) (content : Content) → HasContent result number content → ⊥ }
         ensures apart { AreApart result }
     {
         Ranges {
@@ -103,11 +103,11 @@ impl Ranges {
     pub(crate) fn stretch(&self, number: u64) -> Stretch
         requires { AreApart self.now }
         ensures told { IfSome result.content (λ content. (n : ℕ) → number ≤ n → n < result.end
-            → Tells self.now n content) }
+            → HasContent self.now n content) }
         ensures untold { IfNone result.content ((n : ℕ) (content : Content) → number ≤ n → n < result.end
-            → Tells self.now n content → ⊥) }
-        ensures here { IfSome result.content (λ content. Tells self.now number content) }
-        ensures untold_here { IfNone result.content ((content : Content) → Tells self.now number content → ⊥) }
+            → HasContent self.now n content → ⊥) }
+        ensures here { IfSome result.content (λ content. HasContent self.now number content) }
+        ensures untold_here { IfNone result.content ((content : Content) → HasContent self.now number content → ⊥) }
         ensures goes_on { number < u64.MAX → number < result.end }
     {
         match last_up_to(&self.spans, number) {
@@ -168,11 +168,13 @@ impl Ranges {
         requires marked { IsMarked self.old first }
         requires cut { IsCut self.old end }
         ensures apart { AreApart self.new }
-        ensures inside { (n : ℕ) → first ≤ n → n < end → Tells self.new n content }
-        ensures alone { (n : ℕ) (other : Content) → first ≤ n → n < end → Tells self.new n other → other ≡ content }
+        ensures inside { (n : ℕ) → first ≤ n → n < end → HasContent self.new n content }
+        ensures alone { (n : ℕ) (other : Content) → first ≤ n → n < end
+            → HasContent self.new n other → other ≡ content }
         ensures in_front { (n : ℕ) (other : Content) → n < first
-            → (Tells self.old n other ↔ Tells self.new n other) }
-        ensures behind { (n : ℕ) (other : Content) → end ≤ n → (Tells self.old n other ↔ Tells self.new n other) }
+            → (HasContent self.old n other ↔ HasContent self.new n other) }
+        ensures behind { (n : ℕ) (other : Content) → end ≤ n
+            → (HasContent self.old n other ↔ HasContent self.new n other) }
         ensures marks { (place : ℕ) → end ≤ place → IsMarked self.old place → IsMarked self.new place }
         ensures cuts { (place : ℕ) → end ≤ place → IsCut self.old place → IsCut self.new place }
     {
@@ -203,11 +205,13 @@ impl Ranges {
         requires apart { AreApart self.old }
         requires free { IsFree self.old first end }
         ensures apart { AreApart self.new }
-        ensures inside { OnOk result ((n : ℕ) → first ≤ n → n < end → Tells self.new n content) }
+        ensures inside { OnOk result ((n : ℕ) → first ≤ n → n < end → HasContent self.new n content) }
         ensures alone { OnOk result ((n : ℕ) (other : Content) → first ≤ n → n < end
-            → Tells self.new n other → other ≡ content) }
-        ensures in_front { (n : ℕ) (other : Content) → n < first → (Tells self.old n other ↔ Tells self.new n other) }
-        ensures behind { (n : ℕ) (other : Content) → end ≤ n → (Tells self.old n other ↔ Tells self.new n other) }
+            → HasContent self.new n other → other ≡ content) }
+        ensures in_front { (n : ℕ) (other : Content) → n < first
+            → (HasContent self.old n other ↔ HasContent self.new n other) }
+        ensures behind { (n : ℕ) (other : Content) → end ≤ n
+            → (HasContent self.old n other ↔ HasContent self.new n other) }
         ensures others { (q : ℕ) → (first < end → q ≢ first)
             → get nat_cmp self.new.spans q ≡ get nat_cmp self.old.spans q }
         ensures ends { first < end → (span : Span) → HasSpan self.new first span → span.end ≤ end }
@@ -227,7 +231,7 @@ impl Ranges {
         requires forward { first ≤ end }
         requires free { IsFree self.old low end }
         ensures apart { AreApart self.new }
-        ensures laid { OnOk result (IsLaid (Tells self.old) (Tells self.new) low first end parcel) }
+        ensures laid { OnOk result (IsLaid (HasContent self.old) (HasContent self.new) low first end parcel) }
         ensures refused { OnErr result (TellSame self.old self.new) }
     {
         self.put(low, first, Content::Missing)?;
@@ -253,7 +257,7 @@ impl Ranges {
         requires low { low ≤ first }
         requires forward { first ≤ end }
         ensures apart { AreApart self.new }
-        ensures laid { OnOk result (IsLaid (Tells self.old) (Tells self.new) low first end parcel) }
+        ensures laid { OnOk result (IsLaid (HasContent self.old) (HasContent self.new) low first end parcel) }
         ensures refused { OnErr result (TellSame self.old self.new) }
     {
         if self.is_free(low, end) {

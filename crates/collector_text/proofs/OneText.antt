@@ -13,7 +13,7 @@ use Rattle.collector.specs.Runs.{InRun, AreRuns}
 use Rattle.text_model.specs.Log.{LogLine}
 use Rattle.text_model.specs.Printing.{printed_log_line}
 use Rattle.world_model.specs.Printing.{Shown, printed_missing, printed_collector, printed_world}
-use Rattle.collector_text.specs.Tells.{Tells, runs_of}
+use Rattle.collector_text.specs.Prints.{IsPrintOf, runs_of}
 
 -- ---- runs of the same numbers are the same
 
@@ -153,8 +153,8 @@ one_runs_text cpu (a ∷ xs) (b ∷ ys) same =
     ∙ ap (λ (text : List ℕ). flat_map (printed_missing cpu) b ++ text) rest
 
 -- what shows a collector shows each that is the same
-pub same_are_told : (parcels others : List Parcel) (shown : Shown) → IsSame parcels others → Tells parcels shown
-    → Tells others shown
+pub same_are_told : (parcels others : List Parcel) (shown : Shown) → IsSame parcels others → IsPrintOf parcels shown
+    → IsPrintOf others shown
 same_are_told parcels others shown same told = record {
   lines = record {
     ordered = told.lines.ordered;
@@ -170,7 +170,7 @@ same_are_told parcels others shown same told = record {
 }
 
 -- a collector has one text
-pub one_text : (parcels : List Parcel) (shown other : Shown) (number : ℕ) → Tells parcels shown → Tells parcels other
+pub one_text : (parcels : List Parcel) (shown other : Shown) (number : ℕ) → IsPrintOf parcels shown → IsPrintOf parcels other
     → printed_collector number shown ≡ printed_collector number other
 one_text parcels shown other number told also =
     let lines = one_listing parcels parcels shown.lines other.lines (same_itself parcels) told.lines also.lines in
@@ -186,7 +186,7 @@ text_of_all number shown =
 
 -- and so have several of them
 one_text_of_all : (number : ℕ) (collectors : List (List Parcel)) (shown other : List Shown)
-    → AllZip Tells collectors shown → AllZip Tells collectors other
+    → AllZip IsPrintOf collectors shown → AllZip IsPrintOf collectors other
     → text_of_all number shown ≡ text_of_all number other
 one_text_of_all number [] [] [] told also = refl
 one_text_of_all number [] [] (o ∷ os) told also = absurd also
@@ -201,7 +201,7 @@ one_text_of_all number (c ∷ cs) (s ∷ ss) (o ∷ os) told also =
 
 -- and so has what a replay prints
 pub one_world_text : (collectors : List (List Parcel)) (shown other : List Shown) (asked : Bool) (log : List LogLine)
-    → AllZip Tells collectors shown → AllZip Tells collectors other
+    → AllZip IsPrintOf collectors shown → AllZip IsPrintOf collectors other
     → printed_world asked log shown ≡ printed_world asked log other
 one_world_text collectors shown other asked log told also =
     ap (λ (text : List ℕ). (if asked then flat_map printed_log_line log else []) ++ text)

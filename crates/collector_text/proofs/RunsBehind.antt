@@ -8,7 +8,7 @@ use Rattle.trace_model.specs.declared.limits.TheConstants.{MAX_CPUS}
 use Rattle.collector.specs.Runs.{AreMissingRuns}
 use Rattle.collector.specs.Sound.{AreSound}
 use Rattle.world_model.specs.Printing.{printed_missing, printed_runs}
-use Rattle.collector_text.specs.Tells.{runs_of}
+use Rattle.collector_text.specs.Prints.{runs_of}
 use Rattle.collector_text.proofs.Appended.{text_more}
 
 -- the runs of CPUs from this one on

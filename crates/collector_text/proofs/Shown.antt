@@ -11,7 +11,7 @@ use Rattle.trace_model.specs.Collection.{IsSame}
 use Rattle.collector.specs.Runs.{AreMissingRuns}
 use Rattle.text_model.specs.Text.{line_feed}
 use Rattle.world_model.specs.Printing.{Shown, printed_collector, printed_line, printed_runs}
-use Rattle.collector_text.specs.Tells.{Tells, StandsBetween, runs_of, text_below}
+use Rattle.collector_text.specs.Prints.{IsPrintOf, StandsBetween, runs_of, text_below}
 use Rattle.collector_text.proofs.OneText.{same_are_told}
 
 -- the lines and the runs are what is below a collector's head line
@@ -19,7 +19,7 @@ pub told_below : (parcels : List Parcel) (before middle out : List ℕ) (lines :
     → middle ≡ before ++ flat_map printed_line lines
     → (runs : List (List (ℕ × ℕ))) × ((cpu : ℕ) → AreMissingRuns parcels cpu (runs_of runs cpu))
     × (out ≡ middle ++ printed_runs runs)
-    → (shown : Shown) × Tells parcels shown × (out ≡ before ++ text_below shown)
+    → (shown : Shown) × IsPrintOf parcels shown × (out ≡ before ++ text_below shown)
 told_below parcels before middle out lines is text put = (
   record { lines = lines; runs = put.0 },
   record { lines = is; runs = put.1 },
@@ -31,7 +31,7 @@ told_below parcels before middle out lines is text put = (
 -- a collector that is the same is shown by what is put once more
 pub told_again : (others parcels : List Parcel) (before out : List ℕ) (start end : ℕ) → IsSame others parcels
     → StandsBetween others before start end → out ≡ before ++ slice_range before start end
-    → (shown : Shown) × Tells parcels shown × (out ≡ before ++ text_below shown)
+    → (shown : Shown) × IsPrintOf parcels shown × (out ≡ before ++ text_below shown)
 told_again others parcels before out start end same stands text = (
   stands.shown,
   same_are_told others parcels stands.shown same stands.tells,
@@ -62,7 +62,7 @@ stands_kept parcels text more out start end is stands =
 
 -- what was put last ends the text
 pub stands_last : (parcels : List Parcel) (text out : List ℕ) (start end : ℕ) → start ≡ length text → end ≡ length out
-    → (shown : Shown) × Tells parcels shown × (out ≡ text ++ text_below shown)
+    → (shown : Shown) × IsPrintOf parcels shown × (out ≡ text ++ text_below shown)
     → StandsBetween parcels out start end
 stands_last parcels text out start end begin last (shown, tells, is) =
     let longer = length-append text (text_below shown) in
@@ -106,7 +106,7 @@ again_more text so_far part out start at behind low high inside before of put =
 -- a head line and what is below it are a collector's text
 pub told_whole : (parcels : List Parcel) (number : ℕ) (before middle out : List ℕ)
     → middle ≡ before ++ (codes "collector " ++ decimal number ++ line_feed ∷ [])
-    → (shown : Shown) × Tells parcels shown × (out ≡ middle ++ text_below shown)
-    → (shown : Shown) × Tells parcels shown × (out ≡ before ++ printed_collector number shown)
+    → (shown : Shown) × IsPrintOf parcels shown × (out ≡ middle ++ text_below shown)
+    → (shown : Shown) × IsPrintOf parcels shown × (out ≡ before ++ printed_collector number shown)
 told_whole parcels number before middle out head (shown, tells, is) =
     (shown, tells, rw (is, head) (simp append_assoc))

@@ -5,7 +5,7 @@ ghost use Rattle.std.specs.List.{AllZip, enumerate_from, slice_range};
 ghost use Rattle.trace_model.specs.Sublist.{IsPrefix};
 ghost use Rattle.text_model.specs.Text.{line_feed};
 ghost use Rattle.world_model.specs.Printing.{Shown, printed_collector};
-ghost use Rattle.collector_text.specs.Tells.{Tells, StandsBetween, text_below};
+ghost use Rattle.collector_text.specs.Prints.{IsPrintOf, StandsBetween, text_below};
 
 use crate::lines::put_lines;
 use crate::runs::put_runs;
@@ -73,7 +73,7 @@ fn put_below(
     span: Span,
 ) -> Result<(), NoMemory>
     requires { IfSome before (λ b. StandsBetween b.now out.old.items span.start span.end) }
-    ensures text { OnOk result ((shown : Shown) × Tells collector.now shown
+    ensures text { OnOk result ((shown : Shown) × IsPrintOf collector.now shown
         × (out.new.items ≡ out.old.items ++ text_below shown)) }
     ensures behind { IsPrefix out.old.items out.new.items }
 {
@@ -96,7 +96,7 @@ fn put_whole(
     span: Span,
 ) -> Result<Span, NoMemory>
     requires { IfSome before (λ b. StandsBetween b.now out.old.items span.start span.end) }
-    ensures told { OnOk result ((shown : Shown) × Tells collector.now shown
+    ensures told { OnOk result ((shown : Shown) × IsPrintOf collector.now shown
         × (out.new.items ≡ out.old.items ++ printed_collector number shown)) }
     ensures below { IfOk result (λ own. StandsBetween collector.now out.new.items own.start own.end) }
     ensures behind { IsPrefix out.old.items out.new.items }
@@ -121,7 +121,7 @@ pub fn put_collector(
     span: Span,
 ) -> Result<Span, NoMemory>
     requires { IfSome before (λ b. StandsBetween b.now out.old.items span.start span.end) }
-    ensures told { OnOk result ((shown : Shown) × Tells collector.now shown
+    ensures told { OnOk result ((shown : Shown) × IsPrintOf collector.now shown
         × (out.new.items ≡ out.old.items ++ printed_collector number shown)) }
     ensures below { IfOk result (λ own. StandsBetween collector.now out.new.items own.start own.end) }
     ensures kept { OnErr result (out.new.items ≡ out.old.items) }
@@ -136,7 +136,7 @@ pub fn put_collector(
 
 /// The text of each collector, numbered from 0. On an error a part of that may be put.
 fn put_all(alloc: Global, out: &mut Vec<u8>, collectors: &[Collector]) -> Result<(), NoMemory>
-    ensures text { OnOk result ((shown : List Shown) × AllZip Tells collectors.now shown
+    ensures text { OnOk result ((shown : List Shown) × AllZip IsPrintOf collectors.now shown
         × (out.new.items ≡ out.old.items
         ++ flat_map (λ pair. printed_collector pair.0 pair.1) (enumerate_from 0 shown))) }
     ensures behind { IsPrefix out.old.items out.new.items }
@@ -156,7 +156,7 @@ pub fn put_collectors(
     out: &mut Vec<u8>,
     collectors: &[Collector],
 ) -> Result<(), NoMemory>
-    ensures text { OnOk result ((shown : List Shown) × AllZip Tells collectors.now shown
+    ensures text { OnOk result ((shown : List Shown) × AllZip IsPrintOf collectors.now shown
         × (out.new.items ≡ out.old.items
         ++ flat_map (λ pair. printed_collector pair.0 pair.1) (enumerate_from 0 shown))) }
     ensures kept { OnErr result (out.new.items ≡ out.old.items) }

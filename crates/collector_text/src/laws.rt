@@ -6,18 +6,18 @@ ghost use Rattle.trace_model.specs.Parcel.{Parcel};
 ghost use Rattle.trace_model.specs.Collection.{IsSame};
 ghost use Rattle.text_model.specs.Log.{LogLine};
 ghost use Rattle.world_model.specs.Printing.{Shown, printed_collector, printed_world};
-ghost use Rattle.collector_text.specs.Tells.{Tells, StandsBetween};
+ghost use Rattle.collector_text.specs.Prints.{IsPrintOf, StandsBetween};
 
 /// The text of a collector is also that of each collector that is the same, and it is the only one. So what is printed
 /// of a world is one text too.
 pub fn texts_are_one()
     ensures alike { (parcels others : List Parcel) (shown : Shown) →
-        IsSame parcels others → Tells parcels shown → Tells others shown }
+        IsSame parcels others → IsPrintOf parcels shown → IsPrintOf others shown }
     ensures one { (parcels : List Parcel) (shown other : Shown) (number : ℕ) →
-        Tells parcels shown → Tells parcels other →
+        IsPrintOf parcels shown → IsPrintOf parcels other →
         printed_collector number shown ≡ printed_collector number other }
     ensures world { (collectors : List (List Parcel)) (shown other : List Shown) (asked : Bool) (log : List LogLine) →
-        AllZip Tells collectors shown → AllZip Tells collectors other →
+        AllZip IsPrintOf collectors shown → AllZip IsPrintOf collectors other →
         printed_world asked log shown ≡ printed_world asked log other }
 {}
 

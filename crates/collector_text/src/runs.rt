@@ -3,7 +3,7 @@ ghost use Rattle.std.specs.Prelude.{◌≡◌, ℕ, ◌++◌, List, OnOk, flat_m
 ghost use Rattle.trace_model.specs.Sublist.{IsPrefix};
 ghost use Rattle.collector.specs.Runs.{AreMissingRuns};
 ghost use Rattle.world_model.specs.Printing.{printed_missing, printed_runs};
-ghost use Rattle.collector_text.specs.Tells.{runs_of};
+ghost use Rattle.collector_text.specs.Prints.{runs_of};
 
 use collector::Collector;
 use text_values::put_number;

@@ -4,7 +4,7 @@ use Rattle.std.specs.Io.KnownBytes.{Appends, Consumes, IsAtEnd, Keeps}
 use Rattle.trace_model.specs.declared.limits.TheConstants.{MAX_INPUT}
 use Rattle.command_io.specs.declared.command.TheConstants.{MEMORY_LINE}
 use Rattle.command_io.specs.declared.input.TheConstants.{READ_CHUNK}
-use Rattle.command_io.specs.declared.status.TheConstants.{DONE, REFUSED, NO_MEMORY, END_FAILED}
+use Rattle.command_io.specs.declared.status.TheConstants.{DONE, REFUSED, USAGE, NO_MEMORY, END_FAILED}
 
 -- In what follows the source has `unread` before the run and `left` after it, and the sink `contents` before it
 -- and `contents_after` after it. An end whose bytes aren't known has `None`, and then nothing is said of them; but that
@@ -108,3 +108,14 @@ pub record IsCommandRun (gives : List ℕ → List ℕ → ℕ → Type 0)
       → (read_failed ≡ true) ⊎ (write_failed ≡ true)
       ⊎ (TakesMoreThan MAX_INPUT unread left count_after × WritesNothing contents contents_after write_failed)
       ⊎ WritesOutput gives unread left contents contents_after status
+
+-- Of a command line that is refused: nothing is read or written, and the status is that of usage.
+pub record OnlyUsage (unread left contents contents_after : Option (List ℕ)) (count count_after : ℕ)
+    (read_failed write_failed : Bool) (status : ℕ)
+    : Type 0 where
+  pub not_read : left ≡ unread
+  pub not_counted : count_after ≡ count
+  pub not_written : contents_after ≡ contents
+  pub read_sound : read_failed ≡ false
+  pub write_sound : write_failed ≡ false
+  pub status_is : status ≡ USAGE

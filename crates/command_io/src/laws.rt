@@ -1,13 +1,16 @@
 //! The values of the constants, as the contract of a function with an empty body.
 ghost use Rattle.std.specs.Prelude.{◌≡◌, ◌∷◌, ◌++◌, [], codes};
+ghost use Rattle.std.specs.Fmt.{decimal};
 
 use crate::command::MEMORY_LINE;
 use crate::input::READ_CHUNK;
+use crate::messages::{INPUT_TOO_LONG, READ_FAILED, USAGE_LINE, WRITE_FAILED};
 use crate::output::THREAD_LINE;
 use crate::status::{DONE, END_FAILED, NO_MEMORY, REFUSED, USAGE};
+use trace_model::MAX_INPUT;
 
-/// The exit statuses, how many bytes are read at a time, and the lines of a command that ran out of memory, or could
-/// not start a thread.
+/// The exit statuses, how many bytes are read at a time, the lines of a command that ran out of memory, or could not
+/// start a thread, and the lines of standard error, of which the last one has the longest input's length.
 pub fn constants_are()
     ensures done { DONE ≡ 0 }
     ensures refused { REFUSED ≡ 1 }
@@ -17,4 +20,9 @@ pub fn constants_are()
     ensures read_chunk { READ_CHUNK ≡ 65536 }
     ensures memory_line { MEMORY_LINE ≡ codes "memory" ++ 10 ∷ [] }
     ensures thread_line { THREAD_LINE.now ≡ codes "thread" ++ 10 ∷ [] }
+    ensures usage_line { USAGE_LINE.now ≡ codes "usage: tracering replay [--log] | run | dump" }
+    ensures read_failed { READ_FAILED.now ≡ codes "tracering: reading failed" }
+    ensures write_failed { WRITE_FAILED.now ≡ codes "tracering: writing failed" }
+    ensures input_too_long { INPUT_TOO_LONG.now
+        ≡ codes "tracering: the input is longer than " ++ decimal MAX_INPUT ++ codes " bytes" }
 {}

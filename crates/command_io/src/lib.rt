@@ -1,16 +1,19 @@
 //! What a command of a program does with its two ends: it reads all of its source, makes its output of
-//! that text as a whole, and writes it to its sink, with an exit status.
+//! that text as a whole, and writes it to its sink, with an exit status; and the line of standard error for
+//! that status.
 #![tactic(auto)]
 
 mod command;
 mod ends;
 mod input;
 pub mod laws;
+mod messages;
 mod output;
 mod status;
 
 pub use command::{Command, MEMORY_LINE, print_memory_line, run_command};
 pub use ends::{Sink, Source, Std};
 pub use input::{InputFault, READ_CHUNK, read_all};
+pub use messages::{EndFault, INPUT_TOO_LONG, READ_FAILED, USAGE_LINE, WRITE_FAILED, message_for};
 pub use output::{Output, OutputFault, THREAD_LINE, write_all};
 pub use status::{DONE, END_FAILED, NO_MEMORY, REFUSED, USAGE};

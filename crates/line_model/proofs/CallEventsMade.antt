@@ -4,13 +4,13 @@ use Rattle.std.specs.Prelude.{IsTrue}
 use Rattle.trace_model.specs.Words.{padded}
 use Rattle.trace_model.specs.History.{Action, is_settled}
 use Rattle.trace_model.specs.Packing.{tail_of, FitsBehind, next_reservation}
-use Rattle.trace_model.specs.Window.{Window, actions_of, IsWindow, Happening, opened_one, released_one, took_one, lost_one}
+use Rattle.trace_model.specs.Window.{Window, actions_of, IsWindow, WindowEvent, opened_one, released_one, took_one, lost_one}
 use Rattle.trace_model.specs.Frames.{FrameState, waiting, reserved, left, number_of, Frame, pushed_onto, pushed_frames}
 use Rattle.trace_model.specs.Ring.{Core}
 use Rattle.trace_model.specs.Steps.{Event, pushes, pushes_close, steps, ends, reads, wishes, Answer, Exchange, after_leave, Step, push_step, push_refused, close_step, close_refused, frame_step, frame_lacks, end_step, end_lacks, end_early, read_step, wish_step}
 use Rattle.trace_model.proofs.NextAction.{settled_at_rest}
 use Rattle.link_marks.specs.RingKept.{IsRingKept}
-use Rattle.link_marks.specs.WindowLaws.{Happened, WindowStays}
+use Rattle.link_marks.specs.WindowLaws.{MovesWindow, WindowStays}
 use Rattle.link_marks.proofs.HistorySteps.{step_owed}
 use Rattle.link_marks.proofs.RingsKept.{reached_kept}
 use Rattle.world_model.specs.Lanes.{event_in, event_on_top, payloads_left}
@@ -78,15 +78,15 @@ room_in : (n size start : ℕ) (c : Core) (event : Event) (answer : Answer) (aft
 room_in n size start c event answer after r step grown =
     by_window (step_owed n size start c event answer after r.links r.stack r.history step).window
   where
-    by_happening : (what : Happening) → Happened n c what after → c.opened < c.done + n
-    by_happening opened_one h = let low = h.step.may in let le = r.links.head_le in omega arith
-    by_happening released_one h = absurd (let e = ap (λ (w : Window). w.opened) h.step.after_is in omega arith)
-    by_happening took_one h = absurd (let e = ap (λ (w : Window). w.opened) h.step.after_is in omega arith)
-    by_happening lost_one h = absurd (let e = ap (λ (w : Window). w.opened) h.step.after_is in omega arith)
+    by_window_event : (what : WindowEvent) → MovesWindow n c what after → c.opened < c.done + n
+    by_window_event opened_one h = let low = h.step.may in let le = r.links.head_le in omega arith
+    by_window_event released_one h = absurd (let e = ap (λ (w : Window). w.opened) h.step.after_is in omega arith)
+    by_window_event took_one h = absurd (let e = ap (λ (w : Window). w.opened) h.step.after_is in omega arith)
+    by_window_event lost_one h = absurd (let e = ap (λ (w : Window). w.opened) h.step.after_is in omega arith)
 
-    by_window : WindowStays c after ⊎ ((what : Happening) × Happened n c what after) → c.opened < c.done + n
+    by_window : WindowStays c after ⊎ ((what : WindowEvent) × MovesWindow n c what after) → c.opened < c.done + n
     by_window (inl stays) = absurd (let e = ap (λ (w : Window). w.opened) stays.0 in omega arith)
-    by_window (inr (what, h)) = by_happening what h
+    by_window (inr (what, h)) = by_window_event what h
 
 module _ (n size start : ℕ) (c : Core) (x : Exchange) (after : Core) (r : IsRingKept n size start c)
     (step : Step n size c x.event x.answer after) (payloads : List (List ℕ)) (p : LineState)

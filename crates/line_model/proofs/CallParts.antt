@@ -1,7 +1,7 @@
 -- The calls for a frame, joined, are a part of the lines' events.
 use Rattle.std.proofs.Common.{◌≡◌, ◌≢◌, ℕ, suc, ◌+◌, ◌-◌, ◌<◌, ◌≤◌, List, [], ◌∷◌, ◌++◌, length, sym, ap, ◌∙◌, subst, arith, length-append}
 use Rattle.trace_model.specs.History.{Action}
-use Rattle.trace_model.specs.Window.{Deed, acts, closes, takes, loses, actions_of, released_one, took_one, lost_one, window_after}
+use Rattle.trace_model.specs.Window.{RingEvent, acts, closes, takes, loses, actions_of, released_one, took_one, lost_one, window_after}
 use Rattle.trace_model.specs.Frames.{for_record, for_close, Frame}
 use Rattle.trace_model.specs.Steps.{Exchange}
 use Rattle.link_marks.proofs.WindowRuns.{actions-append}
@@ -15,7 +15,7 @@ use Rattle.line_model.specs.LineParts.{AreForRecords, CallsFinish}
 use Rattle.line_model.proofs.EventsMade.{count_frames}
 use Rattle.line_model.proofs.CallEventsMade.{calls_make_events}
 
-top_joined : (n size depth : ℕ) (p between after : LineState) (xs ys : List Deed)
+top_joined : (n size depth : ℕ) (p between after : LineState) (xs ys : List RingEvent)
     → TopRun n size depth p xs between
     → TopRun n size depth between ys after
     → TopRun n size depth p (xs ++ ys) after
@@ -40,7 +40,7 @@ reserves_more size p (top ∷ below) actions more first = λ fresh r wants fits.
 -- the events of calls, with the state that they reach
 record CallsMake (n size depth count : ℕ) (frames : List Frame) (p : LineState) (lefts : List (List ℕ)) (t : Writer)
     : Type 0 where
-  events : List Deed
+  events : List RingEvent
   reached : LineState
   behind : LineState
   run : TopRun n size depth (stepped p) events reached
@@ -149,7 +149,7 @@ module _ (n size start depth : ℕ) where
       → length s.frames ≡ suc depth
       → length t.frames < suc depth
       → CallsMake n size depth count s.frames p lefts t
-      → (events : List Deed) × (behind : LineState) × FinishPart n size p events behind × Agrees n behind lefts t
+      → (events : List RingEvent) × (behind : LineState) × FinishPart n size p events behind × Agrees n behind lefts t
   finishes s payloads t lefts p count agrees some low m =
       let frames_are = count_frames s.frames payloads p.frames p.finishing agrees.frames in
       let after = count_frames t.frames lefts m.behind.frames m.behind.finishing m.agrees.frames in
@@ -176,7 +176,7 @@ pub calls_step : (n size start depth count : ℕ) (s : Writer) (payloads : List 
     → length s.frames ≡ suc depth
     → TopCalls n size start depth s payloads (x ∷ calls) t lefts
     → suc (length calls) ≤ count
-    → (events : List Deed) × (behind : LineState) × StepsPart n size count p events behind × Agrees n behind lefts t
+    → (events : List RingEvent) × (behind : LineState) × StepsPart n size count p events behind × Agrees n behind lefts t
 calls_step n size start depth count s payloads x calls t lefts p agrees are some called few =
     let m = calls_make n size start depth s payloads x calls t lefts p agrees called in
     let frames_are = count_frames s.frames payloads p.frames p.finishing agrees.frames in

@@ -2,7 +2,7 @@
 use Rattle.std.proofs.Common.{◌≡◌, ℕ, ◌≤◌, ◌<◌, ◌⊎◌, false, List, [], ◌∷◌, ◌++◌, length, refl, sym, ap, ◌∙◌, subst, inl, inr, arith}
 use Rattle.trace_model.specs.declared.limits.TheConstants.{MAX_FRAMES}
 use Rattle.trace_model.specs.History.{Action, push_close}
-use Rattle.trace_model.specs.Window.{Deed, acts}
+use Rattle.trace_model.specs.Window.{RingEvent, acts}
 use Rattle.trace_model.specs.Frames.{for_close, waiting, idle, Refusal}
 use Rattle.trace_model.specs.Ring.{Core}
 use Rattle.trace_model.specs.Steps.{Event, pushes, pushes_close, steps, ends, reads, wishes, Answer, pushed, refused, Step, push_step, push_refused, close_step, close_refused, frame_step, frame_lacks, end_step, end_lacks, end_early, read_step, wish_step}
@@ -71,7 +71,7 @@ closes_make n size start cpu answer s u payloads calls t lefts p agrees call =
         → TopCalls n size start (length s.frames) u ([] ∷ payloads) calls t lefts
         → length t.frames ≤ length s.frames
         → Closing s answer u
-        → (events : List Deed) × (behind : LineState) × LinePart n size (close cpu) p events behind
+        → (events : List RingEvent) × (behind : LineState) × LinePart n size (close cpu) p events behind
         × Agrees n behind lefts t
     by_push a called low (inl (same, few, is)) =
         let q : LineState =

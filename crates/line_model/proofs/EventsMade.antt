@@ -5,7 +5,7 @@ use mathlib.Core.Logic.{dite}
 use native.Mathlib.Decide.{ℕ_discrete}
 use Rattle.trace_model.specs.History.{Action, open_fill, reserve, leave, wished, Reservation, is_settled}
 use Rattle.trace_model.specs.Packing.{tail_of, FitsBehind, next_reservation}
-use Rattle.trace_model.specs.Window.{Window, Deed, acts, closes, takes, actions_of, IsWindow}
+use Rattle.trace_model.specs.Window.{Window, RingEvent, acts, closes, takes, actions_of, IsWindow}
 use Rattle.trace_model.specs.Frames.{for_close, waiting, reserved, left, Phase, idle, Frame}
 use Rattle.trace_model.specs.Ring.{Core}
 use Rattle.trace_model.specs.Steps.{frames_after_leave, with_new_tail}
@@ -75,7 +75,7 @@ FirstIs size c frame actions = frame.state ≡ waiting → frame.phase ≡ idle 
 -- events from a state to one that agrees with the writer
 pub record Does (n size depth : ℕ) (c : Core) (frame : Frame) (payloads : List (List ℕ)) (p : LineState)
     (t : Writer) : Type 0 where
-  pub events : List Deed
+  pub events : List RingEvent
   pub reached : LineState
   pub behind : LineState
   pub run : TopRun n size depth p events reached
@@ -98,17 +98,17 @@ module _ (n size depth : ℕ) (c : Core) (frame : Frame) (below : List Frame) (d
 
   -- ---- a fill is begun, after a take if no position is free
 
-  record Free (h : ℕ) (d : List Deed → List Deed) (p : ℕ → LineState) : Type 0 where
+  record Free (h : ℕ) (d : List RingEvent → List RingEvent) (p : ℕ → LineState) : Type 0 where
     free : c.opened < h + n
     read : h ≤ c.done
-    front : (events : List Deed) (reached : LineState)
+    front : (events : List RingEvent) (reached : LineState)
         → TopRun n size depth (p h) events reached
         → TopRun n size depth (p head) (d events) reached
-    same : (events : List Deed) → actions_of (d events) ≡ actions_of events
+    same : (events : List RingEvent) → actions_of (d events) ≡ actions_of events
 
   free_now : (history : List Action) (xs : List OpenFrame) (l : Bool)
       → c.opened < c.done + n
-      → (h : ℕ) × (d : List Deed → List Deed) × Free h d (λ k. line_state history (counts k c.done c.opened) xs l)
+      → (h : ℕ) × (d : List RingEvent → List RingEvent) × Free h d (λ k. line_state history (counts k c.done c.opened) xs l)
   free_now history xs l room = dite (ℕ_discrete c.opened (head + n))
       (λ e. (
         head + 1,

@@ -4,7 +4,7 @@ use Rattle.std.proofs.lemmas.List.{length-map}
 use Rattle.trace_model.specs.History.{Action, push, push_close, open_fill, reserve, leave, wished, Reservation, PushedFrame, record_frame, close_frame, after_action, writer_after, reserved_records}
 use Rattle.trace_model.specs.Packing.{opens_of, cut_from, tail_of}
 use Rattle.trace_model.specs.Fitting.{tail_at}
-use Rattle.trace_model.specs.Window.{Window, Deed, acts, closes, takes, loses, actions_of, happens_with, released_one, took_one, lost_one, window_after, window_behind, WindowRunFrom}
+use Rattle.trace_model.specs.Window.{Window, RingEvent, acts, closes, takes, loses, actions_of, window_event_of, released_one, took_one, lost_one, window_after, window_behind, WindowRunFrom}
 use Rattle.trace_model.proofs.FillCuts.{opens_of-push, opens_of-push_close, opens_of-reserve, opens_of-leave, opens_of-wished}
 use Rattle.trace_model.proofs.NextRecords.{records_snoc}
 use Rattle.trace_model.proofs.PackedHistories.{plain, plain-finished, cut-plain, plain_nil, tail_is}
@@ -99,7 +99,7 @@ few_reserve start h opened few = by_records (grown (writer_after h).stack (write
 pub few_act : (start : ℕ) (h : List Action) (w : Window) (a : Action)
     → (a ≡ open_fill → tail_of h ≢ [])
     → IsFew start h w.opened
-    → IsFew start (h ++ a ∷ []) (window_behind w (happens_with a)).opened
+    → IsFew start (h ++ a ∷ []) (window_behind w (window_event_of a)).opened
 few_act start h w (push moment len) begins few =
     few_same start h (push moment len) w.opened (opens_of-push h moment len) (records_snoc h (push moment len)) few
 few_act start h w push_close begins few =
@@ -115,7 +115,7 @@ few_act start h w wished begins few =
 
 -- ---- events
 
-pub few_run : (n start : ℕ) (h : List Action) (w after : Window) (events : List Deed)
+pub few_run : (n start : ℕ) (h : List Action) (w after : Window) (events : List RingEvent)
     → WindowRunFrom n h w events after
     → ((front behind : List Action) → h ++ actions_of events ≡ front ++ open_fill ∷ behind → tail_of front ≢ [])
     → IsFew start h w.opened
@@ -127,7 +127,7 @@ few_run n start h w after (acts a ∷ events) run begins few =
     let one : h ++ a ∷ actions_of events ≡ (h ++ a ∷ []) ++ actions_of events =
     sym (append_assoc h (a ∷ []) (actions_of events)) in
     subst (λ (l : List Action). IsFew start l after.opened) (sym one)
-    (few_run n start (h ++ a ∷ []) (window_behind w (happens_with a)) after events run.1
+    (few_run n start (h ++ a ∷ []) (window_behind w (window_event_of a)) after events run.1
     (λ front behind e. begins front behind (one ∙ e))
     (few_act start h w a
     (λ opens. begins h (actions_of events) (ap (λ (b : Action). h ++ b ∷ actions_of events) opens)) few))

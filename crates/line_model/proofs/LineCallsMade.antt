@@ -1,7 +1,7 @@
 -- The calls of lines are the parts of these lines.
 use Rattle.std.proofs.Common.{◌≡◌, ℕ, zero, suc, ◌≤◌, ◌⊎◌, List, [], ◌∷◌, ◌++◌, length, refl, sym, ap, ◌∙◌, subst, inl, inr, arith}
 use Rattle.trace_model.specs.History.{push}
-use Rattle.trace_model.specs.Window.{Deed, acts}
+use Rattle.trace_model.specs.Window.{RingEvent, acts}
 use Rattle.trace_model.specs.Frames.{for_close, waiting, idle, Frame, Refusal}
 use Rattle.trace_model.specs.Steps.{pushes, pushes_close, pushed, refused, Exchange}
 use Rattle.script_model.specs.Script.{Command, begin_frame, step_frame, finish_frame, write, close, step_reader, take_page, wish, deliver}
@@ -102,8 +102,8 @@ module _ (n size : ℕ) (p : LineState) (payloads : List (List ℕ)) (s : Writer
 module _ (n size start : ℕ) (s : Writer) (payloads : List (List ℕ)) (t : Writer) (lefts : List (List ℕ)) (p : LineState)
     (between : IsBetweenLines n p payloads s) where
   -- what a line has made
-  abbrev MadePart : (LineState → List Deed → LineState → Type 0) → Type 0
-  MadePart Part = (events : List Deed) × (q : LineState) × Part p events q × IsBetweenLines n q lefts t
+  abbrev MadePart : (LineState → List RingEvent → LineState → Type 0) → Type 0
+  MadePart Part = (events : List RingEvent) × (q : LineState) × Part p events q × IsBetweenLines n q lefts t
 
   -- nothing is changed
   between_same : t ≡ s → lefts ≡ payloads → IsBetweenLines n p lefts t

@@ -2,7 +2,7 @@
 use Rattle.std.proofs.Common.{◌≡◌, ℕ, List, [], ◌∷◌, refl, sym, subst}
 use Rattle.trace_model.specs.Frames.{Kind, for_record, for_close, FrameState, waiting, reserved, left, Phase, idle, looking, claiming, looking_next, marking, clearing, opening, releasing, wishing, Frame, Refusal, too_deep, too_long, late_moment, crowded, worn, no_frame, not_reserved}
 use Rattle.trace_model.specs.Ring.{ReaderPhase, loading_link, loading_done, storing_link, swapping, Core}
-use Rattle.trace_model.specs.Steps.{Event, Answer, pushed, going, reserved_as, pending, full, gone, refused, reading, empty, moving, swapped, wished_for, leave_answer, begin_answer, end_answer, PushRefused, all_stand, has_no_room, comes_late, BeginsAnew, IdleStep, reserves, finds_nothing, is_crowded, is_worn, notes, look_late, sees_free, sees_header, sees_update, claim_late, claims, claim_fails, next_late, sees_normal, sees_other, mark_late, marks, mark_fails, clears, open_late, opens, releases, releases_last, grants, closes_more, goes_away, FrameStep, loads_header, loads_update, loads_owed, loads_passed, finds_none, finds_closed, swaps, swap_fails, ReadStep, Step, push_step, push_refused, close_step, close_refused, frame_step, frame_lacks, end_step, end_lacks, end_early, read_step, wish_step}
+use Rattle.trace_model.specs.Steps.{Event, Answer, pushed, going, reserved_as, pending, full, gone, refused, reading, empty, moving, swapped, wished_for, leave_answer, begin_answer, end_answer, PushRefused, all_stand, has_no_room, comes_late, BeginsAgain, IdleStep, reserves, finds_nothing, is_crowded, is_worn, notes, look_late, sees_free, sees_header, sees_update, claim_late, claims, claim_fails, next_late, sees_normal, sees_other, mark_late, marks, mark_fails, clears, open_late, opens, releases, releases_last, grants, closes_more, goes_away, FrameStep, loads_header, loads_update, loads_owed, loads_passed, finds_none, finds_closed, swaps, swap_fails, ReadStep, Step, push_step, push_refused, close_step, close_refused, frame_step, frame_lacks, end_step, end_lacks, end_early, read_step, wish_step}
 use Rattle.link_marks.specs.AnswerLaws.{IsInNeed}
 use Rattle.line_model.specs.SingleFrames.{RefusedFramesNeedPages}
 
@@ -48,8 +48,8 @@ module _ (n size : ℕ) (c : Core) where
   begins_due kind left below = tt
 
   module _ (frame : Frame) (below : List Frame) (top : c.frames ≡ frame ∷ below) (answer : Answer) (after : Core) where
-    anew : (noted : ℕ) → BeginsAnew c frame below noted answer after → Due answer
-    anew noted step = due answer _ step.answer_is (begins_due frame.kind frame.state below)
+    again : (noted : ℕ) → BeginsAgain c frame below noted answer after → Due answer
+    again noted step = due answer _ step.answer_is (begins_due frame.kind frame.state below)
 
     idle_due : (state : FrameState)
         → frame.state ≡ state
@@ -68,21 +68,21 @@ module _ (n size : ℕ) (c : Core) where
 
     frame_due : (phase : Phase) → frame.phase ≡ phase → FrameStep n size c frame below phase answer after → Due answer
     frame_due idle rests step = idle_due frame.state refl rests step
-    frame_due (looking noted) at (look_late step) = anew noted step
+    frame_due (looking noted) at (look_late step) = again noted step
     frame_due (looking noted) at (sees_free page now known a is) = due answer _ a tt
     frame_due (looking noted) at (sees_header page lost now sum known a is) = due answer _ a tt
     frame_due (looking noted) at (sees_update page lost now sum known a is) = due answer _ a tt
-    frame_due (claiming noted page) at (claim_late step) = anew noted step
+    frame_due (claiming noted page) at (claim_late step) = again noted step
     frame_due (claiming noted page) at (claims lost now sum known a is) = due answer _ a tt
     frame_due (claiming noted page) at (claim_fails now other a is) = due answer _ a tt
-    frame_due (looking_next role noted page) at (next_late helps step) = anew noted step
+    frame_due (looking_next role noted page) at (next_late helps step) = again noted step
     frame_due (looking_next role noted page) at (sees_normal lost next on sum known a is) = due answer _ a tt
     frame_due (looking_next role noted page) at (sees_other lost on sum other a is) = due answer _ a tt
-    frame_due (marking role noted page next) at (mark_late helps step) = anew noted step
+    frame_due (marking role noted page next) at (mark_late helps step) = again noted step
     frame_due (marking role noted page next) at (marks lost on sum known a is) = due answer _ a tt
     frame_due (marking role noted page next) at (mark_fails lost on sum other a is) = due answer _ a tt
     frame_due (clearing noted page) at (clears lost sum known a is) = due answer _ a tt
-    frame_due (opening noted page) at (open_late step) = anew noted step
+    frame_due (opening noted page) at (open_late step) = again noted step
     frame_due (opening noted page) at (opens now a is) = due answer _ a (begins_due frame.kind frame.state below)
     frame_due releasing at (releases alone more a is) = due answer _ a tt
     frame_due releasing at (releases_last alone last a is) = due answer _ a tt

@@ -1,6 +1,6 @@
 -- One more line, one more call, and the start.
 use Rattle.std.proofs.Common.{◌≡◌, ℕ, zero, suc, List, length, [], ◌∷◌, ◌++◌, refl, sym, ap, ◌∙◌, subst, arith, append_assoc, append-nil}
-use Rattle.trace_model.specs.Window.{Deed}
+use Rattle.trace_model.specs.Window.{RingEvent}
 use Rattle.world_model.specs.Lanes.{event_on_top, payloads_left}
 use Rattle.line_model.specs.Lines.{LineState, LinePart}
 use Rattle.line_model.specs.WriterCalls.{Writer, IsWriterCall, FinishCalls, LineCalls}
@@ -11,7 +11,7 @@ parts_go_on n size [] line p q t events more (none, same) part = (
   more,
   [],
   t,
-  ap (λ (l : List Deed). l ++ more) none ∙ sym (append-nil more),
+  ap (λ (l : List RingEvent). l ++ more) none ∙ sym (append-nil more),
   subst (λ (v : LineState). LinePart n size line v more t) (sym same) part,
   (refl, refl),
 )
@@ -19,7 +19,7 @@ parts_go_on n size (first ∷ lines) line p q t events more (front, behind, betw
   front,
   behind ++ more,
   between,
-  ap (λ (l : List Deed). l ++ more) cut ∙ append_assoc front behind more,
+  ap (λ (l : List RingEvent). l ++ more) cut ∙ append_assoc front behind more,
   one,
   parts_go_on n size lines line between q t behind more rest part,
 )

@@ -2,7 +2,7 @@
 use Rattle.std.proofs.Common.{◌≡◌, ℕ, ◌≤◌, ◌<◌, ◌⊎◌, false, List, [], ◌∷◌, ◌++◌, length, refl, sym, ap, ◌∙◌, subst, inl, inr, arith}
 use Rattle.trace_model.specs.declared.limits.TheConstants.{MAX_FRAMES, MOMENT_LIMIT}
 use Rattle.trace_model.specs.History.{Action, push}
-use Rattle.trace_model.specs.Window.{Deed, acts}
+use Rattle.trace_model.specs.Window.{RingEvent, acts}
 use Rattle.trace_model.specs.Frames.{for_record, waiting, idle, Refusal}
 use Rattle.trace_model.specs.Ring.{Core}
 use Rattle.trace_model.specs.Steps.{Event, pushes, pushes_close, steps, ends, reads, wishes, Answer, pushed, refused, IsTooLong, PushRefused, all_stand, has_no_room, comes_late, Step, push_step, push_refused, close_step, close_refused, frame_step, frame_lacks, end_step, end_lacks, end_early, read_step, wish_step}
@@ -178,7 +178,7 @@ writes_make n size start cpu moment payload s u payloads calls t lefts p agrees 
     by_push (pushing_of n size start moment (length payload) pushed s u call)
   where
     by_push : Pushing size s moment (length payload) pushed u
-        → (events : List Deed) × (behind : LineState) × LinePart n size (write cpu moment payload) p events behind
+        → (events : List RingEvent) × (behind : LineState) × LinePart n size (write cpu moment payload) p events behind
         × Agrees n behind lefts t
     by_push (inl (a, none, is)) =
         let q : LineState = pushed_state n size payloads s p agrees moment payload in

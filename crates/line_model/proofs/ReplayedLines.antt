@@ -6,7 +6,7 @@ use Rattle.std.proofs.lemmas.Bool.{eq-eqb, ne_eqb}
 use Rattle.std.proofs.lemmas.Option.{slice_get_within, slice_get-get_or}
 use mathlib.Core.Logic.{dite}
 use native.Mathlib.Decide.{ℕ_discrete}
-use Rattle.trace_model.specs.Window.{Deed}
+use Rattle.trace_model.specs.Window.{RingEvent}
 use Rattle.trace_model.proofs.Elements.{some_is}
 use Rattle.script_model.specs.Script.{Command, begin_frame, step_frame, finish_frame, write, close, step_reader, take_page, wish, deliver, Script}
 use Rattle.script_model.specs.ScriptLimits.{IsCommandWithin, IsWithinLimits}
@@ -121,7 +121,7 @@ module _ (script : Script) (line : ℕ) (before after : World) (kept : IsWorldKe
 -- ---- lines
 
 record MadeLines (script : Script) (cpu : ℕ) (lines : List Command) (p : LineState) (lane : Lane) : Type 0 where
-  events : List Deed
+  events : List RingEvent
   reached : LineState
   parts : LineParts script.pages script.size (writer_lines cpu lines) p events reached
   between : IsBetweenLines script.pages reached lane.payloads (writer_of lane.core)

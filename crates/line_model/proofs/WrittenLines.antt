@@ -8,7 +8,7 @@ use Rattle.trace_model.specs.Record.{Record}
 use Rattle.trace_model.specs.Words.{padded, slot_len, encoded_len}
 use Rattle.trace_model.specs.History.{Action, push, push_close, open_fill, Reservation, record_frame, close_frame, WriterState, after_action, writer_after, reserved_records, last_moment, as_record, committed_records, IsHistory}
 use Rattle.trace_model.specs.Packing.{tail_of, IsPacked}
-use Rattle.trace_model.specs.Window.{Window, Deed, acts, closes, takes, loses, actions_of, happens_with, took_one, lost_one, window_after, window_behind, WindowRunFrom}
+use Rattle.trace_model.specs.Window.{Window, RingEvent, acts, closes, takes, loses, actions_of, window_event_of, took_one, lost_one, window_after, window_behind, WindowRunFrom}
 use Rattle.trace_model.specs.Steps.{IsTooLong}
 use Rattle.script_model.specs.Script.{Command, begin_frame, step_frame, finish_frame, write, close, step_reader, take_page, wish, deliver}
 use Rattle.trace_model.proofs.NextAction.{writer_snoc, settled_at_rest}
@@ -17,7 +17,7 @@ use Rattle.trace_model.proofs.Committed.{whole_front}
 use Rattle.trace_model.proofs.Lengths.{length-padded, padded_whole, slot_len-slot_len}
 use Rattle.link_marks.proofs.WindowRuns.{actions-append}
 use Rattle.line_model.specs.Lines.{LineState, OpenFrame, first_state, frame_count, with_top_stepped, IsQuiet, MayGo, stays_on, goes, TopRun, FinishPart, writes, writes_none, LinePart, LineParts, FinishParts}
-use Rattle.line_model.specs.WrittenRecords.{is_recorded, record_of, records_of_line, records_of_lines, IsWhole, AreWhole, IsAtRest, LinesFromRestCommit, WholeLinesCommit, WholeLinesHaveCommitted}
+use Rattle.line_model.specs.WrittenRecords.{is_recorded, record_of, records_of_line, records_of_lines, WritesOrCloses, AllWriteOrClose, IsAtRest, LinesFromRestCommit, WholeLinesCommit, WholeLinesHaveCommitted}
 use Rattle.line_model.proofs.LineWindows.{Leads, leads_line, leads_lines, leads_rest}
 use Rattle.line_model.proofs.FewFills.{IsFew, few_act, few_run, few_start}
 use Rattle.line_model.proofs.WrittenSteps.{IsAllowed, rest_with, Reached, IsLeft, IsOpen, written, IsWriting, waits, waits_empty, has_reserved, has_left, was_refused, writing_run, IsClosing, closing_open, closing_left, closing_run, IsResting, resting_counts, resting_run}
@@ -45,7 +45,7 @@ unrecorded size moment len (inr late) =
 -- ---- the window at rest
 
 -- no fill is closed until one more is begun
-quiet_window : (n : ℕ) (h : List Action) (w after : Window) (events : List Deed)
+quiet_window : (n : ℕ) (h : List Action) (w after : Window) (events : List RingEvent)
     → WindowRunFrom n h w events after
     → actions_of events ≡ []
     → w.done + 1 ≡ w.opened
@@ -68,18 +68,18 @@ abbrev others_of : List Action → List Action
 others_of [] = []
 others_of (a ∷ actions) = actions
 
-push_window : (n : ℕ) (h : List Action) (w after : Window) (events : List Deed) (a : Action)
+push_window : (n : ℕ) (h : List Action) (w after : Window) (events : List RingEvent) (a : Action)
     → WindowRunFrom n h w events after
     → actions_of events ≡ a ∷ []
-    → happens_with a ≡ None
+    → window_event_of a ≡ None
     → w.done + 1 ≡ w.opened
     → (after.done ≡ w.done) × (after.opened ≡ w.opened)
 push_window n h w after [] a run one none rest = absurd (let z = ap (λ (l : List Action). length l) one in omega arith)
 push_window n h w after (acts b ∷ events) a run one none rest =
-    let same : window_behind w (happens_with b) ≡ w =
-    ap (λ (c : Action). window_behind w (happens_with c)) (ap (first_of a) one) ∙ ap (window_behind w) none in
+    let same : window_behind w (window_event_of b) ≡ w =
+    ap (λ (c : Action). window_behind w (window_event_of c)) (ap (first_of a) one) ∙ ap (window_behind w) none in
     let (done, opened) =
-    quiet_window n (h ++ b ∷ []) (window_behind w (happens_with b)) after events run.1 (ap others_of one)
+    quiet_window n (h ++ b ∷ []) (window_behind w (window_event_of b)) after events run.1 (ap others_of one)
     (subst (λ (v : Window). v.done + 1 ≡ v.opened) (sym same) rest) in
     (done ∙ ap (λ (v : Window). v.done) same, opened ∙ ap (λ (v : Window). v.opened) same)
 push_window n h w after (closes ∷ events) a run one none rest = absurd (let low = run.0.0 in omega arith)
@@ -159,7 +159,7 @@ module _ (n size start : ℕ) (two : MIN_PAGES ≤ n) (rs : List Reservation) (m
 
   module _ (p : LineState) (rest : IsResting rs p) (few : IsFew start p.history p.window.opened) where
     -- a line that is refused
-    stays_resting : (q : LineState) (events : List Deed)
+    stays_resting : (q : LineState) (events : List RingEvent)
         → IsQuiet n p events q
         → IsAllowed size p.history (actions_of events ++ more)
         → Resting rs q
@@ -199,24 +199,24 @@ module _ (n size start : ℕ) (two : MIN_PAGES ≤ n) (rs : List Reservation) (m
 
     begun_few : (a : Action)
         → (a ≡ open_fill → ⊥)
-        → happens_with a ≡ None
+        → window_event_of a ≡ None
         → (w : Window)
         → w.opened ≡ p.window.opened
         → IsFew start (p.history ++ a ∷ []) w.opened
     begun_few a other none w same =
         let next = few_act start p.history p.window a (λ opens. absurd (other opens)) few in
-        let opened : (window_behind p.window (happens_with a)).opened ≡ w.opened =
+        let opened : (window_behind p.window (window_event_of a)).opened ≡ w.opened =
         ap (λ (v : Window). v.opened) (ap (window_behind p.window) none) ∙ sym same in
         subst (IsFew start (p.history ++ a ∷ [])) opened next
 
-    begun_allowed : (a : Action) (front behind events : List Deed)
+    begun_allowed : (a : Action) (front behind events : List RingEvent)
         → events ≡ front ++ behind
         → actions_of front ≡ a ∷ []
         → IsAllowed size p.history (actions_of events ++ more)
         → IsAllowed size (p.history ++ a ∷ []) (actions_of behind ++ more)
     begun_allowed a front behind events cut one allowed =
         let same : p.history ++ (actions_of events ++ more) ≡ (p.history ++ a ∷ []) ++ (actions_of behind ++ more) =
-        ap (λ (l : List Deed). p.history ++ (actions_of l ++ more)) cut
+        ap (λ (l : List RingEvent). p.history ++ (actions_of l ++ more)) cut
         ∙ ap (λ (l : List Action). p.history ++ (l ++ more))
         (actions-append front behind ∙ ap (λ (l : List Action). l ++ actions_of behind) one)
         ∙ sym (append_assoc p.history (a ∷ []) (actions_of behind ++ more)) in
@@ -241,7 +241,7 @@ module _ (n size start : ℕ) (two : MIN_PAGES ≤ n) (rs : List Reservation) (m
         let none = resting_counts rs p rest in
         omega arith
 
-    write_line : (moment : ℕ) (payload : List ℕ) (cpu : ℕ) (q : LineState) (events : List Deed)
+    write_line : (moment : ℕ) (payload : List ℕ) (cpu : ℕ) (q : LineState) (events : List RingEvent)
         → LinePart n size (write cpu moment payload) p events q
         → IsAllowed size p.history (actions_of events ++ more)
         → WritesTo moment payload q
@@ -272,7 +272,7 @@ module _ (n size start : ℕ) (two : MIN_PAGES ≤ n) (rs : List Reservation) (m
         in_time : (MOMENT_LIMIT ≤ moment → ⊥) → moment < MOMENT_LIMIT
         in_time early = omega arith
 
-    close_line : (cpu : ℕ) (q : LineState) (events : List Deed)
+    close_line : (cpu : ℕ) (q : LineState) (events : List RingEvent)
         → LinePart n size (close cpu) p events q
         → IsAllowed size p.history (actions_of events ++ more)
         → Resting rs q
@@ -296,7 +296,7 @@ module _ (n size start : ℕ) (two : MIN_PAGES ≤ n) (rs : List Reservation) (m
         (closing_open o))
 
     -- a part as of `f` does nothing
-    finish_rest : (q : LineState) (events : List Deed)
+    finish_rest : (q : LineState) (events : List RingEvent)
         → FinishPart n size p events q
         → IsAllowed size p.history (actions_of events ++ more)
         → Resting rs q
@@ -349,20 +349,20 @@ record Written (n size start : ℕ) (q : LineState) (more : List Action) (record
   records_are : map as_record reserved ≡ records
 
 module _ (n size start : ℕ) (two : MIN_PAGES ≤ n) where
-  cut_allowed : (p between : LineState) (front behind events : List Deed) (more : List Action)
+  cut_allowed : (p between : LineState) (front behind events : List RingEvent) (more : List Action)
       → events ≡ front ++ behind
       → IsAllowed size p.history (actions_of events ++ more)
       → IsAllowed size p.history (actions_of front ++ (actions_of behind ++ more))
   cut_allowed p between front behind events more cut allowed =
       let same : actions_of events ++ more ≡ actions_of front ++ (actions_of behind ++ more) =
-      ap (λ (l : List Deed). actions_of l ++ more) cut
+      ap (λ (l : List RingEvent). actions_of l ++ more) cut
       ∙ ap (λ (l : List Action). l ++ more) (actions-append front behind)
       ∙ append_assoc (actions_of front) (actions_of behind) more in
       subst (IsAllowed size p.history) same allowed
 
-  lines_written : (lines : List Command) (p q : LineState) (events : List Deed) (rs : List Reservation)
+  lines_written : (lines : List Command) (p q : LineState) (events : List RingEvent) (rs : List Reservation)
       (more : List Action)
-      → AreWhole lines
+      → AllWriteOrClose lines
       → start + length rs + length lines + n ≤ LINK_FILLS
       → IsResting rs p
       → IsFew start p.history p.window.opened
@@ -375,7 +375,7 @@ module _ (n size start : ℕ) (two : MIN_PAGES ≤ n) where
         rests = record {
           keeps = rest;
           few = few;
-          allowed = subst (λ (l : List Deed). IsAllowed size p.history (actions_of l ++ more)) none allowed;
+          allowed = subst (λ (l : List RingEvent). IsAllowed size p.history (actions_of l ++ more)) none allowed;
         };
         records_are = sym (append-nil (map as_record rs));
       }
@@ -434,7 +434,7 @@ module _ (n size start : ℕ) (two : MIN_PAGES ≤ n) where
   lines_written (deliver collector cpu fill ∷ lines) p q events rs more whole room rest few allowed parts =
       absurd whole.0
 
-  rest_written : (count : ℕ) (p q : LineState) (events : List Deed) (rs : List Reservation) (more : List Action)
+  rest_written : (count : ℕ) (p q : LineState) (events : List RingEvent) (rs : List Reservation) (more : List Action)
       → IsResting rs p
       → IsFew start p.history p.window.opened
       → IsAllowed size p.history (actions_of events ++ more)
@@ -444,7 +444,7 @@ module _ (n size start : ℕ) (two : MIN_PAGES ≤ n) where
       subst (Reached n size start (IsResting rs) more) same record {
         keeps = rest;
         few = few;
-        allowed = subst (λ (l : List Deed). IsAllowed size p.history (actions_of l ++ more)) none allowed;
+        allowed = subst (λ (l : List RingEvent). IsAllowed size p.history (actions_of l ++ more)) none allowed;
       }
   rest_written (suc count) p q events rs more rest few allowed (front, behind, between, cut, part, parts) =
       let r = finish_rest n size start two rs (actions_of behind ++ more) p rest few between front part
@@ -469,7 +469,7 @@ whole_lines_have_committed n size start lines h two whole room is_history packed
     ∙ w.records_are
 
 -- parts as of `f` commit no more
-rest_commits_none : (n size start : ℕ) (two : MIN_PAGES ≤ n) (count : ℕ) (p q : LineState) (events : List Deed)
+rest_commits_none : (n size start : ℕ) (two : MIN_PAGES ≤ n) (count : ℕ) (p q : LineState) (events : List RingEvent)
     (records : List Record)
     → Written n size start p (actions_of events ++ []) records
     → FinishParts n size count p events q
@@ -499,7 +499,7 @@ whole_lines_commit n size start lines h two whole room is_history packed made =
 
 -- ---- one line
 
-module _ (n size start : ℕ) (two : MIN_PAGES ≤ n) (p q : LineState) (more : List Deed) (rest : IsAtRest p)
+module _ (n size start : ℕ) (two : MIN_PAGES ≤ n) (p q : LineState) (more : List RingEvent) (rest : IsAtRest p)
     (few : IsFew start p.history p.window.opened)
     (leads : Leads n p more q) (is_history : IsHistory q.history) (packed : IsPacked q.history size) where
   abbrev reserved : List Reservation
@@ -550,7 +550,7 @@ module _ (n size start : ℕ) (two : MIN_PAGES ≤ n) (p q : LineState) (more : 
         ∙ ap (λ (l : List Record). committed_records p.history ++ l) (sym none)),
   )
 
-  line_commits : (line : Command) → IsWhole line → LinePart n size line p more q → Commits line
+  line_commits : (line : Command) → WritesOrCloses line → LinePart n size line p more q → Commits line
   line_commits (write cpu moment payload) whole part =
       by_line (write_line n size start two reserved [] p resting few moment payload cpu q more part allowed_here)
     where

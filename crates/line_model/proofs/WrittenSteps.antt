@@ -5,7 +5,7 @@ use Rattle.trace_model.specs.declared.limits.TheConstants.{MIN_PAGES, LINK_FILLS
 use Rattle.trace_model.specs.Words.{padded, encoded_len}
 use Rattle.trace_model.specs.History.{Action, push, push_close, open_fill, reserve, leave, wished, Reservation, PushedFrame, record_frame, close_frame, WriterState, reservation_for, records_with_payload, after_action, writer_after, reserved_records, MayAct, IsHistory}
 use Rattle.trace_model.specs.Packing.{tail_of, FitsBehind, next_reservation, IsPacked}
-use Rattle.trace_model.specs.Window.{Window, Deed, acts, closes, takes, loses, actions_of, released_one, took_one, lost_one, MayHappen, window_after}
+use Rattle.trace_model.specs.Window.{Window, RingEvent, acts, closes, takes, loses, actions_of, released_one, took_one, lost_one, MayMove, window_after}
 use Rattle.trace_model.specs.Steps.{IsTooLong}
 use Rattle.trace_model.proofs.NextAction.{writer_snoc}
 use Rattle.trace_model.proofs.HistoryPrefixes.{none_stands}
@@ -69,11 +69,11 @@ pub record Reached (n size start : ℕ) (P : LineState → Type 0) (more : List 
 
 module _ (n size start depth : ℕ) (P : LineState → Type 0)
     (act : (p : LineState) (a : Action) → Facts n size start depth p a → P p → P (state_after p a))
-    (closed : (p : LineState) → MayHappen n p.history p.window released_one → P p
+    (closed : (p : LineState) → MayMove n p.history p.window released_one → P p
     → P (state_moved p (window_after p.window released_one)))
     (took : (p : LineState) → P p → P (state_moved p (window_after p.window took_one)))
     (lost : (p : LineState) → P p → P (state_moved p (window_after p.window lost_one))) where
-  run_keeps : (p q : LineState) (events : List Deed) (more : List Action)
+  run_keeps : (p q : LineState) (events : List RingEvent) (more : List Action)
       → TopRun n size depth p events q
       → IsAllowed size p.history (actions_of events ++ more)
       → IsFew start p.history p.window.opened
@@ -154,7 +154,7 @@ module _ (n size start depth : ℕ) (payload : List ℕ) (frame : PushedFrame) (
   open_stack = ap (λ (w : WriterState). w.stack) o.writer
 
   -- no fill is closed while it is open
-  none_closed : MayHappen n p.history p.window released_one → ⊥
+  none_closed : MayMove n p.history p.window released_one → ⊥
   none_closed may = let z = ap (λ (l : List PushedFrame). length l) (sym open_stack ∙ none_stands p.history may.1) in
       omega arith
 
@@ -326,7 +326,7 @@ module _ (n size start depth moment : ℕ) (payload : List ℕ) (rs : List Reser
     writing_acts wished f (has_left l) = has_left (left_acts n size start depth _ p wished f l)
     writing_acts wished f (was_refused l worn) = was_refused (left_acts n size start depth _ p wished f l) worn
 
-    writing_closed : MayHappen n p.history p.window released_one
+    writing_closed : MayMove n p.history p.window released_one
         → IsWriting p
         → IsWriting (state_moved p (window_after p.window released_one))
     writing_closed may (waits o tall) = absurd (none_closed n size start depth payload waiting_frame rs p o may)
@@ -345,7 +345,7 @@ module _ (n size start depth moment : ℕ) (payload : List ℕ) (rs : List Reser
     writing_moved head (has_left l) = has_left (left_moved _ p _ l)
     writing_moved head (was_refused l worn) = was_refused (left_moved _ p _ l) worn
 
-  pub writing_run : (p q : LineState) (events : List Deed) (more : List Action)
+  pub writing_run : (p q : LineState) (events : List RingEvent) (more : List Action)
       → TopRun n size depth p events q
       → IsAllowed size p.history (actions_of events ++ more)
       → IsFew start p.history p.window.opened
@@ -376,7 +376,7 @@ module _ (n size start depth : ℕ) (rs : List Reservation) where
     closing_acts (leave paid) f (closing_left l) = closing_left (left_acts n size start depth rs p (leave paid) f l)
     closing_acts wished f (closing_left l) = closing_left (left_acts n size start depth rs p wished f l)
 
-    closing_closed : MayHappen n p.history p.window released_one
+    closing_closed : MayMove n p.history p.window released_one
         → IsClosing p
         → IsClosing (state_moved p (window_after p.window released_one))
     closing_closed may (closing_open o) = absurd (none_closed n size start depth [] close_frame rs p o may)
@@ -386,7 +386,7 @@ module _ (n size start depth : ℕ) (rs : List Reservation) where
     closing_moved w (closing_open o) = closing_open (open_moved [] close_frame rs p w o)
     closing_moved w (closing_left l) = closing_left (left_moved rs p w l)
 
-  pub closing_run : (p q : LineState) (events : List Deed) (more : List Action)
+  pub closing_run : (p q : LineState) (events : List RingEvent) (more : List Action)
       → TopRun n size depth p events q
       → IsAllowed size p.history (actions_of events ++ more)
       → IsFew start p.history p.window.opened
@@ -408,7 +408,7 @@ pub resting_counts : (rs : List Reservation) (p : LineState) → IsResting rs p 
 resting_counts rs p r = λ i. length (r.frames i) + (if r.not_finishing i then 1 else 0)
 
 module _ (n size start depth : ℕ) (rs : List Reservation) where
-  pub resting_run : (p q : LineState) (events : List Deed) (more : List Action)
+  pub resting_run : (p q : LineState) (events : List RingEvent) (more : List Action)
       → TopRun n size depth p events q
       → IsAllowed size p.history (actions_of events ++ more)
       → IsFew start p.history p.window.opened

@@ -7,7 +7,7 @@ use Rattle.trace_model.specs.declared.limits.TheConstants.{LINK_FILLS}
 use Rattle.trace_model.specs.Frames.{for_close, waiting, reserved, left, Phase, idle, Frame}
 use Rattle.trace_model.specs.Ring.{Core}
 use Rattle.trace_model.specs.Steps.{frames_after_leave, with_new_tail, Exchange}
-use Rattle.trace_model.specs.Window.{Deed, IsWindow, actions_of}
+use Rattle.trace_model.specs.Window.{RingEvent, IsWindow, actions_of}
 use Rattle.world_model.specs.Lanes.{event_on_top, payloads_left}
 use Rattle.line_model.specs.Lines.{LineState, OpenFrame, with_top_stepped, TopRun, MayGo, ReservesFirst}
 use Rattle.line_model.specs.WriterCalls.{Writer, writer_of, IsWriterCall}
@@ -146,7 +146,7 @@ IsRecordOnTop (frame ∷ below) = frame.kind ≢ for_close
 -- it is the frame's first step and its record fits, the record is reserved. For a record frame there is at most one
 -- action.
 pub record MakesEvents (n size : ℕ) (s t : Writer) (payloads : List (List ℕ)) (p : LineState) : Type 0 where
-  pub events : List Deed
+  pub events : List RingEvent
   pub reached : LineState
   pub behind : LineState
   pub run : TopRun n size (length s.frames - 1) (stepped p) events reached

@@ -2,7 +2,7 @@
 use Rattle.std.specs.Prelude.{◌≡◌, ℕ, suc, ◌<◌, ◌≤◌, ◌⊎◌, ⊤, List, [], ◌∷◌, ◌++◌, length}
 use Rattle.trace_model.specs.History.{push}
 use Rattle.trace_model.specs.Frames.{for_record, Frame, Refusal}
-use Rattle.trace_model.specs.Window.{Deed, acts}
+use Rattle.trace_model.specs.Window.{RingEvent, acts}
 use Rattle.trace_model.specs.Steps.{Answer, pushes, pushes_close, pushed, refused, Exchange}
 use Rattle.script_model.specs.Script.{Command, begin_frame, write, close}
 use Rattle.world_model.specs.Lanes.{event_on_top, payloads_left}
@@ -20,7 +20,7 @@ CallsFinish = (n size start depth : ℕ) (s : Writer) (payloads : List (List ℕ
     → length s.frames ≡ suc depth
     → TopCalls n size start depth s payloads calls t lefts
     → length t.frames < suc depth
-    → (events : List Deed) × (behind : LineState) × FinishPart n size p events behind × Agrees n behind lefts t
+    → (events : List RingEvent) × (behind : LineState) × FinishPart n size p events behind × Agrees n behind lefts t
 
 -- A push is the part of a `b` line. If it is refused, there is no event, which is the part of a `b` and of a `w` line.
 abbrev pub PushesMake : Type 0
@@ -46,7 +46,7 @@ WritesMake = (n size start cpu moment : ℕ) (payload : List ℕ) (s u : Writer)
     → IsWriterCall n size start s record { event = pushes moment (length payload); answer = pushed } u
     → TopCalls n size start (length s.frames) u (payload ∷ payloads) calls t lefts
     → length t.frames ≤ length s.frames
-    → (events : List Deed) × (behind : LineState)
+    → (events : List RingEvent) × (behind : LineState)
     × LinePart n size (write cpu moment payload) p events behind
     × Agrees n behind lefts t
 
@@ -59,7 +59,7 @@ ClosesMake = (n size start cpu : ℕ) (answer : Answer) (s u : Writer) (payloads
     → (answer ≡ pushed
     → TopCalls n size start (length s.frames) u ([] ∷ payloads) calls t lefts
     → length t.frames ≤ length s.frames
-    → (events : List Deed) × (behind : LineState)
+    → (events : List RingEvent) × (behind : LineState)
     × LinePart n size (close cpu) p events behind
     × Agrees n behind lefts t)
     × ((why : Refusal) → answer ≡ refused why → LinePart n size (close cpu) p [] p × Agrees n p payloads u)
@@ -88,7 +88,7 @@ LineCallsMake = (n size start : ℕ) (line : Command) (s : Writer) (payloads : L
     (lefts : List (List ℕ)) (p : LineState)
     → IsBetweenLines n p payloads s
     → LineCalls n size start line s payloads t lefts
-    → (events : List Deed) × (q : LineState) × LinePart n size line p events q × IsBetweenLines n q lefts t
+    → (events : List RingEvent) × (q : LineState) × LinePart n size line p events q × IsBetweenLines n q lefts t
 
 -- The calls of lines make their parts.
 abbrev pub LinesCallsMake : Type 0
@@ -96,7 +96,7 @@ LinesCallsMake = (n size start : ℕ) (lines : List Command) (s : Writer) (paylo
     (lefts : List (List ℕ)) (p : LineState)
     → IsBetweenLines n p payloads s
     → LinesCalls n size start lines s payloads t lefts
-    → (events : List Deed) × (q : LineState) × LineParts n size lines p events q × IsBetweenLines n q lefts t
+    → (events : List RingEvent) × (q : LineState) × LineParts n size lines p events q × IsBetweenLines n q lefts t
 
 -- The frames that are left at the end are finished by parts as of `f`.
 abbrev pub RestCallsMake : Type 0
@@ -104,11 +104,11 @@ RestCallsMake = (n size start count : ℕ) (s : Writer) (payloads : List (List �
     (lefts : List (List ℕ)) (p : LineState)
     → IsBetweenLines n p payloads s
     → RestCalls n size start count s payloads t lefts
-    → (events : List Deed) × (q : LineState) × FinishParts n size count p events q × IsBetweenLines n q lefts t
+    → (events : List RingEvent) × (q : LineState) × FinishParts n size count p events q × IsBetweenLines n q lefts t
 
 -- One more line after others.
 abbrev pub PartsGoOn : Type 0
-PartsGoOn = (n size : ℕ) (lines : List Command) (line : Command) (p q t : LineState) (events more : List Deed)
+PartsGoOn = (n size : ℕ) (lines : List Command) (line : Command) (p q t : LineState) (events more : List RingEvent)
     → LineParts n size lines p events q
     → LinePart n size line q more t
     → LineParts n size (lines ++ line ∷ []) p (events ++ more) t

@@ -5,7 +5,7 @@ use Rattle.trace_model.specs.declared.limits.TheConstants.{MAX_FRAMES, MOMENT_LI
 use Rattle.trace_model.specs.Words.{padded}
 use Rattle.trace_model.specs.History.{Action, push, push_close, open_fill, reserve, leave, wished, Reservation}
 use Rattle.trace_model.specs.Packing.{tail_of, FitsBehind, next_reservation}
-use Rattle.trace_model.specs.Window.{Window, first_window, Deed, acts, closes, takes, loses, actions_of, happens_with, released_one, took_one, lost_one, MayHappen, MayPass, window_after, window_behind, WindowRunFrom, IsCrowded}
+use Rattle.trace_model.specs.Window.{Window, first_window, RingEvent, acts, closes, takes, loses, actions_of, window_event_of, released_one, took_one, lost_one, MayMove, MayPass, window_after, window_behind, WindowRunFrom, IsCrowded}
 use Rattle.trace_model.specs.Steps.{IsTooLong}
 use Rattle.script_model.specs.Script.{Command, begin_frame, step_frame, finish_frame, write, close, step_reader, take_page, wish, deliver}
 
@@ -45,13 +45,13 @@ abbrev pub IsRefusedClose : LineState → Type 0
 IsRefusedClose p = MAX_FRAMES ≤ frame_count p
 
 -- Events without an action of the frames: fills may be closed, taken and lost.
-pub record IsQuiet (n : ℕ) (before : LineState) (events : List Deed) (after : LineState) : Type 0 where
+pub record IsQuiet (n : ℕ) (before : LineState) (events : List RingEvent) (after : LineState) : Type 0 where
   pub acts_none : actions_of events ≡ []
   pub window : WindowRunFrom n before.history before.window events after.window
   pub after_is : after ≡ record before { window = after.window }
 
 -- One push, among such events. Its frame is the top one, and has made no step.
-pub record IsPush (n : ℕ) (action : Action) (payload : List ℕ) (before : LineState) (events : List Deed)
+pub record IsPush (n : ℕ) (action : Action) (payload : List ℕ) (before : LineState) (events : List RingEvent)
     (after : LineState)
     : Type 0 where
   pub acts_one : actions_of events ≡ action ∷ []
@@ -109,7 +109,7 @@ finishing_after (top ∷ next ∷ below) finishing a = finishing
 abbrev pub state_after : LineState → Action → LineState
 state_after p a = record {
   history = p.history ++ a ∷ [];
-  window = window_behind p.window (happens_with a);
+  window = window_behind p.window (window_event_of a);
   frames = open_after p.frames a;
   finishing = finishing_after p.frames p.finishing a;
 }
@@ -120,21 +120,21 @@ state_moved p w = record p { window = w }
 
 -- Events whose actions are all of the frame that has depth frames below it. It acts only while it is on the stack. A
 -- bottom frame remains there after its leave, so what it does for the reader's wish is among them.
-abbrev pub TopRun : (n size depth : ℕ) → LineState → List Deed → LineState → Type 0
+abbrev pub TopRun : (n size depth : ℕ) → LineState → List RingEvent → LineState → Type 0
 TopRun n size depth before [] after = before ≡ after
 TopRun n size depth before (acts a ∷ events) after =
     (frame_count before ≡ suc depth)
     × IsOfTop n size before a
-    × MayPass n before.history before.window (happens_with a)
+    × MayPass n before.history before.window (window_event_of a)
     × TopRun n size depth (state_after before a) events after
 TopRun n size depth before (closes ∷ events) after =
-    MayHappen n before.history before.window released_one
+    MayMove n before.history before.window released_one
     × TopRun n size depth (state_moved before (window_after before.window released_one)) events after
 TopRun n size depth before (takes ∷ events) after =
-    MayHappen n before.history before.window took_one
+    MayMove n before.history before.window took_one
     × TopRun n size depth (state_moved before (window_after before.window took_one)) events after
 TopRun n size depth before (loses ∷ events) after =
-    MayHappen n before.history before.window lost_one
+    MayMove n before.history before.window lost_one
     × TopRun n size depth (state_moved before (window_after before.window lost_one)) events after
 
 -- A frame that has made no step yet reserves first, if its record then fits.
@@ -162,7 +162,7 @@ pub data MayGo (before after : LineState) : Type 0 where
 
 -- What the top frame does: its actions, any number of them, and then it may be popped. If there is no frame, there is
 -- no action.
-pub record TopPart (n size : ℕ) (before : LineState) (events : List Deed) (after : LineState) : Type 0 where
+pub record TopPart (n size : ℕ) (before : LineState) (events : List RingEvent) (after : LineState) : Type 0 where
   pub first : ReservesFirst size before before.frames (actions_of events)
   pub reached : LineState
   pub run : TopRun n size (frame_count before - 1)
@@ -172,17 +172,18 @@ pub record TopPart (n size : ℕ) (before : LineState) (events : List Deed) (aft
 -- ---- lines
 
 -- `s K`: at most K actions of the top frame
-pub record StepsPart (n size count : ℕ) (before : LineState) (events : List Deed) (after : LineState) : Type 0 where
+pub record StepsPart (n size count : ℕ) (before : LineState) (events : List RingEvent) (after : LineState)
+    : Type 0 where
   pub top : TopPart n size before events after
   pub few : length (actions_of events) ≤ count
 
 -- `f`: actions of the top frame until it is popped, which a bottom frame is when all fills but the tail are closed
-pub record FinishPart (n size : ℕ) (before : LineState) (events : List Deed) (after : LineState) : Type 0 where
+pub record FinishPart (n size : ℕ) (before : LineState) (events : List RingEvent) (after : LineState) : Type 0 where
   pub top : TopPart n size before events after
   pub is_gone : frame_count after ≤ frame_count before - 1
 
 -- `b`: its push, with the length of its payload; or no action, if it is refused
-pub data BeginPart (n size moment : ℕ) (payload : List ℕ) (before : LineState) (events : List Deed)
+pub data BeginPart (n size moment : ℕ) (payload : List ℕ) (before : LineState) (events : List RingEvent)
     (after : LineState)
     : Type 0 where
   begins : (IsRefusedPush size before moment (length payload) → ⊥)
@@ -195,9 +196,9 @@ pub data BeginPart (n size moment : ℕ) (payload : List ℕ) (before : LineStat
 
 -- `w` and `c`: a push and then as `f`; or no action, if it is refused
 pub data WholePart (n size : ℕ) (action : Action) (payload : List ℕ) (Refused : Type 0)
-    (before : LineState) (events : List Deed) (after : LineState)
+    (before : LineState) (events : List RingEvent) (after : LineState)
     : Type 0 where
-  writes : (front behind : List Deed) (between : LineState)
+  writes : (front behind : List RingEvent) (between : LineState)
       → (Refused → ⊥)
       → events ≡ front ++ behind
       → IsPush n action payload before front between
@@ -209,7 +210,7 @@ pub data WholePart (n size : ℕ) (action : Action) (payload : List ℕ) (Refuse
       → WholePart n size action payload Refused before events after
 
 -- The part of one line. A line of the reader or of a collector has no action of the writer.
-abbrev pub LinePart : (n size : ℕ) → Command → LineState → List Deed → LineState → Type 0
+abbrev pub LinePart : (n size : ℕ) → Command → LineState → List RingEvent → LineState → Type 0
 LinePart n size (begin_frame cpu moment payload) before events after =
     BeginPart n size moment payload before events after
 LinePart n size (step_frame cpu count) before events after = StepsPart n size count before events after
@@ -225,19 +226,19 @@ LinePart n size (wish cpu) before events after = IsQuiet n before events after
 LinePart n size (deliver collector cpu fill) before events after = IsQuiet n before events after
 
 -- one part for each line, joined
-abbrev pub LineParts : (n size : ℕ) → List Command → LineState → List Deed → LineState → Type 0
+abbrev pub LineParts : (n size : ℕ) → List Command → LineState → List RingEvent → LineState → Type 0
 LineParts n size [] before events after = (events ≡ []) × (before ≡ after)
 LineParts n size (line ∷ lines) before events after =
-    (front : List Deed) × (behind : List Deed) × (between : LineState)
+    (front : List RingEvent) × (behind : List RingEvent) × (between : LineState)
     × (events ≡ front ++ behind)
     × LinePart n size line before front between
     × LineParts n size lines between behind after
 
 -- this number of parts as of `f`, joined
-abbrev pub FinishParts : (n size count : ℕ) → LineState → List Deed → LineState → Type 0
+abbrev pub FinishParts : (n size count : ℕ) → LineState → List RingEvent → LineState → Type 0
 FinishParts n size zero before events after = (events ≡ []) × (before ≡ after)
 FinishParts n size (suc count) before events after =
-    (front : List Deed) × (behind : List Deed) × (between : LineState)
+    (front : List RingEvent) × (behind : List RingEvent) × (between : LineState)
     × (events ≡ front ++ behind)
     × FinishPart n size before front between
     × FinishParts n size count between behind after
@@ -263,7 +264,7 @@ writer_lines cpu (line ∷ lines) =
 -- The lines of one CPU's writer have made this history so far, in a ring of n pages of this size whose first fill has
 -- the number start: among some events of the window it is one part for each line. Frames may still be open.
 pub record IsBegunByLines (n size start : ℕ) (lines : List Command) (history : List Action) : Type 0 where
-  pub events : List Deed
+  pub events : List RingEvent
   pub after : LineState
   pub parts : LineParts n size lines (first_state start) events after
   pub history_is : history ≡ after.history
@@ -271,11 +272,11 @@ pub record IsBegunByLines (n size start : ℕ) (lines : List Command) (history :
 -- The lines of one CPU's writer make this history: one part for each line, and then parts as of `f` until the stack is
 -- empty.
 pub record IsMadeByLines (n size start : ℕ) (lines : List Command) (history : List Action) : Type 0 where
-  pub by_lines : List Deed
+  pub by_lines : List RingEvent
   pub behind : LineState
   pub parts : LineParts n size lines (first_state start) by_lines behind
   pub count : ℕ
-  pub by_rest : List Deed
+  pub by_rest : List RingEvent
   pub last : LineState
   pub rest : FinishParts n size count behind by_rest last
   pub none_left : frame_count last ≡ 0

@@ -11,7 +11,7 @@ use Rattle.world_model.specs.Lanes.{Lane, HasPayloads, LineRun}
 use Rattle.world_model.specs.World.{World, WorldBehind, WorldOf}
 use Rattle.line_model.specs.Lines.{writer_lines, IsBegunByLines, IsMadeByLines}
 use Rattle.line_model.specs.WriterCalls.{writer_of, LineCalls}
-use Rattle.line_model.specs.WrittenRecords.{AreWhole, records_of_lines}
+use Rattle.line_model.specs.WrittenRecords.{AllWriteOrClose, records_of_lines}
 
 -- What a replay's line has with its ring are, for the ring's writer, the calls of that line.
 abbrev pub LineRunsAreCalls : Type 0
@@ -47,7 +47,7 @@ ReplayCommitsWholeLines = (script : Script) (lines : List (ℕ × Command)) (w :
     → All (λ line. IsCommandWithin script.cpus script.collectors line.1) lines
     → WorldBehind script lines w
     → slice_get w.lanes cpu ≡ Some lane
-    → AreWhole (writer_lines cpu (commands_of lines))
+    → AllWriteOrClose (writer_lines cpu (commands_of lines))
     → script.start + length (writer_lines cpu (commands_of lines)) + script.pages ≤ LINK_FILLS
     → committed_records lane.core.history
     ≡ records_of_lines script.size 0 (writer_lines cpu (commands_of lines))

@@ -5,7 +5,7 @@ use Rattle.trace_model.specs.History.{Action, IsHistory, committed_records}
 use Rattle.trace_model.specs.Packing.{IsPacked}
 use Rattle.script_model.specs.Script.{Command}
 use Rattle.line_model.specs.WriterCalls.{Writer, first_writer, LinesCalls, RestCalls}
-use Rattle.line_model.specs.WrittenRecords.{AreWhole, records_of_lines}
+use Rattle.line_model.specs.WrittenRecords.{AllWriteOrClose, records_of_lines}
 
 -- the history keeps the discipline of the stack, and is packed in pages of this size
 abbrev pub IsWellFormed : ℕ → List Action → Type 0
@@ -24,7 +24,7 @@ WritersFormHistories = (n size start count : ℕ) (lines : List Command) (s : Wr
 abbrev pub WritersCommitWholeLines : Type 0
 WritersCommitWholeLines = (n size start : ℕ) (lines : List Command) (s : Writer) (payloads : List (List ℕ))
     → MIN_PAGES ≤ n
-    → AreWhole lines
+    → AllWriteOrClose lines
     → start + length lines + n ≤ LINK_FILLS
     → LinesCalls n size start lines (first_writer start) [] s payloads
     → committed_records s.history ≡ records_of_lines size 0 lines

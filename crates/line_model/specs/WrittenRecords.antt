@@ -5,7 +5,7 @@ use Rattle.trace_model.specs.Record.{Record}
 use Rattle.trace_model.specs.Words.{padded, encoded_len}
 use Rattle.trace_model.specs.History.{Action, IsHistory, is_settled, reserved_records, committed_records, last_moment}
 use Rattle.trace_model.specs.Packing.{tail_of, IsPacked}
-use Rattle.trace_model.specs.Window.{Window, Deed, actions_of, WindowRun}
+use Rattle.trace_model.specs.Window.{Window, RingEvent, actions_of, WindowRun}
 use Rattle.script_model.specs.Script.{Command, begin_frame, step_frame, finish_frame, write, close, step_reader, take_page, wish, deliver}
 use Rattle.line_model.specs.Lines.{LineState, first_state, LinePart, LineParts, IsBegunByLines, IsMadeByLines}
 
@@ -50,27 +50,27 @@ records_of_lines size last (wish cpu ∷ lines) = records_of_lines size last lin
 records_of_lines size last (deliver collector cpu fill ∷ lines) = records_of_lines size last lines
 
 -- a `w` or a `c` line
-abbrev pub IsWhole : Command → Type 0
-IsWhole (begin_frame cpu moment payload) = ⊥
-IsWhole (step_frame cpu count) = ⊥
-IsWhole (finish_frame cpu) = ⊥
-IsWhole (write cpu moment payload) = ⊤
-IsWhole (close cpu) = ⊤
-IsWhole (step_reader cpu count) = ⊥
-IsWhole (take_page cpu) = ⊥
-IsWhole (wish cpu) = ⊥
-IsWhole (deliver collector cpu fill) = ⊥
+abbrev pub WritesOrCloses : Command → Type 0
+WritesOrCloses (begin_frame cpu moment payload) = ⊥
+WritesOrCloses (step_frame cpu count) = ⊥
+WritesOrCloses (finish_frame cpu) = ⊥
+WritesOrCloses (write cpu moment payload) = ⊤
+WritesOrCloses (close cpu) = ⊤
+WritesOrCloses (step_reader cpu count) = ⊥
+WritesOrCloses (take_page cpu) = ⊥
+WritesOrCloses (wish cpu) = ⊥
+WritesOrCloses (deliver collector cpu fill) = ⊥
 
-abbrev pub AreWhole : List Command → Type 0
-AreWhole [] = ⊤
-AreWhole (line ∷ lines) = IsWhole line × AreWhole lines
+abbrev pub AllWriteOrClose : List Command → Type 0
+AllWriteOrClose [] = ⊤
+AllWriteOrClose (line ∷ lines) = WritesOrCloses line × AllWriteOrClose lines
 
 -- ---- laws
 
 -- Fills that are begun are at most one more than the records, since each fill but the last has a record; and at most
 -- the records if the tail has one.
 abbrev pub FillsAreFew : Type 0
-FillsAreFew = (n size start : ℕ) (events : List Deed) (w : Window)
+FillsAreFew = (n size start : ℕ) (events : List RingEvent) (w : Window)
     → WindowRun n start events w
     → IsPacked (actions_of events) size
     → (w.opened ≤ start + length (reserved_records (actions_of events)) + 1)
@@ -87,9 +87,9 @@ pub record IsAtRest (p : LineState) : Type 0 where
 -- refused for want of a page; and only if records have taken the numbers of fills is it refused for want of a number.
 abbrev pub LinesFromRestCommit : Type 0
 LinesFromRestCommit = (n size start : ℕ) (lines : List Command) (line : Command) (p q : LineState)
-    (events more : List Deed)
+    (events more : List RingEvent)
     → MIN_PAGES ≤ n
-    → IsWhole line
+    → WritesOrCloses line
     → LineParts n size lines (first_state start) events p
     → IsAtRest p
     → LinePart n size line p more q
@@ -106,7 +106,7 @@ LinesFromRestCommit = (n size start : ℕ) (lines : List Command) (line : Comman
 abbrev pub WholeLinesCommit : Type 0
 WholeLinesCommit = (n size start : ℕ) (lines : List Command) (history : List Action)
     → MIN_PAGES ≤ n
-    → AreWhole lines
+    → AllWriteOrClose lines
     → start + length lines + n ≤ LINK_FILLS
     → IsHistory history
     → IsPacked history size
@@ -117,7 +117,7 @@ WholeLinesCommit = (n size start : ℕ) (lines : List Command) (history : List A
 abbrev pub WholeLinesHaveCommitted : Type 0
 WholeLinesHaveCommitted = (n size start : ℕ) (lines : List Command) (history : List Action)
     → MIN_PAGES ≤ n
-    → AreWhole lines
+    → AllWriteOrClose lines
     → start + length lines + n ≤ LINK_FILLS
     → IsHistory history
     → IsPacked history size

@@ -35,7 +35,7 @@ use Rattle.ring_shared.specs.Value.{WriterValue}
 use Rattle.ring_shared.specs.Calls.{IsWriter, IsCall, MakesSome}
 use Rattle.ring_shared.specs.Lending.{with_slot_payload, FitsFrame}
 use Rattle.ring_shared.specs.Nearer.{rank_of, IsNearer}
-use Rattle.ring_shared.proofs.Aims.{frames_of}
+use Rattle.ring_shared.proofs.Targets.{frames_of}
 use Rattle.ring_shared.proofs.PushedEnded.{HasEnded, end_answers}
 use Rattle.ring_shared.proofs.WholeWrites.{HasReservedTop, reserved_top}
 use Rattle.line_writer.specs.declared.frames.LineWriter.{LineWriter}

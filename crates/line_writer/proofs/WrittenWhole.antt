@@ -19,7 +19,7 @@ use Rattle.ring_steps.specs.declared.rule.Shape.{Shape}
 use Rattle.ring_steps.specs.Views.{Writing}
 use Rattle.ring_shared.specs.Value.{WriterValue, SameWriter}
 use Rattle.ring_shared.specs.Calls.{IsWriter, IsCall}
-use Rattle.ring_shared.specs.Finishing.{GoesOn, at_once, one_more, Leaves, is_gone, was_refused}
+use Rattle.ring_shared.specs.Finishing.{MakesSteps, at_once, one_more, Leaves, is_gone, was_refused}
 use Rattle.ring_shared.specs.WholeWrites.{GoesAway, IsWritten, IsRefusedAmid, IsRefusedWrite}
 use Rattle.ring_shared.proofs.Finishes.{IsAmidReserving, reserving_first, reserving_on, IsAmidLeaving, leaving_first, leaving_going}
 use Rattle.ring_shared.proofs.WholeWrites.{HasBegun, has_begun, HasTopRecord, reserved_so, left_full, leaves_below}
@@ -112,7 +112,7 @@ module _ (shape : Shape) (below : List Frame) (payload : List ℕ) (payloads : L
   reserving : (frame : Frame) (from now : Writing)
       → from.frames ≡ frame ∷ below
       → IsReserving frame.kind frame.state
-      → GoesOn shape from now
+      → MakesSteps shape from now
       → IsAmidReserving shape frame.kind below from now × Stands from now
   reserving frame from _ top is at_once = (reserving_first shape frame below from top is, stands_first from)
   reserving frame from _ top is (one_more between after goes call) =
@@ -129,7 +129,7 @@ module _ (shape : Shape) (below : List Frame) (payload : List ℕ) (payloads : L
       → Stands from start
       → start.frames ≡ frame ∷ below
       → IsLeaving frame.kind frame.state
-      → GoesOn shape start now
+      → MakesSteps shape start now
       → IsAmidLeaving shape below start None now × Stands from now
   leaving frame from start _ s top is at_once = (leaving_first shape frame below start top is, s)
   leaving frame from start _ s top is (one_more between after goes call) =

@@ -6,7 +6,7 @@ use Rattle.trace_model.specs.declared.numbers.FillNo.{FillNo}
 use Rattle.trace_model.specs.History.{committed_records}
 use Rattle.script_model.specs.Script.{Command}
 use Rattle.line_model.specs.Lines.{writer_lines, IsMadeByLines}
-use Rattle.line_model.specs.WrittenRecords.{AreWhole, records_of_lines}
+use Rattle.line_model.specs.WrittenRecords.{AllWriteOrClose, records_of_lines}
 use Rattle.line_model.specs.ReplayedLines.{commands_of}
 use Rattle.ring_shared.specs.Value.{WriterValue, SameWriter}
 use Rattle.line_writer.specs.declared.gate.Who.{Who}
@@ -28,7 +28,7 @@ pub record HasObeyed (cpu : ℕ) (commands : List (ℕ × Command)) (before afte
   pub at_rest : after.part.frames ≡ []
   pub made : IsMadeByLines before.shape.pages before.shape.size before.shape.start
       (writer_lines cpu (commands_of commands)) after.part.history
-  pub committed : AreWhole (writer_lines cpu (commands_of commands))
+  pub committed : AllWriteOrClose (writer_lines cpu (commands_of commands))
       → before.shape.start + length (writer_lines cpu (commands_of commands)) + before.shape.pages ≤ LINK_FILLS
       → committed_records after.part.history
       ≡ records_of_lines before.shape.size 0 (writer_lines cpu (commands_of commands))

@@ -4,7 +4,7 @@ use Rattle.trace_model.specs.History.{Action, push, push_close, open_fill, reser
 use Rattle.trace_model.specs.Packing.{opens_of}
 use Rattle.trace_model.specs.Frames.{Kind, for_record, for_close, FrameState, waiting, reserved, left, Phase, idle, looking, claiming, looking_next, marking, clearing, opening, releasing, wishing, Frame}
 use Rattle.trace_model.specs.Ring.{ReaderPhase, loading_link, loading_done, storing_link, swapping, Core}
-use Rattle.trace_model.specs.Steps.{Event, Answer, with_new_tail, after_begin, BeginsAnew, IdleStep, ReserveStep, reserves, finds_nothing, is_crowded, is_worn, notes, look_late, sees_free, sees_header, sees_update, claim_late, claims, claim_fails, next_late, sees_normal, sees_other, mark_late, marks, mark_fails, clears, open_late, opens, releases, releases_last, grants, closes_more, goes_away, FrameStep, Step, push_step, push_refused, close_step, close_refused, frame_step, frame_lacks, end_step, end_lacks, end_early, read_step, wish_step, loads_header, loads_update, loads_owed, loads_passed, finds_none, finds_closed, swaps, swap_fails, ReadStep}
+use Rattle.trace_model.specs.Steps.{Event, Answer, with_new_tail, after_begin, BeginsAgain, IdleStep, ReserveStep, reserves, finds_nothing, is_crowded, is_worn, notes, look_late, sees_free, sees_header, sees_update, claim_late, claims, claim_fails, next_late, sees_normal, sees_other, mark_late, marks, mark_fails, clears, open_late, opens, releases, releases_last, grants, closes_more, goes_away, FrameStep, Step, push_step, push_refused, close_step, close_refused, frame_step, frame_lacks, end_step, end_lacks, end_early, read_step, wish_step, loads_header, loads_update, loads_owed, loads_passed, finds_none, finds_closed, swaps, swap_fails, ReadStep}
 use Rattle.trace_model.proofs.NextAction.{settled_at_rest}
 use Rattle.trace_model.proofs.FillCuts.{opens_of-open_fill}
 use Rattle.trace_model.proofs.FillFirsts.{first_below}
@@ -36,8 +36,8 @@ module _ (n start : ℕ) (c : Core) (k : LinksKept n c) (t : ContentsKept n star
       (let low = counted in omega (arith, ap (length {A = ℕ}) (opens_of-open_fill c.history), length-append (opens_of c.history) (length (reserved_records c.history) ∷ [])))
       (closed_more open_fill)
 
-  anew : (frame : Frame) (below : List Frame) (noted : ℕ) (answer : Answer) (after : Core) → BeginsAnew c frame below noted answer after → ClosedKept start after
-  anew frame below noted answer after step = subst (ClosedKept start) (sym step.after_is) (closed_begun frame.kind frame.state frame below)
+  again : (frame : Frame) (below : List Frame) (noted : ℕ) (answer : Answer) (after : Core) → BeginsAgain c frame below noted answer after → ClosedKept start after
+  again frame below noted answer after step = subst (ClosedKept start) (sym step.after_is) (closed_begun frame.kind frame.state frame below)
 
   -- a fill is closed, with no frame that writes
   closed_released : is_settled c.history ≡ true → c.done + 1 < c.opened → ClosedAt start c.history (c.done + 1)
@@ -59,21 +59,21 @@ module _ (n size start : ℕ) (c : Core) (frame : Frame) (below : List Frame) (k
 
   closed_frame : (phase : Phase) (answer : Answer) (after : Core) → frame.phase ≡ phase → FrameStep n size c frame below phase answer after → ClosedKept start after
   closed_frame idle answer after same step = closed_idle frame.state answer after step
-  closed_frame (looking noted) answer after same (look_late step) = anew n start c k t z frame below noted answer after step
+  closed_frame (looking noted) answer after same (look_late step) = again n start c k t z frame below noted answer after step
   closed_frame (looking noted) answer after same (sees_free page now at a is) = subst (ClosedKept start) (sym is) z
   closed_frame (looking noted) answer after same (sees_header page lost now sum at a is) = subst (ClosedKept start) (sym is) z
   closed_frame (looking noted) answer after same (sees_update page lost now sum at a is) = subst (ClosedKept start) (sym is) z
-  closed_frame (claiming noted page) answer after same (claim_late step) = anew n start c k t z frame below noted answer after step
+  closed_frame (claiming noted page) answer after same (claim_late step) = again n start c k t z frame below noted answer after step
   closed_frame (claiming noted page) answer after same (claims lost now sum at a is) = subst (ClosedKept start) (sym is) z
   closed_frame (claiming noted page) answer after same (claim_fails now other a is) = subst (ClosedKept start) (sym is) z
-  closed_frame (looking_next role noted page) answer after same (next_late helps step) = anew n start c k t z frame below noted answer after step
+  closed_frame (looking_next role noted page) answer after same (next_late helps step) = again n start c k t z frame below noted answer after step
   closed_frame (looking_next role noted page) answer after same (sees_normal lost next goes_on sum at a is) = subst (ClosedKept start) (sym is) z
   closed_frame (looking_next role noted page) answer after same (sees_other lost goes_on sum other a is) = subst (ClosedKept start) (sym is) z
-  closed_frame (marking role noted page next) answer after same (mark_late helps step) = anew n start c k t z frame below noted answer after step
+  closed_frame (marking role noted page next) answer after same (mark_late helps step) = again n start c k t z frame below noted answer after step
   closed_frame (marking role noted page next) answer after same (marks lost goes_on sum at a is) = subst (ClosedKept start) (sym is) z
   closed_frame (marking role noted page next) answer after same (mark_fails lost goes_on sum other a is) = subst (ClosedKept start) (sym is) z
   closed_frame (clearing noted page) answer after same (clears lost sum at a is) = subst (ClosedKept start) (sym is) z
-  closed_frame (opening noted page) answer after same (open_late step) = anew n start c k t z frame below noted answer after step
+  closed_frame (opening noted page) answer after same (open_late step) = again n start c k t z frame below noted answer after step
   closed_frame (opening noted page) answer after same (opens now a is) = subst (ClosedKept start) (sym is) (closed_opened n start c k t z frame.kind frame.state page frame below)
   closed_frame releasing answer after same (releases alone more a is) = subst (ClosedKept start) (sym is)
       (closed_released n start c k t z (settled_at_rest c.history (rest_releasing n size start c frame below k s h top same)) (omega arith))

@@ -3,8 +3,8 @@ use Rattle.std.proofs.Common.{◌≡◌, ◌≢◌, ℕ, ◌+◌, ◌-◌, ◌�
 use Rattle.trace_model.specs.History.{Action, push, push_close, open_fill, reserve, leave, wished, Reservation, writer_after, reserved_records, records_with_payload}
 use Rattle.trace_model.specs.Packing.{opens_of}
 use Rattle.trace_model.specs.Frames.{Kind, for_record, for_close, FrameState, waiting, reserved, left, Phase, idle, looking, claiming, looking_next, marking, clearing, opening, releasing, wishing, Frame, pushed_onto, pushed_frames}
-use Rattle.trace_model.specs.Ring.{Held, ReaderPhase, loading_link, loading_done, storing_link, swapping, Core, page_at, AreApart}
-use Rattle.trace_model.specs.Steps.{Event, Answer, tail_page, after_leave, held_with_payload, own_number, with_new_tail, after_begin, BeginsAnew, IdleStep, ReserveStep, reserves, finds_nothing, is_crowded, is_worn, notes, look_late, sees_free, sees_header, sees_update, claim_late, claims, claim_fails, next_late, sees_normal, sees_other, mark_late, marks, mark_fails, clears, OpenStep, open_late, opens, releases, releases_last, grants, closes_more, goes_away, FrameStep, Step, push_step, push_refused, close_step, close_refused, frame_step, frame_lacks, end_step, end_lacks, end_early, read_step, wish_step, LoadStep, loads_header, loads_update, loads_owed, loads_passed, LoadDoneStep, finds_none, finds_closed, SwapStep, swaps, swap_fails, ReadStep, after_swap}
+use Rattle.trace_model.specs.Ring.{PageRecords, ReaderPhase, loading_link, loading_done, storing_link, swapping, Core, page_at, AreApart}
+use Rattle.trace_model.specs.Steps.{Event, Answer, tail_page, after_leave, held_with_payload, own_number, with_new_tail, after_begin, BeginsAgain, IdleStep, ReserveStep, reserves, finds_nothing, is_crowded, is_worn, notes, look_late, sees_free, sees_header, sees_update, claim_late, claims, claim_fails, next_late, sees_normal, sees_other, mark_late, marks, mark_fails, clears, OpenStep, open_late, opens, releases, releases_last, grants, closes_more, goes_away, FrameStep, Step, push_step, push_refused, close_step, close_refused, frame_step, frame_lacks, end_step, end_lacks, end_early, read_step, wish_step, LoadStep, loads_header, loads_update, loads_owed, loads_passed, LoadDoneStep, finds_none, finds_closed, SwapStep, swaps, swap_fails, ReadStep, after_swap}
 use Rattle.trace_model.proofs.NextAction.{opened_stack}
 use Rattle.trace_model.proofs.NextRecords.{records_snoc, records_reserved, records_left_by}
 use Rattle.trace_model.proofs.FillCuts.{opens_of-push, opens_of-push_close, opens_of-reserve, opens_of-leave, opens_of-wished, opens_of-open_fill}
@@ -19,7 +19,7 @@ use Rattle.link_marks.proofs.OpenPageSteps.{tail_page_is}
 use Rattle.link_marks.proofs.PageChanges.{nothing, pages_later, pages_reserved, pages_begun, pages_finished, pages_swapped}
 
 -- the same cuts and records, by equations
-same_pages : (n start : ℕ) (order : List ℕ) (held : List Held) (cuts cuts' : List ℕ) (xs xs' : List Reservation) (head opened : ℕ) → cuts' ≡ cuts → xs' ≡ xs → PagesKept n start order held cuts xs head opened → PagesKept n start order held cuts' xs' head opened
+same_pages : (n start : ℕ) (order : List ℕ) (held : List PageRecords) (cuts cuts' : List ℕ) (xs xs' : List Reservation) (head opened : ℕ) → cuts' ≡ cuts → xs' ≡ xs → PagesKept n start order held cuts xs head opened → PagesKept n start order held cuts' xs' head opened
 same_pages n start order held cuts cuts' xs xs' head opened a b k = subst (λ (l : List ℕ). PagesKept n start order held l xs' head opened) (sym a) (subst (λ (l : List Reservation). PagesKept n start order held cuts l head opened) (sym b) k)
 
 module _ (n start : ℕ) (c : Core) (frame : Frame) (below : List Frame) (some : 1 ≤ n) (a : AreApart n c.order c.spare) (t : ContentsKept n start c) (stack : (writer_after c.history).stack ≡ pushed_onto frame.kind frame.state (pushed_frames below)) where
@@ -46,12 +46,12 @@ module _ (n size start : ℕ) (c : Core) (frame : Frame) (below : List Frame) (k
   contents_leaves : (after : Core) (state : FrameState) (payload : Option (List ℕ)) → frame.state ≡ state → state ≢ left → after ≡ after_leave c frame below payload → ContentsKept n start after
   contents_leaves after state payload same stands is = subst (ContentsKept n start) (sym is) (contents_leave n start c frame below some_page k.apart t stack_top state payload same stands)
 
-  contents_anew : (noted : ℕ) (answer : Answer) (after : Core) → BeginsAnew c frame below noted answer after → ContentsKept n start after
-  contents_anew noted answer after step = subst (ContentsKept n start) (sym step.after_is) (contents_after_begin n start c frame below some_page k.apart t stack_top frame.kind frame.state refl)
+  contents_again : (noted : ℕ) (answer : Answer) (after : Core) → BeginsAgain c frame below noted answer after → ContentsKept n start after
+  contents_again noted answer after step = subst (ContentsKept n start) (sym step.after_is) (contents_after_begin n start c frame below some_page k.apart t stack_top frame.kind frame.state refl)
 
   contents_reserve : (answer : Answer) (after : Core) → frame.state ≡ waiting → ReserveStep n size c frame below answer after → ContentsKept n start after
   contents_reserve answer after same (reserves moment len r kind r_is fits a is) = let unread = k.head_le in let behind = k.done_lt in
-      let held_on : (page : ℕ) → List Held = λ page. set c.held page record { first = (get_or c.held page nothing).first; records = (get_or c.held page nothing).records ++ r ∷ [] } in
+      let held_on : (page : ℕ) → List PageRecords = λ page. set c.held page record { first = (get_or c.held page nothing).first; records = (get_or c.held page nothing).records ++ r ∷ [] } in
       subst (ContentsKept n start) (sym is) (same_pages n start c.order (held_on (tail_page c)) (opens_of c.history) (opens_of (c.history ++ reserve ∷ [])) (reserved_records c.history ++ r ∷ []) (reserved_records (c.history ++ reserve ∷ [])) c.head c.opened
       (opens_of-reserve c.history)
       (records_reserved c.history moment len (pushed_frames below) (stack_top ∙ ap (λ (s : FrameState). pushed_onto frame.kind s (pushed_frames below)) same ∙ ap (λ (x : Kind). pushed_onto x waiting (pushed_frames below)) kind)
@@ -69,12 +69,12 @@ module _ (n size start : ℕ) (c : Core) (frame : Frame) (below : List Frame) (k
   contents_idle left answer after same step = absurd step
 
   contents_open : (noted page : ℕ) (answer : Answer) (after : Core) → frame.phase ≡ opening noted page → OpenStep n c frame below noted page answer after → ContentsKept n start after
-  contents_open noted page answer after same (open_late step) = contents_anew noted answer after step
+  contents_open noted page answer after same (open_late step) = contents_again noted answer after step
   contents_open noted page answer after same (opens now a is) =
       let (open_yet, inside, page_is) = (subst (PhaseKept n c.links c.order c.head c.done c.opened) same (top_kept n c frame below k top)).passed noted page refl in
       let unread = k.head_le in let behind = k.done_lt in
       let there : page ≡ page_at n c.order c.opened = page_is ∙ ap (page_at n c.order) now in
-      let held : List Held = set c.held page record { first = length (reserved_records c.history); records = [] } in
+      let held : List PageRecords = set c.held page record { first = length (reserved_records c.history); records = [] } in
       let begun_pages : PagesKept n start c.order held (opens_of c.history ++ length (reserved_records c.history) ∷ []) (reserved_records c.history) c.head (c.opened + 1) =
       subst (λ (p : ℕ). PagesKept n start c.order (set c.held p record { first = length (reserved_records c.history); records = [] }) (opens_of c.history ++ length (reserved_records c.history) ∷ []) (reserved_records c.history) c.head (c.opened + 1)) (sym there)
       (pages_begun n start c.order c.spare c.held (opens_of c.history) (reserved_records c.history) c.head c.opened some_page k.apart t (omega arith) (omega arith)) in
@@ -90,18 +90,18 @@ module _ (n size start : ℕ) (c : Core) (frame : Frame) (below : List Frame) (k
 
   contents_frame : (phase : Phase) (answer : Answer) (after : Core) → frame.phase ≡ phase → FrameStep n size c frame below phase answer after → ContentsKept n start after
   contents_frame idle answer after same step = contents_idle frame.state answer after refl step
-  contents_frame (looking noted) answer after same (look_late step) = contents_anew noted answer after step
+  contents_frame (looking noted) answer after same (look_late step) = contents_again noted answer after step
   contents_frame (looking noted) answer after same (sees_free page now at a is) = subst (ContentsKept n start) (sym is) t
   contents_frame (looking noted) answer after same (sees_header page lost now sum at a is) = subst (ContentsKept n start) (sym is) t
   contents_frame (looking noted) answer after same (sees_update page lost now sum at a is) = subst (ContentsKept n start) (sym is) t
-  contents_frame (claiming noted page) answer after same (claim_late step) = contents_anew noted answer after step
+  contents_frame (claiming noted page) answer after same (claim_late step) = contents_again noted answer after step
   contents_frame (claiming noted page) answer after same (claims lost now sum at a is) = subst (ContentsKept n start) (sym is)
       (pages_later n start c.order c.spare c.held (opens_of c.history) (reserved_records c.history) c.head c.opened some_page k.apart t (c.head + 1) (omega arith))
   contents_frame (claiming noted page) answer after same (claim_fails now other a is) = subst (ContentsKept n start) (sym is) t
-  contents_frame (looking_next role noted page) answer after same (next_late helps step) = contents_anew noted answer after step
+  contents_frame (looking_next role noted page) answer after same (next_late helps step) = contents_again noted answer after step
   contents_frame (looking_next role noted page) answer after same (sees_normal lost next goes_on sum at a is) = subst (ContentsKept n start) (sym is) t
   contents_frame (looking_next role noted page) answer after same (sees_other lost goes_on sum other a is) = subst (ContentsKept n start) (sym is) t
-  contents_frame (marking role noted page next) answer after same (mark_late helps step) = contents_anew noted answer after step
+  contents_frame (marking role noted page next) answer after same (mark_late helps step) = contents_again noted answer after step
   contents_frame (marking role noted page next) answer after same (marks lost goes_on sum at a is) = subst (ContentsKept n start) (sym is) t
   contents_frame (marking role noted page next) answer after same (mark_fails lost goes_on sum other a is) = subst (ContentsKept n start) (sym is) t
   contents_frame (clearing noted page) answer after same (clears lost sum at a is) = subst (ContentsKept n start) (sym is) t

@@ -3,8 +3,8 @@ use Rattle.std.proofs.Common.{◌≡◌, ℕ, ◌+◌, ◌⊎◌, IsTrue, List, 
 use Rattle.trace_model.specs.History.{is_settled}
 use Rattle.trace_model.specs.Frames.{Kind, for_record, for_close, FrameState, waiting, reserved, left, Role, Phase, idle, looking, claiming, looking_next, marking, clearing, opening, releasing, wishing, Frame}
 use Rattle.trace_model.specs.Ring.{ReaderPhase, loading_link, loading_done, storing_link, swapping, Core, window_of}
-use Rattle.trace_model.specs.Window.{Window, Happening, opened_one, released_one, took_one, lost_one, WindowStep}
-use Rattle.trace_model.specs.Steps.{Event, Answer, with_new_tail, after_begin, taken_fill, BeginsAnew, ReserveStep, reserves, finds_nothing, is_crowded, is_worn, notes, LookStep, look_late, sees_free, sees_header, sees_update, ClaimStep, claim_late, claims, claim_fails, NextStep, next_late, sees_normal, sees_other, MarkStep, mark_late, marks, mark_fails, ClearStep, clears, OpenStep, open_late, opens, ReleaseStep, releases, releases_last, WishStep, grants, closes_more, goes_away, IdleStep, FrameStep, loads_header, loads_update, loads_owed, loads_passed, finds_none, finds_closed, swaps, swap_fails, ReadStep, Step, push_step, push_refused, close_step, close_refused, frame_step, frame_lacks, end_step, end_lacks, end_early, read_step, wish_step}
+use Rattle.trace_model.specs.Window.{Window, WindowEvent, opened_one, released_one, took_one, lost_one, WindowStep}
+use Rattle.trace_model.specs.Steps.{Event, Answer, with_new_tail, after_begin, taken_fill, BeginsAgain, ReserveStep, reserves, finds_nothing, is_crowded, is_worn, notes, LookStep, look_late, sees_free, sees_header, sees_update, ClaimStep, claim_late, claims, claim_fails, NextStep, next_late, sees_normal, sees_other, MarkStep, mark_late, marks, mark_fails, ClearStep, clears, OpenStep, open_late, opens, ReleaseStep, releases, releases_last, WishStep, grants, closes_more, goes_away, IdleStep, FrameStep, loads_header, loads_update, loads_owed, loads_passed, finds_none, finds_closed, swaps, swap_fails, ReadStep, Step, push_step, push_refused, close_step, close_refused, frame_step, frame_lacks, end_step, end_lacks, end_early, read_step, wish_step}
 use Rattle.link_marks.specs.KeptLinks.{LinksKept}
 use Rattle.link_marks.specs.WindowLaws.{HeadIsTaken, HeadIsLost, LossesNeedAFullRing, ClosesNeedNoFrame}
 use Rattle.link_marks.proofs.LinkFills.{header_tells, header_inside, fill_at}
@@ -25,8 +25,8 @@ abbrev DoneMoves : Core → Core → Type 0
 DoneMoves c after = (after.done ≡ c.done) ⊎ (IsTrue (is_settled c.history) × (after.done ≡ c.done + 1))
 
 module _ (n size : ℕ) (c : Core) (frame : Frame) (below : List Frame) (answer : Answer) (after : Core) (k : LinksKept n c) (top : c.frames ≡ frame ∷ below) where
-  stays_anew : (noted : ℕ) → BeginsAnew c frame below noted answer after → HeadMoves n c answer after
-  stays_anew noted step = inl (ap (λ (s : Core). s.head) step.after_is ∙ after_begin_head frame.kind frame.state c frame below)
+  stays_again : (noted : ℕ) → BeginsAgain c frame below noted answer after → HeadMoves n c answer after
+  stays_again noted step = inl (ap (λ (s : Core). s.head) step.after_is ∙ after_begin_head frame.kind frame.state c frame below)
 
   stays : (next : Core) → next.head ≡ c.head → after ≡ next → HeadMoves n c answer after
   stays next same is = inl (ap (λ (s : Core). s.head) is ∙ same)
@@ -39,13 +39,13 @@ module _ (n size : ℕ) (c : Core) (frame : Frame) (below : List Frame) (answer 
   reserve_moves (notes needs room small a is) = stays _ refl is
 
   look_moves : (noted : ℕ) → LookStep n c frame below noted answer after → HeadMoves n c answer after
-  look_moves noted (look_late step) = stays_anew noted step
+  look_moves noted (look_late step) = stays_again noted step
   look_moves noted (sees_free page now at a is) = stays _ refl is
   look_moves noted (sees_header page lost now sum at a is) = stays _ refl is
   look_moves noted (sees_update page lost now sum at a is) = stays _ refl is
 
   claim_moves : (noted page : ℕ) → ClaimStep n c frame below noted page answer after → HeadMoves n c answer after
-  claim_moves noted page (claim_late step) = stays_anew noted step
+  claim_moves noted page (claim_late step) = stays_again noted step
   claim_moves noted page (claims lost now sum at a is) =
       let unread = k.head_le in let behind = k.done_lt in let within = k.opened_le in
       let (here, page_is, head_at) = header_inside n c k noted page lost (omega arith) (omega arith) sum at in
@@ -53,12 +53,12 @@ module _ (n size : ℕ) (c : Core) (frame : Frame) (below : List Frame) (answer 
   claim_moves noted page (claim_fails now other a is) = stays _ refl is
 
   next_moves : (role : Role) (noted page : ℕ) → NextStep n c frame below role noted page answer after → HeadMoves n c answer after
-  next_moves role noted page (next_late helps step) = stays_anew noted step
+  next_moves role noted page (next_late helps step) = stays_again noted step
   next_moves role noted page (sees_normal lost next on sum at a is) = stays _ refl is
   next_moves role noted page (sees_other lost on sum other a is) = stays _ refl is
 
   mark_moves : (role : Role) (noted page next : ℕ) → MarkStep n c frame below role noted page next answer after → HeadMoves n c answer after
-  mark_moves role noted page next (mark_late helps step) = stays_anew noted step
+  mark_moves role noted page next (mark_late helps step) = stays_again noted step
   mark_moves role noted page next (marks lost on sum at a is) = stays _ refl is
   mark_moves role noted page next (mark_fails lost on sum other a is) = stays _ refl is
 
@@ -66,7 +66,7 @@ module _ (n size : ℕ) (c : Core) (frame : Frame) (below : List Frame) (answer 
   clear_moves noted page (clears lost sum at a is) = stays _ refl is
 
   open_moves : (noted page : ℕ) → OpenStep n c frame below noted page answer after → HeadMoves n c answer after
-  open_moves noted page (open_late step) = stays_anew noted step
+  open_moves noted page (open_late step) = stays_again noted step
   open_moves noted page (opens now a is) = inl (ap (λ (s : Core). s.head) is ∙ after_begin_head frame.kind frame.state (with_new_tail c page) frame below)
 
   release_moves : ReleaseStep c frame below answer after → HeadMoves n c answer after
@@ -132,7 +132,7 @@ pub closes_need_no_frame : ClosesNeedNoFrame
 closes_need_no_frame n size start c event answer after r step =
     ⊎_elim (λ same. inl (ap (λ (w : Window). w.done) same.0)) (λ one. by_what one.0 one.1.step) (step_owed n size start c event answer after r.links r.stack r.history step).window
   where
-    by_what : (what : Happening) → WindowStep n c.history (window_of c) what (window_of after) → DoneMoves c after
+    by_what : (what : WindowEvent) → WindowStep n c.history (window_of c) what (window_of after) → DoneMoves c after
     by_what opened_one w = inl (ap (λ (v : Window). v.done) w.after_is)
     by_what released_one w = inr (w.may.1, ap (λ (v : Window). v.done) w.after_is)
     by_what took_one w = inl (ap (λ (v : Window). v.done) w.after_is)

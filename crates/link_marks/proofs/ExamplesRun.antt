@@ -2,7 +2,7 @@
 use Rattle.std.proofs.Common.{◌≡◌, ℕ, zero, suc, ◌+◌, ◌%◌, ◌<◌, List, [], ◌∷◌, map, Option, Some, None, get_or, refl, arith, subst, ◌≤◌}
 use Rattle.trace_model.specs.Record.{Record}
 use Rattle.trace_model.specs.Links.{normal_link, header_link}
-use Rattle.trace_model.specs.Ring.{Held, Core, IsStart, link_into, loading_link}
+use Rattle.trace_model.specs.Ring.{PageRecords, Core, IsStart, link_into, loading_link}
 use Rattle.trace_model.specs.History.{committed_records}
 use Rattle.trace_model.specs.Steps.{Exchange, Run}
 use Rattle.link_marks.specs.Examples.{at, all, four, IsExample, first_record, FirstRecord, nested_writer, NestedWriter, inner_reserves_first, InnerReservesFirst, halted_head_move, HaltedHeadMove, helpers_at_the_head, HelpersAtTheHead, late_swap, LateSwap, wish_answered, WishAnswered, wish_waits_for_the_outermost, WishWaitsForTheOutermost}
@@ -10,7 +10,7 @@ use Rattle.link_marks.proofs.StepFunction.{Ran, run_of}
 use Rattle.link_marks.proofs.OneNewRing.{same_ring}
 use Rattle.link_marks.proofs.StepFunctionSound.{event_in, answer_in, Gives, run_sound}
 
-abbrev nothing : Held
+abbrev nothing : PageRecords
 nothing = record { first = 0; records = [] }
 
 abbrev pub two_pages : Core

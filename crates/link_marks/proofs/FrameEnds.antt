@@ -10,7 +10,7 @@ use Rattle.trace_model.specs.Fitting.{tail_at, NeedsFill}
 use Rattle.trace_model.specs.Links.{Mark, normal, header, update, Link, header_link}
 use Rattle.trace_model.specs.Frames.{Kind, for_record, for_close, FrameState, waiting, reserved, left, number_of, Role, owner, helper, Phase, idle, looking, claiming, looking_next, marking, clearing, opening, releasing, wishing, Frame, pushed_frames}
 use Rattle.trace_model.specs.Ring.{link_into, Core}
-use Rattle.trace_model.specs.Steps.{pushes, pushes_close, steps, ends, reads, wishes, Answer, NeedsPage, closing_phase, in_phase, after_leave, after_next, with_link, with_new_tail, after_begin, BeginsAnew, IdleStep, ReserveStep, reserves, finds_nothing, is_crowded, is_worn, notes, LookStep, look_late, sees_free, sees_header, sees_update, ClaimStep, claim_late, claims, claim_fails, NextStep, next_late, sees_normal, sees_other, MarkStep, mark_late, marks, mark_fails, ClearStep, clears, OpenStep, open_late, opens, ReleaseStep, releases, releases_last, WishStep, grants, closes_more, goes_away, FrameStep, push_step, push_refused, close_step, close_refused, frame_step, frame_lacks, end_step, end_lacks, end_early, read_step, wish_step}
+use Rattle.trace_model.specs.Steps.{pushes, pushes_close, steps, ends, reads, wishes, Answer, NeedsPage, closing_phase, in_phase, after_leave, after_next, with_link, with_new_tail, after_begin, BeginsAgain, IdleStep, ReserveStep, reserves, finds_nothing, is_crowded, is_worn, notes, LookStep, look_late, sees_free, sees_header, sees_update, ClaimStep, claim_late, claims, claim_fails, NextStep, next_late, sees_normal, sees_other, MarkStep, mark_late, marks, mark_fails, ClearStep, clears, OpenStep, open_late, opens, ReleaseStep, releases, releases_last, WishStep, grants, closes_more, goes_away, FrameStep, push_step, push_refused, close_step, close_refused, frame_step, frame_lacks, end_step, end_lacks, end_early, read_step, wish_step}
 use Rattle.trace_model.proofs.NextRecords.{records_snoc}
 use Rattle.trace_model.proofs.FillCuts.{opens_of-open_fill, opened_last}
 use Rattle.trace_model.proofs.PackedHistories.{tail_is, fit_open}
@@ -78,23 +78,23 @@ leave_le n c frame [] payload same = let low = closing_le n c left in
 leave_le n c frame (next ∷ below) payload same = absurd (let wrong : suc (length below) ≡ suc (suc (length below)) = same in omega arith)
 
 -- what a frame that begins again has before it, if an idle one has at most i, and one that closes fills at most w
-abbrev pub anew_rank : ℕ → ℕ → FrameState → ℕ
-anew_rank i w waiting = i
-anew_rank i w (reserved number) = 15
-anew_rank i w left = w
+abbrev pub again_rank : ℕ → ℕ → FrameState → ℕ
+again_rank i w waiting = i
+again_rank i w (reserved number) = 15
+again_rank i w left = w
 
-begin_le : (n : ℕ) (c : Core) (kind : Kind) (state : FrameState) (frame : Frame) (below : List Frame) (i w : ℕ) → frame.state ≡ state → tail_rank (tail_of c.history) ≤ i → wish_rank c + 1 ≤ w → w ≤ i → length (after_begin kind state c frame below).frames ≡ suc (length below) → frame_rank n (after_begin kind state c frame below) ≤ 3 * (c.opened - c.done) + anew_rank i w state
+begin_le : (n : ℕ) (c : Core) (kind : Kind) (state : FrameState) (frame : Frame) (below : List Frame) (i w : ℕ) → frame.state ≡ state → tail_rank (tail_of c.history) ≤ i → wish_rank c + 1 ≤ w → w ≤ i → length (after_begin kind state c frame below).frames ≡ suc (length below) → frame_rank n (after_begin kind state c frame below) ≤ 3 * (c.opened - c.done) + again_rank i w state
 begin_le n c (for_record moment len) waiting frame below i w same low wish_low le stays = subst (λ (s : FrameState). 3 * (c.opened - c.done) + idle_rank c s ≤ 3 * (c.opened - c.done) + i) (sym same) (omega arith)
 begin_le n c for_close waiting frame below i w same low wish_low le stays = let less = leave_le n c frame below None stays in omega arith
 begin_le n c kind (reserved number) frame below i w same low wish_low le stays = subst (λ (s : FrameState). 3 * (c.opened - c.done) + idle_rank c s ≤ 3 * (c.opened - c.done) + 15) (sym same) (omega arith)
 begin_le n c kind left frame below i w same low wish_low le stays = let less = closing_le n c frame.state in omega arith
 
-pub anew_lt : (state : FrameState) → anew_rank 34 13 state < state_rank state + 25
-anew_lt waiting = omega arith
-anew_lt (reserved number) = omega arith
-anew_lt left = omega arith
+pub again_lt : (state : FrameState) → again_rank 34 13 state < state_rank state + 25
+again_lt waiting = omega arith
+again_lt (reserved number) = omega arith
+again_lt left = omega arith
 
-pub opened_lt : (state : FrameState) → anew_rank 16 1 state + 3 < state_rank state + 5
+pub opened_lt : (state : FrameState) → again_rank 16 1 state + 3 < state_rank state + 5
 opened_lt waiting = omega arith
 opened_lt (reserved number) = omega arith
 opened_lt left = omega arith
@@ -167,13 +167,13 @@ module _ (n size start : ℕ) (c : Core) (frame : Frame) (below : List Frame) (r
       subst (λ (a : Core). frame_rank n a < frame_rank n c) (sym is)
       (subst (λ (m : ℕ). frame_rank n (after_leave c frame below payload) < m) (sym (old phase same)) (omega arith))
 
-  anew : (noted : ℕ) (answer : Answer) (after : Core) (phase : Phase) → frame.phase ≡ phase → state_rank frame.state + late_rank noted c.opened + 5 ≤ phase_rank n c frame.state phase → length after.frames ≡ length c.frames → BeginsAnew c frame below noted answer after → frame_rank n after < frame_rank n c
-  anew noted answer after phase same high stays step =
+  again : (noted : ℕ) (answer : Answer) (after : Core) (phase : Phase) → frame.phase ≡ phase → state_rank frame.state + late_rank noted c.opened + 5 ≤ phase_rank n c frame.state phase → length after.frames ≡ length c.frames → BeginsAgain c frame below noted answer after → frame_rank n after < frame_rank n c
+  again noted answer after phase same high stays step =
       let late = late_passed noted c.opened step.passed in
       let wish_low = wish_le c in
       let begun : Core = after_begin frame.kind frame.state c frame below in
       let low = begin_le n c frame.kind frame.state frame below 34 13 refl (let low = tail_le (tail_of c.history) in omega arith) (omega arith) (omega arith) (stands after begun step.after_is stays) in
-      let less = anew_lt frame.state in
+      let less = again_lt frame.state in
       subst (λ (a : Core). frame_rank n a < frame_rank n c) (sym step.after_is)
       (subst (λ (m : ℕ). frame_rank n begun < m) (sym (old phase same)) (omega arith))
 
@@ -207,13 +207,13 @@ module _ (n size start : ℕ) (c : Core) (frame : Frame) (below : List Frame) (r
       goes after idle (looking c.opened) same (omega arith) is
 
   look_lowers : (noted : ℕ) (answer : Answer) (after : Core) → frame.phase ≡ looking noted → length after.frames ≡ length c.frames → LookStep n c frame below noted answer after → frame_rank n after < frame_rank n c
-  look_lowers noted answer after same stays (look_late step) = anew noted answer after (looking noted) same (omega arith) stays step
+  look_lowers noted answer after same stays (look_late step) = again noted answer after (looking noted) same (omega arith) stays step
   look_lowers noted answer after same stays (sees_free page now at a is) = goes after (looking noted) (opening noted page) same (omega arith) is
   look_lowers noted answer after same stays (sees_header page lost now sum at a is) = let nine = claim_of (link_into n c.links noted) page lost at in goes after (looking noted) (claiming noted page) same (omega arith) is
   look_lowers noted answer after same stays (sees_update page lost now sum at a is) = goes after (looking noted) (looking_next helper noted page) same (omega arith) is
 
   claim_lowers : (noted page : ℕ) (answer : Answer) (after : Core) → frame.phase ≡ claiming noted page → length after.frames ≡ length c.frames → ClaimStep n c frame below noted page answer after → frame_rank n after < frame_rank n c
-  claim_lowers noted page answer after same stays (claim_late step) = let nine = claim_ge (link_into n c.links noted).mark ((link_into n c.links noted).page == page) in anew noted answer after (claiming noted page) same (omega arith) stays step
+  claim_lowers noted page answer after same stays (claim_late step) = let nine = claim_ge (link_into n c.links noted).mark ((link_into n c.links noted).page == page) in again noted answer after (claiming noted page) same (omega arith) stays step
   claim_lowers noted page answer after same stays (claims lost now sum at a is) =
       let nine = claim_of (link_into n c.links noted) page lost at in
       subst (λ (a : Core). frame_rank n a < frame_rank n c) (sym is)
@@ -224,7 +224,7 @@ module _ (n size start : ℕ) (c : Core) (frame : Frame) (below : List Frame) (r
       goes after (claiming noted page) (looking noted) same (omega arith) is
 
   next_lowers : (role : Role) (noted page : ℕ) (answer : Answer) (after : Core) → frame.phase ≡ looking_next role noted page → length after.frames ≡ length c.frames → NextStep n c frame below role noted page answer after → frame_rank n after < frame_rank n c
-  next_lowers role noted page answer after same stays (next_late helps step) = anew noted answer after (looking_next role noted page) same (omega arith) stays step
+  next_lowers role noted page answer after same stays (next_late helps step) = again noted answer after (looking_next role noted page) same (omega arith) stays step
   next_lowers role noted page answer after same stays (sees_normal lost next goes_on sum at a is) = goes after (looking_next role noted page) (marking role noted page next) same (omega arith) is
   next_lowers role noted page answer after same stays (sees_other lost goes_on sum other a is) = goes after (looking_next role noted page) (after_next role noted page) same (next_less role 8 (omega arith)) is
     where
@@ -233,7 +233,7 @@ module _ (n size start : ℕ) (c : Core) (frame : Frame) (below : List Frame) (r
       next_less helper m less = omega arith
 
   mark_lowers : (role : Role) (noted page next : ℕ) (answer : Answer) (after : Core) → frame.phase ≡ marking role noted page next → length after.frames ≡ length c.frames → MarkStep n c frame below role noted page next answer after → frame_rank n after < frame_rank n c
-  mark_lowers role noted page next answer after same stays (mark_late helps step) = anew noted answer after (marking role noted page next) same (omega arith) stays step
+  mark_lowers role noted page next answer after same stays (mark_late helps step) = again noted answer after (marking role noted page next) same (omega arith) stays step
   mark_lowers role noted page next answer after same stays (marks lost goes_on sum at a is) =
       subst (λ (a : Core). frame_rank n a < frame_rank n c) (sym is) (subst (λ (m : ℕ). frame_rank n (marked role) < m) (sym (old (marking role noted page next) same)) (less role))
     where
@@ -255,7 +255,7 @@ module _ (n size start : ℕ) (c : Core) (frame : Frame) (below : List Frame) (r
       (subst (λ (m : ℕ). 3 * (c.opened - c.done) + (state_rank frame.state + late_rank noted c.opened + 5) < m) (sym (old (clearing noted page) same)) (omega arith))
 
   open_lowers : (noted page : ℕ) (answer : Answer) (after : Core) → frame.phase ≡ opening noted page → length after.frames ≡ length c.frames → OpenStep n c frame below noted page answer after → frame_rank n after < frame_rank n c
-  open_lowers noted page answer after same stays (open_late step) = anew noted answer after (opening noted page) same (omega arith) stays step
+  open_lowers noted page answer after same stays (open_late step) = again noted answer after (opening noted page) same (omega arith) stays step
   open_lowers noted page answer after same stays (opens now a is) =
       let behind = k.done_lt in let seen_le = k.seen_le in let asks_le = k.wish_le in
       let grown : Core = with_new_tail c page in
@@ -263,7 +263,7 @@ module _ (n size start : ℕ) (c : Core) (frame : Frame) (below : List Frame) (r
       let unasked : wish_rank grown ≡ 0 = wish_none grown (λ e. let w : c.wish ≡ c.opened + 1 = e in omega arith) in
       let bare : tail_rank (tail_of grown.history) ≡ 16 = ap tail_rank (opened_tail c.history) in
       let low = begin_le n grown frame.kind frame.state frame below 16 1 refl (omega arith) (omega arith) (omega arith) (stands after begun is stays) in
-      let le : frame_rank n begun ≤ 3 * ((c.opened + 1) - c.done) + anew_rank 16 1 frame.state = low in
+      let le : frame_rank n begun ≤ 3 * ((c.opened + 1) - c.done) + again_rank 16 1 frame.state = low in
       let less = opened_lt frame.state in
       subst (λ (a : Core). frame_rank n a < frame_rank n c) (sym is)
       (subst (λ (m : ℕ). frame_rank n begun < m) (sym (old (opening noted page) same)) (omega arith))

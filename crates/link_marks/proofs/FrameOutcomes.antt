@@ -3,7 +3,7 @@ use Rattle.std.proofs.Common.{◌≡◌, ◌≢◌, ℕ, ◌⊎◌, List, [], �
 use Rattle.trace_model.specs.Frames.{Kind, for_record, for_close, FrameState, waiting, reserved, left, Refusal, crowded, worn, Role, owner, helper, Phase, idle, looking, claiming, looking_next, marking, clearing, opening, releasing, wishing, Frame}
 use Rattle.trace_model.specs.History.{reserved_records}
 use Rattle.trace_model.specs.Ring.{Core}
-use Rattle.trace_model.specs.Steps.{Answer, going, refused, leave_answer, frames_after_leave, after_next, begin_answer, after_begin, with_new_tail, BeginsAnew, IdleStep, reserves, finds_nothing, is_crowded, is_worn, notes, FrameStep, look_late, sees_free, sees_header, sees_update, claim_late, claims, claim_fails, next_late, sees_normal, sees_other, mark_late, marks, mark_fails, clears, open_late, opens, releases, releases_last, grants, closes_more, goes_away}
+use Rattle.trace_model.specs.Steps.{Answer, going, refused, leave_answer, frames_after_leave, after_next, begin_answer, after_begin, with_new_tail, BeginsAgain, IdleStep, reserves, finds_nothing, is_crowded, is_worn, notes, FrameStep, look_late, sees_free, sees_header, sees_update, claim_late, claims, claim_fails, next_late, sees_normal, sees_other, mark_late, marks, mark_fails, clears, open_late, opens, releases, releases_last, grants, closes_more, goes_away}
 use Rattle.link_marks.specs.FrameOutcomes.{IsReserving, IsLeaving, Reserving, reserves_on, has_reserved, is_refused, Leaving, leaves_on, is_gone, FramesReserve, FramesLeave}
 use Rattle.link_marks.proofs.StackSteps.{releasing_left, wishing_left, top_agrees}
 use Rattle.link_marks.proofs.TopSteps.{top_stepped}
@@ -33,18 +33,18 @@ module _ (frame : Frame) (below : List Frame) (is : IsReserving frame.kind frame
   in_phase_of : (next : Core) (answer : Answer) (after : Core) (frames : List Frame) (phase : Phase) → answer ≡ going → after ≡ next → next.frames ≡ record frame { phase = phase } ∷ below → Reserves answer after
   in_phase_of next answer after frames phase a e f = reserves_on (record frame { phase = phase }) a (ap (λ (c : Core). c.frames) e ∙ f) refl refl
 
-  reserving_anew : (kind : Kind) (state : FrameState) (c : Core) (answer : Answer) (after : Core) → kind ≡ frame.kind → state ≡ frame.state → answer ≡ begin_answer kind state below → after ≡ after_begin kind state c frame below → Reserves answer after
-  reserving_anew (for_record moment len) waiting c answer after k s a e = reserves_on (record frame { phase = idle }) a (ap (λ (d : Core). d.frames) e) refl refl
-  reserving_anew for_close waiting c answer after k s a e = absurd (subst (λ (x : Kind). IsReserving x waiting) (sym k) (subst (IsReserving frame.kind) (sym s) is))
-  reserving_anew kind (reserved number) c answer after k s a e = let both : waiting ≡ reserved number = sym (waits frame.kind frame.state is) ∙ sym s in absurd (cc)
-  reserving_anew kind left c answer after k s a e = let both : waiting ≡ left = sym (waits frame.kind frame.state is) ∙ sym s in absurd (cc)
+  reserving_again : (kind : Kind) (state : FrameState) (c : Core) (answer : Answer) (after : Core) → kind ≡ frame.kind → state ≡ frame.state → answer ≡ begin_answer kind state below → after ≡ after_begin kind state c frame below → Reserves answer after
+  reserving_again (for_record moment len) waiting c answer after k s a e = reserves_on (record frame { phase = idle }) a (ap (λ (d : Core). d.frames) e) refl refl
+  reserving_again for_close waiting c answer after k s a e = absurd (subst (λ (x : Kind). IsReserving x waiting) (sym k) (subst (IsReserving frame.kind) (sym s) is))
+  reserving_again kind (reserved number) c answer after k s a e = let both : waiting ≡ reserved number = sym (waits frame.kind frame.state is) ∙ sym s in absurd (cc)
+  reserving_again kind left c answer after k s a e = let both : waiting ≡ left = sym (waits frame.kind frame.state is) ∙ sym s in absurd (cc)
 
   module _ (n size : ℕ) (c : Core) (answer : Answer) (after : Core) where
     goes : (phase : Phase) (next : Core) → next.frames ≡ record frame { phase = phase } ∷ below → answer ≡ going → after ≡ next → Reserves answer after
     goes phase next f a e = in_phase_of next answer after next.frames phase a e f
 
-    reserving_late : (noted : ℕ) → BeginsAnew c frame below noted answer after → Reserves answer after
-    reserving_late noted late = reserving_anew frame.kind frame.state c answer after refl refl late.answer_is late.after_is
+    reserving_late : (noted : ℕ) → BeginsAgain c frame below noted answer after → Reserves answer after
+    reserving_late noted late = reserving_again frame.kind frame.state c answer after refl refl late.answer_is late.after_is
 
     reserving_idle : (state : FrameState) → frame.state ≡ state → IdleStep n size c frame below state answer after → Reserves answer after
     reserving_idle waiting at (reserves moment len r kind r_is fits a e) = has_reserved _ (length (reserved_records c.history)) a (ap (λ (d : Core). d.frames) e) refl refl
@@ -75,7 +75,7 @@ module _ (frame : Frame) (below : List Frame) (is : IsReserving frame.kind frame
     reserving_in (marking role noted page next) r w (mark_fails lost on sum differ a e) = reserving_next role noted page _ refl a e
     reserving_in (clearing noted page) r w (clears lost sum at a e) = goes (opening noted page) _ refl a e
     reserving_in (opening noted page) r w (open_late late) = reserving_late noted late
-    reserving_in (opening noted page) r w (opens now a e) = reserving_anew frame.kind frame.state (with_new_tail c page) answer after refl refl a e
+    reserving_in (opening noted page) r w (opens now a e) = reserving_again frame.kind frame.state (with_new_tail c page) answer after refl refl a e
     reserving_in releasing r w step = absurd (not_left frame.kind frame.state is (r refl))
     reserving_in wishing r w step = absurd (not_left frame.kind frame.state is (w refl))
 
@@ -92,18 +92,18 @@ module _ (frame : Frame) (below : List Frame) (is : IsLeaving frame.kind frame.s
   abbrev Leaves : Answer → Core → Type 0
   Leaves answer after = Leaving below answer after.frames
 
-  leaving_anew : (kind : Kind) (state : FrameState) (c : Core) (answer : Answer) (after : Core) → kind ≡ frame.kind → state ≡ frame.state → answer ≡ begin_answer kind state below → after ≡ after_begin kind state c frame below → Leaves answer after
-  leaving_anew (for_record moment len) waiting c answer after k s a e = absurd (subst (λ (x : Kind). IsLeaving x waiting) (sym k) (subst (IsLeaving frame.kind) (sym s) is))
-  leaving_anew for_close waiting c answer after k s a e = left_behind frame below c answer after below refl (inl a) (ap (λ (d : Core). d.frames) e)
-  leaving_anew kind (reserved number) c answer after k s a e = absurd (subst (IsLeaving frame.kind) (sym s) is)
-  leaving_anew kind left c answer after k s a e = leaves_on _ (inl a) (ap (λ (d : Core). d.frames) e) is
+  leaving_again : (kind : Kind) (state : FrameState) (c : Core) (answer : Answer) (after : Core) → kind ≡ frame.kind → state ≡ frame.state → answer ≡ begin_answer kind state below → after ≡ after_begin kind state c frame below → Leaves answer after
+  leaving_again (for_record moment len) waiting c answer after k s a e = absurd (subst (λ (x : Kind). IsLeaving x waiting) (sym k) (subst (IsLeaving frame.kind) (sym s) is))
+  leaving_again for_close waiting c answer after k s a e = left_behind frame below c answer after below refl (inl a) (ap (λ (d : Core). d.frames) e)
+  leaving_again kind (reserved number) c answer after k s a e = absurd (subst (IsLeaving frame.kind) (sym s) is)
+  leaving_again kind left c answer after k s a e = leaves_on _ (inl a) (ap (λ (d : Core). d.frames) e) is
 
   module _ (n size : ℕ) (c : Core) (answer : Answer) (after : Core) where
     goes_on : (phase : Phase) (next : Core) → next.frames ≡ record frame { phase = phase } ∷ below → answer ≡ going → after ≡ next → Leaves answer after
     goes_on phase next f a e = leaves_on (record frame { phase = phase }) (inl a) (ap (λ (d : Core). d.frames) e ∙ f) is
 
-    leaving_late : (noted : ℕ) → BeginsAnew c frame below noted answer after → Leaves answer after
-    leaving_late noted late = leaving_anew frame.kind frame.state c answer after refl refl late.answer_is late.after_is
+    leaving_late : (noted : ℕ) → BeginsAgain c frame below noted answer after → Leaves answer after
+    leaving_late noted late = leaving_again frame.kind frame.state c answer after refl refl late.answer_is late.after_is
 
     leaving_idle : (state : FrameState) → frame.state ≡ state → IdleStep n size c frame below state answer after → Leaves answer after
     leaving_idle waiting at (reserves moment len r kind r_is fits a e) = absurd (subst (λ (x : Kind). IsLeaving x waiting) kind (subst (IsLeaving frame.kind) at is))
@@ -131,7 +131,7 @@ module _ (frame : Frame) (below : List Frame) (is : IsLeaving frame.kind frame.s
     leaving_in (marking role noted page next) p top (mark_fails lost on sum differ a e) = goes_on (after_next role noted page) _ refl a e
     leaving_in (clearing noted page) p top (clears lost sum at a e) = goes_on (opening noted page) _ refl a e
     leaving_in (opening noted page) p top (open_late late) = leaving_late noted late
-    leaving_in (opening noted page) p top (opens now a e) = leaving_anew frame.kind frame.state (with_new_tail c page) answer after refl refl a e
+    leaving_in (opening noted page) p top (opens now a e) = leaving_again frame.kind frame.state (with_new_tail c page) answer after refl refl a e
     leaving_in releasing p top (releases alone more a e) = leaves_on frame (inl a) (ap (λ (d : Core). d.frames) e ∙ top) is
     leaving_in releasing p top (releases_last alone last a e) = goes_on wishing _ refl a e
     leaving_in wishing p top (grants alone granted a e) = goes_on (looking c.opened) _ refl a e

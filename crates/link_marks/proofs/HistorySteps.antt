@@ -8,11 +8,11 @@ use Rattle.trace_model.proofs.Allowed.{IsHistory-push}
 use Rattle.trace_model.proofs.NextAction.{writer_snoc, opened_stack, wished_stack, left_stack, reserved_stack, settled_at_rest}
 use Rattle.trace_model.specs.Links.{Link, header_link}
 use Rattle.trace_model.specs.Frames.{Kind, for_record, for_close, FrameState, waiting, reserved, left, Role, owner, helper, Phase, idle, looking, claiming, looking_next, marking, clearing, opening, releasing, wishing, Frame, pushed_frame, pushed_onto, pushed_frames}
-use Rattle.trace_model.specs.Window.{Happening, opened_one, released_one, took_one, lost_one}
+use Rattle.trace_model.specs.Window.{WindowEvent, opened_one, released_one, took_one, lost_one}
 use Rattle.trace_model.specs.Ring.{Taken, Reader, ReaderPhase, loading_link, loading_done, storing_link, swapping, Core, window_of}
-use Rattle.trace_model.specs.Steps.{Event, Answer, with_link, with_action, in_phase, closing_phase, after_leave, frames_after_leave, with_new_tail, after_begin, after_next, BeginsAnew, ReserveStep, reserves, finds_nothing, is_crowded, is_worn, notes, LookStep, look_late, sees_free, sees_header, sees_update, ClaimStep, claim_late, claims, claim_fails, NextStep, next_late, sees_normal, sees_other, MarkStep, mark_late, marks, mark_fails, ClearStep, clears, OpenStep, open_late, opens, ReleaseStep, releases, releases_last, WishStep, grants, closes_more, goes_away, IdleStep, FrameStep, Step, push_step, push_refused, close_step, close_refused, frame_step, frame_lacks, end_step, end_lacks, end_early, read_step, wish_step, LoadStep, loads_header, loads_update, loads_owed, loads_passed, LoadDoneStep, finds_none, finds_closed, SwapStep, swaps, swap_fails, ReadStep, taken_fill}
+use Rattle.trace_model.specs.Steps.{Event, Answer, with_link, with_action, in_phase, closing_phase, after_leave, frames_after_leave, with_new_tail, after_begin, after_next, BeginsAgain, ReserveStep, reserves, finds_nothing, is_crowded, is_worn, notes, LookStep, look_late, sees_free, sees_header, sees_update, ClaimStep, claim_late, claims, claim_fails, NextStep, next_late, sees_normal, sees_other, MarkStep, mark_late, marks, mark_fails, ClearStep, clears, OpenStep, open_late, opens, ReleaseStep, releases, releases_last, WishStep, grants, closes_more, goes_away, IdleStep, FrameStep, Step, push_step, push_refused, close_step, close_refused, frame_step, frame_lacks, end_step, end_lacks, end_early, read_step, wish_step, LoadStep, loads_header, loads_update, loads_owed, loads_passed, LoadDoneStep, finds_none, finds_closed, SwapStep, swaps, swap_fails, ReadStep, taken_fill}
 use Rattle.trace_model.specs.Sublist.{IsPrefix}
-use Rattle.link_marks.specs.WindowLaws.{IsShown, Happened}
+use Rattle.link_marks.specs.WindowLaws.{IsEventShown, MovesWindow}
 use Rattle.link_marks.specs.KeptLinks.{spot, passed_spot, PhaseKept, ReaderKept, LinksKept}
 use Rattle.link_marks.specs.KeptStack.{MayBeIn, FramesAgree, StackKept}
 use Rattle.link_marks.specs.KeptHistory.{Passing, TakenIn, WhyPassed, HistoryKept}
@@ -88,11 +88,11 @@ module _ (n start : ℕ) (c : Core) (frame : Frame) (below : List Frame) (h : Hi
   }
 
   -- a fill was begun by this frame or another
-  pub history_anew : (kind : Kind) (state : FrameState) → frame.state ≡ state → ((page : ℕ) → passed_spot frame.phase ≡ Some (spot c.opened page) → ⊥) → HistoryKept n start (after_begin kind state c frame below)
-  history_anew (for_record moment len) waiting is passes = history_goes idle (λ page at. absurd (passes page at))
-  history_anew for_close waiting is passes = history_leaves (pushed_frame frame.kind waiting) None (stack_waiting is) (may_leave frame.kind (pushed_frames below)) passes
-  history_anew kind (reserved number) is passes = history_goes idle (λ page at. absurd (passes page at))
-  history_anew kind left is passes = history_goes (closing_phase c) (λ page at. absurd (passes page at))
+  pub history_again : (kind : Kind) (state : FrameState) → frame.state ≡ state → ((page : ℕ) → passed_spot frame.phase ≡ Some (spot c.opened page) → ⊥) → HistoryKept n start (after_begin kind state c frame below)
+  history_again (for_record moment len) waiting is passes = history_goes idle (λ page at. absurd (passes page at))
+  history_again for_close waiting is passes = history_leaves (pushed_frame frame.kind waiting) None (stack_waiting is) (may_leave frame.kind (pushed_frames below)) passes
+  history_again kind (reserved number) is passes = history_goes idle (λ page at. absurd (passes page at))
+  history_again kind left is passes = history_goes (closing_phase c) (λ page at. absurd (passes page at))
 
 -- a fill is begun
 history_begun : (n start : ℕ) (c : Core) (page : ℕ) → HistoryKept n start c → MayOpen (writer_after c.history).stack → HistoryKept n start (with_new_tail c page)
@@ -115,7 +115,7 @@ history_wished n start c h none = record {
 -- what a step owes: what is known stays so, and the window makes a step or none
 pub record Owed (n start : ℕ) (c after : Core) : Type 0 where
   pub kept : HistoryKept n start after
-  pub window : ((window_of after ≡ window_of c) × (after.reader.taken ≡ c.reader.taken)) ⊎ ((what : Happening) × Happened n c what after)
+  pub window : ((window_of after ≡ window_of c) × (after.reader.taken ≡ c.reader.taken)) ⊎ ((what : WindowEvent) × MovesWindow n c what after)
 
 module _ (n size start : ℕ) (c : Core) (frame : Frame) (below : List Frame) (k : LinksKept n c) (s : StackKept c) (h : HistoryKept n start c) (top : c.frames ≡ frame ∷ below) where
   goes : (after : Core) (old phase : Phase) → frame.phase ≡ old
@@ -149,10 +149,10 @@ module _ (n size start : ℕ) (c : Core) (frame : Frame) (below : List Frame) (k
   same_taken kind (reserved number) = refl
   same_taken kind left = refl
 
-  anew : (noted : ℕ) (answer : Answer) (after : Core) (old : Phase) → frame.phase ≡ old → ((f page : ℕ) → passed_spot old ≡ Some (spot f page) → f ≡ noted) → BeginsAnew c frame below noted answer after
+  again : (noted : ℕ) (answer : Answer) (after : Core) (old : Phase) → frame.phase ≡ old → ((f page : ℕ) → passed_spot old ≡ Some (spot f page) → f ≡ noted) → BeginsAgain c frame below noted answer after
       → Owed n start c after
-  anew noted answer after old same only step = subst (Owed n start c) (sym step.after_is) record {
-    kept = history_anew n start c frame below h top frame.kind frame.state refl (λ page at. step.passed (sym (only c.opened page (sym (ap passed_spot same) ∙ at))));
+  again noted answer after old same only step = subst (Owed n start c) (sym step.after_is) record {
+    kept = history_again n start c frame below h top frame.kind frame.state refl (λ page at. step.passed (sym (only c.opened page (sym (ap passed_spot same) ∙ at))));
     window = inl (same_window frame.kind frame.state, same_taken frame.kind frame.state);
   }
 
@@ -186,13 +186,13 @@ module _ (n size start : ℕ) (c : Core) (frame : Frame) (below : List Frame) (k
   idle_owed left answer after same is step = absurd step
 
   look_owed : (noted : ℕ) (answer : Answer) (after : Core) → frame.phase ≡ looking noted → LookStep n c frame below noted answer after → Owed n start c after
-  look_owed noted answer after same (look_late step) = anew noted answer after (looking noted) same (no_spot noted (looking noted) refl) step
+  look_owed noted answer after same (look_late step) = again noted answer after (looking noted) same (no_spot noted (looking noted) refl) step
   look_owed noted answer after same (sees_free page now at a is) = goes after (looking noted) (opening noted page) same (λ p is_p. absurd (none_some is_p)) is
   look_owed noted answer after same (sees_header page lost now sum at a is) = goes after (looking noted) (claiming noted page) same (λ p is_p. absurd (none_some is_p)) is
   look_owed noted answer after same (sees_update page lost now sum at a is) = goes after (looking noted) (looking_next helper noted page) same (λ p is_p. absurd (none_some is_p)) is
 
   claim_owed : (noted page : ℕ) (answer : Answer) (after : Core) → frame.phase ≡ claiming noted page → ClaimStep n c frame below noted page answer after → Owed n start c after
-  claim_owed noted page answer after same (claim_late step) = anew noted answer after (claiming noted page) same (no_spot noted (claiming noted page) refl) step
+  claim_owed noted page answer after same (claim_late step) = again noted answer after (claiming noted page) same (no_spot noted (claiming noted page) refl) step
   claim_owed noted page answer after same (claims lost now sum at a is) =
       let (open_yet, begun_yet, room, small) = (subst (PhaseKept n c.links c.order c.head c.done c.opened) same (top_kept n c frame below k top)).noted noted refl in
       let unread = k.head_le in let within = k.opened_le in
@@ -215,7 +215,7 @@ module _ (n size start : ℕ) (c : Core) (frame : Frame) (below : List Frame) (k
   after_next_owed helper noted page after old same spot_is is = goes after old (opening noted page) same (λ p at. (p, sym spot_is ∙ at)) is
 
   next_owed : (role : Role) (noted page : ℕ) (answer : Answer) (after : Core) → frame.phase ≡ looking_next role noted page → NextStep n c frame below role noted page answer after → Owed n start c after
-  next_owed role noted page answer after same (next_late helps step) = anew noted answer after (looking_next role noted page) same (one_spot noted page) step
+  next_owed role noted page answer after same (next_late helps step) = again noted answer after (looking_next role noted page) same (one_spot noted page) step
   next_owed role noted page answer after same (sees_normal lost next goes_on sum at a is) = goes after (looking_next role noted page) (marking role noted page next) same (λ p at_p. (p, at_p)) is
   next_owed role noted page answer after same (sees_other lost goes_on sum other a is) = after_next_owed role noted page after (looking_next role noted page) same refl is
 
@@ -260,7 +260,7 @@ module _ (n size start : ℕ) (c : Core) (frame : Frame) (below : List Frame) (k
   }
 
 module _ (n size start : ℕ) (c : Core) (frame : Frame) (below : List Frame) (k : LinksKept n c) (s : StackKept c) (h : HistoryKept n start c) (top : c.frames ≡ frame ∷ below) where
-  links_with_shown : (after : Core) (g : ℕ) (l : Link) (what : Happening) → IsShown c after what → IsShown c (record after { links = (with_link n c g l).links }) what
+  links_with_shown : (after : Core) (g : ℕ) (l : Link) (what : WindowEvent) → IsEventShown c after what → IsEventShown c (record after { links = (with_link n c g l).links }) what
   links_with_shown after g l opened_one x = x
   links_with_shown after g l released_one x = x
   links_with_shown after g l took_one x = x
@@ -271,7 +271,7 @@ module _ (n size start : ℕ) (c : Core) (frame : Frame) (below : List Frame) (k
   with_link_owed after g l owed = record { kept = record { allowed = owed.kept.allowed; stack = owed.kept.stack; lost = owed.kept.lost }; window = ⊎_elim (λ stays. inl stays) (λ (what, h). inr (what, record { step = h.step; shown = links_with_shown after g l what h.shown })) owed.window }
 
   mark_owed : (role : Role) (noted page next : ℕ) (answer : Answer) (after : Core) → frame.phase ≡ marking role noted page next → MarkStep n c frame below role noted page next answer after → Owed n start c after
-  mark_owed role noted page next answer after same (mark_late helps step) = anew n size start c frame below k s h top noted answer after (marking role noted page next) same (one_spot n size start c frame below k s h top noted page) step
+  mark_owed role noted page next answer after same (mark_late helps step) = again n size start c frame below k s h top noted answer after (marking role noted page next) same (one_spot n size start c frame below k s h top noted page) step
   mark_owed role noted page next answer after same (marks lost goes_on sum at a is) = subst (Owed n start c) (sym is)
       (with_link_owed (in_phase c frame below (after_next role noted page)) (suc lost) (header_link next (suc lost))
       (after_next_owed n size start c frame below k s h top role noted page (in_phase c frame below (after_next role noted page)) (marking role noted page next) same refl refl))
@@ -306,11 +306,11 @@ module _ (n size start : ℕ) (c : Core) (frame : Frame) (below : List Frame) (k
       opens_idle e = cc
 
   open_owed : (noted page : ℕ) (answer : Answer) (after : Core) → frame.phase ≡ opening noted page → OpenStep n c frame below noted page answer after → Owed n start c after
-  open_owed noted page answer after same (open_late step) = anew n size start c frame below k s h top noted answer after (opening noted page) same (one_spot n size start c frame below k s h top noted page) step
+  open_owed noted page answer after same (open_late step) = again n size start c frame below k s h top noted answer after (opening noted page) same (one_spot n size start c frame below k s h top noted page) step
   open_owed noted page answer after same (opens now a is) =
       let (open_yet, inside, page_is) = (subst (PhaseKept n c.links c.order c.head c.done c.opened) same (top_kept n c frame below k top)).passed noted page refl in
       subst (Owed n start c) (sym is) record {
-        kept = history_anew n start (with_new_tail c page) frame below (history_begun n start c page h (opens_for noted page same)) top frame.kind frame.state refl
+        kept = history_again n start (with_new_tail c page) frame below (history_begun n start c page h (opens_for noted page same)) top frame.kind frame.state refl
             (λ p at. let e = one_spot n size start c frame below k s h top noted page (c.opened + 1) p (sym (ap passed_spot same) ∙ at) in absurd (omega arith));
         window = inr (opened_one, record { step = record { may = omega arith; after_is = begun_window frame.kind frame.state page }; shown = (begun_front frame.kind frame.state page, begun_reader frame.kind frame.state page) });
       }

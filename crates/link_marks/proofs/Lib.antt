@@ -9,7 +9,7 @@ pub mod LinkSteps
 -- the history of the frames, and the pages with their records
 pub mod Histories
 pub mod HistorySteps
-pub mod Happenings
+pub mod WindowEvents
 pub mod StepsAppend
 pub mod PageChanges
 pub mod OpenPageSteps

@@ -4,7 +4,7 @@ use Rattle.trace_model.specs.History.{Action, push, push_close, wished, reserved
 use Rattle.trace_model.specs.Links.{Link, normal_link, header_link}
 use Rattle.trace_model.specs.Frames.{Kind, for_record, for_close, FrameState, waiting, reserved, left, Role, owner, helper, Phase, idle, looking, claiming, looking_next, marking, clearing, opening, releasing, wishing, Frame, owned_update}
 use Rattle.trace_model.specs.Ring.{Core, links_with}
-use Rattle.trace_model.specs.Steps.{Event, Answer, with_link, in_phase, after_leave, with_new_tail, after_next, BeginsAnew, ReserveStep, reserves, finds_nothing, is_crowded, is_worn, notes, LookStep, look_late, sees_free, sees_header, sees_update, ClaimStep, claim_late, claims, claim_fails, NextStep, next_late, sees_normal, sees_other, MarkStep, mark_late, marks, mark_fails, ClearStep, clears, OpenStep, open_late, opens, ReleaseStep, releases, releases_last, WishStep, grants, closes_more, goes_away, IdleStep, FrameStep, Step, push_step, push_refused, close_step, close_refused, frame_step, frame_lacks, end_step, end_lacks, end_early, read_step, wish_step}
+use Rattle.trace_model.specs.Steps.{Event, Answer, with_link, in_phase, after_leave, with_new_tail, after_next, BeginsAgain, ReserveStep, reserves, finds_nothing, is_crowded, is_worn, notes, LookStep, look_late, sees_free, sees_header, sees_update, ClaimStep, claim_late, claims, claim_fails, NextStep, next_late, sees_normal, sees_other, MarkStep, mark_late, marks, mark_fails, ClearStep, clears, OpenStep, open_late, opens, ReleaseStep, releases, releases_last, WishStep, grants, closes_more, goes_away, IdleStep, FrameStep, Step, push_step, push_refused, close_step, close_refused, frame_step, frame_lacks, end_step, end_lacks, end_early, read_step, wish_step}
 use Rattle.link_marks.specs.KeptLinks.{Stands, PhaseKept, FramesKept, LinksKept}
 use Rattle.link_marks.specs.KeptStack.{MayBeIn, FramesAgree, StackKept}
 use Rattle.link_marks.proofs.Positions.{link_here}
@@ -26,8 +26,8 @@ module _ (n size : ℕ) (c : Core) (frame : Frame) (below : List Frame) (k : Lin
   leaves : (after : Core) (payload : Option (List ℕ)) → owned_update frame.phase ≡ None → after ≡ after_leave c frame below payload → LinksKept n after
   leaves after payload none is = subst (LinksKept n) (sym is) (leaves_kept n c frame below payload k top none)
 
-  anew : (noted : ℕ) (answer : Answer) (after : Core) → owned_update frame.phase ≡ None → BeginsAnew c frame below noted answer after → LinksKept n after
-  anew noted answer after none step = subst (LinksKept n) (sym step.after_is) (after_begin_kept n c frame.kind frame.state frame below k top none)
+  again : (noted : ℕ) (answer : Answer) (after : Core) → owned_update frame.phase ≡ None → BeginsAgain c frame below noted answer after → LinksKept n after
+  again noted answer after none step = subst (LinksKept n) (sym step.after_is) (after_begin_kept n c frame.kind frame.state frame below k top none)
 
   goes : (after : Core) (phase : Phase) → PhaseKept n c.links c.order c.head c.done c.opened phase → owned_update phase ≡ owned_update frame.phase → after ≡ in_phase c frame below phase → LinksKept n after
   goes after phase facts same is = subst (LinksKept n) (sym is) (rephased n c frame below k top (record frame { phase = phase }) c.held c.history facts same)
@@ -47,7 +47,7 @@ module _ (n size : ℕ) (c : Core) (frame : Frame) (below : List Frame) (k : Lin
   idle_kept left answer after same step = absurd step
 
   look_kept : (noted : ℕ) (answer : Answer) (after : Core) → frame.phase ≡ looking noted → LookStep n c frame below noted answer after → LinksKept n after
-  look_kept noted answer after same (look_late step) = anew noted answer after (ap owned_update same) step
+  look_kept noted answer after same (look_late step) = again noted answer after (ap owned_update same) step
   look_kept noted answer after same (sees_free page now at a is) = let facts = (kept_in (looking noted) same).noted noted refl in
       let unread = k.head_le in let within = k.opened_le in let open_yet = facts.0 in
       let inside = normal_inside n c k noted page (omega arith) (omega arith) at in
@@ -60,7 +60,7 @@ module _ (n size : ℕ) (c : Core) (frame : Frame) (below : List Frame) (k : Lin
       goes after (looking_next helper noted page) (knows_looking_next n c.links c.order c.head c.done c.opened helper noted page facts (open_yet, inside.0, inside.1) (λ is. absurd (none_some is))) (sym (ap owned_update same)) is
 
   claim_kept : (noted page : ℕ) (answer : Answer) (after : Core) → frame.phase ≡ claiming noted page → ClaimStep n c frame below noted page answer after → LinksKept n after
-  claim_kept noted page answer after same (claim_late step) = anew noted answer after (ap owned_update same) step
+  claim_kept noted page answer after same (claim_late step) = again noted answer after (ap owned_update same) step
   claim_kept noted page answer after same (claims lost now sum at a is) = subst (LinksKept n) (sym is)
       (claims_kept n c frame below noted page lost k top (ap owned_update same) ((kept_in (claiming noted page) same).noted noted refl) now sum at)
   claim_kept noted page answer after same (claim_fails now other a is) =
@@ -76,7 +76,7 @@ module _ (n size : ℕ) (c : Core) (frame : Frame) (below : List Frame) (k : Lin
       goes after (opening noted page) (knows_opening n c.links c.order c.head c.done c.opened noted page facts passed) (sym own) is
 
   next_kept : (role : Role) (noted page : ℕ) (answer : Answer) (after : Core) → frame.phase ≡ looking_next role noted page → NextStep n c frame below role noted page answer after → LinksKept n after
-  next_kept role noted page answer after same (next_late helps step) = anew noted answer after (ap owned_update same ∙ ap (λ (r : Role). owned_update (looking_next r noted page)) helps) step
+  next_kept role noted page answer after same (next_late helps step) = again noted answer after (ap owned_update same ∙ ap (λ (r : Role). owned_update (looking_next r noted page)) helps) step
   next_kept role noted page answer after same (sees_normal lost next goes_on sum at a is) = let kept = kept_in (looking_next role noted page) same in
       let passed = kept.passed noted page refl in let inside = passed.1 in
       goes after (marking role noted page next)
@@ -90,7 +90,7 @@ module _ (n size : ℕ) (c : Core) (frame : Frame) (below : List Frame) (k : Lin
 -- The frame's mark of the next link, done or not.
 mark_kept : (n : ℕ) (c : Core) (frame : Frame) (below : List Frame) → LinksKept n c → c.frames ≡ frame ∷ below → (role : Role) (noted page next : ℕ) (answer : Answer) (after : Core) → frame.phase ≡ marking role noted page next → MarkStep n c frame below role noted page next answer after
     → LinksKept n after
-mark_kept n c frame below k top role noted page next answer after same (mark_late helps step) = anew n 0 c frame below k top noted answer after (ap owned_update same ∙ ap (λ (r : Role). owned_update (marking r noted page next)) helps) step
+mark_kept n c frame below k top role noted page next answer after same (mark_late helps step) = again n 0 c frame below k top noted answer after (ap owned_update same ∙ ap (λ (r : Role). owned_update (marking r noted page next)) helps) step
 mark_kept n c frame below k top role noted page next answer after same (marks lost goes_on sum at a is) =
     let some_pages = k.some_pages in
     let kept = kept_in n 0 c frame below k top (marking role noted page next) same in
@@ -116,7 +116,7 @@ module _ (n size : ℕ) (c : Core) (frame : Frame) (below : List Frame) (k : Lin
       (kept.clears noted lost refl sum).1 sum at)
 
   open_kept : (noted page : ℕ) (answer : Answer) (after : Core) → frame.phase ≡ opening noted page → OpenStep n c frame below noted page answer after → LinksKept n after
-  open_kept noted page answer after same (open_late step) = anew n size c frame below k top noted answer after (ap owned_update same) step
+  open_kept noted page answer after same (open_late step) = again n size c frame below k top noted answer after (ap owned_update same) step
   open_kept noted page answer after same (opens now a is) = let kept = kept_in n size c frame below k top (opening noted page) same in
       let (open_yet, inside, page_is) = kept.passed noted page refl in let (x, y, z, small) = kept.noted noted refl in
       subst (LinksKept n) (sym is) (after_begin_kept n (with_new_tail c page) frame.kind frame.state frame below (begun_kept n c page k (omega arith) (omega arith)) top (ap owned_update same))

@@ -11,8 +11,8 @@ use native.Mathlib.Decide.{ℕ_discrete, dec_le}
 use Rattle.trace_model.specs.History.{Action, push, push_close, open_fill, reserve, leave, wished, Reservation, records_with_payload, reserved_records}
 use Rattle.trace_model.specs.Packing.{opens_of, cut_from}
 use Rattle.trace_model.specs.Frames.{Kind, for_record, for_close, FrameState, waiting, reserved, left, Phase, idle, looking, claiming, looking_next, marking, clearing, opening, releasing, wishing, Frame}
-use Rattle.trace_model.specs.Ring.{Held, empty_page, ReaderPhase, loading_link, loading_done, storing_link, swapping, Core, IsStart}
-use Rattle.trace_model.specs.Steps.{Event, Answer, held_with_payload, own_number, with_new_tail, with_released, after_leave, after_begin, BeginsAnew, IdleStep, reserves, finds_nothing, is_crowded, is_worn, notes, look_late, sees_free, sees_header, sees_update, claim_late, claims, claim_fails, next_late, sees_normal, sees_other, mark_late, marks, mark_fails, clears, open_late, opens, releases, releases_last, grants, closes_more, goes_away, FrameStep, Step, push_step, push_refused, close_step, close_refused, frame_step, frame_lacks, end_step, end_lacks, end_early, read_step, wish_step, loads_header, loads_update, loads_owed, loads_passed, finds_none, finds_closed, swaps, swap_fails, ReadStep}
+use Rattle.trace_model.specs.Ring.{PageRecords, empty_page, ReaderPhase, loading_link, loading_done, storing_link, swapping, Core, IsStart}
+use Rattle.trace_model.specs.Steps.{Event, Answer, held_with_payload, own_number, with_new_tail, with_released, after_leave, after_begin, BeginsAgain, IdleStep, reserves, finds_nothing, is_crowded, is_worn, notes, look_late, sees_free, sees_header, sees_update, claim_late, claims, claim_fails, next_late, sees_normal, sees_other, mark_late, marks, mark_fails, clears, open_late, opens, releases, releases_last, grants, closes_more, goes_away, FrameStep, Step, push_step, push_refused, close_step, close_refused, frame_step, frame_lacks, end_step, end_lacks, end_early, read_step, wish_step, loads_header, loads_update, loads_owed, loads_passed, finds_none, finds_closed, swaps, swap_fails, ReadStep}
 use Rattle.trace_model.proofs.NextAction.{settled_at_rest}
 use Rattle.trace_model.proofs.NextRecords.{length-records_with_payload}
 use Rattle.trace_model.proofs.FillFirsts.{first_below, fill_behind}
@@ -24,13 +24,13 @@ use Rattle.link_marks.specs.KeptContents.{ContentsKept, OpenPagesKept, OtherPage
 use Rattle.link_marks.proofs.HistorySteps.{rest_releasing}
 
 -- the number after the last record that a page holds
-abbrev pub end_of : Held → ℕ
+abbrev pub end_of : PageRecords → ℕ
 end_of h = h.first + length h.records
 
 -- ---- what an end and an emptied page change
 
 -- an end leaves as many records
-pub ended_alike : (number : Option ℕ) (payload : Option (List ℕ)) (h : Held) → end_of (held_with_payload number payload h) ≡ end_of h
+pub ended_alike : (number : Option ℕ) (payload : Option (List ℕ)) (h : PageRecords) → end_of (held_with_payload number payload h) ≡ end_of h
 ended_alike None payload h = refl
 ended_alike (Some k) payload h = ap (λ (m : ℕ). h.first + m)
     (cond_both (nat_lt k h.first) h.records (records_with_payload (Some (k - h.first)) payload h.records) (λ (rs : List Reservation). length rs ≡ length h.records)
@@ -38,28 +38,28 @@ ended_alike (Some k) payload h = ap (λ (m : ℕ). h.first + m)
 
 pub ended_empty : (number : Option ℕ) (payload : Option (List ℕ)) → held_with_payload number payload empty_page ≡ empty_page
 ended_empty None payload = refl
-ended_empty (Some k) None = ap (λ (rs : List Reservation). let h : Held = record { first = 0; records = rs } in h) (cond_both (nat_lt k 0) [] [] (λ (rs : List Reservation). ◌≡◌ {A = List Reservation} rs []) (λ _. refl) (λ _. refl))
-ended_empty (Some k) (Some p) = ap (λ (rs : List Reservation). let h : Held = record { first = 0; records = rs } in h) (cond_both (nat_lt k 0) [] [] (λ (rs : List Reservation). ◌≡◌ {A = List Reservation} rs []) (λ _. refl) (λ _. refl))
+ended_empty (Some k) None = ap (λ (rs : List Reservation). let h : PageRecords = record { first = 0; records = rs } in h) (cond_both (nat_lt k 0) [] [] (λ (rs : List Reservation). ◌≡◌ {A = List Reservation} rs []) (λ _. refl) (λ _. refl))
+ended_empty (Some k) (Some p) = ap (λ (rs : List Reservation). let h : PageRecords = record { first = 0; records = rs } in h) (cond_both (nat_lt k 0) [] [] (λ (rs : List Reservation). ◌≡◌ {A = List Reservation} rs []) (λ _. refl) (λ _. refl))
 
 -- every page, with a payload
-pub ended_at : (number : Option ℕ) (payload : Option (List ℕ)) (held : List Held) (page : ℕ) → get_or (map (held_with_payload number payload) held) page empty_page ≡ held_with_payload number payload (get_or held page empty_page)
+pub ended_at : (number : Option ℕ) (payload : Option (List ℕ)) (held : List PageRecords) (page : ℕ) → get_or (map (held_with_payload number payload) held) page empty_page ≡ held_with_payload number payload (get_or held page empty_page)
 ended_at number payload held page =
     ap (get_or (map (held_with_payload number payload) held) page) (sym (ended_empty number payload)) ∙ get_or-map (held_with_payload number payload) held page empty_page
 
-pub emptied_at : (held : List Held) (page : ℕ) → get_or (set held page empty_page) page empty_page ≡ empty_page
+pub emptied_at : (held : List PageRecords) (page : ℕ) → get_or (set held page empty_page) page empty_page ≡ empty_page
 emptied_at [] zero = refl
 emptied_at [] (suc page) = refl
 emptied_at (h ∷ held) zero = refl
 emptied_at (h ∷ held) (suc page) = emptied_at held page
 
-emptied_end : (held : List Held) (emptied page : ℕ) → end_of (get_or (set held emptied empty_page) page empty_page) ≤ end_of (get_or held page empty_page)
+emptied_end : (held : List PageRecords) (emptied page : ℕ) → end_of (get_or (set held emptied empty_page) page empty_page) ≤ end_of (get_or held page empty_page)
 emptied_end held emptied page = dite (ℕ_discrete page emptied)
     (λ e. let none = ap end_of (ap (λ (p : ℕ). get_or (set held emptied empty_page) p empty_page) e ∙ emptied_at held emptied) in omega arith)
     (λ ne. let same = ap end_of (get_or-set_other held emptied page empty_page empty_page ne) in omega arith)
 
 -- ---- one more action
 
-module _ (history : List Action) (open_pages : List ℕ) (held : List Held) (z : OtherPagesAt history open_pages held) where
+module _ (history : List Action) (open_pages : List ℕ) (held : List PageRecords) (z : OtherPagesAt history open_pages held) where
   others_more : (a : Action) → OtherPagesAt (history ++ a ∷ []) open_pages held
   others_more a page other = let was = z page other in let more = committed_len-more history a in omega arith
 
@@ -67,14 +67,14 @@ module _ (history : List Action) (open_pages : List ℕ) (held : List Held) (z :
   others_ended number payload page other = let was = z page other in let same = ap end_of (ended_at number payload held page) ∙ ended_alike number payload (get_or held page empty_page) in omega arith
 
   -- the contents of a page that the writer holds
-  others_set : (i : ℕ) (h : Held) → i < length open_pages → OtherPagesAt history open_pages (set held (get_or open_pages i 0) h)
+  others_set : (i : ℕ) (h : PageRecords) → i < length open_pages → OtherPagesAt history open_pages (set held (get_or open_pages i 0) h)
   others_set i h low page other = let was = z page other in let same = ap end_of (get_or-set_other held (get_or open_pages i 0) page h empty_page (λ e. other i low (sym e))) in omega arith
 
   others_emptied : (emptied : ℕ) → OtherPagesAt history open_pages (set held emptied empty_page)
   others_emptied emptied page other = let was = z page other in let less = emptied_end held emptied page in omega arith
 
   -- a page more is held, with what it holds then
-  others_opened : (opened : ℕ) (h : Held) → OtherPagesAt history (open_pages ++ opened ∷ []) (set held opened h)
+  others_opened : (opened : ℕ) (h : PageRecords) → OtherPagesAt history (open_pages ++ opened ∷ []) (set held opened h)
   others_opened opened h page other =
       let was = z page (λ i low e. other i (omega (arith, length-append open_pages (opened ∷ []))) (get_or-append open_pages (opened ∷ []) 0 i low ∙ e)) in
       let same = ap end_of (get_or-set_other held opened page h empty_page
@@ -118,8 +118,8 @@ module _ (c : Core) (z : OtherPagesKept c) where
 
 module _ (n size start : ℕ) (c : Core) (frame : Frame) (below : List Frame) (answer : Answer) (after : Core)
     (k : LinksKept n c) (s : StackKept c) (h : HistoryKept n start c) (t : ContentsKept n start c) (o : OpenPagesKept n c) (z : OtherPagesKept c) (top : c.frames ≡ frame ∷ below) where
-  others_anew : (noted : ℕ) → BeginsAnew c frame below noted answer after → OtherPagesKept after
-  others_anew noted step = subst OtherPagesKept (sym step.after_is) (others_begun c z frame.kind frame.state frame below)
+  others_again : (noted : ℕ) → BeginsAgain c frame below noted answer after → OtherPagesKept after
+  others_again noted step = subst OtherPagesKept (sym step.after_is) (others_begun c z frame.kind frame.state frame below)
 
   others_idle : (state : FrameState) → IdleStep n size c frame below state answer after → OtherPagesKept after
   others_idle waiting (reserves moment len r kind r_is fits a is) = let count = o.count in let behind = k.done_lt in
@@ -143,21 +143,21 @@ module _ (n size start : ℕ) (c : Core) (frame : Frame) (below : List Frame) (a
 
   others_frame : (phase : Phase) → frame.phase ≡ phase → FrameStep n size c frame below phase answer after → OtherPagesKept after
   others_frame idle same step = others_idle frame.state step
-  others_frame (looking noted) same (look_late step) = others_anew noted step
+  others_frame (looking noted) same (look_late step) = others_again noted step
   others_frame (looking noted) same (sees_free page now at a is) = subst OtherPagesKept (sym is) z
   others_frame (looking noted) same (sees_header page lost now sum at a is) = subst OtherPagesKept (sym is) z
   others_frame (looking noted) same (sees_update page lost now sum at a is) = subst OtherPagesKept (sym is) z
-  others_frame (claiming noted page) same (claim_late step) = others_anew noted step
+  others_frame (claiming noted page) same (claim_late step) = others_again noted step
   others_frame (claiming noted page) same (claims lost now sum at a is) = subst OtherPagesKept (sym is) z
   others_frame (claiming noted page) same (claim_fails now other a is) = subst OtherPagesKept (sym is) z
-  others_frame (looking_next role noted page) same (next_late helps step) = others_anew noted step
+  others_frame (looking_next role noted page) same (next_late helps step) = others_again noted step
   others_frame (looking_next role noted page) same (sees_normal lost next goes_on sum at a is) = subst OtherPagesKept (sym is) z
   others_frame (looking_next role noted page) same (sees_other lost goes_on sum other a is) = subst OtherPagesKept (sym is) z
-  others_frame (marking role noted page next) same (mark_late helps step) = others_anew noted step
+  others_frame (marking role noted page next) same (mark_late helps step) = others_again noted step
   others_frame (marking role noted page next) same (marks lost goes_on sum at a is) = subst OtherPagesKept (sym is) z
   others_frame (marking role noted page next) same (mark_fails lost goes_on sum other a is) = subst OtherPagesKept (sym is) z
   others_frame (clearing noted page) same (clears lost sum at a is) = subst OtherPagesKept (sym is) z
-  others_frame (opening noted page) same (open_late step) = others_anew noted step
+  others_frame (opening noted page) same (open_late step) = others_again noted step
   others_frame (opening noted page) same (opens now a is) = subst OtherPagesKept (sym is)
       (others_begun (with_new_tail c page) (others_more c.history (c.open_pages ++ page ∷ []) _ (others_opened c.history c.open_pages c.held z page _) open_fill) frame.kind frame.state frame below)
   others_frame releasing same (releases alone more a is) = subst OtherPagesKept (sym is) (others_closed same (omega arith))

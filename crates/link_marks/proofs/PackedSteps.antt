@@ -12,7 +12,7 @@ use Rattle.trace_model.specs.Packing.{opens_of, FitsBehind, is_wished}
 use Rattle.trace_model.specs.Fitting.{tail_at, IsFit, FitsPage, NeedsFill}
 use Rattle.trace_model.specs.Frames.{Kind, for_record, for_close, FrameState, waiting, reserved, left, Role, owner, helper, Phase, idle, looking, claiming, looking_next, marking, clearing, opening, releasing, wishing, Frame, pushed_onto, pushed_frames, noted_fill}
 use Rattle.trace_model.specs.Ring.{ReaderPhase, loading_link, loading_done, storing_link, swapping, Core, IsStart}
-use Rattle.trace_model.specs.Steps.{Event, Answer, IsTooLong, NeedsPage, closing_phase, in_phase, after_leave, after_next, frames_after_leave, own_number, with_new_tail, after_begin, BeginsAnew, IdleStep, ReserveStep, reserves, finds_nothing, is_crowded, is_worn, notes, look_late, sees_free, sees_header, sees_update, claim_late, claims, claim_fails, next_late, sees_normal, sees_other, mark_late, marks, mark_fails, clears, OpenStep, open_late, opens, releases, releases_last, grants, closes_more, goes_away, FrameStep, Step, push_step, push_refused, close_step, close_refused, frame_step, frame_lacks, end_step, end_lacks, end_early, read_step, wish_step, loads_header, loads_update, loads_owed, loads_passed, finds_none, finds_closed, swaps, swap_fails, ReadStep}
+use Rattle.trace_model.specs.Steps.{Event, Answer, IsTooLong, NeedsPage, closing_phase, in_phase, after_leave, after_next, frames_after_leave, own_number, with_new_tail, after_begin, BeginsAgain, IdleStep, ReserveStep, reserves, finds_nothing, is_crowded, is_worn, notes, look_late, sees_free, sees_header, sees_update, claim_late, claims, claim_fails, next_late, sees_normal, sees_other, mark_late, marks, mark_fails, clears, OpenStep, open_late, opens, releases, releases_last, grants, closes_more, goes_away, FrameStep, Step, push_step, push_refused, close_step, close_refused, frame_step, frame_lacks, end_step, end_lacks, end_early, read_step, wish_step, loads_header, loads_update, loads_owed, loads_passed, finds_none, finds_closed, swaps, swap_fails, ReadStep}
 use Rattle.trace_model.proofs.NextAction.{opened_stack}
 use Rattle.trace_model.proofs.NextRecords.{records_snoc, records_reserved, records_left_by}
 use Rattle.trace_model.proofs.FillCuts.{opens_of-push, opens_of-push_close, opens_of-reserve, opens_of-leave, opens_of-wished, opens_of-open_fill}
@@ -109,8 +109,8 @@ module _ (n size start : ℕ) (c : Core) (frame : Frame) (below : List Frame) (k
   packs_notes : (after : Core) (old phase : Phase) → frame.phase ≡ old → noted_fill phase ≡ noted_fill old → after ≡ in_phase c frame below phase → PackedKept size after
   packs_notes after old phase same noted is = subst (PackedKept size) (sym is) (packed_notes size c frame below (pushed_frames below) p phase (noted ∙ sym (ap noted_fill same)))
 
-  packs_anew : (noted : ℕ) (answer : Answer) (after : Core) → BeginsAnew c frame below noted answer after → PackedKept size after
-  packs_anew noted answer after step = subst (PackedKept size) (sym step.after_is) (packed_after_begin size c frame below (pushed_frames below) p frame.kind frame.state refl stack_top)
+  packs_again : (noted : ℕ) (answer : Answer) (after : Core) → BeginsAgain c frame below noted answer after → PackedKept size after
+  packs_again noted answer after step = subst (PackedKept size) (sym step.after_is) (packed_after_begin size c frame below (pushed_frames below) p frame.kind frame.state refl stack_top)
 
   -- a page is needed, by what the tail holds
   needs_page : (kind : Kind) (found : Bool) → NeedsPage size c kind → NeedsFill size (opens_of c.history) (reserved_records c.history) found kind waiting
@@ -145,7 +145,7 @@ module _ (n size start : ℕ) (c : Core) (frame : Frame) (below : List Frame) (k
   packs_idle left answer after same step = absurd step
 
   packs_open : (noted page : ℕ) (answer : Answer) (after : Core) → frame.phase ≡ opening noted page → OpenStep n c frame below noted page answer after → PackedKept size after
-  packs_open noted page answer after same (open_late step) = packs_anew noted answer after step
+  packs_open noted page answer after same (open_late step) = packs_again noted answer after step
   packs_open noted page answer after same (opens now a is) =
       let h0 : List Action = c.history in
       let cuts : List ℕ = opens_of c.history in
@@ -185,17 +185,17 @@ module _ (n size start : ℕ) (c : Core) (frame : Frame) (below : List Frame) (k
 
   packs_frame : (phase : Phase) (answer : Answer) (after : Core) → frame.phase ≡ phase → FrameStep n size c frame below phase answer after → PackedKept size after
   packs_frame idle answer after same step = packs_idle frame.state answer after refl step
-  packs_frame (looking noted) answer after same (look_late step) = packs_anew noted answer after step
+  packs_frame (looking noted) answer after same (look_late step) = packs_again noted answer after step
   packs_frame (looking noted) answer after same (sees_free page now at a is) = packs_notes after (looking noted) (opening noted page) same refl is
   packs_frame (looking noted) answer after same (sees_header page lost now sum at a is) = packs_notes after (looking noted) (claiming noted page) same refl is
   packs_frame (looking noted) answer after same (sees_update page lost now sum at a is) = packs_notes after (looking noted) (looking_next helper noted page) same refl is
-  packs_frame (claiming noted page) answer after same (claim_late step) = packs_anew noted answer after step
+  packs_frame (claiming noted page) answer after same (claim_late step) = packs_again noted answer after step
   packs_frame (claiming noted page) answer after same (claims lost now sum at a is) = subst (PackedKept size) (sym is) (packed_notes size c frame below (pushed_frames below) p (looking_next owner noted page) (sym (ap noted_fill same)))
   packs_frame (claiming noted page) answer after same (claim_fails now other a is) = packs_notes after (claiming noted page) (looking noted) same refl is
-  packs_frame (looking_next role noted page) answer after same (next_late helps step) = packs_anew noted answer after step
+  packs_frame (looking_next role noted page) answer after same (next_late helps step) = packs_again noted answer after step
   packs_frame (looking_next role noted page) answer after same (sees_normal lost next goes_on sum at a is) = packs_notes after (looking_next role noted page) (marking role noted page next) same refl is
   packs_frame (looking_next role noted page) answer after same (sees_other lost goes_on sum other a is) = subst (PackedKept size) (sym is) (packs_after role noted page (looking_next role noted page) same refl)
-  packs_frame (marking role noted page next) answer after same (mark_late helps step) = packs_anew noted answer after step
+  packs_frame (marking role noted page next) answer after same (mark_late helps step) = packs_again noted answer after step
   packs_frame (marking role noted page next) answer after same (marks lost goes_on sum at a is) = subst (PackedKept size) (sym is) (packs_after role noted page (marking role noted page next) same refl)
   packs_frame (marking role noted page next) answer after same (mark_fails lost goes_on sum other a is) = subst (PackedKept size) (sym is) (packs_after role noted page (marking role noted page next) same refl)
   packs_frame (clearing noted page) answer after same (clears lost sum at a is) = subst (PackedKept size) (sym is) (packed_notes size c frame below (pushed_frames below) p (opening noted page) (sym (ap noted_fill same)))

@@ -7,7 +7,7 @@ use mathlib.Core.Logic.{dite}
 use native.Mathlib.Decide.{ℕ_discrete}
 use Rattle.trace_model.specs.History.{Reservation, records_with_payload}
 use Rattle.trace_model.specs.Packing.{cut_from}
-use Rattle.trace_model.specs.Ring.{Held, page_at, AreApart}
+use Rattle.trace_model.specs.Ring.{PageRecords, page_at, AreApart}
 use Rattle.trace_model.specs.Steps.{held_with_payload}
 use Rattle.trace_model.specs.Fitting.{IsRising}
 use Rattle.trace_model.proofs.NextRecords.{length-records_with_payload}
@@ -15,7 +15,7 @@ use Rattle.trace_model.proofs.FillCuts.{IsRising-more, IsRising-snoc, reserved_b
 use Rattle.link_marks.specs.KeptContents.{PagesKept}
 use Rattle.link_marks.proofs.Positions.{apart, page_else}
 
-abbrev pub nothing : Held
+abbrev pub nothing : PageRecords
 nothing = record { first = 0; records = [] }
 
 -- pages at the positions of two fills of the row differ
@@ -25,7 +25,7 @@ pages_differ n order spare head f g some a lf hf lg hg ne same = apart head n f 
 pub page_below : (n : ℕ) (order : List ℕ) (spare f : ℕ) → 1 ≤ n → AreApart n order spare → page_at n order f < n + 1
 page_below n order spare f some a = a.each (f % n) (mod-lt f some)
 
-module _ (n start : ℕ) (order : List ℕ) (spare : ℕ) (held : List Held) (cuts : List ℕ) (xs : List Reservation) (head opened : ℕ) (some : 1 ≤ n) (a : AreApart n order spare) (k : PagesKept n start order held cuts xs head opened) where
+module _ (n start : ℕ) (order : List ℕ) (spare : ℕ) (held : List PageRecords) (cuts : List ℕ) (xs : List Reservation) (head opened : ℕ) (some : 1 ≤ n) (a : AreApart n order spare) (k : PagesKept n start order held cuts xs head opened) where
   -- the head goes on, over the same pages
   pub pages_later : (head' : ℕ) → head ≤ head' → PagesKept n start order held cuts xs head' opened
   pages_later head' le = record { begun = k.begun; from_start = (let low = k.from_start in omega arith); bodies = k.bodies; rising = k.rising; each = λ f low high. k.each f (omega arith) high }
@@ -45,13 +45,13 @@ module _ (n start : ℕ) (order : List ℕ) (spare : ℕ) (held : List Held) (cu
         each = λ f low high. dite (ℕ_discrete f tail)
             (λ e. ap (λ (g : ℕ). get_or (set held page record { first = (get_or held page nothing).first; records = (get_or held page nothing).records ++ r ∷ [] }) (page_at n order g) nothing) e
             ∙ get_or-set_same held page record { first = (get_or held page nothing).first; records = (get_or held page nothing).records ++ r ∷ [] } nothing (let below = page_below n order spare tail some a in omega arith)
-            ∙ ap (λ (h : Held). let g : Held = record { first = h.first; records = h.records ++ r ∷ [] } in g) was
-            ∙ ap (λ (i : ℕ). let g : Held = record { first = get_or (0 ∷ cuts) i 0; records = get_or (cut_from 0 cuts xs) i [] ++ r ∷ [] } in g) at
-            ∙ ap (λ (l : List Reservation). let g : Held = record { first = get_or (0 ∷ cuts) (length cuts) 0; records = l } in g) (sym (reserved_last 0 cuts xs r k.rising))
-            ∙ ap (λ (i : ℕ). let g : Held = record { first = get_or (0 ∷ cuts) i 0; records = get_or (cut_from 0 cuts (xs ++ r ∷ [])) i [] } in g) (sym at ∙ ap (λ (g : ℕ). g - start) (sym e)))
+            ∙ ap (λ (h : PageRecords). let g : PageRecords = record { first = h.first; records = h.records ++ r ∷ [] } in g) was
+            ∙ ap (λ (i : ℕ). let g : PageRecords = record { first = get_or (0 ∷ cuts) i 0; records = get_or (cut_from 0 cuts xs) i [] ++ r ∷ [] } in g) at
+            ∙ ap (λ (l : List Reservation). let g : PageRecords = record { first = get_or (0 ∷ cuts) (length cuts) 0; records = l } in g) (sym (reserved_last 0 cuts xs r k.rising))
+            ∙ ap (λ (i : ℕ). let g : PageRecords = record { first = get_or (0 ∷ cuts) i 0; records = get_or (cut_from 0 cuts (xs ++ r ∷ [])) i [] } in g) (sym at ∙ ap (λ (g : ℕ). g - start) (sym e)))
             (λ ne. get_or-set_other held page (page_at n order f) _ nothing (pages_differ n order spare head f tail some a low (omega arith) low_tail (omega arith) ne)
             ∙ k.each f low high
-            ∙ ap (λ (l : List Reservation). let g : Held = record { first = get_or (0 ∷ cuts) (f - start) 0; records = l } in g) (sym (reserved_before 0 cuts xs r (f - start) k.rising (omega arith))));
+            ∙ ap (λ (l : List Reservation). let g : PageRecords = record { first = get_or (0 ∷ cuts) (f - start) 0; records = l } in g) (sym (reserved_before 0 cuts xs r (f - start) k.rising (omega arith))));
       }
 
   -- a fill is begun, on an empty page
@@ -67,13 +67,13 @@ module _ (n start : ℕ) (order : List ℕ) (spare : ℕ) (held : List Held) (cu
         each = λ f low high. dite (ℕ_discrete f opened)
             (λ e. ap (λ (g : ℕ). get_or (set held page record { first = length xs; records = [] }) (page_at n order g) nothing) e
             ∙ get_or-set_same held page record { first = length xs; records = [] } nothing (let below = page_below n order spare opened some a in omega arith)
-            ∙ ap (λ (m : ℕ). let g : Held = record { first = m; records = [] } in g) (sym (get_or-append_seam (0 ∷ cuts) (length xs) [] 0))
-            ∙ ap (λ (l : List Reservation). let g : Held = record { first = get_or (0 ∷ (cuts ++ length xs ∷ [])) (suc (length cuts)) 0; records = l } in g) (sym (opened_last 0 cuts xs))
-            ∙ ap (λ (i : ℕ). let g : Held = record { first = get_or (0 ∷ (cuts ++ length xs ∷ [])) i 0; records = get_or (cut_from 0 (cuts ++ length xs ∷ []) xs) i [] } in g) (sym at ∙ ap (λ (g : ℕ). g - start) (sym e)))
+            ∙ ap (λ (m : ℕ). let g : PageRecords = record { first = m; records = [] } in g) (sym (get_or-append_seam (0 ∷ cuts) (length xs) [] 0))
+            ∙ ap (λ (l : List Reservation). let g : PageRecords = record { first = get_or (0 ∷ (cuts ++ length xs ∷ [])) (suc (length cuts)) 0; records = l } in g) (sym (opened_last 0 cuts xs))
+            ∙ ap (λ (i : ℕ). let g : PageRecords = record { first = get_or (0 ∷ (cuts ++ length xs ∷ [])) i 0; records = get_or (cut_from 0 (cuts ++ length xs ∷ []) xs) i [] } in g) (sym at ∙ ap (λ (g : ℕ). g - start) (sym e)))
             (λ ne. get_or-set_other held page (page_at n order f) _ nothing (pages_differ n order spare head f opened some a low (omega arith) le room ne)
             ∙ k.each f low (omega arith)
-            ∙ ap (λ (m : ℕ). let g : Held = record { first = m; records = get_or (cut_from 0 cuts xs) (f - start) [] } in g) (sym (get_or-append (0 ∷ cuts) (length xs ∷ []) 0 (f - start) (let low : f - start < suc (length cuts) = omega arith in low)))
-            ∙ ap (λ (l : List Reservation). let g : Held = record { first = get_or (0 ∷ (cuts ++ length xs ∷ [])) (f - start) 0; records = l } in g) (sym (opened_before 0 cuts xs (f - start) (omega arith))));
+            ∙ ap (λ (m : ℕ). let g : PageRecords = record { first = m; records = get_or (cut_from 0 cuts xs) (f - start) [] } in g) (sym (get_or-append (0 ∷ cuts) (length xs ∷ []) 0 (f - start) (let low : f - start < suc (length cuts) = omega arith in low)))
+            ∙ ap (λ (l : List Reservation). let g : PageRecords = record { first = get_or (0 ∷ (cuts ++ length xs ∷ [])) (f - start) 0; records = l } in g) (sym (opened_before 0 cuts xs (f - start) (omega arith))));
       }
 
   -- a record is ended

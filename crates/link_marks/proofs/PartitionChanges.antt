@@ -9,7 +9,7 @@ use Rattle.trace_model.specs.Record.{Record}
 use Rattle.trace_model.specs.History.{Action, Reservation, PushedFrame, writer_after, reserved_records, as_record}
 use Rattle.trace_model.specs.Packing.{opens_of, cut_from, fills_of}
 use Rattle.trace_model.specs.Partition.{Piece, IsPartition, first_of}
-use Rattle.trace_model.specs.Ring.{Held, Taken, first_of_fill, IsFillOf, AreFillsOf}
+use Rattle.trace_model.specs.Ring.{PageRecords, Taken, first_of_fill, IsFillOf, AreFillsOf}
 use Rattle.trace_model.specs.Fitting.{IsRising}
 use Rattle.link_marks.specs.KeptPartition.{covered_total, piece_of, pieces_of, PartitionAt}
 use Rattle.trace_model.proofs.NextRecords.{records_snoc}
@@ -121,8 +121,8 @@ partition_taken start h head expected taken from low r short t here held skipped
     let rs : List Record = map as_record xs in
     let first : ℕ = first_of_fill h start head in
     let fill : List Reservation = get_or (fills_of h) (head - start) [] in
-    let first_is : t.held.first ≡ first = ap (λ (x : Held). x.first) held in
-    let records_is : t.held.records ≡ fill = ap (λ (x : Held). x.records) held in
+    let first_is : t.held.first ≡ first = ap (λ (x : PageRecords). x.first) held in
+    let records_is : t.held.records ≡ fill = ap (λ (x : PageRecords). x.records) held in
     let up : take (get_or (0 ∷ opens_of h) (suc (head - start)) 0) xs ≡ take first xs ++ fill = fill_behind 0 (opens_of h) xs (head - start) low r in
     let next : ℕ = get_or (0 ∷ opens_of h) (suc (head - start)) 0 in
     let within : next ≤ length xs = first_below 0 (opens_of h) (length xs) (suc (head - start)) low r in
@@ -145,7 +145,7 @@ partition_taken start h head expected taken from low r short t here held skipped
       fills = fills_taken start h head taken t here record {
         from_start = omega arith;
         begun = let count = length-fills h in omega arith;
-        held = held ∙ ap (λ (g : ℕ). let x : Held = record { first = first_of_fill h start g; records = get_or (fills_of h) (g - start) [] } in x) (sym here);
+        held = held ∙ ap (λ (g : ℕ). let x : PageRecords = record { first = first_of_fill h start g; records = get_or (fills_of h) (g - start) [] } in x) (sym here);
       } p.fills p.below;
       below = λ j u at. ⊎_elim (λ old. let high = p.below j u old in omega arith) (λ (last, same). let e = ap (λ (x : Taken). x.fill) same in omega arith) (get_snoc taken t u j at);
     }

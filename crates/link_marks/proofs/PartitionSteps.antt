@@ -5,7 +5,7 @@ use Rattle.trace_model.specs.Packing.{opens_of}
 use Rattle.trace_model.specs.Fitting.{IsRising}
 use Rattle.trace_model.specs.Frames.{Kind, for_record, for_close, FrameState, waiting, reserved, left, Phase, idle, looking, claiming, looking_next, marking, clearing, opening, releasing, wishing, Frame}
 use Rattle.trace_model.specs.Ring.{ReaderPhase, loading_link, loading_done, storing_link, swapping, Core, page_at, first_of_fill}
-use Rattle.trace_model.specs.Steps.{Event, Answer, with_new_tail, after_begin, BeginsAnew, reserves, finds_nothing, is_crowded, is_worn, notes, look_late, sees_free, sees_header, sees_update, claim_late, claims, claim_fails, next_late, sees_normal, sees_other, mark_late, marks, mark_fails, clears, open_late, opens, releases, releases_last, grants, closes_more, goes_away, IdleStep, FrameStep, Step, push_step, push_refused, close_step, close_refused, frame_step, frame_lacks, end_step, end_lacks, end_early, read_step, wish_step, loads_header, loads_update, loads_owed, loads_passed, finds_none, finds_closed, swaps, swap_fails, ReadStep, taken_fill, contents_of}
+use Rattle.trace_model.specs.Steps.{Event, Answer, with_new_tail, after_begin, BeginsAgain, reserves, finds_nothing, is_crowded, is_worn, notes, look_late, sees_free, sees_header, sees_update, claim_late, claims, claim_fails, next_late, sees_normal, sees_other, mark_late, marks, mark_fails, clears, open_late, opens, releases, releases_last, grants, closes_more, goes_away, IdleStep, FrameStep, Step, push_step, push_refused, close_step, close_refused, frame_step, frame_lacks, end_step, end_lacks, end_early, read_step, wish_step, loads_header, loads_update, loads_owed, loads_passed, finds_none, finds_closed, swaps, swap_fails, ReadStep, taken_fill, contents_of}
 use Rattle.link_marks.specs.KeptLinks.{PhaseKept, ReaderKept, LinksKept}
 use Rattle.link_marks.specs.KeptHistory.{HistoryKept}
 use Rattle.link_marks.specs.KeptContents.{ContentsKept, ClosedKept}
@@ -56,8 +56,8 @@ module _ (n start : ℕ) (c : Core) (k : LinksKept n c) (t : ContentsKept n star
   partition_begins kind (reserved number) page frame below = partition_acts open_fill
   partition_begins kind left page frame below = partition_acts open_fill
 
-  anew : (frame : Frame) (below : List Frame) (noted : ℕ) (answer : Answer) (after : Core) → BeginsAnew c frame below noted answer after → PartitionKept start after
-  anew frame below noted answer after step = subst (PartitionKept start) (sym step.after_is) (partition_begun frame.kind frame.state frame below)
+  again : (frame : Frame) (below : List Frame) (noted : ℕ) (answer : Answer) (after : Core) → BeginsAgain c frame below noted answer after → PartitionKept start after
+  again frame below noted answer after step = subst (PartitionKept start) (sym step.after_is) (partition_begun frame.kind frame.state frame below)
 
 module _ (n size start : ℕ) (c : Core) (frame : Frame) (below : List Frame) (k : LinksKept n c) (h : HistoryKept n start c) (t : ContentsKept n start c) (z : ClosedKept start c) (q : PartitionKept start c) (top : c.frames ≡ frame ∷ below) where
   partition_idle : (state : FrameState) (answer : Answer) (after : Core) → IdleStep n size c frame below state answer after → PartitionKept start after
@@ -71,25 +71,25 @@ module _ (n size start : ℕ) (c : Core) (frame : Frame) (below : List Frame) (k
 
   partition_frame : (phase : Phase) (answer : Answer) (after : Core) → frame.phase ≡ phase → FrameStep n size c frame below phase answer after → PartitionKept start after
   partition_frame idle answer after same step = partition_idle frame.state answer after step
-  partition_frame (looking noted) answer after same (look_late step) = anew n start c k t z q frame below noted answer after step
+  partition_frame (looking noted) answer after same (look_late step) = again n start c k t z q frame below noted answer after step
   partition_frame (looking noted) answer after same (sees_free page now at a is) = subst (PartitionKept start) (sym is) q
   partition_frame (looking noted) answer after same (sees_header page lost now sum at a is) = subst (PartitionKept start) (sym is) q
   partition_frame (looking noted) answer after same (sees_update page lost now sum at a is) = subst (PartitionKept start) (sym is) q
-  partition_frame (claiming noted page) answer after same (claim_late step) = anew n start c k t z q frame below noted answer after step
+  partition_frame (claiming noted page) answer after same (claim_late step) = again n start c k t z q frame below noted answer after step
   partition_frame (claiming noted page) answer after same (claims lost now sum at a is) =
       let (open_yet, begun_yet, room, small) = (subst (PhaseKept n c.links c.order c.head c.done c.opened) same (top_kept n c frame below k top)).noted noted refl in
       let unread = k.head_le in let within = k.opened_le in let behind = k.done_lt in let count = t.begun in let from_start = t.from_start in
       let (here, page_is, head_at) = header_inside n c k noted page lost (omega arith) (omega arith) sum at in
       subst (PartitionKept start) (sym is) (partition_lost start c.history c.head c.reader.expected c.reader.taken from_start (omega arith) t.rising q)
   partition_frame (claiming noted page) answer after same (claim_fails now other a is) = subst (PartitionKept start) (sym is) q
-  partition_frame (looking_next role noted page) answer after same (next_late helps step) = anew n start c k t z q frame below noted answer after step
+  partition_frame (looking_next role noted page) answer after same (next_late helps step) = again n start c k t z q frame below noted answer after step
   partition_frame (looking_next role noted page) answer after same (sees_normal lost next goes_on sum at a is) = subst (PartitionKept start) (sym is) q
   partition_frame (looking_next role noted page) answer after same (sees_other lost goes_on sum other a is) = subst (PartitionKept start) (sym is) q
-  partition_frame (marking role noted page next) answer after same (mark_late helps step) = anew n start c k t z q frame below noted answer after step
+  partition_frame (marking role noted page next) answer after same (mark_late helps step) = again n start c k t z q frame below noted answer after step
   partition_frame (marking role noted page next) answer after same (marks lost goes_on sum at a is) = subst (PartitionKept start) (sym is) q
   partition_frame (marking role noted page next) answer after same (mark_fails lost goes_on sum other a is) = subst (PartitionKept start) (sym is) q
   partition_frame (clearing noted page) answer after same (clears lost sum at a is) = subst (PartitionKept start) (sym is) q
-  partition_frame (opening noted page) answer after same (open_late step) = anew n start c k t z q frame below noted answer after step
+  partition_frame (opening noted page) answer after same (open_late step) = again n start c k t z q frame below noted answer after step
   partition_frame (opening noted page) answer after same (opens now a is) = subst (PartitionKept start) (sym is) (partition_begins n start c k t z q frame.kind frame.state page frame below)
   partition_frame releasing answer after same (releases alone more a is) = subst (PartitionKept start) (sym is) q
   partition_frame releasing answer after same (releases_last alone last a is) = subst (PartitionKept start) (sym is) q

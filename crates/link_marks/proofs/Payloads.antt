@@ -9,14 +9,14 @@ use native.Mathlib.Decide.{ℕ_discrete, dec_le}
 use Rattle.trace_model.specs.History.{Reservation, PushedFrame, writer_after, reserved_records, records_with_payload}
 use Rattle.trace_model.specs.Packing.{opens_of, cut_from}
 use Rattle.trace_model.specs.Frames.{Kind, for_record, for_close, FrameState, waiting, reserved, left, number_of, Phase, Frame, pushed_onto, pushed_frames}
-use Rattle.trace_model.specs.Ring.{Held, empty_page, Core, page_at}
+use Rattle.trace_model.specs.Ring.{PageRecords, empty_page, Core, page_at}
 use Rattle.trace_model.specs.Steps.{Event, pushes, pushes_close, steps, ends, reads, wishes, push_step, push_refused, close_step, close_refused, frame_step, frame_lacks, end_step, end_lacks, end_early, read_step, wish_step, contents_of, held_with_payload, own_number}
 use Rattle.trace_model.proofs.FillOfNumber.{LiesIn, lies_in, get_in_fill, ends_before}
 use Rattle.trace_model.proofs.Committed.{committed_len}
 use Rattle.trace_model.proofs.OpenNumbers.{IsOpenAt, HasNumber, AreOpen, open_at, numbers_open, numbers_uncommitted}
 use Rattle.link_marks.specs.KeptStack.{MayBeIn, FramesAgree}
 use Rattle.link_marks.specs.RingKept.{IsRingKept}
-use Rattle.link_marks.specs.PayloadLaws.{HoldsNumber, LiesOpen, ReservedLiesOpen, ReservedDiffer, WritesOnePage, EndsWriteOnePage}
+use Rattle.link_marks.specs.PayloadLaws.{HoldsNumber, IsOnOpenPage, ReservedLiesOpen, ReservedDiffer, WritesOnePage, EndsWriteOnePage}
 use Rattle.link_marks.proofs.FramePhases.{none_some}
 use Rattle.link_marks.proofs.PageChanges.{page_below}
 
@@ -95,7 +95,7 @@ module _ (n size start : ℕ) (c : Core) (r : IsRingKept n size start c) (number
       lies_in (opens_of c.history) (reserved_records c.history) number (length (opens_of c.history) - (c.done - start)) (c.done - start) (omega arith) r.contents.rising (omega arith)
       (slice_get_within (reserved_records c.history) number is_open.record_is is_open.at)
 
-  lies_open : LiesOpen n c number
+  lies_open : IsOnOpenPage n c number
   lies_open = let count = r.contents.begun in let from = r.contents.from_start in let unread = r.links.head_le in let behind = r.links.done_lt in
       let i : ℕ = lies.fill in let least = lies.least_le in let most = lies.fill_le in let low = lies.first_le in let high = lies.number_lt in
       let fill : ℕ = start + i in
@@ -104,9 +104,9 @@ module _ (n size start : ℕ) (c : Core) (r : IsRingKept n size start c) (number
       let records : List Reservation = get_or (cut_from 0 (opens_of c.history) (reserved_records c.history)) i [] in
       let holds : contents_of c page ≡ record { first = first; records = records } =
       r.contents.each fill (omega arith) (omega arith)
-      ∙ ap (λ (j : ℕ). let h : Held = record { first = get_or (0 ∷ opens_of c.history) j 0; records = get_or (cut_from 0 (opens_of c.history) (reserved_records c.history)) j [] } in h) (let same : fill - start ≡ i = omega arith in same) in
-      let first_is : (contents_of c page).first ≡ first = ap (λ (h : Held). h.first) holds in
-      let size_is : length (contents_of c page).records ≡ length records = ap (λ (h : Held). length h.records) holds in record {
+      ∙ ap (λ (j : ℕ). let h : PageRecords = record { first = get_or (0 ∷ opens_of c.history) j 0; records = get_or (cut_from 0 (opens_of c.history) (reserved_records c.history)) j [] } in h) (let same : fill - start ≡ i = omega arith in same) in
+      let first_is : (contents_of c page).first ≡ first = ap (λ (h : PageRecords). h.first) holds in
+      let size_is : length (contents_of c page).records ≡ length records = ap (λ (h : PageRecords). length h.records) holds in record {
         fill = fill;
         done_le = omega arith;
         opened_lt = omega arith;
@@ -115,7 +115,7 @@ module _ (n size start : ℕ) (c : Core) (r : IsRingKept n size start c) (number
         holds = (omega arith, omega arith);
         is_index = omega arith;
         record_is = is_open.record_is;
-        at = ap (λ (h : Held). slice_get h.records (number - first)) holds
+        at = ap (λ (h : PageRecords). slice_get h.records (number - first)) holds
             ∙ get_in_fill 0 (opens_of c.history) (reserved_records c.history) i (number - first) most (omega arith)
             ∙ ap (slice_get (reserved_records c.history)) (let same : first + (number - first) ≡ number = omega arith in same)
             ∙ is_open.at;
@@ -135,8 +135,8 @@ module _ (n size start : ℕ) (c : Core) (r : IsRingKept n size start c) (number
           (λ (i, inside, is). let count = r.contents.begun in let from = r.contents.from_start in let unread = r.links.head_le in let pages = r.open_pages.count in
           let there : page ≡ page_at n c.order (c.done + i) = sym is ∙ r.open_pages.each i inside in
           let here = ap (contents_of c) there ∙ r.contents.each (c.done + i) (omega arith) (omega arith) in
-          let first_is = ap (λ (h : Held). h.first) here in
-          let size_is = ap (λ (h : Held). length h.records) here in
+          let first_is = ap (λ (h : PageRecords). h.first) here in
+          let size_is = ap (λ (h : PageRecords). length h.records) here in
           let same : (c.done + i) - start ≡ lies.fill = same_fill ((c.done + i) - start) (omega arith) (omega arith) (omega arith) in
           there ∙ ap (page_at n c.order) (let e : c.done + i ≡ start + lies.fill = omega arith in e))
           (λ none. let other = r.other_pages page none in let late = uncommitted in absurd (omega arith))
@@ -153,17 +153,17 @@ finished_past zero payload (x ∷ records) past = absurd (omega arith)
 finished_past (suc number) payload (x ∷ records) past = ap (λ (l : List Reservation). x ∷ l) (finished_past number payload records (omega arith))
 
 -- a page that doesn't hold the number stays as it is
-page_stays : (number : ℕ) (payload : List ℕ) (h : Held) → ((h.first ≤ number) × (number < h.first + length h.records) → ⊥) → held_with_payload (Some number) (Some payload) h ≡ h
-page_stays number payload h lacks = ap (λ (l : List Reservation). let g : Held = record { first = h.first; records = l } in g) (dite (dec_le h.first number)
+page_stays : (number : ℕ) (payload : List ℕ) (h : PageRecords) → ((h.first ≤ number) × (number < h.first + length h.records) → ⊥) → held_with_payload (Some number) (Some payload) h ≡ h
+page_stays number payload h lacks = ap (λ (l : List Reservation). let g : PageRecords = record { first = h.first; records = l } in g) (dite (dec_le h.first number)
     (λ low. cond-false _ _ _ (le-ltb number h.first low) ∙ finished_past (number - h.first) payload h.records (past (dec_le (h.first + length h.records) number) low))
     (λ high. cond-true _ _ _ (lt-ltb number h.first (omega arith))))
   where
     past : Dec (h.first + length h.records ≤ number) → h.first ≤ number → length h.records ≤ number - h.first
     past d low = dite d (λ yes. omega arith) (λ no. absurd (lacks (low, omega arith)))
 
-module _ (n size start : ℕ) (c : Core) (payload : List ℕ) (after : Core) (number : ℕ) (r : IsRingKept n size start c) (lies : LiesOpen n c number) (held : after.held ≡ map (held_with_payload (Some number) (Some payload)) c.held) where
+module _ (n size start : ℕ) (c : Core) (payload : List ℕ) (after : Core) (number : ℕ) (r : IsRingKept n size start c) (lies : IsOnOpenPage n c number) (held : after.held ≡ map (held_with_payload (Some number) (Some payload)) c.held) where
   in_page : (page : ℕ) → page < length c.held → contents_of after page ≡ held_with_payload (Some number) (Some payload) (contents_of c page)
-  in_page page inside = ap (λ (l : List Held). get_or l page empty_page) held ∙ get_or-map (held_with_payload (Some number) (Some payload)) c.held page empty_page empty_page inside
+  in_page page inside = ap (λ (l : List PageRecords). get_or l page empty_page) held ∙ get_or-map (held_with_payload (Some number) (Some payload)) c.held page empty_page empty_page inside
 
   writes : WritesOnePage n c payload after number
   writes = record {
@@ -171,7 +171,7 @@ module _ (n size start : ℕ) (c : Core) (payload : List ℕ) (after : Core) (nu
     written = let two = r.links.some_pages in let wide = r.contents.bodies in let below = page_below n c.order c.spare lies.fill (omega arith) r.links.apart in in_page (page_at n c.order lies.fill) (omega arith);
     others = λ page ne. dite (dec_le (suc page) (length c.held))
         (λ inside. in_page page inside ∙ page_stays number payload (contents_of c page) (λ holds. ne (lies.alone page holds)))
-        (λ past. ap (λ (l : List Held). get_or l page empty_page) held
+        (λ past. ap (λ (l : List PageRecords). get_or l page empty_page) held
         ∙ get_or_past (map (held_with_payload (Some number) (Some payload)) c.held) page empty_page (let same = length-map c.held (held_with_payload (Some number) (Some payload)) in omega arith)
         ∙ sym (get_or_past c.held page empty_page (omega arith)));
   }

@@ -3,7 +3,7 @@ use Rattle.std.proofs.Common.{◌≡◌, ℕ, List, [], ◌∷◌, length, Optio
 use Rattle.trace_model.specs.History.{push, push_close, reserved_records}
 use Rattle.trace_model.specs.Frames.{Kind, for_record, for_close, FrameState, waiting, reserved, left, owner, helper, Phase, idle, looking, claiming, looking_next, marking, clearing, opening, releasing, wishing, Frame, Refusal}
 use Rattle.trace_model.specs.Ring.{Core}
-use Rattle.trace_model.specs.Steps.{Event, pushes, pushes_close, steps, ends, reads, wishes, Answer, with_action, with_frame, in_phase, in_reserved, with_reservation, NeedsPage, after_leave, after_begin, BeginsAnew, reserves, finds_nothing, is_crowded, is_worn, notes, look_late, sees_free, sees_header, sees_update, claim_late, claims, claim_fails, next_late, sees_normal, sees_other, mark_late, marks, mark_fails, open_late, opens, IdleStep, FrameStep, PushRefused, all_stand, has_no_room, comes_late, Step, push_step, push_refused, close_step, close_refused, frame_step, frame_lacks, end_step, end_lacks, end_early, read_step, wish_step}
+use Rattle.trace_model.specs.Steps.{Event, pushes, pushes_close, steps, ends, reads, wishes, Answer, with_action, with_frame, in_phase, in_reserved, with_reservation, NeedsPage, after_leave, after_begin, BeginsAgain, reserves, finds_nothing, is_crowded, is_worn, notes, look_late, sees_free, sees_header, sees_update, claim_late, claims, claim_fails, next_late, sees_normal, sees_other, mark_late, marks, mark_fails, open_late, opens, IdleStep, FrameStep, PushRefused, all_stand, has_no_room, comes_late, Step, push_step, push_refused, close_step, close_refused, frame_step, frame_lacks, end_step, end_lacks, end_early, read_step, wish_step}
 use Rattle.link_marks.specs.Seats.{WriterStays, PhaseIsPrivate, TopIsPrivate, IsPrivate}
 use Rattle.link_marks.proofs.StepFunction.{gives, step_of}
 use Rattle.link_marks.proofs.StepsDetermined.{step_is}
@@ -64,8 +64,8 @@ module _ (n size : ℕ) (c other : Core) where
   refused_same moment len why (comes_late few short late) = comes_late few short late
 
   module _ (frame : Frame) (below : List Frame) (answer : Answer) (after : Core) where
-    anew_same : (noted : ℕ) → BeginsAnew c frame below noted answer after → Made (BeginsAnew d frame below noted answer) after
-    anew_same noted step = (
+    again_same : (noted : ℕ) → BeginsAgain c frame below noted answer after → Made (BeginsAgain d frame below noted answer) after
+    again_same noted step = (
       after_begin frame.kind frame.state d frame below,
       record { passed = step.passed; answer_is = step.answer_is; after_is = refl },
       same_there after _ _ step.after_is (begin_same frame.kind frame.state frame below),
@@ -89,23 +89,23 @@ module _ (n size : ℕ) (c other : Core) where
 
     frame_same : (phase : Phase) → PhaseIsPrivate phase c.opened → FrameStep n size c frame below phase answer after → Made (FrameStep n size d frame below phase answer) after
     frame_same idle own step = idle_same frame.state step
-    frame_same (looking noted) own (look_late step) = let (next, anew, same) = anew_same noted step in (next, look_late anew, same)
+    frame_same (looking noted) own (look_late step) = let (next, again, same) = again_same noted step in (next, look_late again, same)
     frame_same (looking noted) own (sees_free page now at a is) = absurd (own now)
     frame_same (looking noted) own (sees_header page lost now sum at a is) = absurd (own now)
     frame_same (looking noted) own (sees_update page lost now sum at a is) = absurd (own now)
-    frame_same (claiming noted page) own (claim_late step) = let (next, anew, same) = anew_same noted step in (next, claim_late anew, same)
+    frame_same (claiming noted page) own (claim_late step) = let (next, again, same) = again_same noted step in (next, claim_late again, same)
     frame_same (claiming noted page) own (claims lost now sum at a is) = absurd (own now)
     frame_same (claiming noted page) own (claim_fails now other a is) = absurd (own now)
     frame_same (looking_next owner noted page) own step = absurd own
-    frame_same (looking_next helper noted page) own (next_late helps step) = let (next, anew, same) = anew_same noted step in (next, next_late helps anew, same)
+    frame_same (looking_next helper noted page) own (next_late helps step) = let (next, again, same) = again_same noted step in (next, next_late helps again, same)
     frame_same (looking_next helper noted page) own (sees_normal lost next on sum at a is) = absurd (own on)
     frame_same (looking_next helper noted page) own (sees_other lost on sum other a is) = absurd (own on)
     frame_same (marking owner noted page next) own step = absurd own
-    frame_same (marking helper noted page next) own (mark_late helps step) = let (there, anew, same) = anew_same noted step in (there, mark_late helps anew, same)
+    frame_same (marking helper noted page next) own (mark_late helps step) = let (there, again, same) = again_same noted step in (there, mark_late helps again, same)
     frame_same (marking helper noted page next) own (marks lost on sum at a is) = absurd (own on)
     frame_same (marking helper noted page next) own (mark_fails lost on sum other a is) = absurd (own on)
     frame_same (clearing noted page) own step = absurd own
-    frame_same (opening noted page) own (open_late step) = let (next, anew, same) = anew_same noted step in (next, open_late anew, same)
+    frame_same (opening noted page) own (open_late step) = let (next, again, same) = again_same noted step in (next, open_late again, same)
     frame_same (opening noted page) own (opens now a is) = absurd (own now)
     frame_same releasing own step = absurd own
     frame_same wishing own step = absurd own

@@ -4,7 +4,7 @@ use Rattle.std.proofs.lemmas.List.{get_or-set_other, map-set, set_comm}
 use Rattle.trace_model.specs.History.{Action, Reservation}
 use Rattle.trace_model.specs.Links.{normal_link}
 use Rattle.trace_model.specs.Frames.{Frame}
-use Rattle.trace_model.specs.Ring.{Held, empty_page, Taken, page_at, link_into, links_with, ReaderPhase, loading_link, loading_done, storing_link, swapping, Reader, Core}
+use Rattle.trace_model.specs.Ring.{PageRecords, empty_page, Taken, page_at, link_into, links_with, ReaderPhase, loading_link, loading_done, storing_link, swapping, Reader, Core}
 use Rattle.trace_model.specs.Steps.{Event, Answer, swapped, tail_page, held_with_payload, next_header, reader_after, after_swap, ReadStep, loads_header, loads_update, loads_owed, loads_passed, finds_none, finds_closed, swaps, swap_fails, Step, push_step, push_refused, close_step, close_refused, frame_step, frame_lacks, end_step, end_lacks, end_early, read_step, wish_step, Exchange}
 use Rattle.link_marks.specs.KeptLinks.{ReaderKept, LinksKept}
 use Rattle.link_marks.specs.KeptContents.{OpenPagesKept}
@@ -18,17 +18,17 @@ use Rattle.link_marks.proofs.SeatPages.{IsHeadTaken, head_taken, open_not_spare,
 -- ---- a step of the reader, and the same after private steps
 
 -- the head, if it is closed, has its contents
-abbrev HeadHolds : ℕ → Core → List Held → Type 0
+abbrev HeadHolds : ℕ → Core → List PageRecords → Type 0
 HeadHolds n c held = c.head < c.done → get_or held (page_at n c.order c.head) empty_page ≡ get_or c.held (page_at n c.order c.head) empty_page
 
 -- What a step of the reader makes of the state: words, its own part, and contents of pages. The same step makes the
 -- same of a state with other frames, another history, and other contents of pages but the head's.
 record IsReading (n : ℕ) (c : Core) (Made : Core → Core → Type 0) (after : Core) : Type 0 where
   words : ReaderWords
-  turned : List Held → List Held
+  turned : List PageRecords → List PageRecords
   after_is : after ≡ read_state words turned c
   alike : TurnsAlike turned c
-  again : (frames : List Frame) (history : List Action) (held : List Held) → HeadHolds n c held → Made (private_state c frames history held) (read_state words turned (private_state c frames history held))
+  again : (frames : List Frame) (history : List Action) (held : List PageRecords) → HeadHolds n c held → Made (private_state c frames history held) (read_state words turned (private_state c frames history held))
 
 -- the words as they are, but the reader is another
 abbrev reader_words : Core → Reader → ReaderWords
@@ -43,26 +43,26 @@ module _ (n : ℕ) (c : Core) (answer : Answer) (after : Core) where
   ReadsOf phase from to = ReadStep n from phase answer to
 
   in_reader : (phase : ReaderPhase) (reader : Reader) → after ≡ read_state (reader_words c reader) (λ held. held) c
-      → ((frames : List Frame) (history : List Action) (held : List Held) → ReadsOf phase (private_state c frames history held) (read_state (reader_words c reader) (λ h. h) (private_state c frames history held)))
+      → ((frames : List Frame) (history : List Action) (held : List PageRecords) → ReadsOf phase (private_state c frames history held) (read_state (reader_words c reader) (λ h. h) (private_state c frames history held)))
       → IsReading n c (ReadsOf phase) after
   in_reader phase reader is again = record { words = reader_words c reader; turned = λ held. held; after_is = is; alike = stay_alike c; again = λ frames history held same. again frames history held }
 
   -- the spare's page and the one that is taken are emptied
-  abbrev swapped_pages : ℕ → List Held → List Held
+  abbrev swapped_pages : ℕ → List PageRecords → List PageRecords
   swapped_pages page held = set (set held c.spare empty_page) page empty_page
 
   swap_ended : (page : ℕ) (number : Option ℕ) (payload : Option (List ℕ)) → swapped_pages page (map (held_with_payload number payload) c.held) ≡ map (held_with_payload number payload) (swapped_pages page c.held)
   swap_ended page number payload = let end = held_with_payload number payload in
       (λ i. set (set (map end c.held) c.spare (sym (ended_empty number payload) i)) page (sym (ended_empty number payload) i))
-      ∙ ap (λ (l : List Held). set l page (end empty_page)) (sym (map-set end c.held c.spare empty_page))
+      ∙ ap (λ (l : List PageRecords). set l page (end empty_page)) (sym (map-set end c.held c.spare empty_page))
       ∙ sym (map-set end (set c.held c.spare empty_page) page empty_page)
 
   swap_reserved : (page tail : ℕ) (r : Reservation) → tail ≢ page → tail ≢ c.spare → swapped_pages page (held_reserved c.held tail r) ≡ held_reserved (swapped_pages page c.held) tail r
   swap_reserved page tail r not_page not_spare =
-      let now : Held = record { first = (get_or c.held tail empty_page).first; records = (get_or c.held tail empty_page).records ++ r ∷ [] } in
-      ap (λ (l : List Held). set l page empty_page) (set_comm c.held tail c.spare now empty_page not_spare)
+      let now : PageRecords = record { first = (get_or c.held tail empty_page).first; records = (get_or c.held tail empty_page).records ++ r ∷ [] } in
+      ap (λ (l : List PageRecords). set l page empty_page) (set_comm c.held tail c.spare now empty_page not_spare)
       ∙ set_comm (set c.held c.spare empty_page) tail page now empty_page not_page
-      ∙ ap (λ (h : Held). set (swapped_pages page c.held) tail record { first = h.first; records = h.records ++ r ∷ [] })
+      ∙ ap (λ (h : PageRecords). set (swapped_pages page c.held) tail record { first = h.first; records = h.records ++ r ∷ [] })
       (sym (get_or-set_other (set c.held c.spare empty_page) page tail empty_page empty_page not_page ∙ get_or-set_other c.held c.spare tail empty_page empty_page not_spare))
 
   -- what a swap makes of the ring's words
@@ -105,13 +105,13 @@ module _ (n : ℕ) (c : Core) (answer : Answer) (after : Core) where
       }
     where
       -- the same page is taken
-      swap_again : IsHeadTaken n c page fill → (frames : List Frame) (history : List Action) (held : List Held) → get_or held page empty_page ≡ get_or c.held page empty_page
+      swap_again : IsHeadTaken n c page fill → (frames : List Frame) (history : List Action) (held : List PageRecords) → get_or held page empty_page ≡ get_or c.held page empty_page
           → ReadsOf (swapping page fill) (private_state c frames history held) (read_state (swap_words page fill) (swapped_pages page) (private_state c frames history held))
       swap_again head frames history held same =
-          let taken : Held → Taken = λ h. record { fill = fill; skipped = h.first - c.reader.expected; held = h } in
+          let taken : PageRecords → Taken = λ h. record { fill = fill; skipped = h.first - c.reader.expected; held = h } in
           let there : Core = private_state c frames history held in
-          swaps at (a ∙ ap (λ (h : Held). swapped (taken h)) (sym same))
-          (ap (λ (h : Held). record (after_swap n there page fill) { reader = record { phase = loading_link; hint = suc fill; seen = c.reader.seen; expected = h.first + length h.records; taken = c.reader.taken ++ taken h ∷ [] } }) (sym same))
+          swaps at (a ∙ ap (λ (h : PageRecords). swapped (taken h)) (sym same))
+          (ap (λ (h : PageRecords). record (after_swap n there page fill) { reader = record { phase = loading_link; hint = suc fill; seen = c.reader.seen; expected = h.first + length h.records; taken = c.reader.taken ++ taken h ∷ [] } }) (sym same))
   reads_alike k o (swapping page fill) facts (swap_fails at a is) = in_reader (swapping page fill) (record c.reader { phase = loading_link; hint = suc fill }) is (λ frames history held. swap_fails at a refl)
 
 -- ---- one private step

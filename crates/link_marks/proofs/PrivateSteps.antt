@@ -5,14 +5,14 @@ use Rattle.std.specs.Prelude.{slice_index_or, slice_set}
 use Rattle.trace_model.specs.History.{Action, push, push_close, Reservation, reserved_records}
 use Rattle.trace_model.specs.Links.{Link}
 use Rattle.trace_model.specs.Frames.{Kind, for_record, for_close, FrameState, waiting, reserved, left, owner, helper, Phase, idle, looking, claiming, looking_next, marking, clearing, opening, releasing, wishing, Frame, Refusal}
-use Rattle.trace_model.specs.Ring.{Held, empty_page, Reader, Core}
-use Rattle.trace_model.specs.Steps.{Event, pushes, pushes_close, steps, ends, reads, wishes, Answer, with_action, with_frame, in_phase, in_reserved, with_reservation, tail_page, held_with_payload, own_number, closing_phase, NeedsPage, after_leave, after_begin, BeginsAnew, reserves, finds_nothing, is_crowded, is_worn, notes, look_late, sees_free, sees_header, sees_update, claim_late, claims, claim_fails, next_late, sees_normal, sees_other, mark_late, marks, mark_fails, open_late, opens, IdleStep, FrameStep, PushRefused, all_stand, has_no_room, comes_late, Step, push_step, push_refused, close_step, close_refused, frame_step, frame_lacks, end_step, end_lacks, end_early, read_step, wish_step}
+use Rattle.trace_model.specs.Ring.{PageRecords, empty_page, Reader, Core}
+use Rattle.trace_model.specs.Steps.{Event, pushes, pushes_close, steps, ends, reads, wishes, Answer, with_action, with_frame, in_phase, in_reserved, with_reservation, tail_page, held_with_payload, own_number, closing_phase, NeedsPage, after_leave, after_begin, BeginsAgain, reserves, finds_nothing, is_crowded, is_worn, notes, look_late, sees_free, sees_header, sees_update, claim_late, claims, claim_fails, next_late, sees_normal, sees_other, mark_late, marks, mark_fails, open_late, opens, IdleStep, FrameStep, PushRefused, all_stand, has_no_room, comes_late, Step, push_step, push_refused, close_step, close_refused, frame_step, frame_lacks, end_step, end_lacks, end_early, read_step, wish_step}
 use Rattle.link_marks.specs.Seats.{PhaseIsPrivate, TopIsPrivate, IsPrivate, WordsStay}
 
 -- ---- what a private step makes of the state
 
 -- the state with other frames, another history and other contents of pages
-abbrev pub private_state : Core → List Frame → List Action → List Held → Core
+abbrev pub private_state : Core → List Frame → List Action → List PageRecords → Core
 private_state c frames history held = record c { frames = frames; history = history; held = held }
 
 -- The state after a private step: as it was; with a frame pushed; or the frame on top has reserved, goes on, or
@@ -31,8 +31,8 @@ begin_result c kind (reserved number) frame below after top is = goes_on frame b
 begin_result c kind left frame below after top is = goes_on frame below (closing_phase c) is
 
 module _ (n size : ℕ) (c : Core) (frame : Frame) (below : List Frame) (answer : Answer) (after : Core) (top : c.frames ≡ frame ∷ below) where
-  anew_result : (noted : ℕ) → BeginsAnew c frame below noted answer after → PrivateResult c after
-  anew_result noted step = begin_result c frame.kind frame.state frame below after top step.after_is
+  again_result : (noted : ℕ) → BeginsAgain c frame below noted answer after → PrivateResult c after
+  again_result noted step = begin_result c frame.kind frame.state frame below after top step.after_is
 
   idle_result : (state : FrameState) → IdleStep n size c frame below state answer after → PrivateResult c after
   idle_result waiting (reserves moment len r kind r_is fits a is) = reserved_one frame below r (length (reserved_records c.history)) is
@@ -45,23 +45,23 @@ module _ (n size : ℕ) (c : Core) (frame : Frame) (below : List Frame) (answer 
 
   frame_result : (phase : Phase) → PhaseIsPrivate phase c.opened → FrameStep n size c frame below phase answer after → PrivateResult c after
   frame_result idle own step = idle_result frame.state step
-  frame_result (looking noted) own (look_late step) = anew_result noted step
+  frame_result (looking noted) own (look_late step) = again_result noted step
   frame_result (looking noted) own (sees_free page now at a is) = absurd (own now)
   frame_result (looking noted) own (sees_header page lost now sum at a is) = absurd (own now)
   frame_result (looking noted) own (sees_update page lost now sum at a is) = absurd (own now)
-  frame_result (claiming noted page) own (claim_late step) = anew_result noted step
+  frame_result (claiming noted page) own (claim_late step) = again_result noted step
   frame_result (claiming noted page) own (claims lost now sum at a is) = absurd (own now)
   frame_result (claiming noted page) own (claim_fails now other a is) = absurd (own now)
   frame_result (looking_next owner noted page) own step = absurd own
-  frame_result (looking_next helper noted page) own (next_late helps step) = anew_result noted step
+  frame_result (looking_next helper noted page) own (next_late helps step) = again_result noted step
   frame_result (looking_next helper noted page) own (sees_normal lost next on sum at a is) = absurd (own on)
   frame_result (looking_next helper noted page) own (sees_other lost on sum other a is) = absurd (own on)
   frame_result (marking owner noted page next) own step = absurd own
-  frame_result (marking helper noted page next) own (mark_late helps step) = anew_result noted step
+  frame_result (marking helper noted page next) own (mark_late helps step) = again_result noted step
   frame_result (marking helper noted page next) own (marks lost on sum at a is) = absurd (own on)
   frame_result (marking helper noted page next) own (mark_fails lost on sum other a is) = absurd (own on)
   frame_result (clearing noted page) own step = absurd own
-  frame_result (opening noted page) own (open_late step) = anew_result noted step
+  frame_result (opening noted page) own (open_late step) = again_result noted step
   frame_result (opening noted page) own (opens now a is) = absurd (own now)
   frame_result releasing own step = absurd own
   frame_result wishing own step = absurd own
@@ -114,7 +114,7 @@ pub record ReaderWords : Type 0 where
   pub reader : Reader
 
 -- the state with these, and with other contents of pages
-abbrev pub read_state : ReaderWords → (List Held → List Held) → Core → Core
+abbrev pub read_state : ReaderWords → (List PageRecords → List PageRecords) → Core → Core
 read_state words turned c = record c {
   links = words.links;
   spare_link = words.spare_link;
@@ -127,21 +127,21 @@ read_state words turned c = record c {
 }
 
 -- the pages, with one record more in this one
-abbrev pub held_reserved : List Held → ℕ → Reservation → List Held
+abbrev pub held_reserved : List PageRecords → ℕ → Reservation → List PageRecords
 held_reserved held page r = slice_set held page record { first = (slice_index_or held page empty_page).first; records = (slice_index_or held page empty_page).records ++ r ∷ [] }
 
 -- it is the same whether the pages' contents change before a private step or after it
-pub record TurnsAlike (turned : List Held → List Held) (c : Core) : Type 0 where
+pub record TurnsAlike (turned : List PageRecords → List PageRecords) (c : Core) : Type 0 where
   pub ended : (number : Option ℕ) (payload : Option (List ℕ)) → turned (map (held_with_payload number payload) c.held) ≡ map (held_with_payload number payload) (turned c.held)
   pub reserved : (r : Reservation) → turned (held_reserved c.held (tail_page c) r) ≡ held_reserved (turned c.held) (tail_page c) r
 
-module _ (n size : ℕ) (words : ReaderWords) (turned : List Held → List Held) (c : Core) (alike : TurnsAlike turned c) where
+module _ (n size : ℕ) (words : ReaderWords) (turned : List PageRecords → List PageRecords) (c : Core) (alike : TurnsAlike turned c) where
   abbrev there : Core → Core
   there d = read_state words turned d
 
   leave_there : (frame : Frame) (below : List Frame) (payload : Option (List ℕ)) → there (after_leave c frame below payload) ≡ after_leave (there c) frame below payload
-  leave_there frame [] payload = ap (λ (b : List Held). record (after_leave (there c) frame [] payload) { held = b }) (alike.ended (own_number frame.kind frame.state) payload)
-  leave_there frame (next ∷ below) payload = ap (λ (b : List Held). record (after_leave (there c) frame (next ∷ below) payload) { held = b }) (alike.ended (own_number frame.kind frame.state) payload)
+  leave_there frame [] payload = ap (λ (b : List PageRecords). record (after_leave (there c) frame [] payload) { held = b }) (alike.ended (own_number frame.kind frame.state) payload)
+  leave_there frame (next ∷ below) payload = ap (λ (b : List PageRecords). record (after_leave (there c) frame (next ∷ below) payload) { held = b }) (alike.ended (own_number frame.kind frame.state) payload)
 
   begin_there : (kind : Kind) (state : FrameState) (frame : Frame) (below : List Frame) → there (after_begin kind state c frame below) ≡ after_begin kind state (there c) frame below
   begin_there (for_record moment len) waiting frame below = refl
@@ -159,12 +159,12 @@ module _ (n size : ℕ) (words : ReaderWords) (turned : List Held → List Held)
   refused_there moment len why (comes_late few short late) = comes_late few short late
 
   module _ (frame : Frame) (below : List Frame) (answer : Answer) (after : Core) where
-    anew_there : (noted : ℕ) → BeginsAnew c frame below noted answer after → BeginsAnew (there c) frame below noted answer (there after)
-    anew_there noted step = record { passed = step.passed; answer_is = step.answer_is; after_is = ap there step.after_is ∙ begin_there frame.kind frame.state frame below }
+    again_there : (noted : ℕ) → BeginsAgain c frame below noted answer after → BeginsAgain (there c) frame below noted answer (there after)
+    again_there noted step = record { passed = step.passed; answer_is = step.answer_is; after_is = ap there step.after_is ∙ begin_there frame.kind frame.state frame below }
 
     idle_there : (state : FrameState) → IdleStep n size c frame below state answer after → IdleStep n size (there c) frame below state answer (there after)
     idle_there waiting (reserves moment len r kind r_is fits a is) = reserves moment len r kind r_is fits a
-        (ap there is ∙ ap (λ (b : List Held). record (in_reserved (with_reservation (there c) r) frame below (length (reserved_records c.history))) { held = b }) (alike.reserved r))
+        (ap there is ∙ ap (λ (b : List PageRecords). record (in_reserved (with_reservation (there c) r) frame below (length (reserved_records c.history))) { held = b }) (alike.reserved r))
     idle_there waiting (finds_nothing kind none a is) = finds_nothing kind none a (ap there is ∙ leave_there frame below None)
     idle_there waiting (is_crowded needs full a is) = is_crowded (needs_there frame.kind needs) full a (ap there is ∙ leave_there frame below None)
     idle_there waiting (is_worn needs room last a is) = is_worn (needs_there frame.kind needs) room last a (ap there is ∙ leave_there frame below None)
@@ -174,23 +174,23 @@ module _ (n size : ℕ) (words : ReaderWords) (turned : List Held → List Held)
 
     frame_there : (phase : Phase) → PhaseIsPrivate phase c.opened → FrameStep n size c frame below phase answer after → FrameStep n size (there c) frame below phase answer (there after)
     frame_there idle own step = idle_there frame.state step
-    frame_there (looking noted) own (look_late step) = look_late (anew_there noted step)
+    frame_there (looking noted) own (look_late step) = look_late (again_there noted step)
     frame_there (looking noted) own (sees_free page now at a is) = absurd (own now)
     frame_there (looking noted) own (sees_header page lost now sum at a is) = absurd (own now)
     frame_there (looking noted) own (sees_update page lost now sum at a is) = absurd (own now)
-    frame_there (claiming noted page) own (claim_late step) = claim_late (anew_there noted step)
+    frame_there (claiming noted page) own (claim_late step) = claim_late (again_there noted step)
     frame_there (claiming noted page) own (claims lost now sum at a is) = absurd (own now)
     frame_there (claiming noted page) own (claim_fails now other a is) = absurd (own now)
     frame_there (looking_next owner noted page) own step = absurd own
-    frame_there (looking_next helper noted page) own (next_late helps step) = next_late helps (anew_there noted step)
+    frame_there (looking_next helper noted page) own (next_late helps step) = next_late helps (again_there noted step)
     frame_there (looking_next helper noted page) own (sees_normal lost next on sum at a is) = absurd (own on)
     frame_there (looking_next helper noted page) own (sees_other lost on sum other a is) = absurd (own on)
     frame_there (marking owner noted page next) own step = absurd own
-    frame_there (marking helper noted page next) own (mark_late helps step) = mark_late helps (anew_there noted step)
+    frame_there (marking helper noted page next) own (mark_late helps step) = mark_late helps (again_there noted step)
     frame_there (marking helper noted page next) own (marks lost on sum at a is) = absurd (own on)
     frame_there (marking helper noted page next) own (mark_fails lost on sum other a is) = absurd (own on)
     frame_there (clearing noted page) own step = absurd own
-    frame_there (opening noted page) own (open_late step) = open_late (anew_there noted step)
+    frame_there (opening noted page) own (open_late step) = open_late (again_there noted step)
     frame_there (opening noted page) own (opens now a is) = absurd (own now)
     frame_there releasing own step = absurd own
     frame_there wishing own step = absurd own
@@ -210,7 +210,7 @@ module _ (n size : ℕ) (words : ReaderWords) (turned : List Held → List Held)
   private_step_there event answer after own (read_step e step) = absurd (subst (IsPrivate c) e own)
   private_step_there event answer after own (wish_step e a is) = absurd (subst (IsPrivate c) e own)
 
-pub private_read : (words : ReaderWords) (turned : List Held → List Held) (c : Core) (event : Event) → IsPrivate c event → IsPrivate (read_state words turned c) event
+pub private_read : (words : ReaderWords) (turned : List PageRecords → List PageRecords) (c : Core) (event : Event) → IsPrivate c event → IsPrivate (read_state words turned c) event
 private_read words turned c (pushes moment len) own = tt
 private_read words turned c pushes_close own = tt
 private_read words turned c steps own = own

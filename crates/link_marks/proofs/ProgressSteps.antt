@@ -7,7 +7,7 @@ use native.Mathlib.Decide.{ℕ_discrete}
 use Rattle.trace_model.specs.Links.{Link, normal_link, header_link, update_link}
 use Rattle.trace_model.specs.Frames.{Kind, for_record, for_close, FrameState, waiting, reserved, left, Role, owner, helper, Phase, idle, looking, claiming, looking_next, marking, clearing, opening, releasing, wishing, Frame}
 use Rattle.trace_model.specs.Ring.{ReaderPhase, loading_link, loading_done, storing_link, swapping, Core, IsStart, link_into, links_with, page_at}
-use Rattle.trace_model.specs.Steps.{Event, Answer, in_phase, closing_phase, after_leave, after_begin, with_new_tail, after_next, BeginsAnew, ReserveStep, reserves, finds_nothing, is_crowded, is_worn, notes, LookStep, look_late, sees_free, sees_header, sees_update, ClaimStep, claim_late, claims, claim_fails, NextStep, next_late, sees_normal, sees_other, MarkStep, mark_late, marks, mark_fails, ClearStep, clears, OpenStep, open_late, opens, ReleaseStep, releases, releases_last, WishStep, grants, closes_more, goes_away, IdleStep, FrameStep, LoadStep, loads_header, loads_update, loads_owed, loads_passed, LoadDoneStep, finds_none, finds_closed, SwapStep, swaps, swap_fails, ReadStep, Step, push_step, push_refused, close_step, close_refused, frame_step, frame_lacks, end_step, end_lacks, end_early, read_step, wish_step}
+use Rattle.trace_model.specs.Steps.{Event, Answer, in_phase, closing_phase, after_leave, after_begin, with_new_tail, after_next, BeginsAgain, ReserveStep, reserves, finds_nothing, is_crowded, is_worn, notes, LookStep, look_late, sees_free, sees_header, sees_update, ClaimStep, claim_late, claims, claim_fails, NextStep, next_late, sees_normal, sees_other, MarkStep, mark_late, marks, mark_fails, ClearStep, clears, OpenStep, open_late, opens, ReleaseStep, releases, releases_last, WishStep, grants, closes_more, goes_away, IdleStep, FrameStep, LoadStep, loads_header, loads_update, loads_owed, loads_passed, LoadDoneStep, finds_none, finds_closed, SwapStep, swaps, swap_fails, ReadStep, Step, push_step, push_refused, close_step, close_refused, frame_step, frame_lacks, end_step, end_lacks, end_early, read_step, wish_step}
 use Rattle.link_marks.specs.KeptLinks.{PhaseKept, LinkKept, is_normal, is_header, is_update, ReaderKept, LinksKept}
 use Rattle.link_marks.specs.KeptProgress.{IsMarked, PhaseAdvances, FramesAdvance, ProgressKept}
 use Rattle.link_marks.proofs.Positions.{link_here}
@@ -89,8 +89,8 @@ module _ (n size : ℕ) (c : Core) (frame : Frame) (below : List Frame) (k : Lin
   leaves : (after : Core) (payload : Option (List ℕ)) → after ≡ after_leave c frame below payload → ProgressKept n after
   leaves after payload is = subst (ProgressKept n) (sym is) (leave_advances n c frame below payload r.room (below_advances n size c frame below k r top))
 
-  anew : (noted : ℕ) (answer : Answer) (after : Core) → BeginsAnew c frame below noted answer after → ProgressKept n after
-  anew noted answer after step = subst (ProgressKept n) (sym step.after_is) (after_begin_advances n c frame.kind frame.state frame below r.room (below_advances n size c frame below k r top))
+  again : (noted : ℕ) (answer : Answer) (after : Core) → BeginsAgain c frame below noted answer after → ProgressKept n after
+  again noted answer after step = subst (ProgressKept n) (sym step.after_is) (after_begin_advances n c frame.kind frame.state frame below r.room (below_advances n size c frame below k r top))
 
   on : (after : Core) (phase : Phase) → PhaseAdvances n c.links c.head phase → after ≡ in_phase c frame below phase → ProgressKept n after
   on after phase facts is = goes n size c frame below k r top after phase facts is
@@ -103,13 +103,13 @@ module _ (n size : ℕ) (c : Core) (frame : Frame) (below : List Frame) (k : Lin
   reserve_advances answer after (notes needs room small a is) = on after (looking c.opened) tt is
 
   look_advances : (noted : ℕ) (answer : Answer) (after : Core) → LookStep n c frame below noted answer after → ProgressKept n after
-  look_advances noted answer after (look_late step) = anew noted answer after step
+  look_advances noted answer after (look_late step) = again noted answer after step
   look_advances noted answer after (sees_free page now at a is) = on after (opening noted page) (λ lost sum. free_marked n c noted page lost k now at sum) is
   look_advances noted answer after (sees_header page lost now sum at a is) = on after (claiming noted page) tt is
   look_advances noted answer after (sees_update page lost now sum at a is) = on after (looking_next helper noted page) (omega arith) is
 
   claim_advances : (noted page : ℕ) (answer : Answer) (after : Core) → ClaimStep n c frame below noted page answer after → ProgressKept n after
-  claim_advances noted page answer after (claim_late step) = anew noted answer after step
+  claim_advances noted page answer after (claim_late step) = again noted answer after step
   claim_advances noted page answer after (claims lost now sum at a is) =
       let some_pages = k.some_pages in let unread = k.head_le in let behind = k.done_lt in let within = k.opened_le in
       let (here, page_is, head_at) = header_inside n c k noted page lost (omega arith) (omega arith) sum at in
@@ -127,14 +127,14 @@ module _ (n size : ℕ) (c : Core) (frame : Frame) (below : List Frame) (k : Lin
   passes links helper noted page lost sum set = λ u u_sum. subst (IsMarked n links c.head) (let e : lost ≡ u = omega arith in e) set
 
   next_advances : (role : Role) (noted page : ℕ) (answer : Answer) (after : Core) → frame.phase ≡ looking_next role noted page → NextStep n c frame below role noted page answer after → ProgressKept n after
-  next_advances role noted page answer after same (next_late helps step) = anew noted answer after step
+  next_advances role noted page answer after same (next_late helps step) = again noted answer after step
   next_advances role noted page answer after same (sees_normal lost next goes_on sum at a is) = on after (marking role noted page next) (omega arith) is
   next_advances role noted page answer after same (sees_other lost goes_on sum other a is) =
       let passed = (kept_in n size c frame below k r top (looking_next role noted page) same).passed noted page refl in let inside = passed.1 in
       on after (after_next role noted page) (passes c.links role noted page lost sum (omega arith, other)) is
 
   mark_advances : (role : Role) (noted page next : ℕ) (answer : Answer) (after : Core) → frame.phase ≡ marking role noted page next → MarkStep n c frame below role noted page next answer after → ProgressKept n after
-  mark_advances role noted page next answer after same (mark_late helps step) = anew noted answer after step
+  mark_advances role noted page next answer after same (mark_late helps step) = again noted answer after step
   mark_advances role noted page next answer after same (marks lost goes_on sum at a is) =
       let some_pages = k.some_pages in
       let passed = (kept_in n size c frame below k r top (marking role noted page next) same).passed noted page refl in let inside = passed.1 in
@@ -167,7 +167,7 @@ module _ (n size : ℕ) (c : Core) (frame : Frame) (below : List Frame) (k : Lin
       }
 
   open_advances : (noted page : ℕ) (answer : Answer) (after : Core) → frame.phase ≡ opening noted page → OpenStep n c frame below noted page answer after → ProgressKept n after
-  open_advances noted page answer after same (open_late step) = anew noted answer after step
+  open_advances noted page answer after same (open_late step) = again noted answer after step
   open_advances noted page answer after same (opens now a is) =
       subst (ProgressKept n) (sym is) (after_begin_advances n (with_new_tail c page) frame.kind frame.state frame below (λ seen at. more seen at (k.each c.head (omega arith) (let some_pages = k.some_pages in omega arith))) (below_advances n size c frame below k r top))
     where

@@ -6,7 +6,7 @@ use native.Mathlib.Decide.{ℕ_discrete}
 use Rattle.trace_model.specs.Links.{Link, normal_link, header_link, update_link}
 use Rattle.trace_model.specs.Frames.{Kind, for_record, for_close, FrameState, waiting, reserved, left, owner, Phase, idle, looking, claiming, looking_next, marking, clearing, opening, releasing, wishing, Frame, owned_update}
 use Rattle.trace_model.specs.Ring.{link_into, links_with, page_at, ReaderPhase, loading_link, loading_done, storing_link, swapping, Core}
-use Rattle.trace_model.specs.Steps.{Event, steps, reads, Answer, with_new_tail, after_begin, BeginsAnew, reserves, finds_nothing, is_crowded, is_worn, notes, look_late, sees_free, sees_header, sees_update, claim_late, claims, claim_fails, next_late, sees_normal, sees_other, mark_late, marks, mark_fails, clears, open_late, opens, releases, releases_last, grants, closes_more, goes_away, IdleStep, FrameStep, Step, push_step, push_refused, close_step, close_refused, frame_step, frame_lacks, end_step, end_lacks, end_early, read_step, wish_step, loads_header, loads_update, loads_owed, loads_passed, finds_none, finds_closed, swaps, swap_fails, ReadStep, Exchange, Run}
+use Rattle.trace_model.specs.Steps.{Event, steps, reads, Answer, with_new_tail, after_begin, BeginsAgain, reserves, finds_nothing, is_crowded, is_worn, notes, look_late, sees_free, sees_header, sees_update, claim_late, claims, claim_fails, next_late, sees_normal, sees_other, mark_late, marks, mark_fails, clears, open_late, opens, releases, releases_last, grants, closes_more, goes_away, IdleStep, FrameStep, Step, push_step, push_refused, close_step, close_refused, frame_step, frame_lacks, end_step, end_lacks, end_early, read_step, wish_step, loads_header, loads_update, loads_owed, loads_passed, finds_none, finds_closed, swaps, swap_fails, ReadStep, Exchange, Run}
 use Rattle.link_marks.specs.KeptLinks.{PhaseKept, LinkKept, is_normal, is_header, is_update, ReaderKept, LinksKept}
 use Rattle.link_marks.specs.RingKept.{IsRingKept}
 use Rattle.link_marks.specs.LinkLaws.{age_of, IsHeaderSet, IsClaimed, IsCleared}
@@ -50,8 +50,8 @@ links_after_begin for_close waiting c frame below = refl
 links_after_begin kind (reserved number) c frame below = refl
 links_after_begin kind left c frame below = refl
 
-anew : (n : ℕ) (c : Core) (event : Event) (frame : Frame) (below : List Frame) (noted : ℕ) (answer : Answer) (after : Core) → BeginsAnew c frame below noted answer after → Relinks n c event after
-anew n c event frame below noted answer after step = leaves_links (ap (λ (d : Core). d.links) step.after_is ∙ links_after_begin frame.kind frame.state c frame below)
+again : (n : ℕ) (c : Core) (event : Event) (frame : Frame) (below : List Frame) (noted : ℕ) (answer : Answer) (after : Core) → BeginsAgain c frame below noted answer after → Relinks n c event after
+again n c event frame below noted answer after step = leaves_links (ap (λ (d : Core). d.links) step.after_is ∙ links_after_begin frame.kind frame.state c frame below)
 
 stays : (n : ℕ) (c : Core) (event : Event) (after d : Core) → after ≡ d → d.links ≡ c.links → Relinks n c event after
 stays n c event after d is same = leaves_links (ap (λ (x : Core). x.links) is ∙ same)
@@ -68,11 +68,11 @@ module _ (n size : ℕ) (c : Core) (event : Event) (frame : Frame) (below : List
 
   relinks_frame : (phase : Phase) (answer : Answer) (after : Core) → frame.phase ≡ phase → FrameStep n size c frame below phase answer after → Relinks n c event after
   relinks_frame idle answer after same step = relinks_idle frame.state answer after step
-  relinks_frame (looking noted) answer after same (look_late step) = anew n c event frame below noted answer after step
+  relinks_frame (looking noted) answer after same (look_late step) = again n c event frame below noted answer after step
   relinks_frame (looking noted) answer after same (sees_free page now at a is) = stays n c event after _ is refl
   relinks_frame (looking noted) answer after same (sees_header page lost now sum at a is) = stays n c event after _ is refl
   relinks_frame (looking noted) answer after same (sees_update page lost now sum at a is) = stays n c event after _ is refl
-  relinks_frame (claiming noted page) answer after same (claim_late step) = anew n c event frame below noted answer after step
+  relinks_frame (claiming noted page) answer after same (claim_late step) = again n c event frame below noted answer after step
   relinks_frame (claiming noted page) answer after same (claims lost now sum at a is) =
       let (open_yet, begun_yet, room, small) = (subst (PhaseKept n c.links c.order c.head c.done c.opened) same (top_kept n c frame below k top)).noted noted refl in
       let unread = k.head_le in let within = k.opened_le in
@@ -81,10 +81,10 @@ module _ (n size : ℕ) (c : Core) (event : Event) (frame : Frame) (below : List
       record { sum = sum; here = here; closed = omega arith; full = now; passed = ap (λ (x : Core). x.head) is; top = record frame { phase = looking_next owner noted page }; below = below; is_top = ap (λ (x : Core). x.frames) is; owns = refl }
       at (ap (λ (x : Core). x.links) is)
   relinks_frame (claiming noted page) answer after same (claim_fails now other a is) = stays n c event after _ is refl
-  relinks_frame (looking_next role noted page) answer after same (next_late helps step) = anew n c event frame below noted answer after step
+  relinks_frame (looking_next role noted page) answer after same (next_late helps step) = again n c event frame below noted answer after step
   relinks_frame (looking_next role noted page) answer after same (sees_normal lost next goes_on sum at a is) = stays n c event after _ is refl
   relinks_frame (looking_next role noted page) answer after same (sees_other lost goes_on sum other a is) = stays n c event after _ is refl
-  relinks_frame (marking role noted page next) answer after same (mark_late helps step) = anew n c event frame below noted answer after step
+  relinks_frame (marking role noted page next) answer after same (mark_late helps step) = again n c event frame below noted answer after step
   relinks_frame (marking role noted page next) answer after same (marks lost goes_on sum at a is) =
       let kept = subst (PhaseKept n c.links c.order c.head c.done c.opened) same (top_kept n c frame below k top) in
       let (open_yet, within, page_is) = kept.passed noted page refl in let (below_head, waits) = kept.marks noted next lost refl sum in
@@ -93,7 +93,7 @@ module _ (n size : ℕ) (c : Core) (event : Event) (frame : Frame) (below : List
   relinks_frame (clearing noted page) answer after same (clears lost sum at a is) =
       let kept = subst (PhaseKept n c.links c.order c.head c.done c.opened) same (top_kept n c frame below k top) in
       clears_own frame below noted page lost steps_is top (ap owned_update same) sum (kept.clears noted lost refl sum) at (ap (λ (x : Core). x.links) is)
-  relinks_frame (opening noted page) answer after same (open_late step) = anew n c event frame below noted answer after step
+  relinks_frame (opening noted page) answer after same (open_late step) = again n c event frame below noted answer after step
   relinks_frame (opening noted page) answer after same (opens now a is) = stays n c event after _ is (links_after_begin frame.kind frame.state (with_new_tail c page) frame below)
   relinks_frame releasing answer after same (releases alone more a is) = stays n c event after _ is refl
   relinks_frame releasing answer after same (releases_last alone last a is) = stays n c event after _ is refl

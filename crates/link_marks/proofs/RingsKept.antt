@@ -7,7 +7,7 @@ use Rattle.trace_model.specs.History.{Action, Reservation, reserved_records, set
 use Rattle.trace_model.specs.Packing.{opens_of, fills_of}
 use Rattle.trace_model.specs.Links.{Link}
 use Rattle.trace_model.specs.Frames.{Frame, owned_update}
-use Rattle.trace_model.specs.Ring.{Held, ReaderPhase, loading_link, loading_done, storing_link, swapping, Reader, Core, IsStart, AreApart, IsRing, IsBehindHead, told, moved, IsAtHead, marked, owed, Moves, IsMoved, IsSwapReady, IsTaken, first_of_fill, page_at}
+use Rattle.trace_model.specs.Ring.{PageRecords, ReaderPhase, loading_link, loading_done, storing_link, swapping, Reader, Core, IsStart, AreApart, IsRing, IsBehindHead, told, moved, IsAtHead, marked, owed, Moves, IsMoved, IsSwapReady, IsTaken, first_of_fill, page_at}
 use Rattle.trace_model.specs.Steps.{Event, Answer, Step, Exchange, Run}
 use Rattle.trace_model.specs.Sublist.{IsPrefix}
 use Rattle.link_marks.specs.KeptLinks.{Stands, MoversDiffer, PhaseKept, FramesKept, LinkKept, is_normal, is_header, is_update, ReaderKept}
@@ -195,7 +195,7 @@ nothing_done n start c some a s = let head = s.head in let opened = s.opened in 
   bodies = s.bodies;
   rising = omega arith;
   each = λ f low high. s.held (page_at n c.order f) (page_below n c.order c.spare f some a)
-      ∙ ap (λ (i : ℕ). let h : Held = record { first = get_or (0 ∷ []) i 0; records = get_or ([] ∷ []) i [] } in h) (let e : 0 ≡ f - start = omega arith in e);
+      ∙ ap (λ (i : ℕ). let h : PageRecords = record { first = get_or (0 ∷ []) i 0; records = get_or ([] ∷ []) i [] } in h) (let e : 0 ≡ f - start = omega arith in e);
 }
 
 pub ring_start : (n size start : ℕ) (c : Core) → MayStart n start → IsStart n start c → IsRingKept n size start c

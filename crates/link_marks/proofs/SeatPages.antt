@@ -6,7 +6,7 @@ use Rattle.std.proofs.lemmas.Bool.{cond_both}
 use Rattle.std.proofs.lemmas.List.{get_or-set_other}
 use Rattle.trace_model.specs.History.{Reservation, PushedFrame, records_with_payload}
 use Rattle.trace_model.specs.Frames.{Kind, for_record, for_close, FrameState, waiting, reserved, left, Frame, pushed_onto, pushed_frames}
-use Rattle.trace_model.specs.Ring.{Held, empty_page, page_at, link_into, ReaderPhase, loading_link, loading_done, storing_link, swapping, Core}
+use Rattle.trace_model.specs.Ring.{PageRecords, empty_page, page_at, link_into, ReaderPhase, loading_link, loading_done, storing_link, swapping, Core}
 use Rattle.trace_model.specs.Links.{header_link}
 use Rattle.trace_model.specs.Steps.{Event, Answer, tail_page, held_with_payload, own_number, ReadStep, loads_header, loads_update, loads_owed, loads_passed, finds_none, finds_closed, swaps, swap_fails, Step, push_step, push_refused, close_step, close_refused, frame_step, frame_lacks, end_step, end_lacks, end_early, read_step, wish_step}
 use Rattle.trace_model.proofs.Committed.{committed_len, committed_prefix, Behind}
@@ -84,10 +84,10 @@ beyond k (Some p) [] low = refl
 beyond zero (Some p) (x ∷ xs) low = absurd (omega arith)
 beyond (suc k) (Some p) (x ∷ xs) low = ap (λ (l : List Reservation). x ∷ l) (beyond k (Some p) xs (omega arith))
 
-untouched : (number : Option ℕ) (payload : Option (List ℕ)) (h : Held) → ((k : ℕ) → number ≡ Some k → end_of h ≤ k) → held_with_payload number payload h ≡ h
+untouched : (number : Option ℕ) (payload : Option (List ℕ)) (h : PageRecords) → ((k : ℕ) → number ≡ Some k → end_of h ≤ k) → held_with_payload number payload h ≡ h
 untouched None payload h low = refl
 untouched (Some k) payload h low = let before = low k refl in
-    ap (λ (rs : List Reservation). let g : Held = record { first = h.first; records = rs } in g)
+    ap (λ (rs : List Reservation). let g : PageRecords = record { first = h.first; records = rs } in g)
     (cond_both (nat_lt k h.first) h.records (records_with_payload (Some (k - h.first)) payload h.records) (λ (rs : List Reservation). ◌≡◌ {A = List Reservation} rs h.records)
     (λ _. refl) (λ _. beyond (k - h.first) payload h.records (omega arith)))
 

@@ -3,7 +3,7 @@
 use Rattle.std.proofs.Common.{◌≡◌, ℕ, List, [], ◌∷◌, Option, Some, None, refl, sym, ap, ◌∙◌, subst}
 use Rattle.trace_model.specs.Frames.{Kind, for_record, for_close, FrameState, waiting, reserved, left, Phase, idle, looking, claiming, looking_next, marking, clearing, opening, releasing, wishing, Frame, Refusal}
 use Rattle.trace_model.specs.Ring.{ReaderPhase, loading_link, loading_done, storing_link, swapping, Core}
-use Rattle.trace_model.specs.Steps.{Event, Answer, NeedsPage, with_new_tail, after_leave, after_begin, BeginsAnew, reserves, finds_nothing, is_crowded, is_worn, notes, look_late, sees_free, sees_header, sees_update, claim_late, claims, claim_fails, next_late, sees_normal, sees_other, mark_late, marks, mark_fails, clears, open_late, opens, releases, releases_last, IsGranted, grants, closes_more, goes_away, IdleStep, FrameStep, loads_header, loads_update, loads_owed, loads_passed, finds_none, finds_closed, swaps, swap_fails, ReadStep, PushRefused, all_stand, has_no_room, comes_late, Step, push_step, push_refused, close_step, close_refused, frame_step, frame_lacks, end_step, end_lacks, end_early, read_step, wish_step}
+use Rattle.trace_model.specs.Steps.{Event, Answer, NeedsPage, with_new_tail, after_leave, after_begin, BeginsAgain, reserves, finds_nothing, is_crowded, is_worn, notes, look_late, sees_free, sees_header, sees_update, claim_late, claims, claim_fails, next_late, sees_normal, sees_other, mark_late, marks, mark_fails, clears, open_late, opens, releases, releases_last, IsGranted, grants, closes_more, goes_away, IdleStep, FrameStep, loads_header, loads_update, loads_owed, loads_passed, finds_none, finds_closed, swaps, swap_fails, ReadStep, PushRefused, all_stand, has_no_room, comes_late, Step, push_step, push_refused, close_step, close_refused, frame_step, frame_lacks, end_step, end_lacks, end_early, read_step, wish_step}
 use Rattle.link_marks.specs.Seats.{IsOfReader, ReaderPart, seen_by, WriterPart, written_by, WriterStays, ReaderStays}
 
 -- ---- the writer reads nothing of the reader's part
@@ -35,8 +35,8 @@ module _ (n size : ℕ) (part : ReaderPart) where
   refused_seen c moment len why (comes_late few short late) = comes_late few short late
 
   module _ (c : Core) (frame : Frame) (below : List Frame) (answer : Answer) (after : Core) where
-    anew_seen : (noted : ℕ) → BeginsAnew c frame below noted answer after → BeginsAnew (seen_by part c) frame below noted answer (seen_by part after)
-    anew_seen noted step = record { passed = step.passed; answer_is = step.answer_is; after_is = ap (seen_by part) step.after_is ∙ begin_seen frame.kind frame.state c frame below }
+    again_seen : (noted : ℕ) → BeginsAgain c frame below noted answer after → BeginsAgain (seen_by part c) frame below noted answer (seen_by part after)
+    again_seen noted step = record { passed = step.passed; answer_is = step.answer_is; after_is = ap (seen_by part) step.after_is ∙ begin_seen frame.kind frame.state c frame below }
 
     leaves_seen : after ≡ after_leave c frame below None → seen_by part after ≡ after_leave (seen_by part c) frame below None
     leaves_seen is = ap (seen_by part) is ∙ leave_seen c frame below None
@@ -52,21 +52,21 @@ module _ (n size : ℕ) (part : ReaderPart) where
 
     frame_seen : (phase : Phase) → FrameStep n size c frame below phase answer after → FrameStep n size (seen_by part c) frame below phase answer (seen_by part after)
     frame_seen idle step = idle_seen frame.state step
-    frame_seen (looking noted) (look_late step) = look_late (anew_seen noted step)
+    frame_seen (looking noted) (look_late step) = look_late (again_seen noted step)
     frame_seen (looking noted) (sees_free page now at a is) = sees_free page now at a (ap (seen_by part) is)
     frame_seen (looking noted) (sees_header page lost now sum at a is) = sees_header page lost now sum at a (ap (seen_by part) is)
     frame_seen (looking noted) (sees_update page lost now sum at a is) = sees_update page lost now sum at a (ap (seen_by part) is)
-    frame_seen (claiming noted page) (claim_late step) = claim_late (anew_seen noted step)
+    frame_seen (claiming noted page) (claim_late step) = claim_late (again_seen noted step)
     frame_seen (claiming noted page) (claims lost now sum at a is) = claims lost now sum at a (ap (seen_by part) is)
     frame_seen (claiming noted page) (claim_fails now other a is) = claim_fails now other a (ap (seen_by part) is)
-    frame_seen (looking_next role noted page) (next_late helps step) = next_late helps (anew_seen noted step)
+    frame_seen (looking_next role noted page) (next_late helps step) = next_late helps (again_seen noted step)
     frame_seen (looking_next role noted page) (sees_normal lost next on sum at a is) = sees_normal lost next on sum at a (ap (seen_by part) is)
     frame_seen (looking_next role noted page) (sees_other lost on sum other a is) = sees_other lost on sum other a (ap (seen_by part) is)
-    frame_seen (marking role noted page next) (mark_late helps step) = mark_late helps (anew_seen noted step)
+    frame_seen (marking role noted page next) (mark_late helps step) = mark_late helps (again_seen noted step)
     frame_seen (marking role noted page next) (marks lost on sum at a is) = marks lost on sum at a (ap (seen_by part) is)
     frame_seen (marking role noted page next) (mark_fails lost on sum other a is) = mark_fails lost on sum other a (ap (seen_by part) is)
     frame_seen (clearing noted page) (clears lost sum at a is) = clears lost sum at a (ap (seen_by part) is)
-    frame_seen (opening noted page) (open_late step) = open_late (anew_seen noted step)
+    frame_seen (opening noted page) (open_late step) = open_late (again_seen noted step)
     frame_seen (opening noted page) (opens now a is) = opens now a (ap (seen_by part) is ∙ begin_seen frame.kind frame.state (with_new_tail c page) frame below)
     frame_seen releasing (releases alone more a is) = releases alone more a (ap (seen_by part) is)
     frame_seen releasing (releases_last alone last a is) = releases_last alone last a (ap (seen_by part) is)
@@ -106,8 +106,8 @@ module _ (n size : ℕ) where
   begin_side kind left c frame below = refl
 
   module _ (c : Core) (frame : Frame) (below : List Frame) (answer : Answer) (after : Core) where
-    anew_side : (noted : ℕ) → BeginsAnew c frame below noted answer after → reader_side after ≡ reader_side c
-    anew_side noted step = ap reader_side step.after_is ∙ begin_side frame.kind frame.state c frame below
+    again_side : (noted : ℕ) → BeginsAgain c frame below noted answer after → reader_side after ≡ reader_side c
+    again_side noted step = ap reader_side step.after_is ∙ begin_side frame.kind frame.state c frame below
 
     idle_side : (state : FrameState) → IdleStep n size c frame below state answer after → reader_side after ≡ reader_side c
     unfolding reader_side
@@ -122,21 +122,21 @@ module _ (n size : ℕ) where
     frame_side : (phase : Phase) → FrameStep n size c frame below phase answer after → reader_side after ≡ reader_side c
     unfolding reader_side
     frame_side idle step = idle_side frame.state step
-    frame_side (looking noted) (look_late step) = anew_side noted step
+    frame_side (looking noted) (look_late step) = again_side noted step
     frame_side (looking noted) (sees_free page now at a is) = ap reader_side is
     frame_side (looking noted) (sees_header page lost now sum at a is) = ap reader_side is
     frame_side (looking noted) (sees_update page lost now sum at a is) = ap reader_side is
-    frame_side (claiming noted page) (claim_late step) = anew_side noted step
+    frame_side (claiming noted page) (claim_late step) = again_side noted step
     frame_side (claiming noted page) (claims lost now sum at a is) = ap reader_side is
     frame_side (claiming noted page) (claim_fails now other a is) = ap reader_side is
-    frame_side (looking_next role noted page) (next_late helps step) = anew_side noted step
+    frame_side (looking_next role noted page) (next_late helps step) = again_side noted step
     frame_side (looking_next role noted page) (sees_normal lost next on sum at a is) = ap reader_side is
     frame_side (looking_next role noted page) (sees_other lost on sum other a is) = ap reader_side is
-    frame_side (marking role noted page next) (mark_late helps step) = anew_side noted step
+    frame_side (marking role noted page next) (mark_late helps step) = again_side noted step
     frame_side (marking role noted page next) (marks lost on sum at a is) = ap reader_side is
     frame_side (marking role noted page next) (mark_fails lost on sum other a is) = ap reader_side is
     frame_side (clearing noted page) (clears lost sum at a is) = ap reader_side is
-    frame_side (opening noted page) (open_late step) = anew_side noted step
+    frame_side (opening noted page) (open_late step) = again_side noted step
     frame_side (opening noted page) (opens now a is) = ap reader_side is ∙ begin_side frame.kind frame.state (with_new_tail c page) frame below
     frame_side releasing (releases alone more a is) = ap reader_side is
     frame_side releasing (releases_last alone last a is) = ap reader_side is

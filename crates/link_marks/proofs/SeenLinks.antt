@@ -6,7 +6,7 @@ use Rattle.trace_model.specs.declared.limits.TheConstants.{MAX_PAGES}
 use Rattle.trace_model.specs.Links.{Link, normal_link, header_link, update_link}
 use Rattle.trace_model.specs.Frames.{Kind, for_record, for_close, FrameState, waiting, reserved, left, Role, owner, helper, Phase, idle, looking, claiming, looking_next, marking, clearing, opening, releasing, wishing, Frame}
 use Rattle.trace_model.specs.Ring.{Core, link_into, page_at, links_with, ReaderPhase, loading_link, loading_done, storing_link, swapping}
-use Rattle.trace_model.specs.Steps.{Event, Answer, closing_phase, frames_after_leave, after_next, after_begin, with_new_tail, BeginsAnew, IdleStep, reserves, finds_nothing, is_crowded, is_worn, notes, FrameStep, look_late, sees_free, sees_header, sees_update, claim_late, claims, claim_fails, next_late, sees_normal, sees_other, mark_late, marks, mark_fails, clears, open_late, opens, releases, releases_last, grants, closes_more, goes_away, ReadStep, loads_header, loads_update, loads_owed, loads_passed, finds_none, finds_closed, swaps, swap_fails, Step, push_step, push_refused, close_step, close_refused, frame_step, frame_lacks, end_step, end_lacks, end_early, read_step, wish_step, Exchange, Run}
+use Rattle.trace_model.specs.Steps.{Event, Answer, closing_phase, frames_after_leave, after_next, after_begin, with_new_tail, BeginsAgain, IdleStep, reserves, finds_nothing, is_crowded, is_worn, notes, FrameStep, look_late, sees_free, sees_header, sees_update, claim_late, claims, claim_fails, next_late, sees_normal, sees_other, mark_late, marks, mark_fails, clears, open_late, opens, releases, releases_last, grants, closes_more, goes_away, ReadStep, loads_header, loads_update, loads_owed, loads_passed, finds_none, finds_closed, swaps, swap_fails, Step, push_step, push_refused, close_step, close_refused, frame_step, frame_lacks, end_step, end_lacks, end_early, read_step, wish_step, Exchange, Run}
 use Rattle.link_marks.specs.KeptLinks.{PhaseKept, FramesKept, LinkKept, is_normal, is_header, is_update, LinksKept}
 use Rattle.link_marks.specs.Reached.{IsReached}
 use Rattle.link_marks.specs.SeenLinks.{HasSeenLink, HaveSeenLinks, FramesHaveSeenLinks}
@@ -122,22 +122,22 @@ module _ (n : ℕ) (c : Core) (k : LinksKept n c) where
     idle_sees (reserved number) step = become n after c step.1 all
     idle_sees left step = absurd step
 
-    anew_sees : (noted : ℕ) → BeginsAnew c frame below noted answer after → FramesSee n after
-    anew_sees noted late = become n after _ late.after_is (begun_sees n frame.kind frame.state c frame below rest)
+    again_sees : (noted : ℕ) → BeginsAgain c frame below noted answer after → FramesSee n after
+    again_sees noted late = become n after _ late.after_is (begun_sees n frame.kind frame.state c frame below rest)
 
     frame_sees : (phase : Phase) → FrameStep n size c frame below phase answer after → FramesSee n after
     frame_sees idle step = idle_sees frame.state step
-    frame_sees (looking noted) (look_late late) = anew_sees noted late
+    frame_sees (looking noted) (look_late late) = again_sees noted late
     frame_sees (looking noted) (sees_free page x at a is) = become n after _ is (tt, rest)
     frame_sees (looking noted) (sees_header page lost x sum at a is) = become n after _ is ((omega arith, page_seen noted _ at, (λ e. at ∙ ap (header_link page) (let same : lost ≡ c.head = omega arith in same))), rest)
     frame_sees (looking noted) (sees_update page lost x sum at a is) = become n after _ is (tt, rest)
-    frame_sees (claiming noted page) (claim_late late) = anew_sees noted late
+    frame_sees (claiming noted page) (claim_late late) = again_sees noted late
     frame_sees (claiming noted page) (claims lost x sum at a is) = become n after _ is (tt, rest_moved _ (c.head + 1) (passes_head n c _ k))
     frame_sees (claiming noted page) (claim_fails x none a is) = become n after _ is (tt, rest)
-    frame_sees (looking_next role noted page) (next_late helps late) = anew_sees noted late
+    frame_sees (looking_next role noted page) (next_late helps late) = again_sees noted late
     frame_sees (looking_next role noted page) (sees_normal lost next on sum at a is) = become n after _ is (page_seen (suc lost) _ at, rest)
     frame_sees (looking_next role noted page) (sees_other lost on sum none a is) = become n after _ is (passed_sees n c.links c.head role noted page, rest)
-    frame_sees (marking role noted page next) (mark_late helps late) = anew_sees noted late
+    frame_sees (marking role noted page next) (mark_late helps late) = again_sees noted late
     frame_sees (marking role noted page next) (marks lost on sum at a is) =
         let new : Link = header_link next (suc lost) in
         become n after _ is (passed_sees n (links_with n c.links (suc lost) new) c.head role noted page, rest_moved (links_with n c.links (suc lost) new) c.head (sets_other n c (suc lost) (normal_link next (suc lost)) new at (λ p. normal_ne_header next (suc lost) p c.head)))
@@ -145,7 +145,7 @@ module _ (n : ℕ) (c : Core) (k : LinksKept n c) where
     frame_sees (clearing noted page) (clears lost sum at a is) =
         let new : Link = normal_link page noted in
         become n after _ is (tt, rest_moved (links_with n c.links noted new) c.head (sets_other n c noted (update_link page lost) new at (λ p e. header_ne_update p c.head page lost (sym e))))
-    frame_sees (opening noted page) (open_late late) = anew_sees noted late
+    frame_sees (opening noted page) (open_late late) = again_sees noted late
     frame_sees (opening noted page) (opens now a is) = become n after _ is (begun_sees n frame.kind frame.state (with_new_tail c page) frame below rest)
     frame_sees releasing (releases alone more a is) = become n after _ is all
     frame_sees releasing (releases_last alone last a is) = become n after _ is (tt, rest)

@@ -8,7 +8,7 @@ use Rattle.trace_model.specs.Record.{Record}
 use Rattle.trace_model.specs.History.{Reservation, reserved_records, as_record, committed_records}
 use Rattle.trace_model.specs.Packing.{opens_of, fills_of, tail_of}
 use Rattle.trace_model.specs.Partition.{IsPartition, covered_count, first_from}
-use Rattle.trace_model.specs.Ring.{Held, Taken, Core, IsTaken, first_of_fill}
+use Rattle.trace_model.specs.Ring.{PageRecords, Taken, Core, IsTaken, first_of_fill}
 use Rattle.trace_model.proofs.FillCuts.{length-cut_from}
 use Rattle.trace_model.proofs.FillFirsts.{first_below, fill_behind}
 use Rattle.link_marks.specs.KeptPartition.{piece_of, pieces_of, covered_total}
@@ -92,8 +92,8 @@ module _ (n size start : ℕ) (c : Core) (r : IsRingKept n size start c) (at_res
       let within = piece_within 0 c.reader.taken k t.held.first t at (r.partition.firsts k t at) in
       let total = r.partition.total in
       let i : ℕ = c.head - 1 - start in
-      let first_is : t.held.first ≡ get_or (0 ∷ cuts) i 0 = ap (λ (h : Held). h.first) fill.held ∙ ap (λ (f : ℕ). get_or (0 ∷ cuts) (f - start) 0) fill_is in
-      let wide : length t.held.records ≡ length (get_or (fills_of c.history) i []) = ap (λ (h : Held). length h.records) fill.held ∙ ap (λ (f : ℕ). length (get_or (fills_of c.history) (f - start) [])) fill_is in
+      let first_is : t.held.first ≡ get_or (0 ∷ cuts) i 0 = ap (λ (h : PageRecords). h.first) fill.held ∙ ap (λ (f : ℕ). get_or (0 ∷ cuts) (f - start) 0) fill_is in
+      let wide : length t.held.records ≡ length (get_or (fills_of c.history) i []) = ap (λ (h : PageRecords). length h.records) fill.held ∙ ap (λ (f : ℕ). length (get_or (fills_of c.history) (f - start) [])) fill_is in
       let next = next_first i (omega arith) in
       let head_is = ap (λ (m : ℕ). get_or (0 ∷ cuts) m 0) (let e : suc i ≡ c.head - start = omega arith in e) in omega arith
 

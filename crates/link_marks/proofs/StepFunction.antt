@@ -34,8 +34,8 @@ same_link a b = if same_mark a.mark b.mark then (if a.page == b.page then a.fill
 
 -- ---- the steps of a frame
 
-abbrev pub anew : Core → Frame → List Frame → Option Outcome
-anew c frame below = gives (begin_answer frame.kind frame.state below) (after_begin frame.kind frame.state c frame below)
+abbrev pub again : Core → Frame → List Frame → Option Outcome
+again c frame below = gives (begin_answer frame.kind frame.state below) (after_begin frame.kind frame.state c frame below)
 
 abbrev pub goes_on : Core → Frame → List Frame → Phase → Option Outcome
 goes_on c frame below phase = gives going (in_phase c frame below phase)
@@ -67,13 +67,13 @@ look_at n c frame below noted l update = if (l.fill + n) == noted then goes_on c
 
 abbrev pub look_of : ℕ → Core → Frame → List Frame → ℕ → Option Outcome
 look_of n c frame below noted =
-    if noted == c.opened then look_at n c frame below noted (link_into n c.links noted) (link_into n c.links noted).mark else anew c frame below
+    if noted == c.opened then look_at n c frame below noted (link_into n c.links noted) (link_into n c.links noted).mark else again c frame below
 
 abbrev pub claim_of : ℕ → Core → Frame → List Frame → (noted page : ℕ) → Option Outcome
 claim_of n c frame below noted page =
     if noted == c.opened then (if nat_le n noted then (if same_link (link_into n c.links noted) (header_link page (noted - n))
     then gives going (in_phase (with_head_claimed n c noted page (noted - n)) frame below (looking_next owner noted page))
-    else goes_on c frame below (looking noted)) else goes_on c frame below (looking noted)) else anew c frame below
+    else goes_on c frame below (looking noted)) else goes_on c frame below (looking noted)) else again c frame below
 
 abbrev pub next_at : ℕ → Core → Frame → List Frame → Role → (noted page : ℕ) → Link → Option Outcome
 next_at n c frame below role noted page l =
@@ -81,7 +81,7 @@ next_at n c frame below role noted page l =
 
 abbrev pub next_of : ℕ → Core → Frame → List Frame → Role → (noted page : ℕ) → Option Outcome
 next_of n c frame below owner noted page = next_at n c frame below owner noted page (link_into n c.links (suc (noted - n)))
-next_of n c frame below helper noted page = if noted == c.opened then next_at n c frame below helper noted page (link_into n c.links (suc (noted - n))) else anew c frame below
+next_of n c frame below helper noted page = if noted == c.opened then next_at n c frame below helper noted page (link_into n c.links (suc (noted - n))) else again c frame below
 
 abbrev pub mark_at : ℕ → Core → Frame → List Frame → Role → (noted page next : ℕ) → Option Outcome
 mark_at n c frame below role noted page next =
@@ -91,7 +91,7 @@ mark_at n c frame below role noted page next =
 
 abbrev pub mark_of : ℕ → Core → Frame → List Frame → Role → (noted page next : ℕ) → Option Outcome
 mark_of n c frame below owner noted page next = mark_at n c frame below owner noted page next
-mark_of n c frame below helper noted page next = if noted == c.opened then mark_at n c frame below helper noted page next else anew c frame below
+mark_of n c frame below helper noted page next = if noted == c.opened then mark_at n c frame below helper noted page next else again c frame below
 
 abbrev pub clear_of : ℕ → Core → Frame → List Frame → (noted page : ℕ) → Option Outcome
 clear_of n c frame below noted page =
@@ -100,7 +100,7 @@ clear_of n c frame below noted page =
 
 abbrev pub open_of : Core → Frame → List Frame → (noted page : ℕ) → Option Outcome
 open_of c frame below noted page =
-    if noted == c.opened then gives (begin_answer frame.kind frame.state below) (after_begin frame.kind frame.state (with_new_tail c page) frame below) else anew c frame below
+    if noted == c.opened then gives (begin_answer frame.kind frame.state below) (after_begin frame.kind frame.state (with_new_tail c page) frame below) else again c frame below
 
 abbrev pub release_of : Core → Frame → List Frame → Option Outcome
 release_of c frame [] =

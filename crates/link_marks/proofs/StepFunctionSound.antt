@@ -8,8 +8,8 @@ use Rattle.trace_model.specs.Packing.{tail_of}
 use Rattle.trace_model.specs.Links.{Mark, normal, header, update, Link, normal_link, header_link, update_link}
 use Rattle.trace_model.specs.Frames.{Kind, for_record, for_close, FrameState, waiting, reserved, left, number_of, Role, owner, helper, Phase, idle, looking, claiming, looking_next, marking, clearing, opening, releasing, wishing, Frame, too_deep, too_long, late_moment}
 use Rattle.trace_model.specs.Ring.{ReaderPhase, loading_link, loading_done, storing_link, swapping, Core, link_into}
-use Rattle.trace_model.specs.Steps.{Event, pushes, pushes_close, steps, ends, reads, wishes, Answer, GoesOn, NeedsPage, BeginsAnew, ReserveStep, reserves, finds_nothing, is_crowded, is_worn, notes, LookStep, look_late, sees_free, sees_header, sees_update, ClaimStep, claim_late, claims, claim_fails, NextStep, next_late, sees_normal, sees_other, MarkStep, mark_late, marks, mark_fails, ClearStep, clears, OpenStep, open_late, opens, ReleaseStep, releases, releases_last, IsGranted, WishStep, grants, closes_more, goes_away, IdleStep, FrameStep, LoadStep, loads_header, loads_update, loads_owed, loads_passed, LoadDoneStep, finds_none, finds_closed, SwapStep, swaps, swap_fails, ReadStep, IsTooLong, all_stand, has_no_room, comes_late, Step, push_step, push_refused, close_step, close_refused, frame_step, frame_lacks, end_step, end_lacks, end_early, read_step, wish_step, Exchange, Run}
-use Rattle.link_marks.proofs.StepFunction.{Outcome, same_mark, same_link, anew, needs_page, record_len, close_of, reserve_of, look_at, look_of, claim_of, next_at, next_of, mark_at, mark_of, clear_of, open_of, release_of, is_empty, is_granted, wish_of, idle_of, frame_of, load_at, read_of, too_long_for, push_of, close_push_of, steps_of, full_end, end_in, end_of, step_of, Ran, behind, run_of}
+use Rattle.trace_model.specs.Steps.{Event, pushes, pushes_close, steps, ends, reads, wishes, Answer, MayOpen, NeedsPage, BeginsAgain, ReserveStep, reserves, finds_nothing, is_crowded, is_worn, notes, LookStep, look_late, sees_free, sees_header, sees_update, ClaimStep, claim_late, claims, claim_fails, NextStep, next_late, sees_normal, sees_other, MarkStep, mark_late, marks, mark_fails, ClearStep, clears, OpenStep, open_late, opens, ReleaseStep, releases, releases_last, IsGranted, WishStep, grants, closes_more, goes_away, IdleStep, FrameStep, LoadStep, loads_header, loads_update, loads_owed, loads_passed, LoadDoneStep, finds_none, finds_closed, SwapStep, swaps, swap_fails, ReadStep, IsTooLong, all_stand, has_no_room, comes_late, Step, push_step, push_refused, close_step, close_refused, frame_step, frame_lacks, end_step, end_lacks, end_early, read_step, wish_step, Exchange, Run}
+use Rattle.link_marks.proofs.StepFunction.{Outcome, same_mark, same_link, again, needs_page, record_len, close_of, reserve_of, look_at, look_of, claim_of, next_at, next_of, mark_at, mark_of, clear_of, open_of, release_of, is_empty, is_granted, wish_of, idle_of, frame_of, load_at, read_of, too_long_for, push_of, close_push_of, steps_of, full_end, end_in, end_of, step_of, Ran, behind, run_of}
 
 -- what an outcome says, if there is one
 abbrev pub Sound : (Answer → Core → Type 0) → Option Outcome → Type 0
@@ -91,8 +91,8 @@ module _ (n size : ℕ) (c : Core) (frame : Frame) (below : List Frame) where
       (λ lacks. needs_page_sound (subst (NeedsPage size c) (sym e) (λ fits. let more = leb-false (record_len c moment len) size lacks in omega arith)))
   reserve_sound for_close e = close_sound e (tail_of c.history) refl
 
-  anew_is : (noted : ℕ) → noted ≢ c.opened → Sound (BeginsAnew c frame below noted) (anew c frame below)
-  anew_is noted other = record { passed = other; answer_is = refl; after_is = refl }
+  again_is : (noted : ℕ) → noted ≢ c.opened → Sound (BeginsAgain c frame below noted) (again c frame below)
+  again_is noted other = record { passed = other; answer_is = refl; after_is = refl }
 
   look_at_sound : (noted : ℕ) (mark : Mark) → noted ≡ c.opened → (link_into n c.links noted).mark ≡ mark → Sound (LookStep n c frame below noted) (look_at n c frame below noted (link_into n c.links noted) mark)
   look_at_sound noted normal now is = let l = link_into n c.links noted in by_if (LookStep n c frame below noted) (l.fill == noted) _ _
@@ -105,7 +105,7 @@ module _ (n size : ℕ) (c : Core) (frame : Frame) (below : List Frame) where
   look_sound : (noted : ℕ) → Sound (LookStep n c frame below noted) (look_of n c frame below noted)
   look_sound noted = by_if (LookStep n c frame below noted) (noted == c.opened) _ _
       (λ e. look_at_sound noted (link_into n c.links noted).mark (eqb-true noted c.opened e) refl)
-      (λ e. look_late (anew_is noted (eqb-false noted c.opened e)))
+      (λ e. look_late (again_is noted (eqb-false noted c.opened e)))
 
   claim_sound : (noted page : ℕ) → Sound (ClaimStep n c frame below noted page) (claim_of n c frame below noted page)
   claim_sound noted page = let l = link_into n c.links noted in by_if (ClaimStep n c frame below noted page) (noted == c.opened) _ _
@@ -115,9 +115,9 @@ module _ (n size : ℕ) (c : Core) (frame : Frame) (below : List Frame) where
       (λ at. claim_fails (eqb-true noted c.opened e)
       (λ lost sum is. same_link_false l (header_link page (noted - n)) at (is ∙ ap (λ (f : ℕ). header_link page f) (let s : lost ≡ noted - n = omega arith in s))) refl refl))
       (λ first. let less = leb-false n noted first in claim_fails (eqb-true noted c.opened e) (λ lost sum is. omega arith) refl refl))
-      (λ e. claim_late (anew_is noted (eqb-false noted c.opened e)))
+      (λ e. claim_late (again_is noted (eqb-false noted c.opened e)))
 
-  next_at_sound : (role : Role) (noted page : ℕ) → GoesOn role noted c.opened → Sound (NextStep n c frame below role noted page) (next_at n c frame below role noted page (link_into n c.links (suc (noted - n))))
+  next_at_sound : (role : Role) (noted page : ℕ) → MayOpen role noted c.opened → Sound (NextStep n c frame below role noted page) (next_at n c frame below role noted page (link_into n c.links (suc (noted - n))))
   next_at_sound role noted page on = let l = link_into n c.links (suc (noted - n)) in by_if (NextStep n c frame below role noted page) (nat_le n noted) _ _
       (λ turn. let le = leb-true n noted turn in by_if (NextStep n c frame below role noted page) (same_link l (normal_link l.page (suc (noted - n)))) _ _
       (λ at. sees_normal (noted - n) l.page on (omega arith) (same_link_true l (normal_link l.page (suc (noted - n))) at) refl refl)
@@ -128,9 +128,9 @@ module _ (n size : ℕ) (c : Core) (frame : Frame) (below : List Frame) where
   next_sound owner noted page = next_at_sound owner noted page tt
   next_sound helper noted page = by_if (NextStep n c frame below helper noted page) (noted == c.opened) _ _
       (λ e. next_at_sound helper noted page (eqb-true noted c.opened e))
-      (λ e. next_late refl (anew_is noted (eqb-false noted c.opened e)))
+      (λ e. next_late refl (again_is noted (eqb-false noted c.opened e)))
 
-  mark_at_sound : (role : Role) (noted page next : ℕ) → GoesOn role noted c.opened → Sound (MarkStep n c frame below role noted page next) (mark_at n c frame below role noted page next)
+  mark_at_sound : (role : Role) (noted page next : ℕ) → MayOpen role noted c.opened → Sound (MarkStep n c frame below role noted page next) (mark_at n c frame below role noted page next)
   mark_at_sound role noted page next on = let l = link_into n c.links (suc (noted - n)) in by_if (MarkStep n c frame below role noted page next) (nat_le n noted) _ _
       (λ turn. let le = leb-true n noted turn in by_if (MarkStep n c frame below role noted page next) (same_link l (normal_link next (suc (noted - n)))) _ _
       (λ at. marks (noted - n) on (omega arith) (same_link_true l (normal_link next (suc (noted - n))) at) refl refl)
@@ -141,7 +141,7 @@ module _ (n size : ℕ) (c : Core) (frame : Frame) (below : List Frame) where
   mark_sound owner noted page next = mark_at_sound owner noted page next tt
   mark_sound helper noted page next = by_if (MarkStep n c frame below helper noted page next) (noted == c.opened) _ _
       (λ e. mark_at_sound helper noted page next (eqb-true noted c.opened e))
-      (λ e. mark_late refl (anew_is noted (eqb-false noted c.opened e)))
+      (λ e. mark_late refl (again_is noted (eqb-false noted c.opened e)))
 
   clear_sound : (noted page : ℕ) → Sound (ClearStep n c frame below noted page) (clear_of n c frame below noted page)
   clear_sound noted page = let l = link_into n c.links noted in by_if (ClearStep n c frame below noted page) (nat_le n noted) _ _
@@ -153,7 +153,7 @@ module _ (n size : ℕ) (c : Core) (frame : Frame) (below : List Frame) where
   open_sound : (noted page : ℕ) → Sound (OpenStep n c frame below noted page) (open_of c frame below noted page)
   open_sound noted page = by_if (OpenStep n c frame below noted page) (noted == c.opened) _ _
       (λ e. opens (eqb-true noted c.opened e) refl refl)
-      (λ e. open_late (anew_is noted (eqb-false noted c.opened e)))
+      (λ e. open_late (again_is noted (eqb-false noted c.opened e)))
 
 release_sound : (c : Core) (frame : Frame) (below : List Frame) → Sound (ReleaseStep c frame below) (release_of c frame below)
 release_sound c frame [] = by_if (ReleaseStep c frame []) ((c.done + 2) == c.opened) _ _

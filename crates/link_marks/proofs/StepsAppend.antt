@@ -4,7 +4,7 @@ use Rattle.trace_model.specs.History.{Action, push, push_close, open_fill, reser
 use Rattle.trace_model.specs.Packing.{tail_of}
 use Rattle.trace_model.specs.Frames.{Kind, for_record, for_close, FrameState, waiting, reserved, left, number_of, Phase, idle, looking, claiming, looking_next, marking, clearing, opening, releasing, wishing, Role, owner, helper, noted_fill, owned_update, Frame, Refusal, too_deep, not_reserved, crowded, worn}
 use Rattle.trace_model.specs.Ring.{ReaderPhase, loading_link, loading_done, storing_link, swapping, Core}
-use Rattle.trace_model.specs.Steps.{Event, pushes, pushes_close, steps, ends, reads, wishes, Answer, going, reserved_as, gone, refused, GoesOn, IsGranted, with_new_tail, after_begin, begin_answer, leave_answer, BeginsAnew, reserves, finds_nothing, is_crowded, is_worn, notes, IdleStep, look_late, sees_free, sees_header, sees_update, claim_late, claims, claim_fails, next_late, sees_normal, sees_other, mark_late, marks, mark_fails, clears, open_late, opens, releases, releases_last, grants, closes_more, goes_away, FrameStep, push_step, push_refused, close_step, close_refused, frame_step, frame_lacks, end_step, end_lacks, end_early, read_step, wish_step, loads_header, loads_update, loads_owed, loads_passed, finds_none, finds_closed, swaps, swap_fails, ReadStep}
+use Rattle.trace_model.specs.Steps.{Event, pushes, pushes_close, steps, ends, reads, wishes, Answer, going, reserved_as, gone, refused, MayOpen, IsGranted, with_new_tail, after_begin, begin_answer, leave_answer, BeginsAgain, reserves, finds_nothing, is_crowded, is_worn, notes, IdleStep, look_late, sees_free, sees_header, sees_update, claim_late, claims, claim_fails, next_late, sees_normal, sees_other, mark_late, marks, mark_fails, clears, open_late, opens, releases, releases_last, grants, closes_more, goes_away, FrameStep, push_step, push_refused, close_step, close_refused, frame_step, frame_lacks, end_step, end_lacks, end_early, read_step, wish_step, loads_header, loads_update, loads_owed, loads_passed, finds_none, finds_closed, swaps, swap_fails, ReadStep}
 use Rattle.link_marks.specs.KeptStack.{MayBeIn}
 use Rattle.link_marks.specs.Appended.{PushAppends, is_pushed, isnt_pushed, EndAppends, TopEndAppends, IsOpening, IsRefusedPage, RecordAppends, record_reserved, record_refused, record_opens, record_goes_on, HasWhatItWants, tail_is_empty, was_faster, CloseAppends, close_refused as refused_close, close_opens, close_leaves, close_goes_on, Grants, LeftAppends, left_opens, left_grants, left_stays, FrameAppends, TopAppends, Appends}
 use Rattle.link_marks.specs.HistoryLaws.{StepsAppend, AppendedIsOne}
@@ -55,7 +55,7 @@ module _ (n size : ℕ) (c : Core) (below : List Frame) (answer : Answer) (after
   stays kind left phase next may moves no_fill wants no_grant a is e = ([], nothing next is e, left_stays no_fill no_grant (inl a) refl)
 
   -- another frame has begun the fill
-  late : (kind : Kind) (state : FrameState) (phase : Phase) (noted : ℕ) → MayBeIn kind state phase → noted_fill phase ≡ Some noted → owned_update phase ≡ None → BeginsAnew c (record { kind = kind; state = state; phase = phase }) below noted answer after → Told kind state phase
+  late : (kind : Kind) (state : FrameState) (phase : Phase) (noted : ℕ) → MayBeIn kind state phase → noted_fill phase ≡ Some noted → owned_update phase ≡ None → BeginsAgain c (record { kind = kind; state = state; phase = phase }) below noted answer after → Told kind state phase
   late (for_record moment len) waiting phase noted may notes_it free step = ([], nothing _ step.after_is refl, record_goes_on (late_opens_none c phase noted notes_it step.passed) step.answer_is refl)
   late for_close waiting phase noted may notes_it free step = (leave None ∷ [], history_is _ step.after_is, close_leaves (was_faster noted notes_it step.passed free) step.answer_is refl)
   late kind (reserved number) phase noted may notes_it free step = absurd (none_some (sym (ap noted_fill may.1) ∙ notes_it))
@@ -97,11 +97,11 @@ module _ (n size : ℕ) (c : Core) (below : List Frame) (answer : Answer) (after
   tries kind state noted page next may now a is e = stays kind state (claiming noted page) next may (λ z. cc) (λ (p, z). cc) (still_wants c (claiming noted page) noted refl now) (λ (z, g). cc) a is e
 
   -- it looks at the next link, or tries to set it
-  looks_next : (kind : Kind) (state : FrameState) (role : Role) (noted page : ℕ) (next : Core) → MayBeIn kind state (looking_next role noted page) → GoesOn role noted c.opened → answer ≡ going → after ≡ next → next.history ≡ c.history → Told kind state (looking_next role noted page)
+  looks_next : (kind : Kind) (state : FrameState) (role : Role) (noted page : ℕ) (next : Core) → MayBeIn kind state (looking_next role noted page) → MayOpen role noted c.opened → answer ≡ going → after ≡ next → next.history ≡ c.history → Told kind state (looking_next role noted page)
   looks_next kind state owner noted page next may on a is e = stays kind state (looking_next owner noted page) next may (λ z. cc) (λ (p, z). cc) (owner_wants_on c (looking_next owner noted page) noted refl) (λ (z, g). cc) a is e
   looks_next kind state helper noted page next may on a is e = stays kind state (looking_next helper noted page) next may (λ z. cc) (λ (p, z). cc) (still_wants c (looking_next helper noted page) noted refl on) (λ (z, g). cc) a is e
 
-  moves_on : (kind : Kind) (state : FrameState) (role : Role) (noted page second : ℕ) (next : Core) → MayBeIn kind state (marking role noted page second) → GoesOn role noted c.opened → answer ≡ going → after ≡ next → next.history ≡ c.history → Told kind state (marking role noted page second)
+  moves_on : (kind : Kind) (state : FrameState) (role : Role) (noted page second : ℕ) (next : Core) → MayBeIn kind state (marking role noted page second) → MayOpen role noted c.opened → answer ≡ going → after ≡ next → next.history ≡ c.history → Told kind state (marking role noted page second)
   moves_on kind state owner noted page second next may on a is e = stays kind state (marking owner noted page second) next may (λ z. cc) (λ (p, z). cc) (owner_wants_on c (marking owner noted page second) noted refl) (λ (z, g). cc) a is e
   moves_on kind state helper noted page second next may on a is e = stays kind state (marking helper noted page second) next may (λ z. cc) (λ (p, z). cc) (still_wants c (marking helper noted page second) noted refl on) (λ (z, g). cc) a is e
 

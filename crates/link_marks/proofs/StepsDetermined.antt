@@ -8,10 +8,10 @@ use Rattle.trace_model.specs.Packing.{FitsBehind, tail_of}
 use Rattle.trace_model.specs.Links.{Link, normal_link, header_link, update_link}
 use Rattle.trace_model.specs.Frames.{Kind, for_record, for_close, FrameState, waiting, reserved, left, number_of, Role, owner, helper, Phase, idle, looking, claiming, looking_next, marking, clearing, opening, releasing, wishing, Frame, Refusal, not_reserved}
 use Rattle.trace_model.specs.Ring.{ReaderPhase, loading_link, loading_done, storing_link, swapping, Core, link_into}
-use Rattle.trace_model.specs.Steps.{Event, Answer, going, refused, with_action, with_released, with_head_claimed, with_link, with_reservation, in_phase, in_reserved, reader_at, NeedsPage, BeginsAnew, ReserveStep, reserves, finds_nothing, is_crowded, is_worn, notes, LookStep, look_late, sees_free, sees_header, sees_update, ClaimStep, claim_late, claims, claim_fails, NextStep, next_late, sees_normal, sees_other, MarkStep, mark_late, marks, mark_fails, ClearStep, clears, OpenStep, open_late, opens, ReleaseStep, releases, releases_last, IsGranted, WishStep, grants, closes_more, goes_away, IdleStep, FrameStep, LoadStep, loads_header, loads_update, loads_owed, loads_passed, LoadDoneStep, finds_none, finds_closed, SwapStep, swaps, swap_fails, ReadStep, after_next, IsTooLong, PushRefused, all_stand, has_no_room, comes_late, Run, Step, push_step, push_refused, close_step, close_refused, frame_step, frame_lacks, end_step, end_lacks, end_early, read_step, wish_step}
+use Rattle.trace_model.specs.Steps.{Event, Answer, going, refused, with_action, with_released, with_head_claimed, with_link, with_reservation, in_phase, in_reserved, reader_at, NeedsPage, BeginsAgain, ReserveStep, reserves, finds_nothing, is_crowded, is_worn, notes, LookStep, look_late, sees_free, sees_header, sees_update, ClaimStep, claim_late, claims, claim_fails, NextStep, next_late, sees_normal, sees_other, MarkStep, mark_late, marks, mark_fails, ClearStep, clears, OpenStep, open_late, opens, ReleaseStep, releases, releases_last, IsGranted, WishStep, grants, closes_more, goes_away, IdleStep, FrameStep, LoadStep, loads_header, loads_update, loads_owed, loads_passed, LoadDoneStep, finds_none, finds_closed, SwapStep, swaps, swap_fails, ReadStep, after_next, IsTooLong, PushRefused, all_stand, has_no_room, comes_late, Run, Step, push_step, push_refused, close_step, close_refused, frame_step, frame_lacks, end_step, end_lacks, end_early, read_step, wish_step}
 use Rattle.link_marks.specs.RingLaws.{StepsAreDetermined, events_of, RunsAreDetermined}
 use Rattle.link_marks.proofs.FramePhases.{none_some}
-use Rattle.link_marks.proofs.StepFunction.{Outcome, gives, same_link, anew, goes_on, needs_page, record_len, close_of, reserve_of, look_at, look_of, claim_of, next_at, next_of, mark_at, mark_of, clear_of, open_of, release_of, is_granted, wish_of, idle_of, frame_of, load_at, read_of, too_long_for, push_of, steps_of, full_end, end_in, end_of, step_of}
+use Rattle.link_marks.proofs.StepFunction.{Outcome, gives, same_link, again, goes_on, needs_page, record_len, close_of, reserve_of, look_at, look_of, claim_of, next_at, next_of, mark_at, mark_of, clear_of, open_of, release_of, is_granted, wish_of, idle_of, frame_of, load_at, read_of, too_long_for, push_of, steps_of, full_end, end_in, end_of, step_of}
 use Rattle.link_marks.proofs.StepFunctionSound.{same_link_true, same_link_refl, granted_true, granted_false, too_long_true}
 
 -- what is computed is this answer and this state
@@ -64,11 +64,11 @@ module _ (n size : ℕ) (c : Core) (frame : Frame) (below : List Frame) (answer 
       needs_is frame.kind needs ∙ if_no (c.opened == (c.done + n)) _ _ (ne_eqb c.opened (c.done + n) room)
       ∙ if_yes (nat_lt (c.opened + n) LINK_FILLS) _ _ (lt-ltb (c.opened + n) LINK_FILLS small) ∙ here _ answer _ after a is
 
-  anew_is : (noted : ℕ) → BeginsAnew c frame below noted answer after → Is (anew c frame below) answer after
-  anew_is noted step = here _ answer _ after step.answer_is step.after_is
+  again_is : (noted : ℕ) → BeginsAgain c frame below noted answer after → Is (again c frame below) answer after
+  again_is noted step = here _ answer _ after step.answer_is step.after_is
 
   look_is : (noted : ℕ) → LookStep n c frame below noted answer after → Is (look_of n c frame below noted) answer after
-  look_is noted (look_late step) = if_no (noted == c.opened) _ _ (ne_eqb noted c.opened step.passed) ∙ anew_is noted step
+  look_is noted (look_late step) = if_no (noted == c.opened) _ _ (ne_eqb noted c.opened step.passed) ∙ again_is noted step
   look_is noted (sees_free page now at a is) =
       if_yes (noted == c.opened) _ _ (eq-eqb noted c.opened now) ∙ ap (λ (l : Link). look_at n c frame below noted l l.mark) at
       ∙ if_yes (noted == noted) _ _ (eq-eqb noted noted refl) ∙ here _ answer _ after a is
@@ -80,7 +80,7 @@ module _ (n size : ℕ) (c : Core) (frame : Frame) (below : List Frame) (answer 
       ∙ if_yes ((lost + n) == noted) _ _ (eq-eqb (lost + n) noted sum) ∙ here _ answer _ after a is
 
   claim_is : (noted page : ℕ) → ClaimStep n c frame below noted page answer after → Is (claim_of n c frame below noted page) answer after
-  claim_is noted page (claim_late step) = if_no (noted == c.opened) _ _ (ne_eqb noted c.opened step.passed) ∙ anew_is noted step
+  claim_is noted page (claim_late step) = if_no (noted == c.opened) _ _ (ne_eqb noted c.opened step.passed) ∙ again_is noted step
   claim_is noted page (claims lost now sum at a is) = let fill : lost ≡ noted - n = omega arith in
       if_yes (noted == c.opened) _ _ (eq-eqb noted c.opened now)
       ∙ if_yes (nat_le n noted) _ _ (le-leb n noted (omega arith))
@@ -115,7 +115,7 @@ module _ (n size : ℕ) (c : Core) (frame : Frame) (below : List Frame) (answer 
 
   next_is : (role : Role) (noted page : ℕ) → NextStep n c frame below role noted page answer after → Is (next_of n c frame below role noted page) answer after
   next_is owner noted page step = next_at_is owner noted page step (λ e. absurd (role_differs e))
-  next_is helper noted page (next_late helps step) = if_no (noted == c.opened) _ _ (ne_eqb noted c.opened step.passed) ∙ anew_is noted step
+  next_is helper noted page (next_late helps step) = if_no (noted == c.opened) _ _ (ne_eqb noted c.opened step.passed) ∙ again_is noted step
   next_is helper noted page (sees_normal lost next on sum at a is) = if_yes (noted == c.opened) _ _ (eq-eqb noted c.opened on) ∙ next_at_is helper noted page (sees_normal lost next on sum at a is) (λ e. on)
   next_is helper noted page (sees_other lost on sum other a is) = if_yes (noted == c.opened) _ _ (eq-eqb noted c.opened on) ∙ next_at_is helper noted page (sees_other lost on sum other a is) (λ e. on)
 
@@ -134,7 +134,7 @@ module _ (n size : ℕ) (c : Core) (frame : Frame) (below : List Frame) (answer 
 
   mark_is : (role : Role) (noted page next : ℕ) → MarkStep n c frame below role noted page next answer after → Is (mark_of n c frame below role noted page next) answer after
   mark_is owner noted page next step = mark_at_is owner noted page next step (λ e. absurd (role_differs e))
-  mark_is helper noted page next (mark_late helps step) = if_no (noted == c.opened) _ _ (ne_eqb noted c.opened step.passed) ∙ anew_is noted step
+  mark_is helper noted page next (mark_late helps step) = if_no (noted == c.opened) _ _ (ne_eqb noted c.opened step.passed) ∙ again_is noted step
   mark_is helper noted page next (marks lost on sum at a is) = if_yes (noted == c.opened) _ _ (eq-eqb noted c.opened on) ∙ mark_at_is helper noted page next (marks lost on sum at a is) (λ e. on)
   mark_is helper noted page next (mark_fails lost on sum other a is) = if_yes (noted == c.opened) _ _ (eq-eqb noted c.opened on) ∙ mark_at_is helper noted page next (mark_fails lost on sum other a is) (λ e. on)
 
@@ -145,7 +145,7 @@ module _ (n size : ℕ) (c : Core) (frame : Frame) (below : List Frame) (answer 
       ∙ here _ answer _ after a is
 
   open_is : (noted page : ℕ) → OpenStep n c frame below noted page answer after → Is (open_of c frame below noted page) answer after
-  open_is noted page (open_late step) = if_no (noted == c.opened) _ _ (ne_eqb noted c.opened step.passed) ∙ anew_is noted step
+  open_is noted page (open_late step) = if_no (noted == c.opened) _ _ (ne_eqb noted c.opened step.passed) ∙ again_is noted step
   open_is noted page (opens now a is) = if_yes (noted == c.opened) _ _ (eq-eqb noted c.opened now) ∙ here _ answer _ after a is
 
   release_is : ReleaseStep c frame below answer after → Is (release_of c frame below) answer after

@@ -4,7 +4,7 @@ use Rattle.trace_model.specs.History.{Action, push, push_close, open_fill, reser
 use Rattle.trace_model.specs.Packing.{opens_of, tail_of}
 use Rattle.trace_model.specs.Fitting.{IsRising, tail_at}
 use Rattle.trace_model.specs.Frames.{for_close, waiting}
-use Rattle.trace_model.specs.Window.{Window, Deed, acts, closes, takes, loses, actions_of, happens_with, window_behind, released_one, took_one, lost_one, window_after, WindowRunFrom}
+use Rattle.trace_model.specs.Window.{Window, RingEvent, acts, closes, takes, loses, actions_of, window_event_of, window_behind, released_one, took_one, lost_one, window_after, WindowRunFrom}
 use Rattle.trace_model.proofs.FillCuts.{IsRising-more, opens_of-push, opens_of-push_close, opens_of-reserve, opens_of-leave, opens_of-wished}
 use Rattle.trace_model.proofs.NextRecords.{records_snoc, length_after_action}
 use Rattle.trace_model.proofs.PackedHistories.{plain-finished, tail_is, needs_alike, needs_reserved}
@@ -41,7 +41,7 @@ tail_snoc h a cuts t =
     }
 
 -- an action begins a fill, or it leaves the window and the cuts as they are
-begins_or_not : (h : List Action) (w : Window) (a : Action) → ((window_behind w (happens_with a) ≡ w) × (opens_of (h ++ a ∷ []) ≡ opens_of h)) ⊎ (w.opened < (window_behind w (happens_with a)).opened)
+begins_or_not : (h : List Action) (w : Window) (a : Action) → ((window_behind w (window_event_of a) ≡ w) × (opens_of (h ++ a ∷ []) ≡ opens_of h)) ⊎ (w.opened < (window_behind w (window_event_of a)).opened)
 begins_or_not h w (push moment len) = inl (refl, opens_of-push h moment len)
 begins_or_not h w push_close = inl (refl, opens_of-push_close h)
 begins_or_not h w open_fill = inr (omega arith)
@@ -49,18 +49,18 @@ begins_or_not h w reserve = inl (refl, opens_of-reserve h)
 begins_or_not h w (leave payload) = inl (refl, opens_of-leave h payload)
 begins_or_not h w wished = inl (refl, opens_of-wished h)
 
-has_over : (n : ℕ) (h : List Action) (w : Window) (deeds : List Deed) (after : Window) → WindowRunFrom n h w deeds after → after.opened ≤ w.opened → HasTail h → HasTail (h ++ actions_of deeds)
+has_over : (n : ℕ) (h : List Action) (w : Window) (events : List RingEvent) (after : Window) → WindowRunFrom n h w events after → after.opened ≤ w.opened → HasTail h → HasTail (h ++ actions_of events)
 has_over n h w [] after run le t = subst HasTail (sym (append-nil h)) t
-has_over n h w (acts a ∷ deeds) after run le t =
-    let rises = run_rises n (h ++ a ∷ []) (window_behind w (happens_with a)) after deeds run.1 in let opens = rises.opened in
+has_over n h w (acts a ∷ events) after run le t =
+    let rises = run_rises n (h ++ a ∷ []) (window_behind w (window_event_of a)) after events run.1 in let opens = rises.opened in
     ⊎_elim
-    (λ (same, cuts). let at : (window_behind w (happens_with a)).opened ≡ w.opened = ap (λ (v : Window). v.opened) same in
-    subst HasTail (append_assoc h (a ∷ []) (actions_of deeds)) (has_over n (h ++ a ∷ []) (window_behind w (happens_with a)) deeds after run.1 (omega arith) (tail_snoc h a cuts t)))
+    (λ (same, cuts). let at : (window_behind w (window_event_of a)).opened ≡ w.opened = ap (λ (v : Window). v.opened) same in
+    subst HasTail (append_assoc h (a ∷ []) (actions_of events)) (has_over n (h ++ a ∷ []) (window_behind w (window_event_of a)) events after run.1 (omega arith) (tail_snoc h a cuts t)))
     (λ more. absurd (omega arith))
     (begins_or_not h w a)
-has_over n h w (closes ∷ deeds) after run le t = has_over n h (window_after w released_one) deeds after run.1 le t
-has_over n h w (takes ∷ deeds) after run le t = has_over n h (window_after w took_one) deeds after run.1 le t
-has_over n h w (loses ∷ deeds) after run le t = has_over n h (window_after w lost_one) deeds after run.1 le t
+has_over n h w (closes ∷ events) after run le t = has_over n h (window_after w released_one) events after run.1 le t
+has_over n h w (takes ∷ events) after run le t = has_over n h (window_after w took_one) events after run.1 le t
+has_over n h w (loses ∷ events) after run le t = has_over n h (window_after w lost_one) events after run.1 le t
 
-pub tail_over : (n : ℕ) (h : List Action) (w : Window) (deeds : List Deed) (after : Window) → IsRising 0 (opens_of h) (length (reserved_records h)) → WindowRunFrom n h w deeds after → after.opened ≡ w.opened → tail_of h ≢ [] → tail_of (h ++ actions_of deeds) ≢ []
-tail_over n h w deeds after rising run same some = (has_over n h w deeds after run (omega arith) record { rising = rising; holds = some }).holds
+pub tail_over : (n : ℕ) (h : List Action) (w : Window) (events : List RingEvent) (after : Window) → IsRising 0 (opens_of h) (length (reserved_records h)) → WindowRunFrom n h w events after → after.opened ≡ w.opened → tail_of h ≢ [] → tail_of (h ++ actions_of events) ≢ []
+tail_over n h w events after rising run same some = (has_over n h w events after run (omega arith) record { rising = rising; holds = some }).holds

@@ -2,7 +2,7 @@
 use Rattle.std.proofs.Common.{ℕ, ◌-◌, sym, ap, ◌∙◌, arith}
 use Rattle.trace_model.specs.History.{reserved_records}
 use Rattle.trace_model.specs.Packing.{opens_of}
-use Rattle.trace_model.specs.Ring.{Held, Core}
+use Rattle.trace_model.specs.Ring.{PageRecords, Core}
 use Rattle.trace_model.proofs.FillCuts.{length-cut_from}
 use Rattle.trace_model.proofs.FullFills.{packed_full}
 use Rattle.link_marks.specs.RingKept.{IsRingKept}
@@ -16,4 +16,4 @@ taken_hold n size start c r k t at none =
     let unread = r.links.head_le in let behind = r.links.done_lt in let count = r.contents.begun in
     packed_full c.history size (t.fill - start) (runs_packed n size start c r)
     (let long = length-cut_from 0 (opens_of c.history) (reserved_records c.history) in omega arith)
-    (sym (ap (λ (h : Held). h.records) fill.held) ∙ none)
+    (sym (ap (λ (h : PageRecords). h.records) fill.held) ∙ none)

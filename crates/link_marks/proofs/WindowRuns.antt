@@ -4,7 +4,7 @@ use Rattle.std.specs.Prelude.{Contains}
 use mathlib.Core.Logic.{dite}
 use native.Mathlib.Decide.{ℕ_discrete}
 use Rattle.trace_model.specs.History.{Action, push, push_close, open_fill, reserve, leave, wished}
-use Rattle.trace_model.specs.Window.{Window, released_one, took_one, lost_one, window_after, Deed, acts, closes, takes, loses, actions_of, happens_with, window_behind, WindowRunFrom}
+use Rattle.trace_model.specs.Window.{Window, released_one, took_one, lost_one, window_after, RingEvent, acts, closes, takes, loses, actions_of, window_event_of, window_behind, WindowRunFrom}
 use Rattle.trace_model.specs.Ring.{Taken}
 use Rattle.link_marks.specs.ToldRuns.{fills_taken, fills_lost, numbers_of}
 
@@ -17,7 +17,7 @@ pub record Rises (w after : Window) : Type 0 where
   pub opened : w.opened ≤ after.opened
 
 -- with an action at most one fill more is begun
-pub acts_behind : (w : Window) (a : Action) → ((window_behind w (happens_with a)).head ≡ w.head) × ((window_behind w (happens_with a)).done ≡ w.done) × (w.opened ≤ (window_behind w (happens_with a)).opened)
+pub acts_behind : (w : Window) (a : Action) → ((window_behind w (window_event_of a)).head ≡ w.head) × ((window_behind w (window_event_of a)).done ≡ w.done) × (w.opened ≤ (window_behind w (window_event_of a)).opened)
 acts_behind w (push moment len) = (refl, refl, omega arith)
 acts_behind w push_close = (refl, refl, omega arith)
 acts_behind w open_fill = (refl, refl, omega arith)
@@ -25,15 +25,15 @@ acts_behind w reserve = (refl, refl, omega arith)
 acts_behind w (leave payload) = (refl, refl, omega arith)
 acts_behind w wished = (refl, refl, omega arith)
 
-pub run_rises : (n : ℕ) (history : List Action) (w after : Window) (deeds : List Deed) → WindowRunFrom n history w deeds after → Rises w after
+pub run_rises : (n : ℕ) (history : List Action) (w after : Window) (events : List RingEvent) → WindowRunFrom n history w events after → Rises w after
 run_rises n history w after [] run = subst (Rises w) run record { head = omega arith; done = omega arith; opened = omega arith }
-run_rises n history w after (acts a ∷ deeds) run = let r = run_rises n (history ++ a ∷ []) (window_behind w (happens_with a)) after deeds run.1 in let (same, closed, more) = acts_behind w a in
+run_rises n history w after (acts a ∷ events) run = let r = run_rises n (history ++ a ∷ []) (window_behind w (window_event_of a)) after events run.1 in let (same, closed, more) = acts_behind w a in
     let a = r.head in let b = r.done in let c = r.opened in record { head = omega arith; done = omega arith; opened = omega arith }
-run_rises n history w after (closes ∷ deeds) run = let r = run_rises n history (window_after w released_one) after deeds run.1 in
+run_rises n history w after (closes ∷ events) run = let r = run_rises n history (window_after w released_one) after events run.1 in
     let a = r.head in let b = r.done in let c = r.opened in record { head = omega arith; done = omega arith; opened = omega arith }
-run_rises n history w after (takes ∷ deeds) run = let r = run_rises n history (window_after w took_one) after deeds run.1 in
+run_rises n history w after (takes ∷ events) run = let r = run_rises n history (window_after w took_one) after events run.1 in
     let a = r.head in let b = r.done in let c = r.opened in record { head = omega arith; done = omega arith; opened = omega arith }
-run_rises n history w after (loses ∷ deeds) run = let r = run_rises n history (window_after w lost_one) after deeds run.1 in
+run_rises n history w after (loses ∷ events) run = let r = run_rises n history (window_after w lost_one) after events run.1 in
     let a = r.head in let b = r.done in let c = r.opened in record { head = omega arith; done = omega arith; opened = omega arith }
 
 -- ---- the fills
@@ -53,82 +53,82 @@ pub has_none : {P : Type 0} (f : ℕ) → Contains [] f → P
 has_none f (i, low, at) = absurd (omega arith)
 
 -- what was taken or lost is from the head on
-taken_from_head : (head f : ℕ) (deeds : List Deed) → Contains (fills_taken head deeds) f → head ≤ f
+taken_from_head : (head f : ℕ) (events : List RingEvent) → Contains (fills_taken head events) f → head ≤ f
 taken_from_head head f [] has = has_none f has
-taken_from_head head f (acts a ∷ deeds) has = taken_from_head head f deeds has
-taken_from_head head f (closes ∷ deeds) has = taken_from_head head f deeds has
-taken_from_head head f (takes ∷ deeds) has = ⊎_elim (λ e. let le : head ≤ f = omega arith in le) (λ more. let low = taken_from_head (head + 1) f deeds more in omega arith) (has_cases head f (fills_taken (head + 1) deeds) has)
-taken_from_head head f (loses ∷ deeds) has = let low = taken_from_head (head + 1) f deeds has in omega arith
+taken_from_head head f (acts a ∷ events) has = taken_from_head head f events has
+taken_from_head head f (closes ∷ events) has = taken_from_head head f events has
+taken_from_head head f (takes ∷ events) has = ⊎_elim (λ e. let le : head ≤ f = omega arith in le) (λ more. let low = taken_from_head (head + 1) f events more in omega arith) (has_cases head f (fills_taken (head + 1) events) has)
+taken_from_head head f (loses ∷ events) has = let low = taken_from_head (head + 1) f events has in omega arith
 
-lost_from_head : (head f : ℕ) (deeds : List Deed) → Contains (fills_lost head deeds) f → head ≤ f
+lost_from_head : (head f : ℕ) (events : List RingEvent) → Contains (fills_lost head events) f → head ≤ f
 lost_from_head head f [] has = has_none f has
-lost_from_head head f (acts a ∷ deeds) has = lost_from_head head f deeds has
-lost_from_head head f (closes ∷ deeds) has = lost_from_head head f deeds has
-lost_from_head head f (takes ∷ deeds) has = let low = lost_from_head (head + 1) f deeds has in omega arith
-lost_from_head head f (loses ∷ deeds) has = ⊎_elim (λ e. let le : head ≤ f = omega arith in le) (λ more. let low = lost_from_head (head + 1) f deeds more in omega arith) (has_cases head f (fills_lost (head + 1) deeds) has)
+lost_from_head head f (acts a ∷ events) has = lost_from_head head f events has
+lost_from_head head f (closes ∷ events) has = lost_from_head head f events has
+lost_from_head head f (takes ∷ events) has = let low = lost_from_head (head + 1) f events has in omega arith
+lost_from_head head f (loses ∷ events) has = ⊎_elim (λ e. let le : head ≤ f = omega arith in le) (λ more. let low = lost_from_head (head + 1) f events more in omega arith) (has_cases head f (fills_lost (head + 1) events) has)
 
-pub not_both : (head : ℕ) (deeds : List Deed) (f : ℕ) → Contains (fills_taken head deeds) f → Contains (fills_lost head deeds) f → ⊥
+pub not_both : (head : ℕ) (events : List RingEvent) (f : ℕ) → Contains (fills_taken head events) f → Contains (fills_lost head events) f → ⊥
 not_both head [] f taken lost = has_none f taken
-not_both head (acts a ∷ deeds) f taken lost = not_both head deeds f taken lost
-not_both head (closes ∷ deeds) f taken lost = not_both head deeds f taken lost
-not_both head (takes ∷ deeds) f taken lost = let low = lost_from_head (head + 1) f deeds lost in
-    ⊎_elim (λ e. let no : ⊥ = omega arith in no) (λ more. not_both (head + 1) deeds f more lost) (has_cases head f (fills_taken (head + 1) deeds) taken)
-not_both head (loses ∷ deeds) f taken lost = let low = taken_from_head (head + 1) f deeds taken in
-    ⊎_elim (λ e. let no : ⊥ = omega arith in no) (λ more. not_both (head + 1) deeds f taken more) (has_cases head f (fills_lost (head + 1) deeds) lost)
+not_both head (acts a ∷ events) f taken lost = not_both head events f taken lost
+not_both head (closes ∷ events) f taken lost = not_both head events f taken lost
+not_both head (takes ∷ events) f taken lost = let low = lost_from_head (head + 1) f events lost in
+    ⊎_elim (λ e. let no : ⊥ = omega arith in no) (λ more. not_both (head + 1) events f more lost) (has_cases head f (fills_taken (head + 1) events) taken)
+not_both head (loses ∷ events) f taken lost = let low = taken_from_head (head + 1) f events taken in
+    ⊎_elim (λ e. let no : ⊥ = omega arith in no) (λ more. not_both (head + 1) events f taken more) (has_cases head f (fills_lost (head + 1) events) lost)
 
-pub passed_by : (n : ℕ) (history : List Action) (w after : Window) (deeds : List Deed) (f : ℕ) → WindowRunFrom n history w deeds after → w.head ≤ f → f < after.head → Contains (fills_taken w.head deeds) f ⊎ Contains (fills_lost w.head deeds) f
+pub passed_by : (n : ℕ) (history : List Action) (w after : Window) (events : List RingEvent) (f : ℕ) → WindowRunFrom n history w events after → w.head ≤ f → f < after.head → Contains (fills_taken w.head events) f ⊎ Contains (fills_lost w.head events) f
 passed_by n history w after [] f run low high = let same : w.head ≡ after.head = ap (λ (v : Window). v.head) run in absurd (omega arith)
-passed_by n history w after (acts a ∷ deeds) f run low high = let next = window_behind w (happens_with a) in let (same, closed, more) = acts_behind w a in
-    subst (λ (head : ℕ). Contains (fills_taken head deeds) f ⊎ Contains (fills_lost head deeds) f) same (passed_by n (history ++ a ∷ []) next after deeds f run.1 (omega arith) high)
-passed_by n history w after (closes ∷ deeds) f run low high = passed_by n history (window_after w released_one) after deeds f run.1 low high
-passed_by n history w after (takes ∷ deeds) f run low high = dite (ℕ_discrete w.head f)
-    (λ e. inl (subst (Contains (w.head ∷ fills_taken (w.head + 1) deeds)) e (has_first w.head (fills_taken (w.head + 1) deeds))))
-    (λ ne. ⊎_elim (λ t. inl (has_more w.head f (fills_taken (w.head + 1) deeds) t)) (λ l. inr l) (passed_by n history (window_after w took_one) after deeds f run.1 (omega arith) high))
-passed_by n history w after (loses ∷ deeds) f run low high = dite (ℕ_discrete w.head f)
-    (λ e. inr (subst (Contains (w.head ∷ fills_lost (w.head + 1) deeds)) e (has_first w.head (fills_lost (w.head + 1) deeds))))
-    (λ ne. ⊎_elim (λ t. inl t) (λ l. inr (has_more w.head f (fills_lost (w.head + 1) deeds) l)) (passed_by n history (window_after w lost_one) after deeds f run.1 (omega arith) high))
+passed_by n history w after (acts a ∷ events) f run low high = let next = window_behind w (window_event_of a) in let (same, closed, more) = acts_behind w a in
+    subst (λ (head : ℕ). Contains (fills_taken head events) f ⊎ Contains (fills_lost head events) f) same (passed_by n (history ++ a ∷ []) next after events f run.1 (omega arith) high)
+passed_by n history w after (closes ∷ events) f run low high = passed_by n history (window_after w released_one) after events f run.1 low high
+passed_by n history w after (takes ∷ events) f run low high = dite (ℕ_discrete w.head f)
+    (λ e. inl (subst (Contains (w.head ∷ fills_taken (w.head + 1) events)) e (has_first w.head (fills_taken (w.head + 1) events))))
+    (λ ne. ⊎_elim (λ t. inl (has_more w.head f (fills_taken (w.head + 1) events) t)) (λ l. inr l) (passed_by n history (window_after w took_one) after events f run.1 (omega arith) high))
+passed_by n history w after (loses ∷ events) f run low high = dite (ℕ_discrete w.head f)
+    (λ e. inr (subst (Contains (w.head ∷ fills_lost (w.head + 1) events)) e (has_first w.head (fills_lost (w.head + 1) events))))
+    (λ ne. ⊎_elim (λ t. inl t) (λ l. inr (has_more w.head f (fills_lost (w.head + 1) events) l)) (passed_by n history (window_after w lost_one) after events f run.1 (omega arith) high))
 
-pub taken_closed : (n : ℕ) (history : List Action) (w after : Window) (deeds : List Deed) (f : ℕ) → WindowRunFrom n history w deeds after → Contains (fills_taken w.head deeds) f → (w.head ≤ f) × (f < after.head) × (f < after.done)
+pub taken_closed : (n : ℕ) (history : List Action) (w after : Window) (events : List RingEvent) (f : ℕ) → WindowRunFrom n history w events after → Contains (fills_taken w.head events) f → (w.head ≤ f) × (f < after.head) × (f < after.done)
 taken_closed n history w after [] f run has = has_none f has
-taken_closed n history w after (acts a ∷ deeds) f run has = let next = window_behind w (happens_with a) in let (same, closed, more) = acts_behind w a in
-    let (x, y, z) = taken_closed n (history ++ a ∷ []) next after deeds f run.1 (subst (λ (head : ℕ). Contains (fills_taken head deeds) f) (sym same) has) in (omega arith, y, z)
-taken_closed n history w after (closes ∷ deeds) f run has = taken_closed n history (window_after w released_one) after deeds f run.1 has
-taken_closed n history w after (takes ∷ deeds) f run has = let may = run.0 in let r = run_rises n history (window_after w took_one) after deeds run.1 in let a = r.head in let b = r.done in
-    ⊎_elim (λ e. (omega arith, omega arith, omega arith)) (λ more. let (x, y, z) = taken_closed n history (window_after w took_one) after deeds f run.1 more in (omega arith, y, z)) (has_cases w.head f (fills_taken (w.head + 1) deeds) has)
-taken_closed n history w after (loses ∷ deeds) f run has = let (x, y, z) = taken_closed n history (window_after w lost_one) after deeds f run.1 has in (omega arith, y, z)
+taken_closed n history w after (acts a ∷ events) f run has = let next = window_behind w (window_event_of a) in let (same, closed, more) = acts_behind w a in
+    let (x, y, z) = taken_closed n (history ++ a ∷ []) next after events f run.1 (subst (λ (head : ℕ). Contains (fills_taken head events) f) (sym same) has) in (omega arith, y, z)
+taken_closed n history w after (closes ∷ events) f run has = taken_closed n history (window_after w released_one) after events f run.1 has
+taken_closed n history w after (takes ∷ events) f run has = let may = run.0 in let r = run_rises n history (window_after w took_one) after events run.1 in let a = r.head in let b = r.done in
+    ⊎_elim (λ e. (omega arith, omega arith, omega arith)) (λ more. let (x, y, z) = taken_closed n history (window_after w took_one) after events f run.1 more in (omega arith, y, z)) (has_cases w.head f (fills_taken (w.head + 1) events) has)
+taken_closed n history w after (loses ∷ events) f run has = let (x, y, z) = taken_closed n history (window_after w lost_one) after events f run.1 has in (omega arith, y, z)
 
-pub lost_closed : (n : ℕ) (history : List Action) (w after : Window) (deeds : List Deed) (f : ℕ) → WindowRunFrom n history w deeds after → Contains (fills_lost w.head deeds) f → (w.head ≤ f) × (f < after.head) × (f < after.done) × (f + n ≤ after.opened)
+pub lost_closed : (n : ℕ) (history : List Action) (w after : Window) (events : List RingEvent) (f : ℕ) → WindowRunFrom n history w events after → Contains (fills_lost w.head events) f → (w.head ≤ f) × (f < after.head) × (f < after.done) × (f + n ≤ after.opened)
 lost_closed n history w after [] f run has = has_none f has
-lost_closed n history w after (acts a ∷ deeds) f run has = let next = window_behind w (happens_with a) in let (same, closed, more) = acts_behind w a in
-    let (x, y, z, u) = lost_closed n (history ++ a ∷ []) next after deeds f run.1 (subst (λ (head : ℕ). Contains (fills_lost head deeds) f) (sym same) has) in (omega arith, y, z, u)
-lost_closed n history w after (closes ∷ deeds) f run has = lost_closed n history (window_after w released_one) after deeds f run.1 has
-lost_closed n history w after (takes ∷ deeds) f run has = let (x, y, z, u) = lost_closed n history (window_after w took_one) after deeds f run.1 has in (omega arith, y, z, u)
-lost_closed n history w after (loses ∷ deeds) f run has = let may = run.0.0 in let full = run.0.1 in let r = run_rises n history (window_after w lost_one) after deeds run.1 in let a = r.head in let b = r.done in let c = r.opened in
-    ⊎_elim (λ e. (omega arith, omega arith, omega arith, omega arith)) (λ more. let (x, y, z, u) = lost_closed n history (window_after w lost_one) after deeds f run.1 more in (omega arith, y, z, u)) (has_cases w.head f (fills_lost (w.head + 1) deeds) has)
+lost_closed n history w after (acts a ∷ events) f run has = let next = window_behind w (window_event_of a) in let (same, closed, more) = acts_behind w a in
+    let (x, y, z, u) = lost_closed n (history ++ a ∷ []) next after events f run.1 (subst (λ (head : ℕ). Contains (fills_lost head events) f) (sym same) has) in (omega arith, y, z, u)
+lost_closed n history w after (closes ∷ events) f run has = lost_closed n history (window_after w released_one) after events f run.1 has
+lost_closed n history w after (takes ∷ events) f run has = let (x, y, z, u) = lost_closed n history (window_after w took_one) after events f run.1 has in (omega arith, y, z, u)
+lost_closed n history w after (loses ∷ events) f run has = let may = run.0.0 in let full = run.0.1 in let r = run_rises n history (window_after w lost_one) after events run.1 in let a = r.head in let b = r.done in let c = r.opened in
+    ⊎_elim (λ e. (omega arith, omega arith, omega arith, omega arith)) (λ more. let (x, y, z, u) = lost_closed n history (window_after w lost_one) after events f run.1 more in (omega arith, y, z, u)) (has_cases w.head f (fills_lost (w.head + 1) events) has)
 
 -- ---- two runs, one after the other
 
-pub actions-append : (deeds more : List Deed) → actions_of (deeds ++ more) ≡ actions_of deeds ++ actions_of more
+pub actions-append : (events more : List RingEvent) → actions_of (events ++ more) ≡ actions_of events ++ actions_of more
 actions-append [] more = refl
-actions-append (acts a ∷ deeds) more = ap (λ (l : List Action). a ∷ l) (actions-append deeds more)
-actions-append (closes ∷ deeds) more = actions-append deeds more
-actions-append (takes ∷ deeds) more = actions-append deeds more
-actions-append (loses ∷ deeds) more = actions-append deeds more
+actions-append (acts a ∷ events) more = ap (λ (l : List Action). a ∷ l) (actions-append events more)
+actions-append (closes ∷ events) more = actions-append events more
+actions-append (takes ∷ events) more = actions-append events more
+actions-append (loses ∷ events) more = actions-append events more
 
-pub run-append : (n : ℕ) (history : List Action) (w between after : Window) (deeds more : List Deed) → WindowRunFrom n history w deeds between → WindowRunFrom n (history ++ actions_of deeds) between more after → WindowRunFrom n history w (deeds ++ more) after
+pub run-append : (n : ℕ) (history : List Action) (w between after : Window) (events more : List RingEvent) → WindowRunFrom n history w events between → WindowRunFrom n (history ++ actions_of events) between more after → WindowRunFrom n history w (events ++ more) after
 run-append n history w between after [] more first rest = subst (λ (v : Window). WindowRunFrom n history v more after) (sym first) (subst (λ (h : List Action). WindowRunFrom n h between more after) (append-nil history) rest)
-run-append n history w between after (acts a ∷ deeds) more first rest = (first.0, run-append n (history ++ a ∷ []) (window_behind w (happens_with a)) between after deeds more first.1 (subst (λ (h : List Action). WindowRunFrom n h between more after) (sym (append_assoc history (a ∷ []) (actions_of deeds))) rest))
-run-append n history w between after (closes ∷ deeds) more first rest = (first.0, run-append n history (window_after w released_one) between after deeds more first.1 rest)
-run-append n history w between after (takes ∷ deeds) more first rest = (first.0, run-append n history (window_after w took_one) between after deeds more first.1 rest)
-run-append n history w between after (loses ∷ deeds) more first rest = (first.0, run-append n history (window_after w lost_one) between after deeds more first.1 rest)
+run-append n history w between after (acts a ∷ events) more first rest = (first.0, run-append n (history ++ a ∷ []) (window_behind w (window_event_of a)) between after events more first.1 (subst (λ (h : List Action). WindowRunFrom n h between more after) (sym (append_assoc history (a ∷ []) (actions_of events))) rest))
+run-append n history w between after (closes ∷ events) more first rest = (first.0, run-append n history (window_after w released_one) between after events more first.1 rest)
+run-append n history w between after (takes ∷ events) more first rest = (first.0, run-append n history (window_after w took_one) between after events more first.1 rest)
+run-append n history w between after (loses ∷ events) more first rest = (first.0, run-append n history (window_after w lost_one) between after events more first.1 rest)
 
-pub taken-append : (n : ℕ) (history : List Action) (w between : Window) (deeds more : List Deed) → WindowRunFrom n history w deeds between → fills_taken w.head (deeds ++ more) ≡ fills_taken w.head deeds ++ fills_taken between.head more
+pub taken-append : (n : ℕ) (history : List Action) (w between : Window) (events more : List RingEvent) → WindowRunFrom n history w events between → fills_taken w.head (events ++ more) ≡ fills_taken w.head events ++ fills_taken between.head more
 taken-append n history w between [] more run = ap (λ (v : Window). fills_taken v.head more) run
-taken-append n history w between (acts a ∷ deeds) more run = subst (λ (head : ℕ). fills_taken head (deeds ++ more) ≡ fills_taken head deeds ++ fills_taken between.head more) (acts_behind w a).0
-    (taken-append n (history ++ a ∷ []) (window_behind w (happens_with a)) between deeds more run.1)
-taken-append n history w between (closes ∷ deeds) more run = taken-append n history (window_after w released_one) between deeds more run.1
-taken-append n history w between (takes ∷ deeds) more run = ap (λ (l : List ℕ). w.head ∷ l) (taken-append n history (window_after w took_one) between deeds more run.1)
-taken-append n history w between (loses ∷ deeds) more run = taken-append n history (window_after w lost_one) between deeds more run.1
+taken-append n history w between (acts a ∷ events) more run = subst (λ (head : ℕ). fills_taken head (events ++ more) ≡ fills_taken head events ++ fills_taken between.head more) (acts_behind w a).0
+    (taken-append n (history ++ a ∷ []) (window_behind w (window_event_of a)) between events more run.1)
+taken-append n history w between (closes ∷ events) more run = taken-append n history (window_after w released_one) between events more run.1
+taken-append n history w between (takes ∷ events) more run = ap (λ (l : List ℕ). w.head ∷ l) (taken-append n history (window_after w took_one) between events more run.1)
+taken-append n history w between (loses ∷ events) more run = taken-append n history (window_after w lost_one) between events more run.1
 
 pub numbers-push : (taken : List Taken) (t : Taken) → numbers_of (taken ++ t ∷ []) ≡ numbers_of taken ++ t.fill ∷ []
 numbers-push [] t = refl

@@ -7,7 +7,7 @@ use Rattle.trace_model.specs.History.{Action, Reservation}
 use Rattle.trace_model.specs.Packing.{tail_of}
 use Rattle.trace_model.specs.Frames.{Kind, for_record, for_close, FrameState, waiting, reserved, left, Phase, idle, looking, claiming, looking_next, marking, clearing, opening, releasing, wishing, Frame}
 use Rattle.trace_model.specs.Ring.{ReaderPhase, loading_link, loading_done, storing_link, swapping, Core, window_of}
-use Rattle.trace_model.specs.Steps.{Event, Answer, gone, empty, IsGranted, with_new_tail, frames_after_leave, after_begin, BeginsAnew, reserves, finds_nothing, is_crowded, is_worn, notes, look_late, sees_free, sees_header, sees_update, claim_late, claims, claim_fails, next_late, sees_normal, sees_other, mark_late, marks, mark_fails, clears, open_late, opens, releases, releases_last, grants, closes_more, goes_away, IdleStep, FrameStep, loads_header, loads_update, loads_owed, loads_passed, finds_none, finds_closed, swaps, swap_fails, ReadStep, Step, push_step, push_refused, close_step, close_refused, frame_step, frame_lacks, end_step, end_lacks, end_early, read_step, wish_step, Exchange, Run}
+use Rattle.trace_model.specs.Steps.{Event, Answer, gone, empty, IsGranted, with_new_tail, frames_after_leave, after_begin, BeginsAgain, reserves, finds_nothing, is_crowded, is_worn, notes, look_late, sees_free, sees_header, sees_update, claim_late, claims, claim_fails, next_late, sees_normal, sees_other, mark_late, marks, mark_fails, clears, open_late, opens, releases, releases_last, grants, closes_more, goes_away, IdleStep, FrameStep, loads_header, loads_update, loads_owed, loads_passed, finds_none, finds_closed, swaps, swap_fails, ReadStep, Step, push_step, push_refused, close_step, close_refused, frame_step, frame_lacks, end_step, end_lacks, end_early, read_step, wish_step, Exchange, Run}
 use Rattle.link_marks.specs.RingKept.{IsRingKept}
 use Rattle.link_marks.specs.WishLaws.{WishesAreHeld, GoneHasLooked, WishesAreAnswered, WishedTailsAreClosed, WishBehindEmptyLosesNone}
 use Rattle.link_marks.proofs.RingsKept.{run_snoc, ring_step, ring_run}
@@ -60,8 +60,8 @@ module _ (n size : ℕ) (c : Core) (frame : Frame) (below : List Frame) (answer 
   goes : (next : Core) (there : Frame) → next.frames ≡ there ∷ below → after ≡ next → ⊥
   goes next there e is = stands next is (λ none_there. some_stands there below (sym e ∙ none_there))
 
-  anew : (noted : ℕ) → BeginsAnew c frame below noted answer after → ⊥
-  anew noted step = stands _ step.after_is (begin_stays c frame below frame.kind frame.state)
+  again : (noted : ℕ) → BeginsAgain c frame below noted answer after → ⊥
+  again noted step = stands _ step.after_is (begin_stays c frame below frame.kind frame.state)
 
   gone_frame : (phase : Phase) → FrameStep n size c frame below phase answer after → HasLooked n c below phase answer
   gone_frame idle step = absurd (idle_stays frame.state step)
@@ -74,21 +74,21 @@ module _ (n size : ℕ) (c : Core) (frame : Frame) (below : List Frame) (answer 
       idle_stays waiting (notes needs room small a is) = goes _ _ refl is
       idle_stays (reserved number) step' = goes c frame top step'.1
       idle_stays left step' = step'
-  gone_frame (looking noted) (look_late step) = absurd (anew noted step)
+  gone_frame (looking noted) (look_late step) = absurd (again noted step)
   gone_frame (looking noted) (sees_free page now at a is) = absurd (goes _ _ refl is)
   gone_frame (looking noted) (sees_header page lost now sum at a is) = absurd (goes _ _ refl is)
   gone_frame (looking noted) (sees_update page lost now sum at a is) = absurd (goes _ _ refl is)
-  gone_frame (claiming noted page) (claim_late step) = absurd (anew noted step)
+  gone_frame (claiming noted page) (claim_late step) = absurd (again noted step)
   gone_frame (claiming noted page) (claims lost now sum at a is) = absurd (goes _ _ refl is)
   gone_frame (claiming noted page) (claim_fails now other a is) = absurd (goes _ _ refl is)
-  gone_frame (looking_next role noted page) (next_late helps step) = absurd (anew noted step)
+  gone_frame (looking_next role noted page) (next_late helps step) = absurd (again noted step)
   gone_frame (looking_next role noted page) (sees_normal lost next goes_on sum at a is) = absurd (goes _ _ refl is)
   gone_frame (looking_next role noted page) (sees_other lost goes_on sum other a is) = absurd (goes _ _ refl is)
-  gone_frame (marking role noted page next) (mark_late helps step) = absurd (anew noted step)
+  gone_frame (marking role noted page next) (mark_late helps step) = absurd (again noted step)
   gone_frame (marking role noted page next) (marks lost goes_on sum at a is) = absurd (goes _ _ refl is)
   gone_frame (marking role noted page next) (mark_fails lost goes_on sum other a is) = absurd (goes _ _ refl is)
   gone_frame (clearing noted page) (clears lost sum at a is) = absurd (goes _ _ refl is)
-  gone_frame (opening noted page) (open_late step) = absurd (anew noted step)
+  gone_frame (opening noted page) (open_late step) = absurd (again noted step)
   gone_frame (opening noted page) (opens now a is) = absurd (stands _ is (begin_stays (with_new_tail c page) frame below frame.kind frame.state))
   gone_frame releasing (releases alone more a is) = absurd (goes _ frame top is)
   gone_frame releasing (releases_last alone last a is) = absurd (goes _ _ refl is)
@@ -150,8 +150,8 @@ begin_wish c frame below kind left = refl
 wish_is : (c after next : Core) → after ≡ next → next.wish ≡ c.wish → after.wish ≡ c.wish
 wish_is c after next is same = ap (λ (x : Core). x.wish) is ∙ same
 
-anew_wish : (c : Core) (frame : Frame) (below : List Frame) (noted : ℕ) (answer : Answer) (after : Core) → BeginsAnew c frame below noted answer after → after.wish ≡ c.wish
-anew_wish c frame below noted answer after step = wish_is c after _ step.after_is (begin_wish c frame below frame.kind frame.state)
+again_wish : (c : Core) (frame : Frame) (below : List Frame) (noted : ℕ) (answer : Answer) (after : Core) → BeginsAgain c frame below noted answer after → after.wish ≡ c.wish
+again_wish c frame below noted answer after step = wish_is c after _ step.after_is (begin_wish c frame below frame.kind frame.state)
 
 idle_wish : (n size : ℕ) (c : Core) (frame : Frame) (below : List Frame) (state : FrameState) (answer : Answer) (after : Core) → IdleStep n size c frame below state answer after → after.wish ≡ c.wish
 idle_wish n size c frame below waiting answer after (reserves moment len r kind r_is fits a is) = wish_is c after _ is refl
@@ -164,21 +164,21 @@ idle_wish n size c frame below left answer after step = absurd step
 
 frame_wish : (n size : ℕ) (c : Core) (frame : Frame) (below : List Frame) (phase : Phase) (answer : Answer) (after : Core) → FrameStep n size c frame below phase answer after → after.wish ≡ c.wish
 frame_wish n size c frame below idle answer after step = idle_wish n size c frame below frame.state answer after step
-frame_wish n size c frame below (looking noted) answer after (look_late step) = anew_wish c frame below noted answer after step
+frame_wish n size c frame below (looking noted) answer after (look_late step) = again_wish c frame below noted answer after step
 frame_wish n size c frame below (looking noted) answer after (sees_free page now at a is) = wish_is c after _ is refl
 frame_wish n size c frame below (looking noted) answer after (sees_header page lost now sum at a is) = wish_is c after _ is refl
 frame_wish n size c frame below (looking noted) answer after (sees_update page lost now sum at a is) = wish_is c after _ is refl
-frame_wish n size c frame below (claiming noted page) answer after (claim_late step) = anew_wish c frame below noted answer after step
+frame_wish n size c frame below (claiming noted page) answer after (claim_late step) = again_wish c frame below noted answer after step
 frame_wish n size c frame below (claiming noted page) answer after (claims lost now sum at a is) = wish_is c after _ is refl
 frame_wish n size c frame below (claiming noted page) answer after (claim_fails now other a is) = wish_is c after _ is refl
-frame_wish n size c frame below (looking_next role noted page) answer after (next_late helps step) = anew_wish c frame below noted answer after step
+frame_wish n size c frame below (looking_next role noted page) answer after (next_late helps step) = again_wish c frame below noted answer after step
 frame_wish n size c frame below (looking_next role noted page) answer after (sees_normal lost next goes_on sum at a is) = wish_is c after _ is refl
 frame_wish n size c frame below (looking_next role noted page) answer after (sees_other lost goes_on sum other a is) = wish_is c after _ is refl
-frame_wish n size c frame below (marking role noted page next) answer after (mark_late helps step) = anew_wish c frame below noted answer after step
+frame_wish n size c frame below (marking role noted page next) answer after (mark_late helps step) = again_wish c frame below noted answer after step
 frame_wish n size c frame below (marking role noted page next) answer after (marks lost goes_on sum at a is) = wish_is c after _ is refl
 frame_wish n size c frame below (marking role noted page next) answer after (mark_fails lost goes_on sum other a is) = wish_is c after _ is refl
 frame_wish n size c frame below (clearing noted page) answer after (clears lost sum at a is) = wish_is c after _ is refl
-frame_wish n size c frame below (opening noted page) answer after (open_late step) = anew_wish c frame below noted answer after step
+frame_wish n size c frame below (opening noted page) answer after (open_late step) = again_wish c frame below noted answer after step
 frame_wish n size c frame below (opening noted page) answer after (opens now a is) = wish_is c after _ is (begin_wish (with_new_tail c page) frame below frame.kind frame.state)
 frame_wish n size c frame below releasing answer after (releases alone more a is) = wish_is c after _ is refl
 frame_wish n size c frame below releasing answer after (releases_last alone last a is) = wish_is c after _ is refl
@@ -240,7 +240,7 @@ module _ (n size start : ℕ) (c : Core) where
   -- while no fill is begun, the tail goes on to hold a record
   tail_run : (s : Core) (exchanges : List Exchange) → IsRingKept n size start c → Run n size c exchanges s → s.opened ≡ c.opened → tail_of c.history ≢ [] → tail_of s.history ≢ []
   tail_run s exchanges r run same some = let x = leads_run n size start c s exchanges r run in
-      subst (λ (h : List Action). tail_of h ≢ []) (sym x.actions) (tail_over n c.history (window_of c) x.deeds (window_of s) r.contents.rising x.window same some)
+      subst (λ (h : List Action). tail_of h ≢ []) (sym x.actions) (tail_over n c.history (window_of c) x.events (window_of s) r.contents.rising x.window same some)
 
   -- no state without a frame comes before the fill is closed
   stands_run : (s after : Core) (front exchanges : List Exchange) → tail_of c.history ≢ [] → c.opened + n < LINK_FILLS → IsRingKept n size start c → IsRingKept n size start s → Run n size c front s → Run n size s exchanges after

@@ -4,7 +4,7 @@ use Rattle.std.specs.List.{slice_get}
 use Rattle.trace_model.specs.History.{Reservation, reserved_records}
 use Rattle.trace_model.specs.Packing.{opens_of, cut_from, tail_of}
 use Rattle.trace_model.specs.Frames.{Frame}
-use Rattle.trace_model.specs.Ring.{Held, page_at, first_of_fill}
+use Rattle.trace_model.specs.Ring.{PageRecords, page_at, first_of_fill}
 use Rattle.trace_model.specs.Steps.{contents_of}
 use Rattle.trace_model.proofs.PackedHistories.{tail_is}
 use Rattle.link_marks.specs.KeptContents.{cut_fill}
@@ -12,8 +12,8 @@ use Rattle.link_marks.specs.WishLaws.{EndsOnTheWishedPage}
 use Rattle.link_marks.proofs.Payloads.{reserved_lies_open}
 
 -- a page that holds a number holds it as this fill
-holds_as : (h g : Held) (number : ℕ) → h ≡ g → (h.first ≤ number) × (number < h.first + length h.records) → (g.first ≤ number) × (number < g.first + length g.records)
-holds_as h g number same holds = subst (λ (x : Held). (x.first ≤ number) × (number < x.first + length x.records)) same holds
+holds_as : (h g : PageRecords) (number : ℕ) → h ≡ g → (h.first ≤ number) × (number < h.first + length h.records) → (g.first ≤ number) × (number < g.first + length g.records)
+holds_as h g number same holds = subst (λ (x : PageRecords). (x.first ≤ number) × (number < x.first + length x.records)) same holds
 
 pub ends_on_wished : EndsOnTheWishedPage
 ends_on_wished n size start c payload after frame number r top state last step =

@@ -7,7 +7,7 @@ use Rattle.trace_model.specs.Packing.{tail_of}
 use Rattle.trace_model.specs.Links.{header_link}
 use Rattle.trace_model.specs.Frames.{Kind, for_record, for_close, FrameState, waiting, reserved, left, number_of, Role, owner, helper, Phase, idle, looking, claiming, looking_next, marking, clearing, opening, releasing, wishing, Frame}
 use Rattle.trace_model.specs.Ring.{Core}
-use Rattle.trace_model.specs.Steps.{pushes, pushes_close, steps, ends, reads, wishes, Answer, closing_phase, in_phase, after_leave, after_next, with_link, with_new_tail, with_released, after_begin, BeginsAnew, IdleStep, ReserveStep, reserves, finds_nothing, is_crowded, is_worn, notes, LookStep, look_late, sees_free, sees_header, sees_update, ClaimStep, claim_late, claims, claim_fails, NextStep, next_late, sees_normal, sees_other, MarkStep, mark_late, marks, mark_fails, ClearStep, clears, OpenStep, open_late, opens, ReleaseStep, releases, releases_last, WishStep, grants, closes_more, goes_away, FrameStep, push_step, push_refused, close_step, close_refused, frame_step, frame_lacks, end_step, end_lacks, end_early, read_step, wish_step}
+use Rattle.trace_model.specs.Steps.{pushes, pushes_close, steps, ends, reads, wishes, Answer, closing_phase, in_phase, after_leave, after_next, with_link, with_new_tail, with_released, after_begin, BeginsAgain, IdleStep, ReserveStep, reserves, finds_nothing, is_crowded, is_worn, notes, LookStep, look_late, sees_free, sees_header, sees_update, ClaimStep, claim_late, claims, claim_fails, NextStep, next_late, sees_normal, sees_other, MarkStep, mark_late, marks, mark_fails, ClearStep, clears, OpenStep, open_late, opens, ReleaseStep, releases, releases_last, WishStep, grants, closes_more, goes_away, FrameStep, push_step, push_refused, close_step, close_refused, frame_step, frame_lacks, end_step, end_lacks, end_early, read_step, wish_step}
 use Rattle.link_marks.specs.KeptLinks.{LinksKept}
 use Rattle.link_marks.specs.KeptStack.{MayBeIn}
 use Rattle.link_marks.specs.RingKept.{IsRingKept}
@@ -15,7 +15,7 @@ use Rattle.link_marks.specs.Ranks.{state_rank, late_rank}
 use Rattle.link_marks.specs.WriterRanks.{look_rank, need_rank, grant_rank, fresh_rank, own_rank, writer_rank, rank_in, WriterStepsComeToAnEnd, WritersAreNearTheirEnd}
 use Rattle.link_marks.proofs.LinkFills.{header_inside}
 use Rattle.link_marks.proofs.HistorySteps.{top_agrees, wishing_left}
-use Rattle.link_marks.proofs.FrameEnds.{late_now, late_passed, late_le, opened_tail, anew_rank, anew_lt, opened_lt, needs_tail, state_le}
+use Rattle.link_marks.proofs.FrameEnds.{late_now, late_passed, late_le, opened_tail, again_rank, again_lt, opened_lt, needs_tail, state_le}
 
 -- ---- parts of a rank
 
@@ -65,7 +65,7 @@ leave_le n passed c frame [] payload same =
 leave_le n passed c frame (next ∷ below) payload same = absurd (let wrong : suc (length below) ≡ suc (suc (length below)) = same in omega arith)
 
 begin_le : (n passed : ℕ) (c : Core) (kind : Kind) (state : FrameState) (frame : Frame) (below : List Frame) (i w : ℕ) → frame.state ≡ state → need_rank (tail_of c.history) ≤ i → grant_rank (tail_of c.history) + 1 ≤ w → 13 ≤ i → length (after_begin kind state c frame below).frames ≡ suc (length below)
-    → rank_in n passed (after_begin kind state c frame below) ≤ 3 * (c.opened - c.done) + anew_rank i w state
+    → rank_in n passed (after_begin kind state c frame below) ≤ 3 * (c.opened - c.done) + again_rank i w state
 begin_le n passed c (for_record moment len) waiting frame below i w same low wish_low le stays = subst (λ (s : FrameState). 3 * (c.opened - c.done) + fresh_rank c.history s ≤ 3 * (c.opened - c.done) + i) (sym same) (omega arith)
 begin_le n passed c for_close waiting frame below i w same low wish_low le stays = let less = leave_le n passed c frame below None stays in omega arith
 begin_le n passed c kind (reserved number) frame below i w same low wish_low le stays = subst (λ (s : FrameState). 3 * (c.opened - c.done) + fresh_rank c.history s ≤ 3 * (c.opened - c.done) + 15) (sym same) (omega arith)
@@ -95,14 +95,14 @@ module _ (n size start : ℕ) (c : Core) (frame : Frame) (below : List Frame) (r
       let low = leave_le n knows c frame below payload (stands after (after_leave c frame below payload) is stays) in
       sinks after (after_leave c frame below payload) phase same (omega arith) is
 
-  anew : (noted : ℕ) (answer : Answer) (after : Core) (phase : Phase) → frame.phase ≡ phase → state_rank frame.state + late_rank noted c.opened + 5 ≤ own_rank n passed c.opened c.history frame.state phase → length after.frames ≡ length c.frames → BeginsAnew c frame below noted answer after
+  again : (noted : ℕ) (answer : Answer) (after : Core) (phase : Phase) → frame.phase ≡ phase → state_rank frame.state + late_rank noted c.opened + 5 ≤ own_rank n passed c.opened c.history frame.state phase → length after.frames ≡ length c.frames → BeginsAgain c frame below noted answer after
       → rank_in n knows after < rank_in n passed c
-  anew noted answer after phase same high stays step =
+  again noted answer after phase same high stays step =
       let late = late_passed noted c.opened step.passed in
       let most = grant_le (tail_of c.history) in
       let begun : Core = after_begin frame.kind frame.state c frame below in
       let low = begin_le n knows c frame.kind frame.state frame below 34 13 refl (need_le (tail_of c.history)) (omega arith) (omega arith) (stands after begun step.after_is stays) in
-      let less = anew_lt frame.state in
+      let less = again_lt frame.state in
       sinks after begun phase same (omega arith) step.after_is
 
   waiting_rank : frame.state ≡ waiting → own_rank n passed c.opened c.history frame.state idle ≡ need_rank (tail_of c.history)
@@ -125,7 +125,7 @@ module _ (n size start : ℕ) (c : Core) (frame : Frame) (below : List Frame) (r
       goes after idle (looking c.opened) same (omega arith) is
 
   look_lowers : (noted : ℕ) (answer : Answer) (after : Core) → frame.phase ≡ looking noted → (noted ≡ c.opened → passed ≤ c.head) → length after.frames ≡ length c.frames → LookStep n c frame below noted answer after → rank_in n knows after < rank_in n passed c
-  look_lowers noted answer after same behind stays (look_late step) = let high = look_ge n passed noted in anew noted answer after (looking noted) same (omega arith) stays step
+  look_lowers noted answer after same behind stays (look_late step) = let high = look_ge n passed noted in again noted answer after (looking noted) same (omega arith) stays step
   look_lowers noted answer after same behind stays (sees_free page now at a is) = let high = look_ge n passed noted in goes after (looking noted) (opening noted page) same (omega arith) is
   look_lowers noted answer after same behind stays (sees_header page lost now sum at a is) =
       let unread = k.head_le in let open_yet = k.done_lt in let within = k.opened_le in
@@ -136,7 +136,7 @@ module _ (n size start : ℕ) (c : Core) (frame : Frame) (below : List Frame) (r
   look_lowers noted answer after same behind stays (sees_update page lost now sum at a is) = let high = look_ge n passed noted in goes after (looking noted) (looking_next helper noted page) same (omega arith) is
 
   claim_lowers : (noted page : ℕ) (answer : Answer) (after : Core) → frame.phase ≡ claiming noted page → (noted ≡ c.opened → noted < knows + n) → length after.frames ≡ length c.frames → ClaimStep n c frame below noted page answer after → rank_in n knows after < rank_in n passed c
-  claim_lowers noted page answer after same past stays (claim_late step) = anew noted answer after (claiming noted page) same (omega arith) stays step
+  claim_lowers noted page answer after same past stays (claim_late step) = again noted answer after (claiming noted page) same (omega arith) stays step
   claim_lowers noted page answer after same past stays (claims lost now sum at a is) =
       sinks after _ (claiming noted page) same (let less : 3 * (c.opened - c.done) + (state_rank frame.state + late_rank noted c.opened + 8) < 3 * (c.opened - c.done) + (state_rank frame.state + late_rank noted c.opened + 11) = omega arith in less) is
   claim_lowers noted page answer after same past stays (claim_fails now other a is) = let once = look_once n knows noted (past now) in goes after (claiming noted page) (looking noted) same (omega arith) is
@@ -147,12 +147,12 @@ module _ (n size start : ℕ) (c : Core) (frame : Frame) (below : List Frame) (r
   next_less helper noted page m less = omega arith
 
   next_lowers : (role : Role) (noted page : ℕ) (answer : Answer) (after : Core) → frame.phase ≡ looking_next role noted page → length after.frames ≡ length c.frames → NextStep n c frame below role noted page answer after → rank_in n knows after < rank_in n passed c
-  next_lowers role noted page answer after same stays (next_late helps step) = anew noted answer after (looking_next role noted page) same (omega arith) stays step
+  next_lowers role noted page answer after same stays (next_late helps step) = again noted answer after (looking_next role noted page) same (omega arith) stays step
   next_lowers role noted page answer after same stays (sees_normal lost next goes_on sum at a is) = goes after (looking_next role noted page) (marking role noted page next) same (omega arith) is
   next_lowers role noted page answer after same stays (sees_other lost goes_on sum other a is) = goes after (looking_next role noted page) (after_next role noted page) same (next_less role noted page 8 (omega arith)) is
 
   mark_lowers : (role : Role) (noted page next : ℕ) (answer : Answer) (after : Core) → frame.phase ≡ marking role noted page next → length after.frames ≡ length c.frames → MarkStep n c frame below role noted page next answer after → rank_in n knows after < rank_in n passed c
-  mark_lowers role noted page next answer after same stays (mark_late helps step) = anew noted answer after (marking role noted page next) same (omega arith) stays step
+  mark_lowers role noted page next answer after same stays (mark_late helps step) = again noted answer after (marking role noted page next) same (omega arith) stays step
   mark_lowers role noted page next answer after same stays (marks lost goes_on sum at a is) =
       let low = next_less role noted page 7 (omega arith) in
       sinks after (in_phase (with_link n c (suc lost) (header_link next (suc lost))) frame below (after_next role noted page)) (marking role noted page next) same (omega arith) is
@@ -163,7 +163,7 @@ module _ (n size start : ℕ) (c : Core) (frame : Frame) (below : List Frame) (r
       sinks after _ (clearing noted page) same (let less : 3 * (c.opened - c.done) + (state_rank frame.state + late_rank noted c.opened + 5) < 3 * (c.opened - c.done) + (state_rank frame.state + late_rank noted c.opened + 6) = omega arith in less) is
 
   open_lowers : (noted page : ℕ) (answer : Answer) (after : Core) → frame.phase ≡ opening noted page → length after.frames ≡ length c.frames → OpenStep n c frame below noted page answer after → rank_in n knows after < rank_in n passed c
-  open_lowers noted page answer after same stays (open_late step) = anew noted answer after (opening noted page) same (omega arith) stays step
+  open_lowers noted page answer after same stays (open_late step) = again noted answer after (opening noted page) same (omega arith) stays step
   open_lowers noted page answer after same stays (opens now a is) =
       let behind = k.done_lt in
       let grown : Core = with_new_tail c page in
@@ -171,7 +171,7 @@ module _ (n size start : ℕ) (c : Core) (frame : Frame) (below : List Frame) (r
       let bare : need_rank (tail_of grown.history) ≡ 16 = ap need_rank (opened_tail c.history) in
       let unasked : grant_rank (tail_of grown.history) ≡ 0 = ap grant_rank (opened_tail c.history) in
       let low = begin_le n knows grown frame.kind frame.state frame below 16 1 refl (omega arith) (omega arith) (omega arith) (stands after begun is stays) in
-      let le : rank_in n knows begun ≤ 3 * ((c.opened + 1) - c.done) + anew_rank 16 1 frame.state = low in
+      let le : rank_in n knows begun ≤ 3 * ((c.opened + 1) - c.done) + again_rank 16 1 frame.state = low in
       let less = opened_lt frame.state in
       sinks after begun (opening noted page) same (omega arith) is
 

@@ -3,24 +3,24 @@ use Rattle.std.specs.Prelude.{◌≡◌, ◌≢◌, ℕ, ◌+◌, ◌-◌, ◌<�
 use Rattle.trace_model.specs.History.{Action, Reservation, reserved_records, settled_prefix}
 use Rattle.trace_model.specs.Packing.{opens_of, cut_from}
 use Rattle.trace_model.specs.Fitting.{IsRising}
-use Rattle.trace_model.specs.Ring.{Held, empty_page, Core, page_at, first_of_fill}
+use Rattle.trace_model.specs.Ring.{PageRecords, empty_page, Core, page_at, first_of_fill}
 
 -- a fill as the cuts give it: its records, from its first number on
-abbrev pub cut_fill : ℕ → List ℕ → List Reservation → ℕ → Held
+abbrev pub cut_fill : ℕ → List ℕ → List Reservation → ℕ → PageRecords
 cut_fill start cuts records f = record {
   first = slice_index_or (0 ∷ cuts) (f - start) 0;
   records = slice_index_or (cut_from 0 cuts records) (f - start) [];
 }
 
 -- the page of a fill holds it
-abbrev pub Holds : ℕ → ℕ → List ℕ → List Held → List ℕ → List Reservation → ℕ → Type 0
+abbrev pub Holds : ℕ → ℕ → List ℕ → List PageRecords → List ℕ → List Reservation → ℕ → Type 0
 Holds n start order held cuts records f =
     slice_index_or held (page_at n order f) empty_page ≡ cut_fill start cuts records f
 
 -- The fills are as many as are begun, each page has room for one, and those that are begun and not taken or
 -- lost are in their pages.
-pub record PagesKept (n start : ℕ) (order : List ℕ) (held : List Held) (cuts : List ℕ) (records : List Reservation)
-    (head opened : ℕ)
+pub record PagesKept (n start : ℕ) (order : List ℕ) (held : List PageRecords) (cuts : List ℕ)
+    (records : List Reservation) (head opened : ℕ)
     : Type 0 where
   pub begun : opened ≡ start + 1 + length cuts
   pub from_start : start ≤ head
@@ -48,7 +48,7 @@ abbrev pub OpenPagesKept : ℕ → Core → Type 0
 OpenPagesKept n c = OpenPagesAt n c.order c.open_pages c.done c.opened
 
 -- each page that the writer doesn't hold has none but committed records: their numbers end with these
-abbrev pub OtherPagesAt : List Action → List ℕ → List Held → Type 0
+abbrev pub OtherPagesAt : List Action → List ℕ → List PageRecords → Type 0
 OtherPagesAt history open_pages held = (page : ℕ)
     → ((i : ℕ) → i < length open_pages → slice_index_or open_pages i 0 ≢ page)
     → (slice_index_or held page empty_page).first + length (slice_index_or held page empty_page).records

@@ -10,7 +10,7 @@ pub mod KeptContents
 pub mod KeptPacking
 pub mod KeptPartition
 pub mod RingKept
--- the states that steps reach, a run described as deeds of the window, and the writer's private steps
+-- the states that steps reach, a run described as events of the window, and the writer's private steps
 pub mod Reached
 pub mod ToldRuns
 pub mod Seats

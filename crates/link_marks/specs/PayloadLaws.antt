@@ -14,7 +14,7 @@ HoldsNumber c page number =
 
 -- A record that a frame has reserved is in exactly one page: that of an open fill, begun and not closed; and it has no
 -- bytes yet.
-pub record LiesOpen (n : ℕ) (c : Core) (number : ℕ) : Type 0 where
+pub record IsOnOpenPage (n : ℕ) (c : Core) (number : ℕ) : Type 0 where
   pub fill : ℕ
   pub done_le : c.done ≤ fill
   pub opened_lt : fill < c.opened
@@ -32,7 +32,7 @@ ReservedLiesOpen = (n size start : ℕ) (c : Core) (k number : ℕ) (frame : Fra
     → IsRingKept n size start c
     → slice_get c.frames k ≡ Some frame
     → frame.state ≡ reserved number
-    → LiesOpen n c number
+    → IsOnOpenPage n c number
 
 -- no two frames have reserved the same record
 abbrev pub ReservedDiffer : Type 0
@@ -50,7 +50,7 @@ IsEnded answer = (answer ≡ full) ⊎ (answer ≡ pending)
 
 -- An end writes the payload into the one page that holds its record, an open one, and changes no other page.
 pub record WritesOnePage (n : ℕ) (c : Core) (payload : List ℕ) (after : Core) (number : ℕ) : Type 0 where
-  pub lies : LiesOpen n c number
+  pub lies : IsOnOpenPage n c number
   pub written : contents_of after (page_at n c.order lies.fill)
       ≡ held_with_payload (Some number) (Some payload) (contents_of c (page_at n c.order lies.fill))
   pub others : (page : ℕ) → page ≢ page_at n c.order lies.fill → contents_of after page ≡ contents_of c page

@@ -1,7 +1,7 @@
 -- The laws of a ring's window, as statements: each is a clause of a function of src/laws/windows.rt.
 use Rattle.std.specs.Prelude.{◌≡◌, ℕ, ◌+◌, ◌<◌, ◌≤◌, ◌⊎◌, List, [], ◌∷◌, ◌++◌, IsTrue, Contains}
 use Rattle.trace_model.specs.History.{is_settled, open_fill}
-use Rattle.trace_model.specs.Window.{Deed, Happening, WindowStep, opened_one, released_one, took_one, lost_one}
+use Rattle.trace_model.specs.Window.{RingEvent, WindowEvent, WindowStep, opened_one, released_one, took_one, lost_one}
 use Rattle.trace_model.specs.Ring.{Taken, Core, window_of}
 use Rattle.trace_model.specs.Steps.{Event, Answer, swapped, Step, Exchange, Run}
 use Rattle.trace_model.specs.Sublist.{IsPrefix}
@@ -11,22 +11,22 @@ use Rattle.link_marks.specs.ToldRuns.{fills_taken, fills_lost, IsToldBy}
 
 -- ---- steps
 
--- A happening as the state shows it. If a fill is begun, the history has one more open_fill; if one is taken,
--- it is the head, and the last page that the reader took; and else a happening changes neither.
-abbrev pub IsShown : Core → Core → Happening → Type 0
-IsShown c after opened_one = IsPrefix (c.history ++ open_fill ∷ []) after.history × (after.reader ≡ c.reader)
-IsShown c after released_one = (after.history ≡ c.history) × (after.reader ≡ c.reader)
-IsShown c after took_one =
+-- An event of the window as the state shows it. If a fill is begun, the history has one more open_fill; if one is
+-- taken, it is the head, and the last page that the reader took; any other event changes neither.
+abbrev pub IsEventShown : Core → Core → WindowEvent → Type 0
+IsEventShown c after opened_one = IsPrefix (c.history ++ open_fill ∷ []) after.history × (after.reader ≡ c.reader)
+IsEventShown c after released_one = (after.history ≡ c.history) × (after.reader ≡ c.reader)
+IsEventShown c after took_one =
     (after.history ≡ c.history)
     × (t : Taken)
     × (t.fill ≡ c.head)
     × (after.reader.taken ≡ c.reader.taken ++ t ∷ [])
-IsShown c after lost_one = (after.history ≡ c.history) × (after.reader ≡ c.reader)
+IsEventShown c after lost_one = (after.history ≡ c.history) × (after.reader ≡ c.reader)
 
--- The happening takes the window of one state to that of another if it may, and is shown there.
-pub record Happened (n : ℕ) (c : Core) (what : Happening) (after : Core) : Type 0 where
+-- The event moves the window of one state to that of another, as it may, and is shown there.
+pub record MovesWindow (n : ℕ) (c : Core) (what : WindowEvent) (after : Core) : Type 0 where
   pub step : WindowStep n c.history (window_of c) what (window_of after)
-  pub shown : IsShown c after what
+  pub shown : IsEventShown c after what
 
 -- the window and what was taken are as they were
 abbrev pub WindowStays : Core → Core → Type 0
@@ -39,20 +39,20 @@ abbrev pub StepsMoveWindow : Type 0
 StepsMoveWindow = (n size start : ℕ) (c : Core) (event : Event) (answer : Answer) (after : Core)
     → IsRingKept n size start c
     → Step n size c event answer after
-    → WindowStays c after ⊎ ((what : Happening) × Happened n c what after)
+    → WindowStays c after ⊎ ((what : WindowEvent) × MovesWindow n c what after)
 
 -- and what happens is one: what is taken doesn't pass as lost, nor what is lost as taken
-abbrev pub OneHappening : Type 0
-OneHappening = (n : ℕ) (c after : Core) (what other : Happening)
-    → Happened n c what after
-    → Happened n c other after
+abbrev pub OneWindowEvent : Type 0
+OneWindowEvent = (n : ℕ) (c after : Core) (what other : WindowEvent)
+    → MovesWindow n c what after
+    → MovesWindow n c other after
     → what ≡ other
 
 -- where the window stays, nothing happens
 abbrev pub NothingHappens : Type 0
-NothingHappens = (n : ℕ) (c after : Core) (what : Happening)
+NothingHappens = (n : ℕ) (c after : Core) (what : WindowEvent)
     → window_of after ≡ window_of c
-    → Happened n c what after
+    → MovesWindow n c what after
     → ⊥
 
 -- the head is taken, as the answer says
@@ -79,20 +79,20 @@ ClosesNeedNoFrame = (n size start : ℕ) (c : Core) (event : Event) (answer : An
 
 -- ---- runs
 
--- every run of steps from a new ring is a run of its window: deeds, each allowed at its point, determine what
+-- every run of steps from a new ring is a run of its window: events, each allowed at its point, determine what
 -- the frames did, the window as it is now, and which fills the reader took
 abbrev pub RunsMoveWindow : Type 0
 RunsMoveWindow = (n size start : ℕ) (c : Core)
     → IsReached n size start c
-    → (deeds : List Deed) × IsToldBy n start c deeds
+    → (events : List RingEvent) × IsToldBy n start c events
 
--- and the deeds of a longer run go on from those of a shorter one
-abbrev pub RunsExtendDeeds : Type 0
-RunsExtendDeeds = (n size start : ℕ) (c after : Core) (exchanges : List Exchange) (deeds : List Deed)
+-- and the events of a longer run go on from those of a shorter one
+abbrev pub RunsExtendEvents : Type 0
+RunsExtendEvents = (n size start : ℕ) (c after : Core) (exchanges : List Exchange) (events : List RingEvent)
     → IsRingKept n size start c
-    → IsToldBy n start c deeds
+    → IsToldBy n start c events
     → Run n size c exchanges after
-    → (more : List Deed) × IsToldBy n start after (deeds ++ more)
+    → (more : List RingEvent) × IsToldBy n start after (events ++ more)
 
 -- over a run the counts only rise: so what was once passed, closed or begun stays so
 abbrev pub CountsRise : Type 0
@@ -103,30 +103,30 @@ CountsRise = (n size start : ℕ) (c after : Core) (exchanges : List Exchange)
 
 -- each fill from the start to the head was taken or lost
 abbrev pub PassedAreTakenOrLost : Type 0
-PassedAreTakenOrLost = (n start : ℕ) (c : Core) (deeds : List Deed) (f : ℕ)
-    → IsToldBy n start c deeds
+PassedAreTakenOrLost = (n start : ℕ) (c : Core) (events : List RingEvent) (f : ℕ)
+    → IsToldBy n start c events
     → start ≤ f
     → f < c.head
-    → Contains (fills_taken start deeds) f ⊎ Contains (fills_lost start deeds) f
+    → Contains (fills_taken start events) f ⊎ Contains (fills_lost start events) f
 
 -- no fill is both taken and lost
 abbrev pub NoneIsTakenAndLost : Type 0
-NoneIsTakenAndLost = (n start : ℕ) (c : Core) (deeds : List Deed) (f : ℕ)
-    → IsToldBy n start c deeds
-    → Contains (fills_taken start deeds) f
-    → Contains (fills_lost start deeds) f
+NoneIsTakenAndLost = (n start : ℕ) (c : Core) (events : List RingEvent) (f : ℕ)
+    → IsToldBy n start c events
+    → Contains (fills_taken start events) f
+    → Contains (fills_lost start events) f
     → ⊥
 
 -- a fill that was taken had been closed
 abbrev pub TakenAreClosed : Type 0
-TakenAreClosed = (n start : ℕ) (c : Core) (deeds : List Deed) (f : ℕ)
-    → IsToldBy n start c deeds
-    → Contains (fills_taken start deeds) f
+TakenAreClosed = (n start : ℕ) (c : Core) (events : List RingEvent) (f : ℕ)
+    → IsToldBy n start c events
+    → Contains (fills_taken start events) f
     → (start ≤ f) × (f < c.head) × (f < c.done)
 
 -- so had one that was lost; and a whole round of fills is begun after it
 abbrev pub LostAreClosed : Type 0
-LostAreClosed = (n start : ℕ) (c : Core) (deeds : List Deed) (f : ℕ)
-    → IsToldBy n start c deeds
-    → Contains (fills_lost start deeds) f
+LostAreClosed = (n start : ℕ) (c : Core) (events : List RingEvent) (f : ℕ)
+    → IsToldBy n start c events
+    → Contains (fills_lost start events) f
     → (start ≤ f) × (f < c.head) × (f < c.done) × (f + n ≤ c.opened)

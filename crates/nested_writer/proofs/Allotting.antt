@@ -14,7 +14,7 @@ use Rattle.nested_writer.specs.declared.frame.Progress.TheVariants.{Waiting, Thr
 use Rattle.nested_writer.specs.declared.frame.Frame.{Frame}
 use Rattle.nested_writer.specs.declared.frame.Pushed.{Pushed}
 use Rattle.nested_writer.specs.Stack.{Stack, opened, kind_of, state_of}
-use Rattle.nested_writer.specs.Calls.{with_progress, after_leave, IsTop, IsReserved, WantsPage}
+use Rattle.nested_writer.specs.Calls.{with_progress, after_leave, IsTop, ReservesRecord, WantsPage}
 use Rattle.nested_writer.specs.Allotted.{HasActed, HasFit, first_try, IsAllotted}
 use Rattle.nested_writer.specs.PlainTop.{IsPlainTop}
 use Rattle.nested_writer.specs.IsStack.{IsNoted, StandsAt, FramesStand, IsStack}
@@ -82,5 +82,5 @@ module _ (s after : Stack) (top : Frame) (below : List Frame) (top_is : s.frames
       (none, is, passes noted p (ap state_of q) (λ start h k. (stands (Through noted) q start h k).1) is)))
 
 -- a record as nearly all are is reserved
-pub plain_after : (s after : Stack) (pushed : Pushed) (place : Place) → IsPlainTop s pushed → ((top : Frame) (below : List Frame) → IsTop s top below → IsReserved s top below pushed.moment pushed.len place after) → HasActed s (reserve ∷ []) after → IsAllotted s s.frames (Ok (Fits place)) after
+pub plain_after : (s after : Stack) (pushed : Pushed) (place : Place) → IsPlainTop s pushed → ((top : Frame) (below : List Frame) → IsTop s top below → ReservesRecord s top below pushed.moment pushed.len place after) → HasActed s (reserve ∷ []) after → IsAllotted s s.frames (Ok (Fits place)) after
 plain_after s after pushed place p reserved acted = subst (λ (fs : List Frame). IsAllotted s fs (Ok (Fits place)) after) (sym p.on_top) (reserved record { purpose = Record pushed.moment pushed.len; progress = Waiting None } p.below p.on_top, acted)

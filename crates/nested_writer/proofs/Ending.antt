@@ -13,7 +13,7 @@ use Rattle.trace_model.specs.History.{Action, leave, Reservation, PushedFrame, r
 use Rattle.trace_model.specs.Packing.{opens_of, cut_from, is_wished}
 use Rattle.trace_model.specs.Fitting.{IsRising}
 use Rattle.trace_model.specs.Frames.{Kind, reserved, number_of, pushed_onto, pushed_of}
-use Rattle.trace_model.specs.Ring.{Held}
+use Rattle.trace_model.specs.Ring.{PageRecords}
 use Rattle.trace_model.specs.OpenPages.{HoldsRecords}
 use Rattle.trace_model.proofs.Elements.{some_is}
 use Rattle.trace_model.proofs.Lengths.{padded_whole, slot_len-slot_len}
@@ -33,7 +33,7 @@ use Rattle.nested_writer.specs.declared.frame.Progress.TheVariants.{Reserved}
 use Rattle.nested_writer.specs.declared.frame.Frame.{Frame}
 use Rattle.nested_writer.specs.Stack.{Stack, tail_fill, kind_of, state_of, model_frames}
 use Rattle.nested_writer.specs.Calls.{after_leave}
-use Rattle.nested_writer.specs.IsStack.{IsPageOf, IsOpenPage, is_tail, is_older, LiesOpen, StandsAt, AreBefore, FramesStand, IsStackOf, IsStack}
+use Rattle.nested_writer.specs.IsStack.{IsPageOf, IsOpenPage, is_tail, is_older, IsUnwritten, StandsAt, AreBefore, FramesStand, IsStackOf, IsStack}
 use Rattle.nested_writer.proofs.Pushing.{same_of}
 use Rattle.nested_writer.proofs.Standing.{as_many, frames_on}
 use Rattle.nested_writer.proofs.Reserving.{cuts_are}
@@ -109,7 +109,7 @@ page_finished size fill cuts xs index page number payload home lies start len ri
   size_is = q.size_is;
   fill_is = q.fill_is;
   first_is = q.first_is;
-  holds = subst (HoldsRecords page.time page.bytes) (ap (λ (h : Held). h.records) (finished_fill (Some number) (Some payload) cuts xs index inside)) (dite (dec_le (get_or (0 ∷ cuts) index 0) number)
+  holds = subst (HoldsRecords page.time page.bytes) (ap (λ (h : PageRecords). h.records) (finished_fill (Some number) (Some payload) cuts xs index inside)) (dite (dec_le (get_or (0 ∷ cuts) index 0) number)
       (λ at. subst (HoldsRecords page.time page.bytes) (sym (cond-false (ltb number (get_or (0 ∷ cuts) index 0)) _ _ (le-ltb number (get_or (0 ∷ cuts) index 0) at)))
       (holds_finished page.time page.bytes (get_or (cut_from 0 cuts xs) index []) (number - get_or (0 ∷ cuts) index 0) payload q.holds (bytes_are at)))
       (λ before. subst (HoldsRecords page.time page.bytes) (sym (cond-true (ltb number (get_or (0 ∷ cuts) index 0)) _ _ (lt-ltb number (get_or (0 ∷ cuts) index 0) (omega arith)))) q.holds));
@@ -160,7 +160,7 @@ module _ (start : ℕ) (cuts : List ℕ) (xs : List Reservation) (found : Bool) 
     older_alone = λ j other there same. let e : j ≡ i = omega arith in some_is other page (sym there ∙ ap (slice_get s.older) e ∙ is);
   }
 
-module _ (start : ℕ) (cuts : List ℕ) (xs : List Reservation) (found : Bool) (s : Stack) (k : IsStackOf start cuts xs found s) (top : Frame) (below : List Frame) (slot : Slot) (len : ℕ) (lies : LiesOpen s.done s.older s.tail xs len slot) where
+module _ (start : ℕ) (cuts : List ℕ) (xs : List Reservation) (found : Bool) (s : Stack) (k : IsStackOf start cuts xs found s) (top : Frame) (below : List Frame) (slot : Slot) (len : ℕ) (lies : IsUnwritten s.done s.older s.tail xs len slot) where
   abbrev pub payload : List ℕ
   payload = bytes_at slot.place.start slot.place.len lies.page.bytes
 
@@ -177,7 +177,7 @@ module _ (start : ℕ) (cuts : List ℕ) (xs : List Reservation) (found : Bool) 
   same_plain : map plain xs' ≡ map plain xs
   same_plain = plain-finished (Some slot.number) (Some payload) xs
 
-  lies_on : (n : ℕ) (l : Slot) → l.number < slot.number → LiesOpen s.done s.older s.tail xs n l → LiesOpen s.done s.older s.tail xs' n l
+  lies_on : (n : ℕ) (l : Slot) → l.number < slot.number → IsUnwritten s.done s.older s.tail xs n l → IsUnwritten s.done s.older s.tail xs' n l
   lies_on n l low other = record {
     page = other.page;
     open_page = other.open_page;

@@ -16,13 +16,13 @@ use Rattle.nested_writer.specs.Stack.{Stack, tail_fill, kind_of}
 use Rattle.nested_writer.specs.Calls.{IsTopSlot}
 use Rattle.nested_writer.specs.Lending.{with_slot}
 use Rattle.nested_writer.proofs.Ending.{open_page_is}
-use Rattle.nested_writer.specs.IsStack.{IsOpenPage, is_tail, is_older, LiesOpen, StandsAt, FramesStand, IsStack}
+use Rattle.nested_writer.specs.IsStack.{IsOpenPage, is_tail, is_older, IsUnwritten, StandsAt, FramesStand, IsStack}
 
 -- its record is in an open page
-pub slot_lies : (start : ℕ) (h : List Action) (s : Stack) (slot : Slot) → IsTopSlot s.frames slot → IsStack start h s → (len : ℕ) × LiesOpen s.done s.older s.tail (reserved_records h) len slot
+pub slot_lies : (start : ℕ) (h : List Action) (s : Stack) (slot : Slot) → IsTopSlot s.frames slot → IsStack start h s → (len : ℕ) × IsUnwritten s.done s.older s.tail (reserved_records h) len slot
 slot_lies start h s slot is k = by_frames s.frames is k.holds.frames_are
   where
-    by_frames : (frames : List Frame) → IsTopSlot frames slot → FramesStand s.size s.done s.older s.tail (opens_of h) (reserved_records h) (is_wished h) frames → (len : ℕ) × LiesOpen s.done s.older s.tail (reserved_records h) len slot
+    by_frames : (frames : List Frame) → IsTopSlot frames slot → FramesStand s.size s.done s.older s.tail (opens_of h) (reserved_records h) (is_wished h) frames → (len : ℕ) × IsUnwritten s.done s.older s.tail (reserved_records h) len slot
     by_frames [] none st = absurd none
     by_frames (top ∷ below) has st = let (moment, len, kind, lies) = subst (StandsAt s.size s.done s.older s.tail (opens_of h) (reserved_records h) (is_wished h) (kind_of top.purpose)) has st.1 in (len, lies)
 

@@ -2,7 +2,8 @@
 use Rattle.std.proofs.Common.{◌≡◌, ◌⊎◌, inl, ℕ, ◌+◌, ◌-◌, ◌≤◌, eqb, Bool, true, false, cond, List, [], ◌∷◌, ◌++◌, length, take, drop, length-take-le, length-set, Option, None, Some, refl, sym, ap, ◌∙◌, subst, arith}
 use Rattle.std.specs.Prelude.{slice_set}
 use Rattle.std.specs.List.{slice_get}
-use Rattle.std.proofs.lemmas.List.{drop-take, drop_at, take-take, take_at}
+use Rattle.std.proofs.lemmas.List.{drop-take, drop_at, set-get_or, take-take, take_at}
+use Rattle.std.proofs.lemmas.Option.{get_or_from_slice_get}
 use Rattle.std.proofs.lemmas.Bool.{cond-true, cond-false, ne_eqb, eq-eqb}
 use Rattle.trace_model.specs.History.{Action, reserved_records}
 use Rattle.trace_model.specs.Packing.{opens_of, is_wished}
@@ -37,21 +38,33 @@ top_slot_is (top ∷ below) slot has = ap slot_of has
 
 -- that is the tail
 pub top_in_tail : (s : Stack) (slot : Slot) (payload : Lent) → IsTopSlot s.frames slot → slot.fill ≡ s.tail.fill → record s { tail = payload.page } ≡ with_top s payload
+unfolding older_with tail_with
 top_in_tail s slot payload is same =
     let at = top_slot_is s.frames slot is in
     let yes = eq-eqb slot.fill s.tail.fill same in
-    let older = ap (λ (o : Option Slot). older_with s o payload.page) at ∙ cond-true (eqb slot.fill s.tail.fill) _ _ yes in
-    let tail = ap (λ (o : Option Slot). tail_with s o payload.page) at ∙ cond-true (eqb slot.fill s.tail.fill) _ _ yes in
+    let older = ap (λ (o : Option Slot). older_with s o payload) at ∙ cond-true (eqb slot.fill s.tail.fill) _ _ yes in
+    let tail = ap (λ (o : Option Slot). tail_with s o payload) at ∙ cond-true (eqb slot.fill s.tail.fill) _ _ yes in
     λ i. record s { older = sym older i; tail = sym tail i }
 
 -- or an older one
 pub top_in_older : (s : Stack) (slot : Slot) (payload : Lent) → IsTopSlot s.frames slot → (slot.fill ≡ s.tail.fill → ⊥) → record s { older = slice_set s.older (slot.fill - s.done) payload.page } ≡ with_top s payload
+unfolding older_with tail_with
 top_in_older s slot payload is other =
     let at = top_slot_is s.frames slot is in
     let no = ne_eqb slot.fill s.tail.fill other in
-    let older = ap (λ (o : Option Slot). older_with s o payload.page) at ∙ cond-false (eqb slot.fill s.tail.fill) _ _ no in
-    let tail = ap (λ (o : Option Slot). tail_with s o payload.page) at ∙ cond-false (eqb slot.fill s.tail.fill) _ _ no in
+    let older = ap (λ (o : Option Slot). older_with s o payload) at ∙ cond-false (eqb slot.fill s.tail.fill) _ _ no in
+    let tail = ap (λ (o : Option Slot). tail_with s o payload) at ∙ cond-false (eqb slot.fill s.tail.fill) _ _ no in
     λ i. record s { older = sym older i; tail = sym tail i }
+
+-- the page that is there already changes nothing
+pub tail_stays : (s : Stack) (slot : Slot) (payload : Lent) → IsTopSlot s.frames slot → slot.fill ≡ s.tail.fill → payload.page ≡ s.tail → with_top s payload ≡ s
+tail_stays s slot payload is same page = sym (top_in_tail s slot payload is same) ∙ (λ i. record s { tail = page i })
+
+pub older_stays : (s : Stack) (slot : Slot) (payload : Lent) → IsTopSlot s.frames slot → (slot.fill ≡ s.tail.fill → ⊥) → slice_get s.older (slot.fill - s.done) ≡ Some payload.page → with_top s payload ≡ s
+older_stays s slot payload is other at =
+    let index : ℕ = slot.fill - s.done in
+    let found = ap (slice_set s.older index) (sym (get_or_from_slice_get s.older index payload.page s.tail at)) ∙ set-get_or s.older index s.tail in
+    sym (top_in_older s slot payload is other) ∙ (λ i. record s { older = found i })
 
 -- both borrows of one name leave the same, if each value does
 pub same_ends : {N P S : Type 0} (name : N) (f g : P → S) → ((w : P) → f w ≡ g w) → ◌≡◌ {A = (N × (P → S)) ⊎ S} (inl (name, f)) (inl (name, g))
@@ -73,6 +86,10 @@ len_is (Record moment len'') len moment' len' is kind = let same : for_record mo
 len_is Close len moment' len' is kind = absurd (let e = is in cc)
 
 -- its place
+pub slot_at : (frames : List Frame) (slot : Slot) → IsTopSlot frames slot → top_place frames ≡ Some slot.place
+slot_at [] slot is = absurd is
+slot_at (top ∷ below) slot is = ap place_of is
+
 pub slot_place : (frames : List Frame) (slot : Slot) (place : Place) → IsTopSlot frames slot → top_place frames ≡ Some place → slot.place ≡ place
 slot_place [] slot place none at = absurd none
 slot_place (top ∷ below) slot place has at = some_is slot.place place (ap place_of (sym has) ∙ at)
@@ -82,16 +99,17 @@ cond_long : (b : Bool) (xs ys : List Contents) → length xs ≡ length ys → l
 cond_long true xs ys same = refl
 cond_long false xs ys same = sym same
 
-pub older_long : (s : Stack) (top : Option Slot) (page : Contents) → length (older_with s top page) ≡ length s.older
-older_long s None page = refl
-older_long s (Some slot) page = cond_long (eqb slot.fill s.tail.fill) s.older _ (sym (length-set s.older (slot.fill - s.done) page))
+pub older_long : (s : Stack) (top : Option Slot) (payload : Lent) → length (older_with s top payload) ≡ length s.older
+unfolding older_with
+older_long s None payload = refl
+older_long s (Some slot) payload = cond_long (eqb slot.fill s.tail.fill) s.older _ (sym (length-set s.older (slot.fill - s.done) payload.page))
 
 no_items : (xs : List Contents) → 0 ≡ length xs → xs ≡ []
 no_items [] e = refl
 no_items (x ∷ xs) e = absurd (omega (arith, e))
 
-pub older_none : (s : Stack) (top : Option Slot) (page : Contents) → s.older ≡ [] → older_with s top page ≡ []
-older_none s top page none = no_items (older_with s top page) (sym (older_long s top page ∙ ap length none))
+pub older_none : (s : Stack) (top : Option Slot) (payload : Lent) → s.older ≡ [] → older_with s top payload ≡ []
+older_none s top payload none = no_items (older_with s top payload) (sym (older_long s top payload ∙ ap length none))
 
 -- ---- what is lent
 
@@ -181,4 +199,5 @@ pub lent_written : (start : ℕ) (h : List Action) (s : Stack) (payload : Lent) 
 lent_written start h s payload part lent fills k = subst (IsStack start h) (sym (lent.in_slot part)) (written start h s lent.slot part lent.on_top (fills ∙ lent.long ∙ ap (λ (p : Place). p.len) lent.place_is) k)
 
 pub lent_stays : (s : Stack) (payload : Lent) (part : List ℕ) → IsLent s payload → length part ≡ length (lent_bytes payload) → Stands s → Stands (with_top s (with_bytes payload part))
+unfolding Stands
 lent_stays s payload part lent fills (start, h, k) = (start, h, lent_written start h s payload part lent fills k)

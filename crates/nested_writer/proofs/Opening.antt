@@ -24,7 +24,7 @@ use Rattle.nested_writer.specs.declared.frame.Progress.TheVariants.{Waiting, Thr
 use Rattle.nested_writer.specs.declared.frame.Frame.{Frame}
 use Rattle.nested_writer.specs.Stack.{Stack, tail_fill, opened, next_number, blank_page, kind_of, state_of, model_frames}
 use Rattle.nested_writer.specs.Calls.{with_tail, HasNoted, MayAddPage}
-use Rattle.nested_writer.specs.IsStack.{IsPageOf, is_tail, is_older, LiesOpen, StandsAt, MayBePushed, FramesStand, IsStackOf, IsStack}
+use Rattle.nested_writer.specs.IsStack.{IsPageOf, is_tail, is_older, IsUnwritten, StandsAt, MayBePushed, FramesStand, IsStackOf, IsStack}
 use Rattle.nested_writer.proofs.Pushing.{same_of}
 use Rattle.nested_writer.proofs.NewStack.{nothing}
 use Rattle.nested_writer.proofs.Standing.{more, frames_on, all_before}
@@ -58,7 +58,7 @@ get_in_longer (z ∷ xs) y zero x at = inl at
 get_in_longer (z ∷ xs) y (suc k) x at = ⊎_elim inl (λ (e, is). inr (ap suc e, is)) (get_in_longer xs y k x at)
 
 module _ (start : ℕ) (cuts : List ℕ) (records : List Reservation) (found : Bool) (s : Stack) (k : IsStackOf start cuts records found s) (page : Contents) (blank : page ≡ blank_page s.size (next_number s) (opened s)) (reads : IsPage page) where
-  lies_on : (n : ℕ) (l : Slot) → l.number < length records → LiesOpen s.done s.older s.tail records n l → LiesOpen s.done (s.older ++ s.tail ∷ []) page records n l
+  lies_on : (n : ℕ) (l : Slot) → l.number < length records → IsUnwritten s.done s.older s.tail records n l → IsUnwritten s.done (s.older ++ s.tail ∷ []) page records n l
   lies_on n l low lies = record {
     page = lies.page;
     open_page = elim lies.open_page [

@@ -11,7 +11,7 @@ use Rattle.nested_writer.specs.declared.frame.Progress.TheVariants.{Waiting, Res
 use Rattle.nested_writer.specs.declared.frame.Frame.{Frame}
 use Rattle.nested_writer.specs.declared.frame.Pushed.{Pushed}
 use Rattle.nested_writer.specs.Stack.{Stack, tail_fill, next_number}
-use Rattle.nested_writer.specs.Calls.{IsTop, IsReserved, HasRecordRoom}
+use Rattle.nested_writer.specs.Calls.{IsTop, ReservesRecord, HasRecordRoom}
 use Rattle.nested_writer.specs.PlainTop.{FitsPlainly, IsPlainTop}
 use Rattle.nested_writer.specs.Allotted.{HasActed}
 use Rattle.nested_writer.proofs.Tops.{first_is, rest_is}
@@ -46,12 +46,12 @@ module _ (s : Stack) (pushed : Pushed) (p : IsPlainTop s pushed) (tail' : Conten
       → place.len ≡ slot_len pushed.len
       → (top : Frame) (below : List Frame)
       → IsTop s top below
-      → IsReserved s top below pushed.moment pushed.len place plain_put
+      → ReservesRecord s top below pushed.moment pushed.len place plain_put
   plain_reserved number_is fill_is bytes end long top below on_top =
       let raised = plain_raised s pushed.moment pushed.len p.fits in
       let same : waits ∷ p.below ≡ top ∷ below = sym p.on_top ∙ on_top in
-      subst (λ (f : Frame). IsReserved s f below pushed.moment pushed.len place plain_put) (first_is waits top p.below below same)
-      (subst (λ (fs : List Frame). IsReserved s waits fs pushed.moment pushed.len place plain_put) (rest_is waits top p.below below same) record {
+      subst (λ (f : Frame). ReservesRecord s f below pushed.moment pushed.len place plain_put) (first_is waits top p.below below same)
+      (subst (λ (fs : List Frame). ReservesRecord s waits fs pushed.moment pushed.len place plain_put) (rest_is waits top p.below below same) record {
         bytes = bytes ∙ ap (λ (m : ℕ). s.tail.bytes ++ encoding (m - s.last_moment) (is_blank s.tail.bytes) (replicate (slot_len pushed.len) 0)) raised;
         place_end = end;
         place_len = long;

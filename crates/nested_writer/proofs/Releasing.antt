@@ -4,7 +4,7 @@ use Rattle.std.specs.Prelude.{All, IsSomeAnd, unwrap_or}
 use Rattle.std.proofs.lemmas.List.{take_all, take-map, drop-map}
 use Rattle.std.proofs.lemmas.List.Elements.{All-nil, All-head, All-tail, All-take, All-drop}
 use Rattle.trace_model.specs.Record.{Record}
-use Rattle.trace_model.specs.History.{Action, Reservation, IsWritten, as_record, writer_after, reserved_records, is_settled, settled_prefix, committed_records, IsHistory}
+use Rattle.trace_model.specs.History.{Action, Reservation, HasItsBytes, as_record, writer_after, reserved_records, is_settled, settled_prefix, committed_records, IsHistory}
 use Rattle.trace_model.specs.Packing.{opens_of, cut_from, tail_of, is_wished}
 use Rattle.trace_model.specs.Fitting.{tail_at}
 use Rattle.trace_model.specs.Frames.{FrameState, left, pushed_onto, pushed_of}
@@ -20,7 +20,7 @@ use Rattle.page_image.specs.Contents.{Contents, records_of_page}
 use Rattle.nested_writer.specs.declared.frame.Frame.{Frame}
 use Rattle.nested_writer.specs.Stack.{Stack, tail_fill, kind_of, state_of, model_frames}
 use Rattle.nested_writer.specs.declared.stack.WriterStack.TheInside.{Inside}
-use Rattle.nested_writer.specs.Inside.{shown, frames_from}
+use Rattle.nested_writer.specs.Inside.{stack_of, frames_from}
 use Rattle.nested_writer.specs.Calls.{IsAtBottom}
 use Rattle.nested_writer.specs.IsStack.{IsPageOf, IsStack}
 use Rattle.nested_writer.specs.Released.{IsWrittenPage, AreCommitted}
@@ -37,15 +37,15 @@ whole_prefix h none = let settled : is_settled h ≡ true = rw none refl in whol
 all_committed : (h : List Action) → (writer_after h).stack ≡ [] → committed_records h ≡ map as_record (reserved_records h)
 all_committed h none = ap (λ (front : List Action). map as_record (reserved_records front)) (whole_prefix h none)
 
-all_written : (h : List Action) → IsHistory h → (writer_after h).stack ≡ [] → All IsWritten (reserved_records h)
-all_written h keeps none = subst (λ (front : List Action). All IsWritten (reserved_records front)) (whole_prefix h none) (committed-IsWritten h keeps)
+all_written : (h : List Action) → IsHistory h → (writer_after h).stack ≡ [] → All HasItsBytes (reserved_records h)
+all_written h keeps none = subst (λ (front : List Action). All HasItsBytes (reserved_records front)) (whole_prefix h none) (committed-IsWritten h keeps)
 
 -- ---- a fill of them
 
-fill_written : (from : ℕ) (cuts : List ℕ) (xs : List Reservation) (i : ℕ) → All IsWritten xs → All IsWritten (get_or (cut_from from cuts xs) i [])
-fill_written from [] xs zero all = All-drop IsWritten from xs all
-fill_written from [] xs (suc i) all = All-nil IsWritten
-fill_written from (cut ∷ cuts) xs zero all = All-take IsWritten (cut - from) (drop from xs) (All-drop IsWritten from xs all)
+fill_written : (from : ℕ) (cuts : List ℕ) (xs : List Reservation) (i : ℕ) → All HasItsBytes xs → All HasItsBytes (get_or (cut_from from cuts xs) i [])
+fill_written from [] xs zero all = All-drop HasItsBytes from xs all
+fill_written from [] xs (suc i) all = All-nil HasItsBytes
+fill_written from (cut ∷ cuts) xs zero all = All-take HasItsBytes (cut - from) (drop from xs) (All-drop HasItsBytes from xs all)
 fill_written from (cut ∷ cuts) xs (suc i) all = fill_written cut cuts xs i all
 
 take_counted : (n : ℕ) (xs : List Reservation) → take n xs ≡ take (length (take n xs)) xs
@@ -66,14 +66,14 @@ bytes_read : (bytes : List ℕ) (written : Option (List ℕ)) (len : ℕ) → If
 bytes_read bytes None len is some = absurd some
 bytes_read bytes (Some w) len is some = is
 
-record_read : (r : Record) (s : Reservation) → IsOf r s → IsWritten s → r ≡ as_record s
+record_read : (r : Record) (s : Reservation) → IsOf r s → HasItsBytes s → r ≡ as_record s
 record_read r s is some = λ i. record { moment = is.moment_is i; bytes = bytes_read r.bytes s.bytes s.len is.bytes_are some i }
 
-records_read : (records : List Record) (fill : List Reservation) → AreOf records fill → All IsWritten fill → records ≡ map as_record fill
+records_read : (records : List Record) (fill : List Reservation) → AreOf records fill → All HasItsBytes fill → records ≡ map as_record fill
 records_read [] [] all written = refl
 records_read [] (s ∷ fill) all written = absurd all
 records_read (r ∷ records) [] all written = absurd all
-records_read (r ∷ records) (s ∷ fill) all written = λ i. record_read r s all.0 (All-head IsWritten s fill written) i ∷ records_read records fill all.1 (All-tail IsWritten s fill written) i
+records_read (r ∷ records) (s ∷ fill) all written = λ i. record_read r s all.0 (All-head HasItsBytes s fill written) i ∷ records_read records fill all.1 (All-tail HasItsBytes s fill written) i
 
 -- ---- a page of an open fill, if the stack is empty
 
@@ -81,7 +81,7 @@ module _ (size start : ℕ) (h : List Action) (fill : ℕ) (page : Contents) (ke
   abbrev its : List Reservation
   its = (fill_of h start fill).records
 
-  its_written : All IsWritten its
+  its_written : All HasItsBytes its
   its_written = fill_written 0 (opens_of h) (reserved_records h) (fill - start) (all_written h keeps none)
 
   reads_as : records_of_page page ≡ map as_record its
@@ -160,7 +160,7 @@ no_top None below e = refl
 no_top (Some f) below e = cc
 
 -- it is the only open page
-pub only_tail : (w : Inside) (s : Stack) → shown w ≡ s → (w.top ≡ None → w.older.pages ≡ []) → s.frames ≡ [] → s.older ≡ []
+pub only_tail : (w : Inside) (s : Stack) → stack_of w ≡ s → (w.top ≡ None → w.older.pages ≡ []) → s.frames ≡ [] → s.older ≡ []
 only_tail w s is rest none = ap (λ (x : Stack). x.older) (sym is) ∙ rest (no_top w.top w.below.items (ap (λ (x : Stack). x.frames) is ∙ none))
 
 pub all_left : (start : ℕ) (h : List Action) (s : Stack) → s.frames ≡ [] → IsStack start h s → (writer_after h).stack ≡ []

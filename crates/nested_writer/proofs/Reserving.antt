@@ -27,7 +27,7 @@ use Rattle.nested_writer.specs.declared.frame.Slot.{Slot}
 use Rattle.nested_writer.specs.declared.frame.Progress.TheVariants.{Waiting, Reserved}
 use Rattle.nested_writer.specs.declared.frame.Frame.{Frame}
 use Rattle.nested_writer.specs.Stack.{Stack, tail_fill, next_number, kind_of, state_of, model_frames}
-use Rattle.nested_writer.specs.IsStack.{is_tail, is_older, LiesOpen, AreBefore, MayBePushed, FramesStand, IsStackOf, IsStack}
+use Rattle.nested_writer.specs.IsStack.{is_tail, is_older, IsUnwritten, AreBefore, MayBePushed, FramesStand, IsStackOf, IsStack}
 use Rattle.nested_writer.specs.Calls.{end_with}
 use Rattle.nested_writer.proofs.Pushing.{same_of}
 use Rattle.nested_writer.proofs.Standing.{as_many, frames_on, all_before}
@@ -155,7 +155,7 @@ module _ (start : ℕ) (cuts : List ℕ) (records : List Reservation) (found : B
   fits_behind : s.tail.size ≡ s.size → length tail'.bytes ≤ s.size → FitsBehind s.size (tail_at cuts records) r
   fits_behind same low = let long = tail_holds.len_is in omega arith
 
-  lies_on : (n : ℕ) (l : Slot) → l.number < length records → LiesOpen s.done s.older s.tail records n l → LiesOpen s.done s.older tail' (records ++ r ∷ []) n l
+  lies_on : (n : ℕ) (l : Slot) → l.number < length records → IsUnwritten s.done s.older s.tail records n l → IsUnwritten s.done s.older tail' (records ++ r ∷ []) n l
   lies_on n l low lies = elim lies.open_page [
     | is_tail at is ↦ record {
       page = tail';

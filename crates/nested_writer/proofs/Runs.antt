@@ -3,12 +3,12 @@ use Rattle.std.proofs.Common.{ℕ, List, [], ◌∷◌, length, Some, refl, sym,
 use Rattle.trace_model.specs.History.{push, push_close, open_fill, reserve, leave, wished}
 use Rattle.trace_model.proofs.PackedHistories.{is_packed}
 use Rattle.nested_writer.specs.Stack.{Stack}
-use Rattle.nested_writer.specs.Runs.{IsCall, begins, begins_close, allots, writes, ends, adds_page, takes_off, asks, writes_at_once, is_refused, IsRun, HoldsLastFills}
+use Rattle.nested_writer.specs.Runs.{IsStackCall, begins, begins_close, allots, writes, ends, adds_page, takes_off, asks, writes_at_once, is_refused, IsRun, HoldsLastFills}
 use Rattle.nested_writer.specs.IsStack.{IsStack}
 use Rattle.nested_writer.proofs.Staying.{StandsFrom, acted, unmoved, allotted_stands, end_stands}
 use Rattle.nested_writer.proofs.Written.{written}
 
-call_stands : (start : ℕ) (s after : Stack) → IsCall s after → StandsFrom start s → StandsFrom start after
+call_stands : (start : ℕ) (s after : Stack) → IsStackCall s after → StandsFrom start s → StandsFrom start after
 call_stands start s after (begins moment len acts) st = acted start s after (push moment len ∷ []) acts st
 call_stands start s after (begins_close acts) st = acted start s after (push_close ∷ []) acts st
 call_stands start s after (allots result is) st = allotted_stands start s after s.frames result is st

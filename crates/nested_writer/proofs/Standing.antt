@@ -11,7 +11,7 @@ use Rattle.nested_writer.specs.declared.frame.Progress.{Progress}
 use Rattle.nested_writer.specs.declared.frame.Progress.TheVariants.{Waiting, Through, Reserved, Left}
 use Rattle.nested_writer.specs.declared.frame.Frame.{Frame}
 use Rattle.nested_writer.specs.Stack.{kind_of, state_of}
-use Rattle.nested_writer.specs.IsStack.{LiesOpen, IsNoted, StandsAt, AreBefore, FramesStand}
+use Rattle.nested_writer.specs.IsStack.{IsUnwritten, IsNoted, StandsAt, AreBefore, FramesStand}
 
 -- what a frame noted, after more fills are begun
 noted_later : (o o' : ℕ) (noted : Option ℕ) → o ≤ o' → IsNoted o noted → IsNoted o' noted
@@ -32,7 +32,7 @@ pub data BecomesOther (size done : ℕ) (older : List Contents) (cuts : List ℕ
   more : done + length older < done' + length older' → BecomesOther size done older cuts records found done' older' cuts' records' found'
 
 module _ (size done : ℕ) (older : List Contents) (tail : Contents) (cuts : List ℕ) (records : List Reservation) (found : Bool) (done' : ℕ) (older' : List Contents) (tail' : Contents) (cuts' : List ℕ) (records' : List Reservation) (found' : Bool) (bound : ℕ)
-    (becomes : BecomesOther size done older cuts records found done' older' cuts' records' found') (lies : (len : ℕ) (slot : Slot) → slot.number < bound → LiesOpen done older tail records len slot → LiesOpen done' older' tail' records' len slot) where
+    (becomes : BecomesOther size done older cuts records found done' older' cuts' records' found') (lies : (len : ℕ) (slot : Slot) → slot.number < bound → IsUnwritten done older tail records len slot → IsUnwritten done' older' tail' records' len slot) where
   no_fewer : done + length older ≤ done' + length older'
   no_fewer = elim becomes [ as_many same needs ↦ omega arith | more low ↦ omega arith ]
 

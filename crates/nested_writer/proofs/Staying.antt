@@ -67,13 +67,17 @@ end_stands start s after (top ∷ below) same is st = ended_stands start s after
 -- ---- from some fill on
 
 some_start : (start : ℕ) (s : Stack) → StandsFrom start s → Stands s
+unfolding Stands
 some_start start s (h, k) = (start, h, k)
 
 pub acted_stays : (s after : Stack) (actions : List Action) → HasActed s actions after → Stands s → Stands after
+unfolding Stands
 acted_stays s after actions acts (start, h, k) = some_start start after (acted start s after actions acts (h, k))
 
 pub allotted_stays : (s after : Stack) (result : Result Allot WriteFault) → IsAllotted s s.frames result after → Stands s → Stands after
+unfolding Stands
 allotted_stays s after result is (start, h, k) = some_start start after (allotted_stands start s after s.frames result is (h, k))
 
 pub ended_stays : (s after : Stack) → IsEnd s s.frames after → Stands s → Stands after
+unfolding Stands
 ended_stays s after is (start, h, k) = some_start start after (end_stands start s after s.frames refl is (h, k))

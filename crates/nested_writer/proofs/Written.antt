@@ -24,7 +24,7 @@ use Rattle.nested_writer.specs.declared.frame.Frame.{Frame}
 use Rattle.nested_writer.specs.Stack.{Stack, tail_fill, model_frames}
 use Rattle.nested_writer.specs.Calls.{IsTopSlot}
 use Rattle.nested_writer.specs.Lending.{with_slot}
-use Rattle.nested_writer.specs.IsStack.{IsPageOf, is_tail, is_older, LiesOpen, IsStackOf, IsStack}
+use Rattle.nested_writer.specs.IsStack.{IsPageOf, is_tail, is_older, IsUnwritten, IsStackOf, IsStack}
 use Rattle.nested_writer.proofs.Standing.{as_many, frames_on, all_before}
 use Rattle.nested_writer.proofs.Ending.{place_inside}
 use Rattle.nested_writer.proofs.Lending.{slot_lies, in_tail, in_older}
@@ -100,7 +100,7 @@ set_other (p ∷ pages) (suc i) page (suc j) other ne at = set_other pages i pag
 
 -- ---- the stack
 
-module _ (start : ℕ) (cuts : List ℕ) (xs : List Reservation) (found : Bool) (s : Stack) (k : IsStackOf start cuts xs found s) (slot : Slot) (len : ℕ) (lies : LiesOpen s.done s.older s.tail xs len slot) (part : List ℕ) (fills : length part ≡ slot.place.len) where
+module _ (start : ℕ) (cuts : List ℕ) (xs : List Reservation) (found : Bool) (s : Stack) (k : IsStackOf start cuts xs found s) (slot : Slot) (len : ℕ) (lies : IsUnwritten s.done s.older s.tail xs len slot) (part : List ℕ) (fills : length part ≡ slot.place.len) where
   module _ (is : lies.page ≡ s.tail) where
     abbrev tail' : Contents
     tail' = with_payload s.tail slot.place.start part
@@ -111,7 +111,7 @@ module _ (start : ℕ) (cuts : List ℕ) (xs : List Reservation) (found : Bool) 
     tail_place : IsPlaceOf s.tail.bytes (slot.number - s.tail.first) slot.place.start slot.place.len
     tail_place = subst (λ (p : Contents). IsPlaceOf p.bytes (slot.number - p.first) slot.place.start slot.place.len) is lies.place
 
-    lies_in_tail : (n : ℕ) (l : Slot) → l.number < length xs → LiesOpen s.done s.older s.tail xs n l → LiesOpen s.done s.older tail' xs n l
+    lies_in_tail : (n : ℕ) (l : Slot) → l.number < length xs → IsUnwritten s.done s.older s.tail xs n l → IsUnwritten s.done s.older tail' xs n l
     lies_in_tail n l low other = elim other.open_page [
       | is_tail at page_is ↦ record {
         page = tail';
@@ -163,7 +163,7 @@ module _ (start : ℕ) (cuts : List ℕ) (xs : List Reservation) (found : Bool) 
     long : length older' ≡ length s.older
     long = length-set s.older i page'
 
-    lies_in_older : (n : ℕ) (l : Slot) → l.number < length xs → LiesOpen s.done s.older s.tail xs n l → LiesOpen s.done older' s.tail xs n l
+    lies_in_older : (n : ℕ) (l : Slot) → l.number < length xs → IsUnwritten s.done s.older s.tail xs n l → IsUnwritten s.done older' s.tail xs n l
     lies_in_older n l low other = elim other.open_page [
       | is_tail at page_is ↦ record {
         page = other.page;
@@ -179,7 +179,7 @@ module _ (start : ℕ) (cuts : List ℕ) (xs : List Reservation) (found : Bool) 
       | is_older j at there ↦ by_index j at there (dite (ℕ_discrete j i) (λ e. inl e) (λ ne. inr ne))
     ]
       where
-        by_index : (j : ℕ) → l.fill ≡ s.done + j → slice_get s.older j ≡ Some other.page → (j ≡ i) ⊎ (j ≢ i) → LiesOpen s.done older' s.tail xs n l
+        by_index : (j : ℕ) → l.fill ≡ s.done + j → slice_get s.older j ≡ Some other.page → (j ≡ i) ⊎ (j ≢ i) → IsUnwritten s.done older' s.tail xs n l
         by_index j at there (inl e) = let same : other.page ≡ lies.page = some_is other.page lies.page (sym there ∙ ap (slice_get s.older) e ∙ is) in record {
           page = page';
           open_page = is_older j at (ap (slice_get older') e ∙ set_here s.older i page' lies.page is);

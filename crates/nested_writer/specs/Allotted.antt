@@ -12,7 +12,7 @@ use Rattle.nested_writer.specs.declared.frame.Progress.{Progress}
 use Rattle.nested_writer.specs.declared.frame.Progress.TheVariants.{Waiting, Through, Reserved, Left}
 use Rattle.nested_writer.specs.declared.frame.Frame.{Frame}
 use Rattle.nested_writer.specs.Stack.{Stack, opened}
-use Rattle.nested_writer.specs.Calls.{with_progress, after_leave, IsReserved}
+use Rattle.nested_writer.specs.Calls.{with_progress, after_leave, ReservesRecord}
 use Rattle.nested_writer.specs.IsStack.{IsStack}
 
 -- if a history is that of the one stack, then with these actions after it, it is that of the other
@@ -34,7 +34,7 @@ first_try s (Left noted) = opened s
 abbrev pub HasFit : Stack → Frame → List Frame → Purpose → Progress → Place → Stack → Type 0
 HasFit s top below purpose (Reserved slot) place after = (after ≡ s) × (place ≡ slot.place)
 HasFit s top below (Record moment len) (Waiting noted) place after =
-    IsReserved s top below moment len place after × HasActed s (reserve ∷ []) after
+    ReservesRecord s top below moment len place after × HasActed s (reserve ∷ []) after
 HasFit s top below Close (Waiting noted) place after =
     (place.len ≡ 0)
     × (after ≡ with_progress s top below (Through (first_try s (Waiting noted))))

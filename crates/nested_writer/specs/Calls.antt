@@ -129,7 +129,8 @@ abbrev pub HasRecordRoom : Stack → (moment len : ℕ) → Type 0
 HasRecordRoom s moment len = end_with s moment len ≤ s.size
 
 -- the record of the frame on top is put after those of the tail, its payload at this place, and nothing else changes
-pub record IsReserved (s : Stack) (top : Frame) (below : List Frame) (moment len : ℕ) (place : Place) (after : Stack)
+pub record ReservesRecord (s : Stack) (top : Frame) (below : List Frame) (moment len : ℕ) (place : Place)
+    (after : Stack)
     : Type 0 where
   pub bytes : after.tail.bytes
       ≡ s.tail.bytes

@@ -12,8 +12,8 @@ abbrev pub frames_from : Option Frame → List Frame → List Frame
 frames_from None below = below
 frames_from (Some top) below = top ∷ below
 
-abbrev pub shown : Inside → Stack
-shown w = record {
+abbrev pub stack_of : Inside → Stack
+stack_of w = record {
   pages = w.pages;
   size = w.size;
   done = w.done;

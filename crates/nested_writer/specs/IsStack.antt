@@ -35,7 +35,7 @@ pub data IsOpenPage (done : ℕ) (older : List Contents) (tail : Contents) (fill
 -- ---- frames
 
 -- A reserved record is in the page of an open fill, and its bytes aren't known yet.
-pub record LiesOpen (done : ℕ) (older : List Contents) (tail : Contents) (records : List Reservation)
+pub record IsUnwritten (done : ℕ) (older : List Contents) (tail : Contents) (records : List Reservation)
     (len : ℕ) (slot : Slot)
     : Type 0 where
   pub page : Contents
@@ -63,7 +63,7 @@ StandsAt size done older tail cuts records found kind (Waiting noted) =
 StandsAt size done older tail cuts records found kind (Through noted) =
     (kind ≡ for_close) × (noted ≤ done + length older + 1)
 StandsAt size done older tail cuts records found kind (Reserved slot) =
-    (moment len : ℕ) × (kind ≡ for_record moment len) × LiesOpen done older tail records len slot
+    (moment len : ℕ) × (kind ≡ for_record moment len) × IsUnwritten done older tail records len slot
 StandsAt size done older tail cuts records found kind (Left noted) =
     IsNoted (done + length older + 1) noted
     × (noted ≡ Some (done + length older + 1) → NeedsFill size cuts records found kind left)
@@ -120,5 +120,5 @@ pub record IsStack (start : ℕ) (history : List Action) (s : Stack) : Type 0 wh
   pub holds : IsStackOf start (opens_of history) (reserved_records history) (is_wished history) s
 
 -- The stack is what some history leaves, in a ring with some first fill.
-abbrev pub Stands : Stack → Type 0
+unfoldable pub Stands : Stack → Type 0
 Stands s = (start : ℕ) × (history : List Action) × IsStack start history s

@@ -23,21 +23,21 @@ with_slot s slot part =
           (with_payload (slice_index_or s.older (slot.fill - s.done) s.tail) slot.place.start part);
     }
 
--- the open pages with this one in place of that of a slot, if there is one: the older ones, and the tail
-abbrev pub older_with : Stack → Option Slot → Contents → List Contents
-older_with s None page = s.older
-older_with s (Some slot) page =
-    if slot.fill == s.tail.fill then s.older else slice_set s.older (slot.fill - s.done) page
+-- the open pages with that of a payload in place of that of a slot, if there is one: the older ones, and the tail
+unfoldable pub older_with : Stack → Option Slot → Lent → List Contents
+older_with s None payload = s.older
+older_with s (Some slot) payload =
+    if slot.fill == s.tail.fill then s.older else slice_set s.older (slot.fill - s.done) payload.page
 
-abbrev pub tail_with : Stack → Option Slot → Contents → Contents
-tail_with s None page = s.tail
-tail_with s (Some slot) page = if slot.fill == s.tail.fill then page else s.tail
+unfoldable pub tail_with : Stack → Option Slot → Lent → Contents
+tail_with s None payload = s.tail
+tail_with s (Some slot) payload = if slot.fill == s.tail.fill then payload.page else s.tail
 
 -- the stack with this page in place of that of the slot of the frame on top; all else as it was
 abbrev pub with_top : Stack → Lent → Stack
 with_top s payload = record s {
-  older = older_with s (top_slot s.frames) payload.page;
-  tail = tail_with s (top_slot s.frames) payload.page;
+  older = older_with s (top_slot s.frames) payload;
+  tail = tail_with s (top_slot s.frames) payload;
 }
 
 -- the older pages end with the last page of the result in place of that of this index

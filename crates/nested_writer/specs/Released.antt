@@ -1,18 +1,18 @@
 -- What a page holds that a writer's stack passes out.
 use Rattle.std.specs.Prelude.{◌≡◌, ℕ, All, List, take, drop, map}
-use Rattle.trace_model.specs.History.{Action, IsWritten, as_record, committed_records}
-use Rattle.trace_model.specs.Ring.{Held}
+use Rattle.trace_model.specs.History.{Action, HasItsBytes, as_record, committed_records}
+use Rattle.trace_model.specs.Ring.{PageRecords}
 use Rattle.trace_model.specs.OpenPages.{HoldsRecords}
 use Rattle.page_image.specs.Contents.{Contents, records_of_page, IsPage}
 
 -- A page of a fill that holds this: all of its records are written, and it reads as them.
-pub record IsWrittenPage (size fill : ℕ) (held : Held) (page : Contents) : Type 0 where
+pub record IsWrittenPage (size fill : ℕ) (held : PageRecords) (page : Contents) : Type 0 where
   pub page_reads : IsPage page
   pub size_is : page.size ≡ size
   pub fill_is : page.fill ≡ fill
   pub first_is : page.first ≡ held.first
   pub holds : HoldsRecords page.time page.bytes held.records
-  pub written : All IsWritten held.records
+  pub written : All HasItsBytes held.records
   pub records_are : records_of_page page ≡ map as_record held.records
 
 -- the page's records are the committed ones from its first number on

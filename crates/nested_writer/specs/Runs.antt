@@ -15,28 +15,28 @@ use Rattle.nested_writer.specs.IsStack.{IsStack}
 -- What one call makes of a stack, by the clauses of the calls: begin, begin_close, allot and reserve_plain, a payload
 -- of the slot's length written into the slot that top_mut lends, end, add_page, drop_front, pop_bottom and
 -- stand_again, ask_close, write and write_alone; or a call that is refused.
-pub data IsCall (s after : Stack) : Type 0 where
-  begins : (moment len : ℕ) → HasActed s (push moment len ∷ []) after → IsCall s after
-  begins_close : HasActed s (push_close ∷ []) after → IsCall s after
-  allots : (result : Result Allot WriteFault) → IsAllotted s s.frames result after → IsCall s after
+pub data IsStackCall (s after : Stack) : Type 0 where
+  begins : (moment len : ℕ) → HasActed s (push moment len ∷ []) after → IsStackCall s after
+  begins_close : HasActed s (push_close ∷ []) after → IsStackCall s after
+  allots : (result : Result Allot WriteFault) → IsAllotted s s.frames result after → IsStackCall s after
   writes : (slot : Slot) (part : List ℕ)
       → IsTopSlot s.frames slot
       → length part ≡ slot.place.len
       → after ≡ with_slot s slot part
-      → IsCall s after
-  ends : IsEnd s s.frames after → IsCall s after
-  adds_page : HasActed s (open_fill ∷ []) after → IsCall s after
-  takes_off : HasActed s [] after → IsCall s after
-  asks : HasActed s (wished ∷ []) after → IsCall s after
+      → IsStackCall s after
+  ends : IsEnd s s.frames after → IsStackCall s after
+  adds_page : HasActed s (open_fill ∷ []) after → IsStackCall s after
+  takes_off : HasActed s [] after → IsStackCall s after
+  asks : HasActed s (wished ∷ []) after → IsStackCall s after
   writes_at_once : (moment : ℕ) (payload : List ℕ)
       → HasActed s (push moment (length payload) ∷ reserve ∷ leave (Some payload) ∷ []) after
-      → IsCall s after
-  is_refused : after ≡ s → IsCall s after
+      → IsStackCall s after
+  is_refused : after ≡ s → IsStackCall s after
 
 -- one call after the other, with the stacks that they leave
 abbrev pub IsRun : Stack → List Stack → Stack → Type 0
 IsRun s [] after = after ≡ s
-IsRun s (next ∷ more) after = IsCall s next × IsRun next more after
+IsRun s (next ∷ more) after = IsStackCall s next × IsRun next more after
 
 -- The stack is what a packed history leaves: its open pages hold the last fills of the history's reserved records.
 pub record HoldsLastFills (start : ℕ) (s : Stack) : Type 0 where

@@ -3,7 +3,7 @@
 //! A writer can be interrupted by another one at any step: each is a frame, and the one on top goes first. A record is
 //! reserved, its payload written in place, and ended; what was reserved is stated by the history of the frames, and the
 //! open pages hold its last fills (`docs/MODEL.md`).
-#![tactic(auto)]
+#![tactic(auto, unfolding(crate::specs::IsStack::Stands))]
 
 mod fault;
 pub mod frame;

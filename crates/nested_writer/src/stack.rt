@@ -46,9 +46,9 @@ impl Model for WriterStack {
 
     ghost Value = { Stack };
 
-    ghost use Rattle.nested_writer.specs.Inside.{shown, IsWriterStack};
+    ghost use Rattle.nested_writer.specs.Inside.{stack_of, IsWriterStack};
 
-    ghost view = { shown };
+    ghost view = { stack_of };
 
     ghost invariant = { IsWriterStack };
 }

@@ -9,7 +9,7 @@ use Rattle.page_image.specs.Contents.{Contents}
 use Rattle.page_numbers.specs.declared.numbers.Numbers.{Numbers}
 
 -- They are those of a page of some time and size, with data that reads as the parcel's records.
-pub record IsWritten (parcel : Parcel) (bytes : List ℕ) : Type 0 where
+pub record IsWrittenAs (parcel : Parcel) (bytes : List ℕ) : Type 0 where
   pub time : ℕ
   pub contents : List ℕ
   pub size : ℕ

@@ -3,7 +3,7 @@ ghost use Rattle.std.specs.Prelude.{◌≡◌, ℕ, [], ◌∷◌, ◌++◌, opt
 ghost use Rattle.trace_model.specs.Steps as model;
 ghost use Rattle.text_model.specs.Log.{refused};
 ghost use Rattle.world_model.specs.Log.{logged};
-ghost use Rattle.ring_frames.specs.Answers.{Tells, refusal_of};
+ghost use Rattle.ring_frames.specs.Answers.{IsAnswerOf, refusal_of};
 ghost use Rattle.replay_log.specs.LogTypes.{shown_log, shown_logged};
 
 use crate::line::LogLine;
@@ -21,7 +21,7 @@ pub struct At {
 
 /// What is logged of a ring's answer, if anything.
 fn log_line(at: At, answer: &Answer) -> Option<LogLine>
-    ensures { (size : ℕ) (told : model.Answer) → Tells size answer.now told
+    ensures { (size : ℕ) (told : model.Answer) → IsAnswerOf size answer.now told
         → option_to_list (shown_logged result) ≡ logged at.line at.cpu.0 told }
 {
     let At { line, cpu } = at;
@@ -62,7 +62,7 @@ fn log_line(at: At, answer: &Answer) -> Option<LogLine>
 /// Appends to the log what is logged of a ring's answer.
 #[inline(never)]
 pub fn tell_any(at: At, answer: &Answer, log: &mut Vec<LogLine>) -> Result<(), NoMemory>
-    ensures { OnOk result ((size : ℕ) (told : model.Answer) → Tells size answer.now told
+    ensures { OnOk result ((size : ℕ) (told : model.Answer) → IsAnswerOf size answer.now told
         → shown_log log.new.items ≡ shown_log log.old.items ++ logged at.line at.cpu.0 told) }
 {
     if let Some(line) = log_line(at, answer) {
@@ -74,7 +74,7 @@ pub fn tell_any(at: At, answer: &Answer, log: &mut Vec<LogLine>) -> Result<(), N
 /// The same of an answer that isn't needed any more: nothing is logged of most answers to a writer.
 #[inline(always)]
 pub fn tell(at: At, answer: Answer, log: &mut Vec<LogLine>) -> Result<(), NoMemory>
-    ensures { OnOk result ((size : ℕ) (told : model.Answer) → Tells size answer told
+    ensures { OnOk result ((size : ℕ) (told : model.Answer) → IsAnswerOf size answer told
         → shown_log log.new.items ≡ shown_log log.old.items ++ logged at.line at.cpu.0 told) }
 {
     match answer {

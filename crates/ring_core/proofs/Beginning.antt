@@ -7,7 +7,7 @@ use Rattle.std.proofs.lemmas.List.{get_or-set_other}
 use Rattle.std.proofs.lemmas.Option.{slice_get_within, get_or_from_slice_get}
 use Rattle.trace_model.specs.History.{Reservation, records_with_payload}
 use Rattle.trace_model.specs.Frames.{Kind, for_record, for_close, FrameState, waiting, reserved, left, Phase as ModelPhase, idle, opening, Frame}
-use Rattle.trace_model.specs.Ring.{Core, Held, page_at, empty_page}
+use Rattle.trace_model.specs.Ring.{Core, PageRecords, page_at, empty_page}
 use Rattle.trace_model.specs.Steps as model
 use Rattle.link_marks.specs.KeptLinks.{PhaseKept}
 use Rattle.link_marks.specs.RingKept.{IsRingKept}
@@ -25,7 +25,7 @@ use Rattle.ring_frames.specs.AreFrames.{AreFrames}
 use Rattle.ring_frames.specs.Fills.{OpensFill}
 use Rattle.ring_core.specs.Value.{CoreValue, frames_of, with_frames}
 use Rattle.ring_core.specs.Steps.{IsStep}
-use Rattle.ring_core.specs.IsCore.{IsHome, HasBody, Shows, IsCore}
+use Rattle.ring_core.specs.IsCore.{IsHome, HasBody, HasStateOf, IsCore}
 use Rattle.ring_frames.proofs.Tops.{topped}
 use Rattle.ring_core.proofs.Stepped.{kept_of, stepped}
 use Rattle.ring_core.proofs.Homes.{get_set_other}
@@ -39,12 +39,12 @@ begin_result c kind (reserved number) frame below top = goes_on frame below idle
 begin_result c kind left frame below top = goes_on frame below (model.closing_phase c) refl
 
 -- one that leaves without a record writes nothing
-none_written : (number : Option ℕ) (h : Held) → model.held_with_payload number None h ≡ h
+none_written : (number : Option ℕ) (h : PageRecords) → model.held_with_payload number None h ≡ h
 none_written None h = refl
-none_written (Some k) h = ap (λ (rs : List Reservation). let g : Held = record { first = h.first; records = rs } in g)
+none_written (Some k) h = ap (λ (rs : List Reservation). let g : PageRecords = record { first = h.first; records = rs } in g)
     (cond_both (nat_lt k h.first) h.records (records_with_payload (Some (k - h.first)) None h.records) (λ (rs : List Reservation). ◌≡◌ {A = List Reservation} rs h.records) (λ _. refl) (λ _. refl))
 
-all_stay : (number : Option ℕ) (held : List Held) → map (model.held_with_payload number None) held ≡ held
+all_stay : (number : Option ℕ) (held : List PageRecords) → map (model.held_with_payload number None) held ≡ held
 all_stay number [] = refl
 all_stay number (h ∷ held) = λ i. none_written number h i ∷ all_stay number held i
 
@@ -88,7 +88,7 @@ module _ (n size start : ℕ) (v : CoreValue) (c : Core) (core : IsCore n size s
   closed f low high = let some_pages = kept.links.some_pages in let behind = kept.links.done_lt in let unread = kept.links.head_le in let within = below_head in
       let ne : page_at n c.order f ≢ page_at n c.order c.opened = pages_differ n c.order c.spare c.head f c.opened (omega arith) kept.links.apart low (omega arith) (omega arith) within (λ e. omega arith) in
       let (body, there, written) = core.shows.closed f low high in
-      (body, others f ne ∙ there, subst (λ (h : Held). IsWrittenPage size f h body) (sym (holds f ne)) written)
+      (body, others f ne ∙ there, subst (λ (h : PageRecords). IsWrittenPage size f h body) (sym (holds f ne)) written)
 
   free : (f : ℕ) → c.opened + 1 ≤ f → f < c.done + n → HasBody (slice_set v.homes page None) size (page_at n c.order f)
   free f low high = let some_pages = kept.links.some_pages in let behind = kept.links.done_lt in let within = below_done in
@@ -109,7 +109,7 @@ module _ (n size start : ℕ) (v : CoreValue) (c : Core) (core : IsCore n size s
       stepped n size start v value c model.steps result answer after core
       (model.frame_step top.frame top.below refl top.is_top (subst (λ (p : ModelPhase). model.FrameStep n size c top.frame top.below p answer after) (sym (top.phase_is ∙ ap phase_of is)) (model.opens (sym s.frames.opened_is) refl refl)))
       tells
-      (subst (Shows n size start value) (sym same) record {
+      (subst (HasStateOf n size start value) (sym same) record {
         frames = subst (AreFrames n size start new) same are;
         positions = s.positions;
         links_are = s.links_are;
@@ -121,7 +121,7 @@ module _ (n size start : ℕ) (v : CoreValue) (c : Core) (core : IsCore n size s
         hint_is = s.hint_is;
         seen_is = s.seen_is;
         expected_is = s.expected_is;
-        closed = λ f low high. subst (λ (pages : List Held). IsHome (slice_set v.homes page None) size (page_at n c.order f) f (model.contents_of (private_state tail after.frames after.history pages) (page_at n c.order f))) (sym held) (closed f low high);
+        closed = λ f low high. subst (λ (pages : List PageRecords). IsHome (slice_set v.homes page None) size (page_at n c.order f) f (model.contents_of (private_state tail after.frames after.history pages) (page_at n c.order f))) (sym held) (closed f low high);
         free = free;
       })
 

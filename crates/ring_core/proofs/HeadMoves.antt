@@ -7,7 +7,7 @@ use Rattle.trace_model.specs.Frames as model
 use Rattle.trace_model.specs.Frames.{Frame, noted_fill}
 use Rattle.trace_model.specs.Ring.{Core, link_into, links_with}
 use Rattle.trace_model.specs.Steps as model_steps
-use Rattle.trace_model.specs.Steps.{GoesOn}
+use Rattle.trace_model.specs.Steps.{MayOpen}
 use Rattle.link_marks.specs.declared.link.Mark.{Mark}
 use Rattle.link_marks.specs.declared.link.Mark.TheVariants.{Normal, Header, Update}
 use Rattle.link_marks.specs.ModelLinks.{mark_of}
@@ -29,7 +29,7 @@ use Rattle.ring_frames.specs.declared.phase.Turned.{Turned}
 use Rattle.ring_frames.specs.declared.phase.Turned.TheVariants.{Going as TheGoing}
 use Rattle.ring_frames.specs.Phases.{told}
 use Rattle.ring_core.specs.Value.{CoreValue, frames_of}
-use Rattle.ring_core.specs.IsCore.{Shows, IsCore}
+use Rattle.ring_core.specs.IsCore.{HasStateOf, IsCore}
 use Rattle.ring_core.specs.Heads.{HasHeader, ClaimsHead}
 use Rattle.ring_core.specs.Steps.{IsStep, IsLate}
 use Rattle.ring_core.proofs.Stepped.{kept_of}
@@ -70,10 +70,10 @@ says_normal Normal e = refl
 says_normal Header e = absurd (cc)
 says_normal Update e = absurd (cc)
 
-link_shown : (n size start : ℕ) (v : CoreValue) (c : Core) (f : ℕ) → Shows n size start v c → link_into n c.links f ≡ link_into (length v.links) v.links f
+link_shown : (n size start : ℕ) (v : CoreValue) (c : Core) (f : ℕ) → HasStateOf n size start v c → link_into n c.links f ≡ link_into (length v.links) v.links f
 link_shown n size start v c f s = λ i. link_into (sym s.positions i) (s.links_are i) f
 
-links_shown : (n size start : ℕ) (v : CoreValue) (c : Core) (f : ℕ) (l : Link) → Shows n size start v c → links_with n c.links f l ≡ links_with (length v.links) v.links f l
+links_shown : (n size start : ℕ) (v : CoreValue) (c : Core) (f : ℕ) (l : Link) → HasStateOf n size start v c → links_with n c.links f l ≡ links_with (length v.links) v.links f l
 links_shown n size start v c f l s = λ i. links_with (sym s.positions i) (s.links_are i) f l
 
 module _ (n size start : ℕ) (v : CoreValue) (c : Core) (core : IsCore n size start v c) (some : v.stack.frames ≢ []) where
@@ -151,7 +151,7 @@ module _ (n size start : ℕ) (v : CoreValue) (c : Core) (core : IsCore n size s
 
   -- ---- the next link
 
-  goes_on : (role : Role) (noted : ℕ) → GoesOn (role_of role) noted (opened v.stack) → GoesOn (role_of role) noted c.opened
+  goes_on : (role : Role) (noted : ℕ) → MayOpen (role_of role) noted (opened v.stack) → MayOpen (role_of role) noted c.opened
   goes_on Owner noted now = tt
   goes_on Helper noted now = is_opened noted now
 
@@ -167,7 +167,7 @@ module _ (n size start : ℕ) (v : CoreValue) (c : Core) (core : IsCore n size s
   pub round_mark : (role : Role) (noted page next : ℕ) → v.phase ≡ Marking role noted page next → length v.links ≤ noted
   round_mark role noted page next at = let wide = core.shows.positions in let turn : n ≤ noted = advances (model.marking (role_of role) noted page next) (ap phase_of at) in omega arith
 
-  pub next_waits : (role : Role) (noted page next lost : ℕ) → v.phase ≡ LookingNext role noted page → GoesOn (role_of role) noted (opened v.stack) → lost + length v.links ≡ noted → link_into (length v.links) v.links (suc lost) ≡ normal_link next (suc lost)
+  pub next_waits : (role : Role) (noted page next lost : ℕ) → v.phase ≡ LookingNext role noted page → MayOpen (role_of role) noted (opened v.stack) → lost + length v.links ≡ noted → link_into (length v.links) v.links (suc lost) ≡ normal_link next (suc lost)
       → IsStep n size start c model_steps.steps Going (record v { phase = Marking role noted page next })
   next_waits role noted page next lost at now sum link =
       let here = link_shown n size start v c (suc lost) core.shows ∙ link in
@@ -180,7 +180,7 @@ module _ (n size start : ℕ) (v : CoreValue) (c : Core) (core : IsCore n size s
   noted_after Owner noted page = refl
   noted_after Helper noted page = refl
 
-  pub next_passed : (role : Role) (noted page lost : ℕ) (to : Phase) → v.phase ≡ LookingNext role noted page → GoesOn (role_of role) noted (opened v.stack) → lost + length v.links ≡ noted
+  pub next_passed : (role : Role) (noted page lost : ℕ) (to : Phase) → v.phase ≡ LookingNext role noted page → MayOpen (role_of role) noted (opened v.stack) → lost + length v.links ≡ noted
       → ((next : ℕ) → link_into (length v.links) v.links (suc lost) ≢ normal_link next (suc lost))
       → phase_of to ≡ model_steps.after_next (role_of role) noted page
       → IsStep n size start c model_steps.steps Going (record v { phase = to })
@@ -190,7 +190,7 @@ module _ (n size start : ℕ) (v : CoreValue) (c : Core) (core : IsCore n size s
       goes (model.looking_next (role_of role) noted page) to noted (ap phase_of at) refl (ap noted_fill to_is ∙ noted_after role noted page)
       (λ frame below. model_steps.sees_other lost (goes_on role noted now) (omega arith) (λ next e. differ next (sym same ∙ e)) refl (ap (model_steps.in_phase c frame below) to_is))
 
-  marks : (role : Role) (noted page next lost : ℕ) (to : Phase) → v.phase ≡ Marking role noted page next → GoesOn (role_of role) noted (opened v.stack) → lost + length v.links ≡ noted
+  marks : (role : Role) (noted page next lost : ℕ) (to : Phase) → v.phase ≡ Marking role noted page next → MayOpen (role_of role) noted (opened v.stack) → lost + length v.links ≡ noted
       → phase_of to ≡ model_steps.after_next (role_of role) noted page
       → link_into (length v.links) v.links (suc lost) ≡ normal_link next (suc lost)
       → IsStep n size start c model_steps.steps Going (record v { phase = to; links = links_with (length v.links) v.links (suc lost) (header_link next (suc lost)) })
@@ -200,7 +200,7 @@ module _ (n size start : ℕ) (v : CoreValue) (c : Core) (core : IsCore n size s
       sets (model.marking (role_of role) noted page next) to noted (suc lost) c.head (header_link next (suc lost)) (ap phase_of at) refl (ap noted_fill to_is ∙ noted_after role noted page) (omega arith)
       (λ frame below. model_steps.marks lost (goes_on role noted now) (omega arith) here refl (ap (model_steps.in_phase (model_steps.with_link n c (suc lost) (header_link next (suc lost))) frame below) to_is))
 
-  fails : (role : Role) (noted page next lost : ℕ) (to : Phase) → v.phase ≡ Marking role noted page next → GoesOn (role_of role) noted (opened v.stack) → lost + length v.links ≡ noted
+  fails : (role : Role) (noted page next lost : ℕ) (to : Phase) → v.phase ≡ Marking role noted page next → MayOpen (role_of role) noted (opened v.stack) → lost + length v.links ≡ noted
       → phase_of to ≡ model_steps.after_next (role_of role) noted page
       → link_into (length v.links) v.links (suc lost) ≢ normal_link next (suc lost)
       → IsStep n size start c model_steps.steps Going (record v { phase = to })
@@ -211,7 +211,7 @@ module _ (n size start : ℕ) (v : CoreValue) (c : Core) (core : IsCore n size s
       (λ frame below. model_steps.mark_fails lost (goes_on role noted now) (omega arith) (λ e. differ (sym same ∙ e)) refl (ap (model_steps.in_phase c frame below) to_is))
 
   -- the exchange succeeds or fails
-  pub mark_exchanged : (role : Role) (noted page next lost : ℕ) (to : Phase) (met : Bool) (new : CoreValue) → v.phase ≡ Marking role noted page next → GoesOn (role_of role) noted (opened v.stack) → lost + length v.links ≡ noted
+  pub mark_exchanged : (role : Role) (noted page next lost : ℕ) (to : Phase) (met : Bool) (new : CoreValue) → v.phase ≡ Marking role noted page next → MayOpen (role_of role) noted (opened v.stack) → lost + length v.links ≡ noted
       → phase_of to ≡ model_steps.after_next (role_of role) noted page
       → IsTrue met ↔ (link_into (length v.links) v.links (suc lost) ≡ normal_link next (suc lost))
       → (met ≡ true → new ≡ record v { links = links_with (length v.links) v.links (suc lost) (header_link next (suc lost)) })

@@ -8,7 +8,7 @@ use Rattle.link_marks.specs.ModelLinks.{link_of}
 use Rattle.link_marks.proofs.PageChanges.{page_below}
 use Rattle.ring_core.specs.declared.ring.Core.TheInside.{Inside}
 use Rattle.ring_core.specs.Value.{CoreValue}
-use Rattle.ring_core.specs.Inside.{shown, IsInside}
+use Rattle.ring_core.specs.Inside.{core_of, IsInside}
 use Rattle.ring_core.specs.IsCore.{IsCore}
 use Rattle.ring_core.proofs.Stepped.{kept_of}
 
@@ -32,5 +32,5 @@ page_has_home n size start v c at f core homes is =
     let here : at ≡ page_at n c.order f = is ∙ (λ i. page_at (core.shows.positions i) (sym core.shows.order_is i) f) in
     omega arith
 
-pub homes_in : (w : Inside) → IsInside w → length (shown w).homes ≡ length (shown w).links + 1
+pub homes_in : (w : Inside) → IsInside w → length (core_of w).homes ≡ length (core_of w).links + 1
 homes_in w inside = inside.homes ∙ ap (λ (k : ℕ). k + 1) (sym (length-map w.links.items link_of))

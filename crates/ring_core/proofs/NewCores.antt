@@ -15,7 +15,7 @@ use Rattle.ring_frames.specs.declared.reader.ReaderPhase.TheVariants.{LoadingLin
 use Rattle.ring_frames.specs.Steps.{AreNew}
 use Rattle.ring_frames.specs.ReaderPhases.{reader_phase_of}
 use Rattle.ring_core.specs.Value.{CoreValue, frames_of}
-use Rattle.ring_core.specs.IsCore.{HasBody, Shows}
+use Rattle.ring_core.specs.IsCore.{HasBody, HasStateOf}
 use Rattle.ring_core.specs.Steps.{IsNewRing}
 use Rattle.link_marks.specs.FirstLinks.{IsFirstLink}
 use Rattle.ring_core.specs.NewRing.{AreFirstLinks, AreFirstPages, AreFirstHomes}
@@ -93,7 +93,7 @@ module _ (n size start : ℕ) (laid : List code.Link) (v : CoreValue) (some : MI
       let (body, home, sized) = p.homes (f % n) (get_or v.homes (f % n) None) there below ne in
       subst (HasBody v.homes size) (sym (page_is (f % n) below)) (body, there ∙ ap Some home, sized)
 
-  first_shown : Shows n size start v first_core
+  first_shown : HasStateOf n size start v first_core
   first_shown = record {
     frames = p.frames first_core starts;
     positions = starts.positions;

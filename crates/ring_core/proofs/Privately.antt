@@ -3,7 +3,7 @@
 use Rattle.std.proofs.Common.{◌≡◌, ◌≢◌, ℕ, ◌+◌, ◌<◌, ◌≤◌, List, length, slice_index_or, refl, sym, ◌∙◌, subst, arith}
 use Rattle.trace_model.specs.Frames.{Frame}
 use Rattle.trace_model.specs.History.{Action}
-use Rattle.trace_model.specs.Ring.{Held, Core, page_at}
+use Rattle.trace_model.specs.Ring.{PageRecords, Core, page_at}
 use Rattle.trace_model.specs.Steps as model
 use Rattle.trace_model.specs.Steps.{contents_of}
 use Rattle.link_marks.specs.RingKept.{IsRingKept}
@@ -16,7 +16,7 @@ use Rattle.ring_frames.specs.AreFrames.{AreFrames}
 use Rattle.ring_frames.specs.Steps.{IsPrivateStep, MakesPrivate}
 use Rattle.ring_frames.specs.Fills.{told_in, IsLookForWish, LooksForWish}
 use Rattle.ring_core.specs.Value.{CoreValue, frames_of, with_frames}
-use Rattle.ring_core.specs.IsCore.{IsHome, Shows}
+use Rattle.ring_core.specs.IsCore.{IsHome, HasStateOf}
 use Rattle.ring_core.specs.Steps.{Makes}
 use Rattle.ring_core.proofs.Stepped.{kept_of, stepped}
 
@@ -27,9 +27,9 @@ closed_is_other n size start c f k low high i inside e =
     pages_differ n c.order c.spare c.head (c.done + i) f (omega arith) k.links.apart (omega arith) (omega arith) low (omega arith) (λ same. omega arith) (sym (k.open_pages.each i inside) ∙ e)
 
 -- the ring with these frames, if they are those of the state with these frames, this history and these contents
-pub shows_reframed : (n size start : ℕ) (v : CoreValue) (c : Core) (new : FramesValue) (frames : List Frame) (history : List Action) (held : List Held) → Shows n size start v c → AreFrames n size start new (private_state c frames history held)
+pub shows_reframed : (n size start : ℕ) (v : CoreValue) (c : Core) (new : FramesValue) (frames : List Frame) (history : List Action) (held : List PageRecords) → HasStateOf n size start v c → AreFrames n size start new (private_state c frames history held)
     → ((f : ℕ) → c.head ≤ f → f < c.done → contents_of (private_state c frames history held) (page_at n c.order f) ≡ contents_of c (page_at n c.order f))
-    → Shows n size start (with_frames v new) (private_state c frames history held)
+    → HasStateOf n size start (with_frames v new) (private_state c frames history held)
 shows_reframed n size start v c new frames history held s are holds = record {
   frames = are;
   positions = s.positions;
@@ -55,7 +55,7 @@ made_privately v event result new makes = λ n size start c core.
     let others = private_leaves_other_pages n size start c event p.answer after (kept_of n size start v c core) p.private p.step in
     let behind : Core = private_state c after.frames after.history after.held in
     stepped n size start v (with_frames v new) c event result p.answer after core p.step p.tells
-    (subst (Shows n size start (with_frames v new)) (sym is)
+    (subst (HasStateOf n size start (with_frames v new)) (sym is)
     (shows_reframed n size start v c new after.frames after.history after.held core.shows (subst (AreFrames n size start new) is p.are)
     (λ f low high. subst (λ (d : Core). contents_of d (page_at n c.order f) ≡ contents_of c (page_at n c.order f)) is
     (others (page_at n c.order f) (closed_is_other n size start c f (kept_of n size start v c core) low high)))))

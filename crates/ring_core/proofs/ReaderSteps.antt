@@ -14,15 +14,15 @@ use Rattle.ring_frames.specs.declared.reader.ReaderPhase.TheVariants.{LoadingLin
 use Rattle.ring_frames.proofs.Same.{same_frames}
 use Rattle.ring_frames.specs.ReaderPhases.{reader_phase_of}
 use Rattle.ring_core.specs.Value.{CoreValue, frames_of}
-use Rattle.ring_core.specs.IsCore.{Shows, IsCore}
-use Rattle.ring_frames.specs.Answers.{Tells}
-use Rattle.ring_core.specs.Steps.{IsStep, IsRing}
+use Rattle.ring_core.specs.IsCore.{HasStateOf, IsCore}
+use Rattle.ring_frames.specs.Answers.{IsAnswerOf}
+use Rattle.ring_core.specs.Steps.{IsStep, IsReachedCore}
 use Rattle.ring_core.proofs.Stepped.{kept_of, stepped}
 
 -- the reader goes on, and sets its page's link or its wish
-reader_shown : (n size start : ℕ) (v : CoreValue) (c : ring.Core) (spare_link of_link : Link) (wish of_wish : ℕ) (reader : Reader) (of : ring.Reader) → Shows n size start v c
+reader_shown : (n size start : ℕ) (v : CoreValue) (c : ring.Core) (spare_link of_link : Link) (wish of_wish : ℕ) (reader : Reader) (of : ring.Reader) → HasStateOf n size start v c
     → of_link ≡ spare_link → of_wish ≡ wish → of.phase ≡ reader_phase_of reader.phase → of.hint ≡ reader.hint → of.seen ≡ reader.seen → of.expected ≡ reader.expected
-    → Shows n size start (record v { spare_link = spare_link; wish = wish; reader = reader }) (record c { spare_link = of_link; wish = of_wish; reader = of })
+    → HasStateOf n size start (record v { spare_link = spare_link; wish = wish; reader = reader }) (record c { spare_link = of_link; wish = of_wish; reader = of })
 reader_shown n size start v c spare_link of_link wish of_wish reader of s link_is wish_is phase hint seen expected = record {
   frames = same_frames n size start (frames_of v) c (record c { spare_link = of_link; wish = of_wish; reader = of }) s.frames refl refl refl refl;
   positions = s.positions;
@@ -73,7 +73,7 @@ module _ (n size start : ℕ) (v : CoreValue) (c : ring.Core) (core : IsCore n s
 
   -- a step of the reader that changes only the reader and its page's link
   pub reads : (phase : ring.ReaderPhase) (answer : model.Answer) (result : Answer) (spare_link of_link : Link) (reader : Reader) (of : ring.Reader) → reader_phase_of v.reader.phase ≡ phase
-      → model.ReadStep n c phase answer (record c { spare_link = of_link; reader = of }) → Tells size result answer
+      → model.ReadStep n c phase answer (record c { spare_link = of_link; reader = of }) → IsAnswerOf size result answer
       → of_link ≡ spare_link → of.phase ≡ reader_phase_of reader.phase → of.hint ≡ reader.hint → of.seen ≡ reader.seen → of.expected ≡ reader.expected
       → IsStep n size start c model.reads result (record v { spare_link = spare_link; reader = reader })
   reads phase answer result spare_link of_link reader of at step tells link_is phase_is hint seen expected = let s = core.shows in
@@ -133,7 +133,7 @@ module _ (n size start : ℕ) (v : CoreValue) (c : ring.Core) (core : IsCore n s
 
 -- ---- ranges
 
-module _ (v : CoreValue) (r : IsRing v) where
+module _ (v : CoreValue) (r : IsReachedCore v) where
   -- the fill of a link has a number
   pub told_fits : (f : ℕ) → (ring.link_into (length v.links) v.links f).fill < LINK_FILLS
   told_fits f = let (n, size, start, c, core) = r in let s = core.shows in

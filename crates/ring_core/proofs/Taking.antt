@@ -26,7 +26,7 @@ use Rattle.ring_frames.specs.declared.reader.ReaderPhase.TheVariants.{LoadingLin
 use Rattle.ring_frames.proofs.Same.{same_frames}
 use Rattle.ring_frames.specs.ReaderPhases.{reader_phase_of}
 use Rattle.ring_core.specs.Value.{CoreValue, frames_of}
-use Rattle.ring_core.specs.IsCore.{IsHome, HasBody, Shows, IsCore}
+use Rattle.ring_core.specs.IsCore.{IsHome, HasBody, HasStateOf, IsCore}
 use Rattle.ring_core.specs.Steps.{IsStep}
 use Rattle.ring_core.specs.Taking.{with_spare_home, with_head_taken}
 use Rattle.ring_core.proofs.Stepped.{kept_of, stepped}
@@ -43,7 +43,7 @@ get_set_other xs i k y x ne is = slice_get_read (set xs i y) (length (set xs i y
     (sym (get_or-set_other xs i k y x ne ∙ get_or_from_slice_get xs k x x is))
 
 -- a page that is at home, if two others come and go
-home_stays : (homes : List (Option Contents)) (spare page p : ℕ) (x y : Option Contents) (size fill : ℕ) (held : ring.Held) → p ≢ spare → p ≢ page → IsHome homes size p fill held → IsHome (set (set homes spare x) page y) size p fill held
+home_stays : (homes : List (Option Contents)) (spare page p : ℕ) (x y : Option Contents) (size fill : ℕ) (held : ring.PageRecords) → p ≢ spare → p ≢ page → IsHome homes size p fill held → IsHome (set (set homes spare x) page y) size p fill held
 home_stays homes spare page p x y size fill held ne ne' (body, is, w) = (body, get_set_other (set homes spare x) page p y (Some body) ne' (get_set_other homes spare p x (Some body) ne is), w)
 
 body_stays : (homes : List (Option Contents)) (spare page p : ℕ) (x y : Option Contents) (size : ℕ) → p ≢ spare → p ≢ page → HasBody homes size p → HasBody (set (set homes spare x) page y) size p
@@ -128,7 +128,7 @@ module _ (n size start : ℕ) (v : CoreValue) (c : ring.Core) (core : IsCore n s
 
   pub expected_low : (taken : Contents) → IsWrittenPage size fill (model.contents_of c page) taken → v.reader.expected ≤ taken.first
   expected_low taken w = let le = kept.partition.expected_le in let within = kept.links.done_lt in let closed = head.closed in
-      let first = w.first_is ∙ ap (λ (p : ℕ). (model.contents_of c p).first) head.page_is ∙ ap (λ (h : ring.Held). h.first) (kept.contents.each c.head (omega arith) (omega arith)) in
+      let first = w.first_is ∙ ap (λ (p : ℕ). (model.contents_of c p).first) head.page_is ∙ ap (λ (h : ring.PageRecords). h.first) (kept.contents.each c.head (omega arith) (omega arith)) in
       let expected = core.shows.expected_is in omega arith
 
   pub numbers_low : (taken : Contents) → IsWrittenPage size fill (model.contents_of c page) taken → taken.first + taken.count < 2 ^ 61
@@ -184,7 +184,7 @@ module _ (n size start : ℕ) (v : CoreValue) (c : ring.Core) (core : IsCore n s
         let held : model.contents_of after p ≡ model.contents_of c p = get_or-set_other (set c.held c.spare ring.empty_page) page p ring.empty_page ring.empty_page ne_page
         ∙ get_or-set_other c.held c.spare p ring.empty_page ring.empty_page ne_spare in
         subst (λ (q : ℕ). IsHome homes_after size q f (model.contents_of after q)) (sym here)
-        (subst (λ (h : ring.Held). IsHome homes_after size p f h) (sym held)
+        (subst (λ (h : ring.PageRecords). IsHome homes_after size p f h) (sym held)
         (home_stays v.homes v.spare page p (Some (blank_page body_size 0 0)) None size f (model.contents_of c p) (not_spare_of p ne_spare) ne_page (core.shows.closed f (omega arith) high)))
 
     -- there is a page for each fill that may be begun, the reader's old one among them
@@ -210,7 +210,7 @@ module _ (n size start : ℕ) (v : CoreValue) (c : ring.Core) (core : IsCore n s
         subst (HasBody homes_after size) (sym here)
         (body_stays v.homes v.spare page p (Some (blank_page body_size 0 0)) None size (not_spare_of p ne_spare) ne_page (core.shows.free f low high)))
 
-    shown_after : Shows n size start (value_after v behind body_size page fill (taken.first + taken.count)) (model.after_swap n c page fill)
+    shown_after : HasStateOf n size start (value_after v behind body_size page fill (taken.first + taken.count)) (model.after_swap n c page fill)
     unfolding once homes_after after
     shown_after = let s = core.shows in record {
       frames = same_frames n size start (frames_of v) c (model.after_swap n c page fill) s.frames refl refl refl refl;

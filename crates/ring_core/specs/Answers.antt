@@ -58,15 +58,15 @@ GivesBack body (IsTaken page missed) = Unit {0}
 GivesBack body (Wished fill) = ⊥
 
 -- a page that is taken reads as its records, and has the ring's data size
-abbrev pub IsWhole : (size : ℕ) → Answer → Type 0
-IsWhole size Pushed = Unit {0}
-IsWhole size Going = Unit {0}
-IsWhole size (Reserved number) = Unit {0}
-IsWhole size (Ended ended) = Unit {0}
-IsWhole size Gone = Unit {0}
-IsWhole size (Refused fault) = Unit {0}
-IsWhole size (Looking body) = Unit {0}
-IsWhole size (Empty done body) = Unit {0}
-IsWhole size (Moving fill body) = Unit {0}
-IsWhole size (IsTaken page missed) = IsPage page × (page.size ≡ size)
-IsWhole size (Wished fill) = Unit {0}
+abbrev pub HasWholePage : (size : ℕ) → Answer → Type 0
+HasWholePage size Pushed = Unit {0}
+HasWholePage size Going = Unit {0}
+HasWholePage size (Reserved number) = Unit {0}
+HasWholePage size (Ended ended) = Unit {0}
+HasWholePage size Gone = Unit {0}
+HasWholePage size (Refused fault) = Unit {0}
+HasWholePage size (Looking body) = Unit {0}
+HasWholePage size (Empty done body) = Unit {0}
+HasWholePage size (Moving fill body) = Unit {0}
+HasWholePage size (IsTaken page missed) = IsPage page × (page.size ≡ size)
+HasWholePage size (Wished fill) = Unit {0}

@@ -5,8 +5,8 @@ use Rattle.link_marks.specs.ModelLinks.{link_of}
 use Rattle.ring_core.specs.declared.ring.Core.TheInside.{Inside}
 use Rattle.ring_core.specs.Value.{CoreValue}
 
-abbrev pub shown : Inside → CoreValue
-shown w = record {
+abbrev pub core_of : Inside → CoreValue
+core_of w = record {
   stack = w.frames.stack;
   phase = w.frames.phase;
   below = w.frames.below;

@@ -1,7 +1,7 @@
 -- What ties a ring as a value to a state of the ring's model, which no field keeps.
 use Rattle.std.specs.Prelude.{◌≡◌, ℕ, ◌+◌, ◌<◌, ◌≤◌, List, length, Option, Some}
 use Rattle.std.specs.List.{slice_get}
-use Rattle.trace_model.specs.Ring.{Held, Core, page_at}
+use Rattle.trace_model.specs.Ring.{PageRecords, Core, page_at}
 use Rattle.trace_model.specs.Steps.{contents_of}
 use Rattle.link_marks.specs.Reached.{IsReached}
 use Rattle.page_image.specs.Contents.{Contents}
@@ -13,7 +13,7 @@ use Rattle.ring_core.specs.Value.{CoreValue, frames_of}
 -- ---- pages at home
 
 -- the page of this number is at home, and is the one of this fill with what it holds
-abbrev pub IsHome : List (Option Contents) → (size page fill : ℕ) → Held → Type 0
+abbrev pub IsHome : List (Option Contents) → (size page fill : ℕ) → PageRecords → Type 0
 IsHome homes size page fill held =
     (body : Contents) × (slice_get homes page ≡ Some (Some body)) × IsWrittenPage size fill held body
 
@@ -27,7 +27,7 @@ HasBody homes size page = (body : Contents) × (slice_get homes page ≡ Some (S
 -- start: the words and the reader are the state's; the writers' stack is what the state's history leaves, in its
 -- phases; a page of a fill that is closed and unread is at home with what it holds; and so is a page for each fill that
 -- may be begun before one more is closed.
-pub record Shows (n size start : ℕ) (v : CoreValue) (c : Core) : Type 0 where
+pub record HasStateOf (n size start : ℕ) (v : CoreValue) (c : Core) : Type 0 where
   pub frames : AreFrames n size start (frames_of v) c
   pub positions : length v.links ≡ n
   pub links_are : c.links ≡ v.links
@@ -48,4 +48,4 @@ pub record Shows (n size start : ℕ) (v : CoreValue) (c : Core) : Type 0 where
 -- The value is the ring in this state, which steps from a new ring reach.
 pub record IsCore (n size start : ℕ) (v : CoreValue) (c : Core) : Type 0 where
   pub reached : IsReached n size start c
-  pub shows : Shows n size start v c
+  pub shows : HasStateOf n size start v c

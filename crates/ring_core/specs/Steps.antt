@@ -6,7 +6,7 @@ use Rattle.trace_model.specs.Steps as model
 use Rattle.link_marks.specs.Seats.{PhaseIsPrivate}
 use Rattle.nested_writer.specs.Stack.{opened}
 use Rattle.ring_frames.specs.Value.{phase_of}
-use Rattle.ring_frames.specs.Answers.{Tells}
+use Rattle.ring_frames.specs.Answers.{IsAnswerOf}
 use Rattle.ring_core.specs.declared.event.Event.{Event}
 use Rattle.ring_core.specs.declared.event.Event.TheVariants.{Push, PushClose, Step, End, Read, Wish}
 use Rattle.ring_frames.specs.declared.answer.Answer.{Answer}
@@ -20,7 +20,7 @@ pub record IsStep (n size start : ℕ) (c : Core) (event : model.Event) (result 
   pub answer : model.Answer
   pub after : Core
   pub step : model.Step n size c event answer after
-  pub tells : Tells size result answer
+  pub tells : IsAnswerOf size result answer
   pub is_core : IsCore n size start new after
 
 -- so in each state that the value shows
@@ -30,8 +30,8 @@ Makes old event result new = (n size start : ℕ) (c : Core)
     → IsStep n size start c event result new
 
 -- the value is the ring in some state
-abbrev pub IsRing : CoreValue → Type 0
-IsRing v = (n size start : ℕ) × (c : Core) × IsCore n size start v c
+abbrev pub IsReachedCore : CoreValue → Type 0
+IsReachedCore v = (n size start : ℕ) × (c : Core) × IsCore n size start v c
 
 -- the value is a new ring of n positions and pages of this size whose first fill has the number start
 abbrev pub IsNewRing : (n size start : ℕ) → CoreValue → Type 0

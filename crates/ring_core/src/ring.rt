@@ -37,11 +37,11 @@ pub struct Core {
 
 impl Model for Core {
     ghost use Rattle.ring_core.specs.Value.{CoreValue};
-    ghost use Rattle.ring_core.specs.Inside.{shown, IsInside};
+    ghost use Rattle.ring_core.specs.Inside.{core_of, IsInside};
 
     ghost Value = { CoreValue };
 
-    ghost view = { shown };
+    ghost view = { core_of };
 
     ghost invariant = { IsInside };
 }

@@ -23,7 +23,7 @@ use Rattle.nested_writer.specs.IsStack.{IsStack}
 use Rattle.ring_frames.specs.Phases.{left_answer}
 use Rattle.ring_frames.specs.Value.{FramesValue}
 use Rattle.ring_frames.specs.AreFrames.{AreFrames}
-use Rattle.ring_frames.specs.Answers.{Tells}
+use Rattle.ring_frames.specs.Answers.{IsAnswerOf}
 use Rattle.ring_frames.specs.Steps.{IsCloseTop}
 use Rattle.ring_frames.proofs.Left.{tops_are, left_value, left_without, leave_told}
 
@@ -78,7 +78,7 @@ pub closed_shown : (n size start : ℕ) (v : FramesValue) (c : Core) (top : Fram
     → top.progress ≡ Waiting noted
     → IsThrough v.stack top frames noted between
     → IsEnd between between.frames stack
-    → Tells size (left_answer v.below) (model.leave_answer below) × AreFrames n size start (left_value v stack) (model.after_leave c frame below None)
+    → IsAnswerOf size (left_answer v.below) (model.leave_answer below) × AreFrames n size start (left_value v stack) (model.after_leave c frame below None)
 closed_shown n size start v c top frames frame below noted between stack k stack_is model_is waits through ended =
     let (frame_is, below_is, same) = tops_are v c n size start top frames frame below k stack_is model_is in
     let tries : ℕ = first_try v.stack (Waiting noted) in

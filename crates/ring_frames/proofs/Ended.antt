@@ -25,12 +25,12 @@ use Rattle.nested_writer.specs.declared.frame.Frame.{Frame}
 use Rattle.nested_writer.specs.Stack.{Stack, tail_fill, kind_of, state_of}
 use Rattle.nested_writer.specs.Calls.{after_leave}
 use Rattle.nested_writer.specs.Ends.{MayEnd, MayEndTop, MayNotEndTop, HasEnded, IsEnd}
-use Rattle.nested_writer.specs.IsStack.{IsOpenPage, is_tail, is_older, LiesOpen, StandsAt, FramesStand, IsStack}
+use Rattle.nested_writer.specs.IsStack.{IsOpenPage, is_tail, is_older, IsUnwritten, StandsAt, FramesStand, IsStack}
 use Rattle.ring_frames.specs.declared.answer.Answer.TheVariants.{Refused, Ended as HasEndedSo}
 use Rattle.ring_frames.specs.declared.phase.Phase.{Phase}
 use Rattle.ring_frames.specs.Value.{FramesValue}
 use Rattle.ring_frames.specs.AreFrames.{ring_frames, NotedAlike, AreNotedAlike, AreFrames}
-use Rattle.ring_frames.specs.Answers.{open_page, bytes_of_progress, top_bytes, refusal_of, Tells}
+use Rattle.ring_frames.specs.Answers.{open_page, bytes_of_progress, top_bytes, refusal_of, IsAnswerOf}
 use Rattle.ring_frames.specs.Steps.{IsPrivateStep}
 use Rattle.ring_frames.proofs.Privately.{privately}
 use Rattle.ring_frames.proofs.Left.{tops_are, left_value, left_shown}
@@ -59,7 +59,7 @@ module _ (n size start : ℕ) (v : FramesValue) (c : Core) (k : AreFrames n size
   abbrev bytes : List ℕ
   bytes = top_bytes v.stack v.stack.frames
 
-  pub stands : (moment : ℕ) × (len : ℕ) × (kind_of top.purpose ≡ for_record moment len) × LiesOpen v.stack.done v.stack.older v.stack.tail (reserved_records c.history) len slot
+  pub stands : (moment : ℕ) × (len : ℕ) × (kind_of top.purpose ≡ for_record moment len) × IsUnwritten v.stack.done v.stack.older v.stack.tail (reserved_records c.history) len slot
   stands =
       let all = subst (FramesStand v.stack.size v.stack.done v.stack.older v.stack.tail (opens_of c.history) (reserved_records c.history) (is_wished c.history)) stack_is k.stack_is.holds.frames_are in
       subst (StandsAt v.stack.size v.stack.done v.stack.older v.stack.tail (opens_of c.history) (reserved_records c.history) (is_wished c.history) (kind_of top.purpose)) has all.1
@@ -87,10 +87,10 @@ module _ (n size start : ℕ) (v : FramesValue) (c : Core) (k : AreFrames n size
       subst (λ (s : Stack). AreFrames n size start (left_value v s) (model.after_leave c frame below (Some bytes))) (sym is)
       (left_shown n size start v c top frames frame below (Some bytes) k stack_is model_is (subst (IsStack start (c.history ++ leave (Some bytes) ∷ [])) is kept))
 
-  answered : (ended : Ended) (frames : List Frame) (phases : List Phase) → length phases ≡ length frames → (1 < suc (length frames) → ended ≡ Pending) → (suc (length frames) ≤ 1 → ended ≡ Full) → Tells size (HasEndedSo ended) (model.end_answer (ring_frames frames phases))
-  answered ended [] phases same pending full = subst (λ (e : Ended). Tells size (HasEndedSo e) model.full) (sym (full (omega arith))) refl
+  answered : (ended : Ended) (frames : List Frame) (phases : List Phase) → length phases ≡ length frames → (1 < suc (length frames) → ended ≡ Pending) → (suc (length frames) ≤ 1 → ended ≡ Full) → IsAnswerOf size (HasEndedSo ended) (model.end_answer (ring_frames frames phases))
+  answered ended [] phases same pending full = subst (λ (e : Ended). IsAnswerOf size (HasEndedSo e) model.full) (sym (full (omega arith))) refl
   answered ended (g ∷ frames) [] same pending full = absurd (omega (arith, same))
-  answered ended (g ∷ frames) (p ∷ phases) same pending full = subst (λ (e : Ended). Tells size (HasEndedSo e) model.pending) (sym (pending (omega arith))) refl
+  answered ended (g ∷ frames) (p ∷ phases) same pending full = subst (λ (e : Ended). IsAnswerOf size (HasEndedSo e) model.pending) (sym (pending (omega arith))) refl
 
   made : (ended : Ended) (stack : Stack) → (MayEndTop v.stack.frames → 1 < length v.stack.frames → ended ≡ Pending) → (MayEndTop v.stack.frames → length v.stack.frames ≤ 1 → ended ≡ Full) → stack ≡ after_leave v.stack top frames → HasEnded v.stack (Reserved slot) stack → IsPrivateStep n size start c (model.ends bytes) (HasEndedSo ended) (left_value v stack)
   made ended stack pending full is acted =
@@ -98,7 +98,7 @@ module _ (n size start : ℕ) (v : FramesValue) (c : Core) (k : AreFrames n size
       let may : MayEndTop v.stack.frames = subst MayEndTop (sym stack_is) (subst MayEnd (sym has) tt) in
       let deep : length v.stack.frames ≡ suc (length frames) = ap length stack_is in
       privately n size start (left_value v stack) c (model.ends bytes) (HasEndedSo ended) (model.end_answer below) (model.after_leave c frame below (Some bytes)) end_is tt
-      (subst (λ (fs : List ModelFrame). Tells size (HasEndedSo ended) (model.end_answer fs)) (sym below_is) (answered ended frames v.below same (λ many. pending may (omega (arith, deep, many))) (λ one. full may (omega (arith, deep, one)))))
+      (subst (λ (fs : List ModelFrame). IsAnswerOf size (HasEndedSo ended) (model.end_answer fs)) (sym below_is) (answered ended frames v.below same (λ many. pending may (omega (arith, deep, many))) (λ one. full may (omega (arith, deep, one)))))
       (shown stack is acted)
 
 -- the frames of the model, if one is on the stack

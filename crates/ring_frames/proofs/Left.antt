@@ -17,7 +17,7 @@ use Rattle.ring_frames.specs.declared.phase.Phase.TheVariants.{Releasing, Wishin
 use Rattle.ring_frames.specs.Phases.{closing_phase, phase_after_leave, below_after_leave, left_answer, with_left_phase}
 use Rattle.ring_frames.specs.Value.{FramesValue, phase_of}
 use Rattle.ring_frames.specs.AreFrames.{ring_frames, AreBelow, NotedAlike, AreNotedAlike, AreFrames}
-use Rattle.ring_frames.specs.Answers.{Tells}
+use Rattle.ring_frames.specs.Answers.{IsAnswerOf}
 use Rattle.ring_frames.proofs.Reshown.{reshown}
 
 -- ---- the phase of a frame that has left
@@ -71,15 +71,15 @@ left_noted s phase top [] (p ∷ phases) same noted = absurd (omega (arith, same
 left_noted s phase top (g ∷ frames) [] same noted = absurd (omega (arith, same))
 left_noted s phase top (g ∷ frames) (p ∷ phases) same noted = noted.1
 
-answer_for : (size : ℕ) (frames : List Frame) (phases : List Phase) → length phases ≡ length frames → Tells size (left_answer phases) (model.leave_answer (ring_frames frames phases))
+answer_for : (size : ℕ) (frames : List Frame) (phases : List Phase) → length phases ≡ length frames → IsAnswerOf size (left_answer phases) (model.leave_answer (ring_frames frames phases))
 answer_for size [] [] same = refl
 answer_for size [] (p ∷ phases) same = absurd (omega (arith, same))
 answer_for size (g ∷ frames) [] same = absurd (omega (arith, same))
 answer_for size (g ∷ frames) (p ∷ phases) same = refl
 
 -- what a leave answers
-pub leave_told : (size : ℕ) (frames : List Frame) (phases : List Phase) (below : List ModelFrame) → below ≡ ring_frames frames phases → length phases ≡ length frames → Tells size (left_answer phases) (model.leave_answer below)
-leave_told size frames phases below is same = subst (λ (fs : List ModelFrame). Tells size (left_answer phases) (model.leave_answer fs)) (sym is) (answer_for size frames phases same)
+pub leave_told : (size : ℕ) (frames : List Frame) (phases : List Phase) (below : List ModelFrame) → below ≡ ring_frames frames phases → length phases ≡ length frames → IsAnswerOf size (left_answer phases) (model.leave_answer below)
+leave_told size frames phases below is same = subst (λ (fs : List ModelFrame). IsAnswerOf size (left_answer phases) (model.leave_answer fs)) (sym is) (answer_for size frames phases same)
 
 -- ---- the ring
 

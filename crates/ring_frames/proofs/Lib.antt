@@ -10,7 +10,7 @@ pub mod TopKinds
 pub mod Covered
 pub mod Asked
 pub mod Closing
-pub mod Anew
+pub mod Again
 pub mod Late
 pub mod Reserves
 pub mod Plain

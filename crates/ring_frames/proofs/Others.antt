@@ -21,7 +21,7 @@ use Rattle.nested_writer.specs.declared.frame.Frame.{Frame}
 use Rattle.nested_writer.specs.Stack.{Stack, tail_fill, state_of}
 use Rattle.nested_writer.specs.Calls.{IsTopSlot}
 use Rattle.nested_writer.specs.Lending.{with_slot}
-use Rattle.nested_writer.specs.IsStack.{IsOpenPage, is_tail, is_older, LiesOpen, AreBefore, FramesStand, IsStack}
+use Rattle.nested_writer.specs.IsStack.{IsOpenPage, is_tail, is_older, IsUnwritten, AreBefore, FramesStand, IsStack}
 use Rattle.ring_frames.specs.Answers.{open_page, bytes_in, HoldSlot}
 use Rattle.ring_frames.specs.Lending.{LeavesOthers}
 use Rattle.ring_frames.proofs.Ended.{page_found}
@@ -79,10 +79,10 @@ leaves_others start h s slot k is top below other part stack_is held = dite (ℕ
     fill_is : s.tail.fill ≡ tail_fill s
     fill_is = k.holds.tail_is.fill_is
 
-    lies : (len : ℕ) × LiesOpen s.done s.older s.tail (reserved_records h) len slot
+    lies : (len : ℕ) × IsUnwritten s.done s.older s.tail (reserved_records h) len slot
     lies = held_open start h s slot k (subst (λ (fs : List Frame). HoldSlot fs slot) (sym stack_is) (inl has))
 
-    there : (len : ℕ) × LiesOpen s.done s.older s.tail (reserved_records h) len other
+    there : (len : ℕ) × IsUnwritten s.done s.older s.tail (reserved_records h) len other
     there = held_open start h s other k (subst (λ (fs : List Frame). HoldSlot fs other) (sym stack_is) (inr held))
 
     low : other.number < slot.number

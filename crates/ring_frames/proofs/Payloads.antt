@@ -24,11 +24,11 @@ use Rattle.nested_writer.specs.declared.frame.Progress.{Progress}
 use Rattle.nested_writer.specs.declared.frame.Progress.TheVariants.{Waiting, Through, Reserved, Left}
 use Rattle.nested_writer.specs.declared.frame.Frame.{Frame}
 use Rattle.nested_writer.specs.Stack.{Stack, opened, tail_fill, next_number, blank_page, kind_of}
-use Rattle.nested_writer.specs.Calls.{with_frame, with_progress, with_tail, frames_after_leave, HasLeft, HasNoSlot, IsAtBottom, LacksSlot, IsTopSlot, IsReserved}
+use Rattle.nested_writer.specs.Calls.{with_frame, with_progress, with_tail, frames_after_leave, HasLeft, HasNoSlot, IsAtBottom, LacksSlot, IsTopSlot, ReservesRecord}
 use Rattle.nested_writer.specs.Allotted.{HasActed, HasFit, IsAllotted}
 use Rattle.nested_writer.specs.Answered.{WantsFill, IsAnswered}
 use Rattle.nested_writer.specs.Ends.{IsEnd}
-use Rattle.nested_writer.specs.IsStack.{IsOpenPage, is_tail, is_older, LiesOpen, StandsAt, FramesStand, IsStack}
+use Rattle.nested_writer.specs.IsStack.{IsOpenPage, is_tail, is_older, IsUnwritten, StandsAt, FramesStand, IsStack}
 use Rattle.ring_frames.specs.Answers.{bytes_in, HoldSlot, KeepsPayloads, below_top, EndsPayload}
 use Rattle.ring_frames.proofs.Ended.{page_found}
 
@@ -148,14 +148,14 @@ record LiesIn (s : Stack) (slot : Slot) : Type 0 where
   open_page : IsOpenPage s.done s.older s.tail slot.fill page
   inside : slot.place.start + slot.place.len ≤ length page.bytes
 
-lies_in : (s : Stack) (slot : Slot) (records : List Reservation) (len : ℕ) → LiesOpen s.done s.older s.tail records len slot → LiesIn s slot
+lies_in : (s : Stack) (slot : Slot) (records : List Reservation) (len : ℕ) → IsUnwritten s.done s.older s.tail records len slot → LiesIn s slot
 lies_in s slot records len lies = record { page = lies.page; open_page = lies.open_page; inside = place-within lies.page.bytes slot.place.start slot.place.len lies.place.place }
 
 -- its record is in an open page
-pub held_open : (start : ℕ) (h : List Action) (s : Stack) (slot : Slot) → IsStack start h s → HoldSlot s.frames slot → (len : ℕ) × LiesOpen s.done s.older s.tail (reserved_records h) len slot
+pub held_open : (start : ℕ) (h : List Action) (s : Stack) (slot : Slot) → IsStack start h s → HoldSlot s.frames slot → (len : ℕ) × IsUnwritten s.done s.older s.tail (reserved_records h) len slot
 held_open start h s slot k held = by_frames s.frames held k.holds.frames_are
   where
-    by_frames : (frames : List Frame) → HoldSlot frames slot → FramesStand s.size s.done s.older s.tail (opens_of h) (reserved_records h) (is_wished h) frames → (len : ℕ) × LiesOpen s.done s.older s.tail (reserved_records h) len slot
+    by_frames : (frames : List Frame) → HoldSlot frames slot → FramesStand s.size s.done s.older s.tail (opens_of h) (reserved_records h) (is_wished h) frames → (len : ℕ) × IsUnwritten s.done s.older s.tail (reserved_records h) len slot
     by_frames [] none st = absurd none
     by_frames (f ∷ below) (inl is) st = let (moment, len, kind, lies) = subst (StandsAt s.size s.done s.older s.tail (opens_of h) (reserved_records h) (is_wished h) (kind_of f.purpose)) is st.1 in (len, lies)
     by_frames (f ∷ below) (inr there) st = by_frames below there st.4
@@ -189,7 +189,7 @@ grown start h s after more k done older fill bytes stay slot held = (stay slot h
         by_page s slot page k.holds.tail_is.fill_is (is_older j at is)
         ∙ sym (by_page after slot page fill (is_older j (at ∙ ap (λ (d : ℕ). d + j) (sym done)) (ap (λ (ps : List Contents). slice_get ps j) older ∙ is)))
 
-record_kept : (start : ℕ) (h : List Action) (s after : Stack) (top : Frame) (below : List Frame) (moment len : ℕ) (place : Place) → IsStack start h s → s.frames ≡ top ∷ below → HasNoSlot top.progress → IsReserved s top below moment len place after → HasActed s (reserve ∷ []) after → KeepsPayloads s after
+record_kept : (start : ℕ) (h : List Action) (s after : Stack) (top : Frame) (below : List Frame) (moment len : ℕ) (place : Place) → IsStack start h s → s.frames ≡ top ∷ below → HasNoSlot top.progress → ReservesRecord s top below moment len place after → HasActed s (reserve ∷ []) after → KeepsPayloads s after
 record_kept start h s after top below moment len place k at none is acted =
     grown start h s after _ k (ap (λ (t : Stack). t.done) is.others) (ap (λ (t : Stack). t.older) is.others) (acted start h k).holds.tail_is.fill_is is.bytes
     (went_on s.frames top below after.frames at none (λ slot there. subst (λ (t : Stack). HoldSlot t.frames slot) (sym is.others) (inr there)))
@@ -289,7 +289,7 @@ last_bytes bytes front last start len is end long =
     ap (take len) (ap (drop start) is ∙ drop_at front last start at) ∙ take_all len last (omega (arith, long))
 
 -- the place of a record that is put into the tail holds zeros
-pub zeros_put : (start : ℕ) (h : List Action) (s after : Stack) (top : Frame) (below : List Frame) (moment len : ℕ) (place : Place) (number : ℕ) → IsStack start h s → IsReserved s top below moment len place after → HasActed s (reserve ∷ []) after
+pub zeros_put : (start : ℕ) (h : List Action) (s after : Stack) (top : Frame) (below : List Frame) (moment len : ℕ) (place : Place) (number : ℕ) → IsStack start h s → ReservesRecord s top below moment len place after → HasActed s (reserve ∷ []) after
     → bytes_in after record { number = number; fill = tail_fill s; place = place } ≡ replicate place.len 0
 zeros_put start h s after top below moment len place number k is acted =
     let zeros : List ℕ = replicate (slot_len len) 0 in

@@ -9,14 +9,14 @@ use Rattle.link_marks.proofs.RingsKept.{reached_kept}
 use Rattle.ring_frames.specs.declared.answer.Answer.{Answer}
 use Rattle.ring_frames.specs.Value.{FramesValue}
 use Rattle.ring_frames.specs.AreFrames.{AreFrames, HasFrames}
-use Rattle.ring_frames.specs.Answers.{Tells}
+use Rattle.ring_frames.specs.Answers.{IsAnswerOf}
 use Rattle.ring_frames.specs.Steps.{IsPrivateStep}
 
 -- what every step keeps holds of the state
 pub kept_of : (n size start : ℕ) (v : FramesValue) (c : Core) → HasFrames n size start v c → IsRingKept n size start c
 kept_of n size start v c core = reached_kept n size start c core.reached
 
-pub privately : (n size start : ℕ) (new : FramesValue) (c : Core) (event : model.Event) (result : Answer) (answer : model.Answer) (after : Core) → model.Step n size c event answer after → IsPrivate c event → Tells size result answer → AreFrames n size start new after → IsPrivateStep n size start c event result new
+pub privately : (n size start : ℕ) (new : FramesValue) (c : Core) (event : model.Event) (result : Answer) (answer : model.Answer) (after : Core) → model.Step n size c event answer after → IsPrivate c event → IsAnswerOf size result answer → AreFrames n size start new after → IsPrivateStep n size start c event result new
 privately n size start new c event result answer after step own tells are = record {
   answer = answer;
   after = after;

@@ -3,7 +3,7 @@ use Rattle.std.proofs.Common.{◌≡◌, ◌≢◌, ℕ, suc, ◌+◌, ◌<◌, 
 use Rattle.std.proofs.lemmas.Bool.{eqb-true, eqb-false}
 use Rattle.trace_model.specs.History.{Action}
 use Rattle.trace_model.specs.Frames.{left, noted_fill, Frame}
-use Rattle.trace_model.specs.Ring.{Core, Held, page_at, fill_of}
+use Rattle.trace_model.specs.Ring.{Core, PageRecords, page_at, fill_of}
 use Rattle.trace_model.specs.Steps as model
 use Rattle.link_marks.specs.RingKept.{IsRingKept}
 use Rattle.link_marks.proofs.StackSteps.{releasing_left}
@@ -59,7 +59,7 @@ module _ (n size start : ℕ) (v : FramesValue) (c : Core) (core : HasFrames n s
     written = let s = core.are in let low = kept.links.head_le in let high = kept.links.done_lt in
         let w = gone.written start c.history s.stack_is in
         let w' : IsWrittenPage size c.done (fill_of c.history start c.done) page = subst (λ (f : ℕ). IsWrittenPage size f (fill_of c.history start f) page) (sym s.done_is) (subst (λ (z : ℕ). IsWrittenPage z v.stack.done (fill_of c.history start v.stack.done) page) s.size_is w) in
-        subst (λ (h : Held). IsWrittenPage size c.done h page) (sym (kept.contents.each c.done low high)) w'
+        subst (λ (h : PageRecords). IsWrittenPage size c.done h page) (sym (kept.contents.each c.done low high)) w'
 
     frames_same : later.frames ≡ record { purpose = one.purpose; progress = Left one.noted } ∷ []
     frames_same = ap (λ (x : Stack). x.frames) gone.released ∙ one.frames_are

@@ -6,7 +6,7 @@ use Rattle.trace_model.specs.declared.limits.TheConstants.{LINK_FILLS}
 use Rattle.trace_model.specs.History.{Reservation, reserve, leave, reservation_for, reserved_records}
 use Rattle.trace_model.specs.Packing.{tail_of, FitsBehind}
 use Rattle.trace_model.specs.Frames.{for_record, FrameState, waiting, reserved, left, idle, looking, Frame as ModelFrame}
-use Rattle.trace_model.specs.Ring.{Held, Core}
+use Rattle.trace_model.specs.Ring.{PageRecords, Core}
 use Rattle.trace_model.specs.Steps as model
 use Rattle.link_marks.proofs.StackSteps.{top_agrees}
 use Rattle.link_marks.specs.Seats.{IsPrivate}
@@ -21,7 +21,7 @@ use Rattle.nested_writer.specs.declared.frame.Progress.{Progress}
 use Rattle.nested_writer.specs.declared.frame.Progress.TheVariants.{Waiting, Through, Reserved, Left}
 use Rattle.nested_writer.specs.declared.frame.Frame.{Frame}
 use Rattle.nested_writer.specs.Stack.{Stack, opened, next_number, kind_of, state_of}
-use Rattle.nested_writer.specs.Calls.{with_progress, after_leave, HasLeft, IsCrowded, IsReserved, IsTopSlot}
+use Rattle.nested_writer.specs.Calls.{with_progress, after_leave, HasLeft, IsCrowded, ReservesRecord, IsTopSlot}
 use Rattle.nested_writer.specs.Allotted.{HasActed, first_try, HasFit, IsAllotted}
 use Rattle.nested_writer.specs.Answered.{FitsTail, WantsFill, HasItsFill, IsAnswered}
 use Rattle.nested_writer.specs.Ends.{IsEnd}
@@ -198,7 +198,7 @@ module _ (n size start : ℕ) (v : FramesValue) (c : Core) (core : HasFrames n s
   reserved_alike Close slot = resting
 
   record_reserved : (moment len : ℕ) (place : Place) (stack : Stack) (slot : Slot) → kind_of top.purpose ≡ for_record moment len → state_of top.progress ≡ waiting → FitsTail v.stack c.history moment len → next_number v.stack ≡ length (reserved_records c.history)
-      → IsReserved v.stack top rest moment len place stack
+      → ReservesRecord v.stack top rest moment len place stack
       → HasActed v.stack (reserve ∷ []) stack
       → slot.number ≡ next_number v.stack
       → IsPrivateStep n size start c model.steps (ReservedAs record { 0 = slot.number }) (record v { stack = stack })
@@ -208,8 +208,8 @@ module _ (n size start : ℕ) (v : FramesValue) (c : Core) (core : HasFrames n s
       let after : Core = model.in_reserved (model.with_reservation c r) frame below number in
       let own : Slot = record { number = next_number v.stack; fill = Rattle.nested_writer.specs.Stack.tail_fill v.stack; place = place } in
       let frames_is : stack.frames ≡ record top { progress = Reserved own } ∷ rest = ap (λ (s : Stack). s.frames) is.others in
-      let tail : Held = model.contents_of c (model.tail_page c) in
-      let held : Held = record { first = tail.first; records = tail.records ++ r ∷ [] } in
+      let tail : PageRecords = model.contents_of c (model.tail_page c) in
+      let held : PageRecords = record { first = tail.first; records = tail.records ++ r ∷ [] } in
       privately n size start (record v { stack = stack }) c model.steps (ReservedAs record { 0 = slot.number }) (model.reserved_as number) after
       (waits_step (model.reserved_as number) after waits (model.reserves moment len r kind refl (subst (λ (s : ℕ). FitsBehind s (tail_of c.history) r) k.size_is fits) refl refl))
       own_step

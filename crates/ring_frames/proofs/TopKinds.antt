@@ -13,7 +13,7 @@ use Rattle.ring_frames.specs.declared.answer.Answer.{Answer}
 use Rattle.ring_frames.specs.declared.answer.Answer.TheVariants.{Pushed}
 use Rattle.ring_frames.specs.Value.{FramesValue}
 use Rattle.ring_frames.specs.AreFrames.{ring_frames, AreFrames}
-use Rattle.ring_frames.specs.Answers.{Tells, KeepsTop}
+use Rattle.ring_frames.specs.Answers.{IsAnswerOf, KeepsTop}
 
 -- ---- in the model
 
@@ -57,8 +57,8 @@ module _ (n size : ℕ) (c : Core) (frame : Frame) where
     kept : (a : model.Answer) (next : Core) → answer ≡ a → after ≡ next → KeepsKind a (frame ∷ below) next.frames → IsKept
     kept a next a_is next_is keeps = subst (λ (x : model.Answer). KeepsKind x (frame ∷ below) after.frames) (sym a_is) (subst (λ (d : Core). KeepsKind a (frame ∷ below) d.frames) (sym next_is) keeps)
 
-    anew : (noted : ℕ) → model.BeginsAnew c frame below noted answer after → IsKept
-    anew noted late = kept _ _ late.answer_is late.after_is (begun frame.kind frame.state c below)
+    again : (noted : ℕ) → model.BeginsAgain c frame below noted answer after → IsKept
+    again noted late = kept _ _ late.answer_is late.after_is (begun frame.kind frame.state c below)
 
     kept_idle : (state : FrameState) → model.IdleStep n size c frame below state answer after → IsKept
     kept_idle waiting (model.reserves moment len r kind r_is fits a is) = kept _ _ a is refl
@@ -71,21 +71,21 @@ module _ (n size : ℕ) (c : Core) (frame : Frame) where
 
     kept_by : (phase : Phase) → model.FrameStep n size c frame below phase answer after → IsKept
     kept_by idle step = kept_idle frame.state step
-    kept_by (looking noted) (model.look_late late) = anew noted late
+    kept_by (looking noted) (model.look_late late) = again noted late
     kept_by (looking noted) (model.sees_free page at link a is) = kept _ _ a is refl
     kept_by (looking noted) (model.sees_header page lost at sum link a is) = kept _ _ a is refl
     kept_by (looking noted) (model.sees_update page lost at sum link a is) = kept _ _ a is refl
-    kept_by (claiming noted page) (model.claim_late late) = anew noted late
+    kept_by (claiming noted page) (model.claim_late late) = again noted late
     kept_by (claiming noted page) (model.claims lost at sum link a is) = kept _ _ a is refl
     kept_by (claiming noted page) (model.claim_fails at none a is) = kept _ _ a is refl
-    kept_by (looking_next role noted page) (model.next_late helps late) = anew noted late
+    kept_by (looking_next role noted page) (model.next_late helps late) = again noted late
     kept_by (looking_next role noted page) (model.sees_normal lost next goes sum link a is) = kept _ _ a is refl
     kept_by (looking_next role noted page) (model.sees_other lost goes sum other a is) = kept _ _ a is refl
-    kept_by (marking role noted page next) (model.mark_late helps late) = anew noted late
+    kept_by (marking role noted page next) (model.mark_late helps late) = again noted late
     kept_by (marking role noted page next) (model.marks lost goes sum link a is) = kept _ _ a is refl
     kept_by (marking role noted page next) (model.mark_fails lost goes sum other a is) = kept _ _ a is refl
     kept_by (clearing noted page) (model.clears lost sum link a is) = kept _ _ a is refl
-    kept_by (opening noted page) (model.open_late late) = anew noted late
+    kept_by (opening noted page) (model.open_late late) = again noted late
     kept_by (opening noted page) (model.opens at a is) = kept _ _ a is (begun frame.kind frame.state (model.with_new_tail c page) below)
     kept_by releasing (model.releases none more a is) = kept _ _ a is (ap top_kind top)
     kept_by releasing (model.releases_last none last a is) = kept _ _ a is refl
@@ -136,7 +136,7 @@ shown_len : (frames : List stack.Frame) (phase : code.Phase) (below : List code.
 shown_len [] phase below = refl
 shown_len (top ∷ frames) phase below = len_is top.purpose
 
-module _ (n size start : ℕ) (old new : FramesValue) (c after : Core) (result : Answer) (answer : model.Answer) (before_are : AreFrames n size start old c) (after_are : AreFrames n size start new after) (tells : Tells size result answer) where
+module _ (n size start : ℕ) (old new : FramesValue) (c after : Core) (result : Answer) (answer : model.Answer) (before_are : AreFrames n size start old c) (after_are : AreFrames n size start new after) (tells : IsAnswerOf size result answer) where
   top_len : (v : FramesValue) (d : Core) → AreFrames n size start v d → pushed_len v.stack.frames ≡ kind_len (top_kind d.frames)
   top_len v d are = shown_len v.stack.frames v.phase v.below ∙ ap (λ (fs : List Frame). kind_len (top_kind fs)) (sym are.frames_are)
 
@@ -147,15 +147,15 @@ module _ (n size start : ℕ) (old new : FramesValue) (c after : Core) (result :
       λ kinds. top_len new after after_are ∙ ap kind_len kinds ∙ sym (top_len old c before_are) in
       record {
         going = λ is.
-            let told : answer ≡ model.going = subst (λ (r : Answer). Tells size r answer) is tells in
+            let told : answer ≡ model.going = subst (λ (r : Answer). IsAnswerOf size r answer) is tells in
             same (kind_kept n size c model.going after (subst (λ (a : model.Answer). model.Step n size c model.steps a after) told step));
         reserved = λ number is.
-            let told : answer ≡ model.reserved_as number.0 = subst (λ (r : Answer). Tells size r answer) is tells in
+            let told : answer ≡ model.reserved_as number.0 = subst (λ (r : Answer). IsAnswerOf size r answer) is tells in
             same (kind_kept n size c (model.reserved_as number.0) after (subst (λ (a : model.Answer). model.Step n size c model.steps a after) told step));
       }
 
   -- and a frame that is pushed is for the payload that is asked for
   pub pushes_top : (moment len : ℕ) → model.Step n size c (model.pushes moment len) answer after → result ≡ Pushed → pushed_len new.stack.frames ≡ Some len
   pushes_top moment len step is =
-      let told : answer ≡ model.pushed = subst (λ (r : Answer). Tells size r answer) is tells in
+      let told : answer ≡ model.pushed = subst (λ (r : Answer). IsAnswerOf size r answer) is tells in
       top_len new after after_are ∙ ap kind_len (kind_pushed n size c moment len after (subst (λ (a : model.Answer). model.Step n size c (model.pushes moment len) a after) told step))

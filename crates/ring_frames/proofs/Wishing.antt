@@ -21,7 +21,7 @@ use Rattle.ring_frames.specs.declared.answer.Answer.{Answer}
 use Rattle.ring_frames.specs.declared.answer.Answer.TheVariants.{Going, Gone}
 use Rattle.ring_frames.specs.Value.{FramesValue, phase_of}
 use Rattle.ring_frames.specs.AreFrames.{ring_frames, AreBelow, AreNotedAlike, AreFrames, HasFrames}
-use Rattle.ring_frames.specs.Answers.{Tells}
+use Rattle.ring_frames.specs.Answers.{IsAnswerOf}
 use Rattle.ring_frames.specs.Fills.{told_in, IsLookForWish, GrantsNone}
 use Rattle.ring_frames.proofs.Privately.{kept_of}
 use Rattle.ring_frames.proofs.Bottom.{IsAlone, alone}
@@ -40,7 +40,7 @@ module _ (n size start : ℕ) (v : FramesValue) (c : Core) (core : HasFrames n s
   frame_in : Phase → Frame
   frame_in phase = record { kind = kind_of one.purpose; state = left; phase = phase_of phase }
 
-  looks : (result : Answer) (new : FramesValue) (answer : model.Answer) (frames : List Frame) (history : List Action) → model.WishStep n c (frame_in v.phase) [] answer (told_in c frames history) → Tells size result answer → AreFrames n size start new (told_in c frames history)
+  looks : (result : Answer) (new : FramesValue) (answer : model.Answer) (frames : List Frame) (history : List Action) → model.WishStep n c (frame_in v.phase) [] answer (told_in c frames history) → IsAnswerOf size result answer → AreFrames n size start new (told_in c frames history)
       → IsLookForWish n size start c result new
   unfolding frame_in
   looks result new answer frames history step tells shows = record {

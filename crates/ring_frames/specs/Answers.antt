@@ -81,19 +81,19 @@ pub record IsTakenPage (size : ℕ) (page : Contents) (missed : ℕ) (t : Taken)
   pub missed_is : missed ≡ t.skipped
 
 -- the answer means that of the model
-abbrev pub Tells : (size : ℕ) → Answer → model.Answer → Type 0
-Tells size Pushed told = told ≡ model.pushed
-Tells size Going told = told ≡ model.going
-Tells size (Reserved number) told = told ≡ model.reserved_as number.0
-Tells size (Ended Pending) told = told ≡ model.pending
-Tells size (Ended Full) told = told ≡ model.full
-Tells size Gone told = told ≡ model.gone
-Tells size (Refused fault) told = told ≡ model.refused (refusal_of fault)
-Tells size (Looking body) told = told ≡ model.reading
-Tells size (Empty done body) told = told ≡ model.empty done
-Tells size (Moving fill body) told = told ≡ model.moving fill.0
-Tells size (IsTaken page missed) told = (t : Taken) × (told ≡ model.swapped t) × IsTakenPage size page missed t
-Tells size (Wished fill) told = told ≡ model.wished_for fill.0
+abbrev pub IsAnswerOf : (size : ℕ) → Answer → model.Answer → Type 0
+IsAnswerOf size Pushed told = told ≡ model.pushed
+IsAnswerOf size Going told = told ≡ model.going
+IsAnswerOf size (Reserved number) told = told ≡ model.reserved_as number.0
+IsAnswerOf size (Ended Pending) told = told ≡ model.pending
+IsAnswerOf size (Ended Full) told = told ≡ model.full
+IsAnswerOf size Gone told = told ≡ model.gone
+IsAnswerOf size (Refused fault) told = told ≡ model.refused (refusal_of fault)
+IsAnswerOf size (Looking body) told = told ≡ model.reading
+IsAnswerOf size (Empty done body) told = told ≡ model.empty done
+IsAnswerOf size (Moving fill body) told = told ≡ model.moving fill.0
+IsAnswerOf size (IsTaken page missed) told = (t : Taken) × (told ≡ model.swapped t) × IsTakenPage size page missed t
+IsAnswerOf size (Wished fill) told = told ≡ model.wished_for fill.0
 
 -- A slot that is reserved by this answer holds only zeros.
 abbrev pub ZerosSlot : Stack → Answer → Stack → Type 0

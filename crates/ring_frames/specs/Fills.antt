@@ -11,14 +11,14 @@ use Rattle.nested_writer.specs.Released.{IsWrittenPage}
 use Rattle.ring_frames.specs.declared.answer.Answer.{Answer}
 use Rattle.ring_frames.specs.Value.{FramesValue}
 use Rattle.ring_frames.specs.AreFrames.{AreFrames}
-use Rattle.ring_frames.specs.Answers.{Tells}
+use Rattle.ring_frames.specs.Answers.{IsAnswerOf}
 
 -- The next fill is begun, on whatever page, and the frame on top begins again, in any state whose frames these are.
 abbrev pub OpensFill : FramesValue → Answer → FramesValue → Type 0
 OpensFill old result new = (n size start page : ℕ) (c : Core) (frame : Frame) (below : List Frame)
     → AreFrames n size start old c
     → c.frames ≡ frame ∷ below
-    → Tells size result (model.begin_answer frame.kind frame.state below)
+    → IsAnswerOf size result (model.begin_answer frame.kind frame.state below)
     × AreFrames n size start new
     (model.after_begin frame.kind frame.state (model.with_new_tail c page) frame below)
 
@@ -51,7 +51,7 @@ pub record IsLookForWish (n size start : ℕ) (c : Core) (result : Answer) (new 
   pub frames : List Frame
   pub history : List Action
   pub step : model.Step n size c model.steps answer (told_in c frames history)
-  pub tells : Tells size result answer
+  pub tells : IsAnswerOf size result answer
   pub are : AreFrames n size start new (told_in c frames history)
 
 -- so in each state whose frames these are, in which the wish is this, and which steps from a new ring reach

@@ -12,11 +12,11 @@ use Rattle.ring_frames.specs.declared.phase.Phase.{Phase}
 use Rattle.ring_frames.specs.declared.answer.Answer.{Answer}
 use Rattle.ring_frames.specs.Value.{FramesValue, phase_of}
 use Rattle.ring_frames.specs.AreFrames.{AreFrames, HasFrames}
-use Rattle.ring_frames.specs.Answers.{Tells}
+use Rattle.ring_frames.specs.Answers.{IsAnswerOf}
 
 -- the frames are those of some state, between two steps or during one
-abbrev pub IsShown : FramesValue → Type 0
-IsShown v = (n size start : ℕ) × (c : Core) × AreFrames n size start v c
+abbrev pub AreSomeFrames : FramesValue → Type 0
+AreSomeFrames v = (n size start : ℕ) × (c : Core) × AreFrames n size start v c
 
 -- they are those of some state that steps from a new ring reach
 abbrev pub IsFrames : FramesValue → Type 0
@@ -36,7 +36,7 @@ pub record IsPrivateStep (n size start : ℕ) (c : Core) (event : model.Event) (
   pub after : Core
   pub step : model.Step n size c event answer after
   pub private : IsPrivate c event
-  pub tells : Tells size result answer
+  pub tells : IsAnswerOf size result answer
   pub are : AreFrames n size start new after
 
 -- so in each state whose frames these are, and which steps from a new ring reach
@@ -61,11 +61,11 @@ pub record IsNotedIn (old new : Phase) (noted : ℕ) : Type 0 where
   pub behind : noted_fill (phase_of new) ≡ Some noted
 
 -- the frame on top begins again, in any state whose frames these are, and answers so
-abbrev pub BeginsAnew : FramesValue → Answer → FramesValue → Type 0
-BeginsAnew old result new = (n size start : ℕ) (c : Core) (frame : Frame) (below : List Frame)
+abbrev pub BeginsAgain : FramesValue → Answer → FramesValue → Type 0
+BeginsAgain old result new = (n size start : ℕ) (c : Core) (frame : Frame) (below : List Frame)
     → AreFrames n size start old c
     → c.frames ≡ frame ∷ below
-    → Tells size result (model.begin_answer frame.kind frame.state below)
+    → IsAnswerOf size result (model.begin_answer frame.kind frame.state below)
     × AreFrames n size start new (model.after_begin frame.kind frame.state c frame below)
 
 -- the frame on top, which has no record, leaves, and answers so
@@ -73,7 +73,7 @@ abbrev pub LeavesWithout : FramesValue → Answer → FramesValue → Type 0
 LeavesWithout old result new = (n size start : ℕ) (c : Core) (frame : Frame) (below : List Frame)
     → AreFrames n size start old c
     → c.frames ≡ frame ∷ below
-    → Tells size result (model.leave_answer below)
+    → IsAnswerOf size result (model.leave_answer below)
     × AreFrames n size start new (model.after_leave c frame below None)
 
 -- a close frame is on top that noted this number of begun fills

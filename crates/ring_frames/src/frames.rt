@@ -28,11 +28,11 @@ pub struct Frames {
 
 impl Model for Frames {
     ghost use Rattle.ring_frames.specs.Value.{FramesValue};
-    ghost use Rattle.ring_frames.specs.Inside.{shown, IsInside};
+    ghost use Rattle.ring_frames.specs.Inside.{frames_in, IsInside};
 
     ghost Value = { FramesValue };
 
-    ghost view = { shown };
+    ghost view = { frames_in };
 
     ghost invariant = { IsInside };
 }
@@ -40,7 +40,7 @@ impl Model for Frames {
 impl Frames {
     ghost use Rattle.std.specs.Prelude.{◌≡◌, ◌≢◌, true, false, ◌+◌, ◌%◌, ◌≤◌, ◌<◌, ◌↔◌, [], length, IfOk, IsTrue};
     ghost use Rattle.trace_model.specs.declared.limits.TheConstants.{MIN_PAGES, MAX_PAGES, MIN_SIZE, MAX_SIZE, MAX_FRAMES, LINK_FILLS};
-    ghost use Rattle.trace_model.specs.Steps.{GoesOn};
+    ghost use Rattle.trace_model.specs.Steps.{MayOpen};
     ghost use Rattle.nested_writer.specs.Stack.{opened};
     ghost use Rattle.nested_writer.specs.Calls.{top_of};
     ghost use Rattle.ring_frames.specs.declared.phase.Role.TheVariants.{Helper};
@@ -126,7 +126,7 @@ impl Frames {
     #[inline(always)]
     pub fn stops(&self, role: Role, noted: u64) -> bool
         ensures stops { result ≡ true → (role ≡ Helper) × (noted ≢ opened self.now.stack) }
-        ensures goes_on { result ≡ false → GoesOn (role_of role) noted (opened self.now.stack) }
+        ensures goes_on { result ≡ false → MayOpen (role_of role) noted (opened self.now.stack) }
     {
         match role {
             Role::Owner => false,

@@ -1,7 +1,7 @@
 //! The ring as a value, one event at a time: a call of the running ring's ends is made of its single steps.
 ghost use Rattle.std.specs.Prelude.{◌≡◌};
 ghost use Rattle.ring_core.specs.Value.{CoreValue};
-ghost use Rattle.ring_core.specs.Steps.{IsRing};
+ghost use Rattle.ring_core.specs.Steps.{IsReachedCore};
 
 use crate::event::Shape;
 use crate::reply::unread_text;
@@ -32,7 +32,7 @@ impl Model for Value {
 
     ghost view = { λ v. v.core };
 
-    ghost invariant = { λ v. IsRing v.core
+    ghost invariant = { λ v. IsReachedCore v.core
         × (v.core.stack.size ≡ v.shape.size) };
 }
 

@@ -32,7 +32,7 @@ use Rattle.ring_shared.specs.WholeWrites.{IsWritten}
 use Rattle.ring_shared.proofs.Behind.{behind, behind_write}
 use Rattle.ring_shared.proofs.Privately.{behind_is}
 use Rattle.ring_shared.proofs.Standing.{frames_in}
-use Rattle.ring_shared.proofs.Aims.{frames_of}
+use Rattle.ring_shared.proofs.Targets.{frames_of}
 use Rattle.ring_shared.proofs.Finishes.{reserving_first, reserving_ends, leaves_behind}
 use Rattle.ring_shared.proofs.WholeWrites.{HasBegun, has_begun, leaves_below}
 

@@ -10,7 +10,7 @@ use Rattle.link_marks.proofs.StepsAppend.{steps_append, leave_not_refused}
 use Rattle.nested_writer.specs.declared.stack.leave.Ended.{Ended as How}
 use Rattle.nested_writer.specs.declared.stack.leave.Ended.TheVariants.{Pending, Full}
 use Rattle.ring_frames.specs.declared.answer.Answer.TheVariants.{Ended}
-use Rattle.ring_frames.specs.Answers.{Tells, refusal_of}
+use Rattle.ring_frames.specs.Answers.{IsAnswerOf, refusal_of}
 use Rattle.ring_steps.specs.Views.{Writing, writing_of}
 use Rattle.ring_shared.specs.Laws.{CallsAppend, PushesAppend, ClosesAppend, EndsAppend, ReservationsAppend, NumbersAreToldAgain, RefusalsAppend, actions_of_refusal}
 
@@ -44,7 +44,7 @@ closes_append shape before after call =
 
 -- ---- an end
 
-ended_not_refused : (size : ℕ) (how : How) (answer : model.Answer) (why : Refusal) → Tells size (Ended how) answer → answer ≢ model.refused why
+ended_not_refused : (size : ℕ) (how : How) (answer : model.Answer) (why : Refusal) → IsAnswerOf size (Ended how) answer → answer ≢ model.refused why
 ended_not_refused size Pending answer why told a = cc
 ended_not_refused size Full answer why told a = cc
 
@@ -107,7 +107,7 @@ numbers_again shape before frame below number result after top has call =
     let r = calls_append shape before _ _ after call in
     let appends = subst (λ (fs : List Frame). TopAppends shape.pages r.core fs r.answer r.actions) (frames_are r.core before (frame ∷ below) r.before_is top) r.appends in
     let (told, is) = again_action shape.pages r.core below r.answer r.actions frame.kind frame.state frame.phase number has appends in
-    (subst (Tells shape.size result) told r.tells, r.history_is ∙ ap (λ (actions : List Action). before.history ++ actions) is ∙ append-nil before.history)
+    (subst (IsAnswerOf shape.size result) told r.tells, r.history_is ∙ ap (λ (actions : List Action). before.history ++ actions) is ∙ append-nil before.history)
 
 -- ---- a refusal
 

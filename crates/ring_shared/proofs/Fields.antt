@@ -46,12 +46,12 @@ module _ (w v : ReaderValue) (same : w ≡ v) (is : IsReader v) where
 
   -- no take has answered that it found nothing
   pub not_empty : v.empty_at ≡ None → (done : ℕ) → w.empty_at ≡ Some done → ⊥
-  not_empty anew done e = let none : w.empty_at ≡ None = ap (λ (x : ReaderValue). x.empty_at) same ∙ anew in let both = sym none ∙ e in absurd (cc)
+  not_empty again done e = let none : w.empty_at ≡ None = ap (λ (x : ReaderValue). x.empty_at) same ∙ again in let both = sym none ∙ e in absurd (cc)
 
   pub shown : (shape : Shape) (table : TableId) (after : Reading) (reader : ring.Reader) (at : Reader) → v.empty_at ≡ None → shape ≡ w.shape → Stays v.shape v.part after reader
       → AreFields reader at → KeepsSlot at.phase after.keeps_spare → SawPage at.phase
       → IsReader (record w { shape = shape; table = table; part = after; at = at })
-  shown shape table after reader at anew shape_is s fields keeps saw = shown_as shape table after reader at v.part.wish shape_is s fields keeps saw (λ done e. absurd (not_empty anew done e))
+  shown shape table after reader at again shape_is s fields keeps saw = shown_as shape table after reader at v.part.wish shape_is s fields keeps saw (λ done e. absurd (not_empty again done e))
 
 -- the order has as many pages as the ring
 pub positions : (v : ReaderValue) → IsReader v → length v.order ≡ v.shape.pages

@@ -22,8 +22,8 @@ use Rattle.ring_shared.specs.declared.writer.finish.Finished.{Finished}
 use Rattle.ring_shared.specs.declared.writer.finish.Finished.TheVariants as finished
 use Rattle.ring_shared.specs.Value.{WriterValue}
 use Rattle.ring_shared.specs.Calls.{IsWriter, IsCall}
-use Rattle.ring_shared.specs.Finishing.{GoesOn, at_once, one_more, IsReservedOr, is_reserved, stays_refused, is_refused, Leaves, Closes, Finishes, IsNumberOrRefused, IsBrief, IsFinished, IsGoneOrRefused}
-use Rattle.ring_shared.proofs.Aims.{frames_of}
+use Rattle.ring_shared.specs.Finishing.{MakesSteps, at_once, one_more, IsReservedOr, is_reserved, stays_refused, is_refused, Leaves, Closes, Finishes, IsNumberOrRefused, IsOutcomeOf, IsFinished, IsGoneOrRefused}
+use Rattle.ring_shared.proofs.Targets.{frames_of}
 use Rattle.ring_shared.proofs.Finishes.{IsRefusal, leaves_behind, IsAmidLeaving, leaving_first, leaving_going, leaving_gone}
 use Rattle.ring_shared.proofs.WholeWrites.{HasTopRecord, top_slot_of}
 
@@ -73,7 +73,7 @@ slot_of_number v w below result h =
     top_slot_of v w h.next.kind below t
 
 -- so what the brief answer states
-pub finished_so : (old new : WriterValue) (w : IsWriter new) (answer : Answer) (to : Finished) → IsBrief answer to → TellsTop answer new.part.frames → Finishes old.shape old.part answer new.part → IsFinished old to new
+pub finished_so : (old new : WriterValue) (w : IsWriter new) (answer : Answer) (to : Finished) → IsOutcomeOf answer to → TellsTop answer new.part.frames → Finishes old.shape old.part answer new.part → IsFinished old to new
 finished_so old new w answer finished.Reserved (number, is) (inl (below, h)) f =
     let (slot, at) = slot_of_number new w below answer h in
     (slot, at, subst (λ (x : Answer). Finishes old.shape old.part x new.part) (number_of_slot new w below answer h slot at) f)
@@ -85,7 +85,7 @@ finished_so old new w answer (finished.Refused fault) is tells f = subst (λ (x 
 
 module _ (shape : Shape) (below : List Frame) (before : Writing) where
   -- what is made after steps that it made
-  pub leaves_then : (now : Writing) → GoesOn shape before now → (answer : Answer) (after : Writing) → Leaves shape below now answer after → Leaves shape below before answer after
+  pub leaves_then : (now : Writing) → MakesSteps shape before now → (answer : Answer) (after : Writing) → Leaves shape below now answer after → Leaves shape below before answer after
   leaves_then now at_once answer after l = l
   leaves_then now (one_more between end goes call) answer after l = leaves_then between goes answer after (leaves_behind shape below between now after answer call l)
 

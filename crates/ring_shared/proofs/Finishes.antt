@@ -10,16 +10,16 @@ use Rattle.nested_writer.specs.declared.fault.WriteFault.{WriteFault}
 use Rattle.ring_frames.specs.declared.answer.Answer.{Answer}
 use Rattle.ring_frames.specs.declared.answer.Answer.TheVariants.{Pushed, Going, Reserved, Ended, Gone, Refused, Looking, Empty, Moving, Taken, Wished}
 use Rattle.nested_writer.specs.declared.stack.leave.Ended.TheVariants.{Pending, Full}
-use Rattle.ring_frames.specs.Answers.{refusal_of, Tells}
+use Rattle.ring_frames.specs.Answers.{refusal_of, IsAnswerOf}
 use Rattle.ring_steps.specs.declared.rule.Shape.{Shape}
 use Rattle.ring_steps.specs.Views.{Writing}
 use Rattle.ring_shared.specs.Value.{WriterValue, SameWriter}
 use Rattle.ring_shared.specs.Calls.{IsCall, MakesSome}
-use Rattle.ring_shared.specs.Finishing.{GoesOn, at_once, one_more, IsReservedOr, is_reserved, stays_refused, is_refused, Reserves, Leaves, is_gone, was_refused, met_behind, told_behind, IsGoneOrRefused}
+use Rattle.ring_shared.specs.Finishing.{MakesSteps, at_once, one_more, IsReservedOr, is_reserved, stays_refused, is_refused, Reserves, Leaves, is_gone, was_refused, met_behind, told_behind, IsGoneOrRefused}
 
 -- ---- what an answer states
 
-pub is_going : (size : ℕ) (result : Answer) (told : model.Answer) → Tells size result told → told ≡ model.going → result ≡ Going
+pub is_going : (size : ℕ) (result : Answer) (told : model.Answer) → IsAnswerOf size result told → told ≡ model.going → result ≡ Going
 is_going size Pushed told t e = absurd (let both : model.pushed ≡ model.going = sym t ∙ e in cc)
 is_going size Going told t e = refl
 is_going size (Reserved number) told t e = absurd (let both : model.reserved_as number.0 ≡ model.going = sym t ∙ e in cc)
@@ -37,7 +37,7 @@ is_going size (Wished fill) told t e = absurd (let both : model.wished_for fill.
 abbrev pub IsRefusal : Answer → Type 0
 IsRefusal result = (fault : WriteFault) × (result ≡ Refused fault)
 
-pub is_refusal : (size : ℕ) (result : Answer) (told : model.Answer) (why : Refusal) → Tells size result told → told ≡ model.refused why → IsRefusal result
+pub is_refusal : (size : ℕ) (result : Answer) (told : model.Answer) (why : Refusal) → IsAnswerOf size result told → told ≡ model.refused why → IsRefusal result
 is_refusal size Pushed told why t e = absurd (let both : model.pushed ≡ model.refused why = sym t ∙ e in cc)
 is_refusal size Going told why t e = absurd (let both : model.going ≡ model.refused why = sym t ∙ e in cc)
 is_refusal size (Reserved number) told why t e = absurd (let both : model.reserved_as number.0 ≡ model.refused why = sym t ∙ e in cc)
@@ -51,7 +51,7 @@ is_refusal size (Moving fill body) told why t e = absurd (let both : model.movin
 is_refusal size (Taken page missed) told why t e = absurd (let both : model.swapped t.0 ≡ model.refused why = sym t.1 ∙ e in cc)
 is_refusal size (Wished fill) told why t e = absurd (let both : model.wished_for fill.0 ≡ model.refused why = sym t ∙ e in cc)
 
-pub is_gone_told : (size : ℕ) (result : Answer) (told : model.Answer) → Tells size result told → told ≡ model.gone → result ≡ Gone
+pub is_gone_told : (size : ℕ) (result : Answer) (told : model.Answer) → IsAnswerOf size result told → told ≡ model.gone → result ≡ Gone
 is_gone_told size Pushed told t e = absurd (let both : model.pushed ≡ model.gone = sym t ∙ e in cc)
 is_gone_told size Going told t e = absurd (let both : model.going ≡ model.gone = sym t ∙ e in cc)
 is_gone_told size (Reserved number) told t e = absurd (let both : model.reserved_as number.0 ≡ model.gone = sym t ∙ e in cc)
@@ -69,7 +69,7 @@ is_gone_told size (Wished fill) told t e = absurd (let both : model.wished_for f
 abbrev pub TellsNumber : Answer → ℕ → Type 0
 TellsNumber result number = (told : Rattle.trace_model.specs.declared.numbers.RecordNo.RecordNo) × (result ≡ Reserved told) × (told.0 ≡ number)
 
-pub is_number : (size : ℕ) (result : Answer) (told : model.Answer) (number : ℕ) → Tells size result told → told ≡ model.reserved_as number → TellsNumber result number
+pub is_number : (size : ℕ) (result : Answer) (told : model.Answer) (number : ℕ) → IsAnswerOf size result told → told ≡ model.reserved_as number → TellsNumber result number
 is_number size Pushed told n t e = absurd (let both : model.pushed ≡ model.reserved_as n = sym t ∙ e in cc)
 is_number size Going told n t e = absurd (let both : model.going ≡ model.reserved_as n = sym t ∙ e in cc)
 is_number size (Reserved number) told n t e = (number, refl, (let both : model.reserved_as number.0 ≡ model.reserved_as n = sym t ∙ e in cc))
@@ -98,7 +98,7 @@ leaving_unnumbered kind Rattle.trace_model.specs.Frames.left is = refl
 
 module _ (shape : Shape) where
   -- one step before others
-  first_goes : (before between after : Writing) → IsCall shape before model.steps Going between → GoesOn shape between after → GoesOn shape before after
+  first_goes : (before between after : Writing) → IsCall shape before model.steps Going between → MakesSteps shape between after → MakesSteps shape before after
   first_goes before between after call at_once = one_more before after at_once call
   first_goes before between after call (one_more last end goes more) = one_more last after (first_goes before between last call goes) more
 

@@ -35,6 +35,6 @@ first_part shape part is same =
         spare_link_is = sym s.spare_link;
         reader_is = sym s.reader;
         wish_is = sym s.wish;
-        heard_is = sym (ap (λ (r : Reader). take r.expected (map as_record (reserved_records c.history))) s.reader);
+        observed_is = sym (ap (λ (r : Reader). take r.expected (map as_record (reserved_records c.history))) s.reader);
       };
     }

@@ -14,7 +14,7 @@ pub mod Standing
 pub mod Swapped
 pub mod TakeSteps
 pub mod Depths
-pub mod Aims
+pub mod Targets
 pub mod Finishes
 pub mod Nearing
 pub mod PushedEnded

@@ -17,13 +17,13 @@ use Rattle.ring_shared.specs.Takes.{TakesNothing, IsSentAway, IsTake, ReadsSo, I
 use Rattle.ring_shared.proofs.TakeSteps.{Stays, passed_below_hint}
 
 pub nothing_yet : (part : Reading) → TakesNothing part part
-nothing_yet part = record { taken_is = refl; heard_is = refl; expected_is = refl; wish_is = refl; hint_le = omega arith; seen_le = omega arith }
+nothing_yet part = record { taken_is = refl; observed_is = refl; expected_is = refl; wish_is = refl; hint_le = omega arith; seen_le = omega arith }
 
 pub nothing_more : (before mid after : Reading) → TakesNothing before mid → TakesNothing mid after → TakesNothing before after
 nothing_more before mid after a b =
     let hint = a.hint_le in let seen = a.seen_le in let hint_on = b.hint_le in let seen_on = b.seen_le in record {
       taken_is = b.taken_is ∙ a.taken_is;
-      heard_is = b.heard_is ∙ a.heard_is;
+      observed_is = b.observed_is ∙ a.observed_is;
       expected_is = b.expected_is ∙ a.expected_is;
       wish_is = b.wish_is ∙ a.wish_is;
       hint_le = omega arith;
@@ -47,7 +47,7 @@ answered shape before mid after body had (Page page missed) a same t =
       wish_is = t.wish_is ∙ a.wish_is;
       lost = t.lost;
       lost_are = t.lost_are;
-      heard_is = t.heard_is ∙ ap (λ (l : List Record). l ++ t.lost ++ records_of_page page) a.heard_is;
+      observed_is = t.observed_is ∙ ap (λ (l : List Record). l ++ t.lost ++ records_of_page page) a.observed_is;
       partition = t.partition;
     }
 answered shape before mid after body had (Empty done back) a same (given, t) =
@@ -82,7 +82,7 @@ wish_stays shape before after sees answer r =
       order_is = r.after_is.order_is ∙ (ap (λ (d : ring.Core). d.order) is ∙ sym r.before_is.order_is);
       spare_is = r.after_is.spare_is ∙ (ap (λ (d : ring.Core). d.spare) is ∙ sym r.before_is.spare_is);
       wish_is = refl;
-      heard_is = r.after_is.heard_is
-          ∙ (ap (λ (d : ring.Core). let heard : List Record = take d.reader.expected (map as_record (reserved_records d.history)) in heard) is ∙ sym r.before_is.heard_is);
+      observed_is = r.after_is.observed_is
+          ∙ (ap (λ (d : ring.Core). let observed : List Record = take d.reader.expected (map as_record (reserved_records d.history)) in observed) is ∙ sym r.before_is.observed_is);
       reader_is = r.after_is.reader_is ∙ (ap (λ (d : ring.Core). d.reader) is ∙ sym r.before_is.reader_is);
     }

@@ -1,7 +1,7 @@
 -- What the steps make of the writer's fields by which pages come and go, and by which the reader's wish is looked for.
 use Rattle.std.proofs.Common.{◌≡◌, ◌≢◌, ℕ, List, [], ◌∷◌, ◌++◌, drop, refl, sym, ap, ◌∙◌, subst}
 use Rattle.trace_model.specs.Frames.{Kind, for_record, for_close, FrameState, waiting, reserved, left, opening, Frame}
-use Rattle.trace_model.specs.Ring.{Core, Held, fill_of}
+use Rattle.trace_model.specs.Ring.{Core, PageRecords, fill_of}
 use Rattle.trace_model.specs.Steps as model
 use Rattle.link_marks.proofs.StepsDetermined.{steps_are_determined}
 use Rattle.page_image.specs.Contents.{Contents}
@@ -12,7 +12,7 @@ use Rattle.ring_steps.specs.Paging.{begun_answer}
 use Rattle.ring_frames.specs.declared.answer.Answer.{Answer}
 use Rattle.ring_frames.specs.declared.answer.Answer.TheVariants.{Going}
 use Rattle.ring_frames.specs.Value.{FramesValue, phase_of}
-use Rattle.ring_frames.specs.Answers.{Tells}
+use Rattle.ring_frames.specs.Answers.{IsAnswerOf}
 use Rattle.ring_frames.specs.Fills.{OpensFill, Releases, released_in, LooksForWish, told_in}
 use Rattle.ring_shared.specs.Value.{WriterValue}
 use Rattle.ring_shared.specs.Calls.{IsWriter, MakesSome}
@@ -48,7 +48,7 @@ module _ (v new : WriterValue) (w : IsWriter v) (some : v.frames.stack.frames �
       let step = top_stepped v.shape.pages v.shape.size s.core t.frame t.below (opening noted page) answer s.next t.is_top (t.phase_is ∙ at) s.step in
       let after_is : s.next ≡ model.after_begin t.frame.kind t.frame.state (model.with_new_tail s.core page) t.frame t.below = opened t.frame t.below here step in
       let (tells, are) = opens v.shape.pages v.shape.size v.shape.start page s.core t.frame t.below (frames_in v w s.core s.before_is) t.is_top in
-      made v w new sees answer result shape_is table_is s (subst (Tells v.shape.size result) (sym begun) tells) (subst (FramesIn v.shape new.frames) (sym after_is) are)
+      made v w new sees answer result shape_is table_is s (subst (IsAnswerOf v.shape.size result) (sym begun) tells) (subst (FramesIn v.shape new.frames) (sym after_is) are)
       (ap (λ (c : Core). c.open_pages) after_is ∙ begun_pages t.frame.kind t.frame.state (model.with_new_tail s.core page) t.frame t.below
       ∙ ap (λ (pages : List ℕ). pages ++ page ∷ []) (pages_before answer s) ∙ sym pages_is)
     where
@@ -81,7 +81,7 @@ module _ (v new : WriterValue) (w : IsWriter v) (some : v.frames.stack.frames �
   looks_for_wish wish result answer looks pages_is s is_wish =
       let l = looks v.shape.pages v.shape.size v.shape.start s.core s.reached (frames_in v w s.core s.before_is) (is_wish s.seen) in
       let (same, after_is) = steps_are_determined v.shape.pages v.shape.size s.core model.steps answer l.answer s.next (told_in s.core l.frames l.history) s.step l.step in
-      made v w new sees answer result shape_is table_is s (subst (Tells v.shape.size result) (sym same) l.tells) (subst (FramesIn v.shape new.frames) (sym after_is) l.are)
+      made v w new sees answer result shape_is table_is s (subst (IsAnswerOf v.shape.size result) (sym same) l.tells) (subst (FramesIn v.shape new.frames) (sym after_is) l.are)
       (ap (λ (c : Core). c.open_pages) after_is ∙ (pages_before answer s ∙ sym pages_is))
 
 -- the page that is let go holds what the fill holds
@@ -92,4 +92,4 @@ is_written v w page new releases =
     let low = k.links.head_le in let high = k.links.done_lt in
     let r = releases v.shape.pages v.shape.size v.shape.start c w.reached w.frames_are in
     subst (λ (p : Writing). IsWrittenPage v.shape.size p.done (fill_of p.history v.shape.start p.done) page) w.part_is
-    (subst (λ (h : Held). IsWrittenPage v.shape.size c.done h page) (k.contents.each c.done low high) r.written)
+    (subst (λ (h : PageRecords). IsWrittenPage v.shape.size c.done h page) (k.contents.each c.done low high) r.written)

@@ -3,6 +3,7 @@ use Rattle.std.specs.Prelude.{None, Some, Option, Result, Ok, Err}
 use Rattle.std.proofs.Common.{◌≡◌, ◌≢◌, ℕ, List, [], ◌∷◌, length, refl, sym, ap, ◌∙◌, subst, inl, inr}
 use Rattle.trace_model.specs.declared.numbers.RecordNo.{RecordNo}
 use Rattle.trace_model.specs.Words.{slot_len}
+use Rattle.trace_model.proofs.Elements.{some_is}
 use Rattle.trace_model.specs.Frames.{Kind, for_record, for_close, FrameState, waiting, reserved, left, Refusal, Frame}
 use Rattle.trace_model.specs.Ring.{Core}
 use Rattle.trace_model.specs.Steps as model
@@ -15,15 +16,15 @@ use Rattle.nested_writer.specs.declared.fault.WriteFault.{WriteFault}
 use Rattle.nested_writer.specs.declared.stack.leave.Ended.TheVariants.{Pending}
 use Rattle.ring_frames.specs.declared.answer.Answer.{Answer}
 use Rattle.ring_frames.specs.declared.answer.Answer.TheVariants.{Pushed, Going, Reserved, Ended, Gone, Refused}
-use Rattle.ring_frames.specs.Answers.{Tells, refusal_of}
+use Rattle.ring_frames.specs.Answers.{IsAnswerOf, refusal_of}
 use Rattle.ring_steps.specs.declared.rule.Shape.{Shape}
 use Rattle.ring_steps.specs.Views.{Writing}
 use Rattle.ring_shared.specs.Value.{WriterValue}
 use Rattle.ring_shared.specs.Calls.{IsWriter, IsCall}
 use Rattle.ring_shared.specs.Lending.{FitsFrame}
 use Rattle.ring_shared.specs.WholeWrites.{IsWritten, IsRefusedWrite}
-use Rattle.ring_shared.specs.Finishing.{GoesOn, at_once, one_more, Leaves, is_gone, was_refused, FinishesFrame, FinishesTop, Finishes}
-use Rattle.ring_shared.specs.Rooms.{room_of, rooms_of, IsOneMore, IsTopRoom}
+use Rattle.ring_shared.specs.Finishing.{MakesSteps, at_once, one_more, Leaves, is_gone, was_refused, FinishesFrame, FinishesTop, Finishes}
+use Rattle.ring_shared.specs.Rooms.{room_of, rooms_of, rooms, IsOneMore, IsTopRoom}
 use Rattle.ring_shared.proofs.Finishes.{IsRefusal, is_refusal, is_gone_told}
 use Rattle.ring_shared.proofs.PushedEnded.{push_answers}
 use Rattle.ring_shared.proofs.Standing.{kept_now}
@@ -94,8 +95,8 @@ module _ (shape : Shape) (before : Writing) (event : model.Event) (result : Answ
   rooms_after : rooms_of call.next.frames ≡ rooms_of after.frames
   rooms_after = ap (λ (p : Writing). rooms_of p.frames) call.after_is
 
-  tells_so : (to : Answer) → result ≡ to → Tells shape.size to call.answer
-  tells_so to e = subst (λ (r : Answer). Tells shape.size r call.answer) e call.tells
+  tells_so : (to : Answer) → result ≡ to → IsAnswerOf shape.size to call.answer
+  tells_so to e = subst (λ (r : Answer). IsAnswerOf shape.size r call.answer) e call.tells
 
   more_rooms : IsOneMore (rooms_of call.core.frames) (rooms_of call.next.frames) → IsOneMore (rooms_of before.frames) (rooms_of after.frames)
   more_rooms (room, is) = (room, sym rooms_before ∙ is ∙ ap (λ (rs : List (Option ℕ)). room ∷ rs) rooms_after)
@@ -168,14 +169,14 @@ module _ (shape : Shape) (before : Writing) (result : Answer) (after : Writing) 
 -- ---- of a frame that is stepped as far as it gets
 
 -- steps that go on change no room
-goes_rooms : (shape : Shape) (before after : Writing) → GoesOn shape before after → rooms_of after.frames ≡ rooms_of before.frames
+goes_rooms : (shape : Shape) (before after : Writing) → MakesSteps shape before after → rooms_of after.frames ≡ rooms_of before.frames
 goes_rooms shape before _ at_once = refl
 goes_rooms shape before _ (one_more between after goes call) = going_rooms shape between Going after call refl ∙ goes_rooms shape before between goes
 
 -- the last step, and those before it
 record HasLast (shape : Shape) (before : Writing) (result : Answer) (after : Writing) : Type 0 where
   pub between : Writing
-  pub goes : GoesOn shape before between
+  pub goes : MakesSteps shape before between
   pub last : IsCall shape between model.steps result after
 
 module _ (shape : Shape) (result : Answer) (after : Writing) (goes_on : IsRefusal result → ⊥) where
@@ -244,3 +245,10 @@ top_room v w slot on_top fits =
     let agree = top_agrees w.core t.frame t.below at (kept_now v w).stack in
     let record_is : IsForRecord t.frame.kind = (subst (λ (s : FrameState). MayBeIn t.frame.kind s t.frame.phase) t.state_is agree.0).0 in
     (rooms_of t.below, ap rooms_of t.top ∙ ap (λ (room : Option ℕ). room ∷ rooms_of t.below) (room_of_record t.frame.kind slot.place.len record_is (λ moment len is. fits t.frame t.below moment len t.top is)))
+
+-- it is the first of the rooms
+pub same_room : (bytes : ℕ) (below : List (Option ℕ)) (v : WriterValue) → rooms v ≡ Some bytes ∷ below → (long : ℕ) → IsTopRoom v long → long ≡ bytes
+same_room bytes below v is long (others, top) =
+    let both : ◌≡◌ {A = List (Option ℕ)} (Some long ∷ others) (Some bytes ∷ below) = sym top ∙ is in
+    let heads : ◌≡◌ {A = Option ℕ} (Some long) (Some bytes) = cc in
+    some_is long bytes heads

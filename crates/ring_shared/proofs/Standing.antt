@@ -13,7 +13,7 @@ use Rattle.ring_steps.specs.Paging.{IsTopIn}
 use Rattle.ring_frames.specs.declared.answer.Answer.{Answer}
 use Rattle.ring_frames.specs.Value.{FramesValue, phase_of}
 use Rattle.ring_frames.specs.AreFrames.{AreFrames}
-use Rattle.ring_frames.specs.Answers.{Tells}
+use Rattle.ring_frames.specs.Answers.{IsAnswerOf}
 use Rattle.ring_frames.proofs.Same.{same_frames}
 use Rattle.ring_frames.proofs.Tops.{IsTopped, topped}
 use Rattle.ring_shared.specs.Value.{WriterValue}
@@ -53,7 +53,7 @@ module _ (v : WriterValue) (w : IsWriter v) where
       → new.shape ≡ v.shape
       → new.table ≡ v.table
       → (s : IsWriterStep v.shape v.part sees answer new.part)
-      → Tells v.shape.size result answer
+      → IsAnswerOf v.shape.size result answer
       → FramesIn v.shape new.frames s.next
       → s.next.open_pages ≡ new.pages
       → MakesSome v model.steps result new

@@ -11,7 +11,7 @@ use Rattle.link_marks.proofs.RingsKept.{reached_kept, reached_further}
 use Rattle.nested_writer.specs.declared.fault.WriteFault.{WriteFault}
 use Rattle.ring_frames.specs.declared.answer.Answer.{Answer}
 use Rattle.ring_frames.specs.declared.answer.Answer.TheVariants.{Going, Refused}
-use Rattle.ring_frames.specs.Answers.{Tells, refusal_of}
+use Rattle.ring_frames.specs.Answers.{IsAnswerOf, refusal_of}
 use Rattle.ring_steps.specs.declared.rule.Shape.{Shape}
 use Rattle.ring_steps.specs.Views.{Writing}
 use Rattle.ring_shared.specs.Calls.{IsCall}
@@ -179,7 +179,7 @@ module _ (shape : Shape) (before after : Writing) (result : Answer) (frame : Fra
   going_fills is going = (
     reported.actions,
     record_going shape.pages reported.core below reported.answer reported.actions frame.kind frame.state frame.phase is
-        (subst (λ (x : Answer). Tells shape.size x reported.answer) going reported.tells) appends,
+        (subst (λ (x : Answer). IsAnswerOf shape.size x reported.answer) going reported.tells) appends,
     reported.history_is,
   )
 
@@ -197,7 +197,7 @@ module _ (shape : Shape) (before after : Writing) (result : Answer) (frame : Fra
       still : (next.state ≡ left) ⊎ ((next.kind ≡ for_close) × (next.state ≡ waiting)) → LeftOrGone below result after.frames
       still (inl s) = has_left next above s
       still (inr (k, s)) = absurd (not_longer close_frame (pushed_frames below) (sym same ∙ ap pushed_frames above ∙ close_pushed next.kind next.state (pushed_frames below) k s))
-  popped same (is_gone a at) = has_gone (λ e. gone_not_going a (subst (λ (x : Answer). Tells shape.size x call.answer) e call.tells)) (frames_after shape before after result call below at)
+  popped same (is_gone a at) = has_gone (λ e. gone_not_going a (subst (λ (x : Answer). IsAnswerOf shape.size x call.answer) e call.tells)) (frames_after shape before after result call below at)
 
   -- a frame that has left acts for the reader
   pub left_step : frame.state ≡ left → (actions : List Action) × AreForReader actions × (after.history ≡ before.history ++ actions) × LeftOrGone below result after.frames

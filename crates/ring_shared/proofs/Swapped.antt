@@ -20,9 +20,9 @@ use Rattle.ring_shared.specs.Takes.{IsReaderPart, IsPageTaken, ReadsSo, IsAnswer
 use Rattle.ring_shared.proofs.TakeSteps.{Stays, known_after, facts, hint_is, so}
 
 -- the records that a reader has observed are parted into what it took and what was lost between
-pub parted : (shape : Shape) (part : Reading) → IsReaderPart shape part → IsPartition part.heard (pieces_of part.reader.taken) []
+pub parted : (shape : Shape) (part : Reading) → IsReaderPart shape part → IsPartition part.observed (pieces_of part.reader.taken) []
 parted shape part known = let kept = reached_kept shape.pages shape.size shape.start known.core known.reached in
-    subst (λ (heard : List Record). IsPartition heard (pieces_of part.reader.taken) []) (sym known.is.heard_is)
+    subst (λ (observed : List Record). IsPartition observed (pieces_of part.reader.taken) []) (sym known.is.observed_is)
     (subst (λ (x : ring.Reader). IsPartition (take known.core.reader.expected (map as_record (reserved_records known.core.history))) (pieces_of x.taken) []) (sym known.is.reader_is) kept.partition.partition)
 
 module _ (shape : Shape) (before : Reading) (page fill : ℕ) (after : Reading) (at : before.reader.phase ≡ ring.swapping page fill) where
@@ -51,7 +51,7 @@ module _ (shape : Shape) (before : Reading) (page fill : ℕ) (after : Reading) 
           wish_is = h.wish_is;
           lost = h.lost;
           lost_are = h.lost_are ∙ h.skipped_is;
-          heard_is = h.heard_is;
+          observed_is = h.observed_is;
           partition = parted shape after known;
         },
       )
@@ -66,7 +66,7 @@ module _ (shape : Shape) (before : Reading) (page fill : ℕ) (after : Reading) 
           order_is = ap (λ (r : Reading). r.order) h.after_is;
           spare_is = ap (λ (r : Reading). r.spare) h.after_is;
           wish_is = ap (λ (r : Reading). r.wish) h.after_is;
-          heard_is = ap (λ (r : Reading). r.heard) h.after_is;
+          observed_is = ap (λ (r : Reading). r.observed) h.after_is;
           reader_is = ap (λ (r : Reading). r.reader) h.after_is;
         },
         omega arith,

@@ -34,7 +34,7 @@ pub record Stays (shape : Shape) (before after : Reading) (reader : Reader) : Ty
   pub order_is : after.order ≡ before.order
   pub spare_is : after.spare ≡ before.spare
   pub wish_is : after.wish ≡ before.wish
-  pub heard_is : after.heard ≡ before.heard
+  pub observed_is : after.observed ≡ before.observed
   pub reader_is : after.reader ≡ reader
 
 -- a reader that knows no less, and took no more
@@ -43,7 +43,7 @@ pub nothing : (shape : Shape) (before after : Reading) (reader : Reader) → Sta
 nothing shape before after reader s taken expected hint seen =
     let at_hint = ap (λ (x : Reader). x.hint) s.reader_is in let at_seen = ap (λ (x : Reader). x.seen) s.reader_is in record {
       taken_is = ap (λ (x : Reader). x.taken) s.reader_is ∙ taken;
-      heard_is = s.heard_is;
+      observed_is = s.observed_is;
       expected_is = ap (λ (x : Reader). x.expected) s.reader_is ∙ expected;
       wish_is = s.wish_is;
       hint_le = omega arith;
@@ -105,9 +105,9 @@ module _ (shape : Shape) (before after : Reading) (sees : Core → Type 0) (answ
     order_is = r.after_is.order_is ∙ (ap (λ (d : Core). d.order) is ∙ sym r.before_is.order_is);
     spare_is = r.after_is.spare_is ∙ (ap (λ (d : Core). d.spare) is ∙ sym r.before_is.spare_is);
     wish_is = r.after_is.wish_is ∙ (ap (λ (d : Core). d.wish) is ∙ sym r.before_is.wish_is);
-    heard_is = r.after_is.heard_is
-        ∙ (ap (λ (d : Core). let heard : List Record = take d.reader.expected (map as_record (reserved_records d.history)) in heard) is
-        ∙ (ap (λ (e : ℕ). let heard : List Record = take e (map as_record (reserved_records r.core.history)) in heard) expected ∙ sym r.before_is.heard_is));
+    observed_is = r.after_is.observed_is
+        ∙ (ap (λ (d : Core). let observed : List Record = take d.reader.expected (map as_record (reserved_records d.history)) in observed) is
+        ∙ (ap (λ (e : ℕ). let observed : List Record = take e (map as_record (reserved_records r.core.history)) in observed) expected ∙ sym r.before_is.observed_is));
     reader_is = r.after_is.reader_is ∙ ap (λ (d : Core). d.reader) is;
   }
 

@@ -19,11 +19,11 @@ use Rattle.ring_frames.specs.AreFrames.{ring_frames}
 use Rattle.ring_frames.specs.Value.{phase_of}
 use Rattle.ring_steps.specs.declared.rule.Shape.{Shape}
 use Rattle.ring_steps.specs.Views.{Writing}
-use Rattle.ring_shared.specs.declared.writer.finish.Aim.TheVariants as aim
+use Rattle.ring_shared.specs.declared.writer.finish.Target.TheVariants as target
 use Rattle.ring_shared.specs.Value.{WriterValue}
 use Rattle.ring_shared.specs.Calls.{IsWriter, IsCall}
-use Rattle.ring_shared.specs.Finishing.{IsAim}
-use Rattle.ring_shared.proofs.Aims.{IsOnTop, frames_of}
+use Rattle.ring_shared.specs.Finishing.{IsTarget}
+use Rattle.ring_shared.proofs.Targets.{IsOnTop, frames_of}
 use Rattle.ring_shared.proofs.Depths.{depth_is}
 use Rattle.ring_shared.proofs.Finishes.{IsRefusal, is_going, is_refusal, is_number}
 use Rattle.ring_shared.proofs.FinishParts.{HasNumber, TellsTop}
@@ -119,9 +119,9 @@ module _ (shape : Shape) (before : Writing) (result : Answer) (after : Writing) 
       (none_answers shape.pages shape.size call.core call.answer call.next (ap (λ (p : Writing). p.frames) call.before_is ∙ none) call.step)
 
 -- one that makes a single step answers its record's number, or is refused
-step_in : (shape : Shape) (before : Writing) (result : Answer) (after : Writing) (frames : List stack.Frame) (phase : Phase) (below : List Phase) → before.frames ≡ ring_frames frames (phase ∷ below) → IsAim (top_of frames) aim.Step → IsCall shape before model.steps result after → TellsTop result after.frames
+step_in : (shape : Shape) (before : Writing) (result : Answer) (after : Writing) (frames : List stack.Frame) (phase : Phase) (below : List Phase) → before.frames ≡ ring_frames frames (phase ∷ below) → IsTarget (top_of frames) target.Step → IsCall shape before model.steps result after → TellsTop result after.frames
 step_in shape before result after [] phase below same is call = inr (none_refused shape before result after call same)
 step_in shape before result after (f ∷ frames) phase below same (number, is) call = inl (_, reserved_answers shape before result after call _ _ number same is)
 
-pub step_tells : (v : WriterValue) (w : IsWriter v) (result : Answer) (after : Writing) → IsAim (top_of v.frames.stack.frames) aim.Step → IsCall v.shape v.part model.steps result after → TellsTop result after.frames
+pub step_tells : (v : WriterValue) (w : IsWriter v) (result : Answer) (after : Writing) → IsTarget (top_of v.frames.stack.frames) target.Step → IsCall v.shape v.part model.steps result after → TellsTop result after.frames
 step_tells v w result after is call = step_in v.shape v.part result after v.frames.stack.frames v.frames.phase v.frames.below (frames_of v w) is call

@@ -4,7 +4,7 @@ use Rattle.trace_model.specs.Frames.{Kind, for_record, for_close, FrameState, wa
 use Rattle.trace_model.specs.History.{reserved_records}
 use Rattle.trace_model.specs.Ring.{Core}
 use Rattle.link_marks.proofs.TopSteps.{top_stepped}
-use Rattle.trace_model.specs.Steps.{steps, Step, Answer, going, gone, refused, reserved_as, leave_answer, frames_after_leave, after_next, begin_answer, after_begin, with_new_tail, closing_phase, BeginsAnew, IdleStep, reserves, finds_nothing, is_crowded, is_worn, notes, FrameStep, look_late, sees_free, sees_header, sees_update, claim_late, claims, claim_fails, next_late, sees_normal, sees_other, mark_late, marks, mark_fails, clears, open_late, opens, releases, releases_last, grants, closes_more, goes_away}
+use Rattle.trace_model.specs.Steps.{steps, Step, Answer, going, gone, refused, reserved_as, leave_answer, frames_after_leave, after_next, begin_answer, after_begin, with_new_tail, closing_phase, BeginsAgain, IdleStep, reserves, finds_nothing, is_crowded, is_worn, notes, FrameStep, look_late, sees_free, sees_header, sees_update, claim_late, claims, claim_fails, next_late, sees_normal, sees_other, mark_late, marks, mark_fails, clears, open_late, opens, releases, releases_last, grants, closes_more, goes_away}
 
 pub data TopStep (frame : Frame) (below : List Frame) (answer : Answer) (after : List Frame) : Type 0 where
   stays : (next : Frame)
@@ -40,20 +40,20 @@ module _ (frame : Frame) (below : List Frame) where
   goes_on : (next : Core) (phase : Phase) (answer : Answer) (after : Core) → next.frames ≡ record frame { phase = phase } ∷ below → answer ≡ going → after ≡ next → Steps answer after
   goes_on next phase answer after f a e = stays (record frame { phase = phase }) (going_stays answer a) (ap (λ (c : Core). c.frames) e ∙ f) refl
 
-  anew : (kind : Kind) (state : FrameState) (c : Core) (answer : Answer) (after : Core) → answer ≡ begin_answer kind state below → after ≡ after_begin kind state c frame below → Steps answer after
-  anew (for_record moment len) waiting c answer after a e = goes_on _ idle answer after refl a e
-  anew for_close waiting c answer after a e = left_behind frame below c answer after.frames below refl (inl a) (ap (λ (d : Core). d.frames) e)
-  anew (for_record moment len) (reserved number) c answer after a e = goes_on _ idle answer after refl a e
-  anew for_close (reserved number) c answer after a e = goes_on _ idle answer after refl a e
-  anew (for_record moment len) left c answer after a e = goes_on _ (closing_phase c) answer after refl a e
-  anew for_close left c answer after a e = goes_on _ (closing_phase c) answer after refl a e
+  again : (kind : Kind) (state : FrameState) (c : Core) (answer : Answer) (after : Core) → answer ≡ begin_answer kind state below → after ≡ after_begin kind state c frame below → Steps answer after
+  again (for_record moment len) waiting c answer after a e = goes_on _ idle answer after refl a e
+  again for_close waiting c answer after a e = left_behind frame below c answer after.frames below refl (inl a) (ap (λ (d : Core). d.frames) e)
+  again (for_record moment len) (reserved number) c answer after a e = goes_on _ idle answer after refl a e
+  again for_close (reserved number) c answer after a e = goes_on _ idle answer after refl a e
+  again (for_record moment len) left c answer after a e = goes_on _ (closing_phase c) answer after refl a e
+  again for_close left c answer after a e = goes_on _ (closing_phase c) answer after refl a e
 
   module _ (n size : ℕ) (c : Core) (on_top : c.frames ≡ frame ∷ below) (answer : Answer) (after : Core) where
     goes : (phase : Phase) (next : Core) → next.frames ≡ record frame { phase = phase } ∷ below → answer ≡ going → after ≡ next → Steps answer after
     goes phase next f a e = goes_on next phase answer after f a e
 
-    late : (noted : ℕ) → BeginsAnew c frame below noted answer after → Steps answer after
-    late noted passed = anew frame.kind frame.state c answer after passed.answer_is passed.after_is
+    late : (noted : ℕ) → BeginsAgain c frame below noted answer after → Steps answer after
+    late noted passed = again frame.kind frame.state c answer after passed.answer_is passed.after_is
 
     in_idle : (state : FrameState) → IdleStep n size c frame below state answer after → Steps answer after
     in_idle waiting (reserves moment len r kind r_is fits a e) =
@@ -82,7 +82,7 @@ module _ (frame : Frame) (below : List Frame) where
     in_phase (marking role noted page next) (mark_fails lost on sum differ a e) = goes (after_next role noted page) _ refl a e
     in_phase (clearing noted page) (clears lost sum at a e) = goes (opening noted page) _ refl a e
     in_phase (opening noted page) (open_late passed) = late noted passed
-    in_phase (opening noted page) (opens now a e) = anew frame.kind frame.state (with_new_tail c page) answer after a e
+    in_phase (opening noted page) (opens now a e) = again frame.kind frame.state (with_new_tail c page) answer after a e
     in_phase releasing (releases alone more a e) = stays frame (going_stays answer a) (ap (λ (d : Core). d.frames) e ∙ on_top) refl
     in_phase releasing (releases_last alone last a e) = goes wishing _ refl a e
     in_phase wishing (grants alone granted a e) = goes (looking c.opened) _ refl a e

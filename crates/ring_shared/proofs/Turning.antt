@@ -14,7 +14,7 @@ use Rattle.ring_steps.specs.Views.{Writing}
 use Rattle.ring_shared.specs.Value.{WriterValue, SameWriter}
 use Rattle.ring_shared.specs.Calls.{IsWriter, IsCall, MakesSome}
 use Rattle.ring_shared.specs.Nearer.{rank_of, IsNearer}
-use Rattle.ring_shared.specs.Finishing.{GoesOn, at_once, one_more, IsReservedOr, is_reserved, stays_refused, is_refused, Reserves}
+use Rattle.ring_shared.specs.Finishing.{MakesSteps, at_once, one_more, IsReservedOr, is_reserved, stays_refused, is_refused, Reserves}
 use Rattle.ring_shared.specs.Turning.{IsReservingTop, TurnsOn}
 use Rattle.ring_shared.proofs.Depths.{reserving_top}
 use Rattle.ring_shared.proofs.Finishes.{IsAmidReserving, reserving_first, reserving_on, reserving_stands, reserving_ends, reserving_unnumbered}
@@ -22,11 +22,11 @@ use Rattle.ring_shared.proofs.Finishes.{IsAmidReserving, reserving_first, reserv
 -- ---- runs
 
 module _ (shape : Shape) where
-  pub goes_both : (before between after : Writing) → GoesOn shape before between → GoesOn shape between after → GoesOn shape before after
+  pub goes_both : (before between after : Writing) → MakesSteps shape before between → MakesSteps shape between after → MakesSteps shape before after
   goes_both before between after goes at_once = goes
   goes_both before between after goes (one_more last end more call) = one_more last after (goes_both before between last goes more) call
 
-  reserves_past : (kind : Kind) (below : List Frame) (before between after : Writing) (result : Answer) → GoesOn shape before between → Reserves shape kind below between result after → Reserves shape kind below before result after
+  reserves_past : (kind : Kind) (below : List Frame) (before between after : Writing) (result : Answer) → MakesSteps shape before between → Reserves shape kind below between result after → Reserves shape kind below before result after
   reserves_past kind below before between after result goes r = record { between = r.between; goes = goes_both before between r.between goes r.goes; last = r.last; ends = r.ends }
 
 -- ---- none, or one
@@ -81,7 +81,7 @@ pub turned_on : (old mid new : WriterValue) → TurnsOn old mid → TurnsOn mid 
 turned_on old mid new one two = record {
   ring = (two.ring.0 ∙ one.ring.0, two.ring.1 ∙ one.ring.1);
   writer = two.writer;
-  goes = goes_both old.shape old.part mid.part new.part one.goes (subst (λ (s : Shape). GoesOn s mid.part new.part) one.ring.0 two.goes);
+  goes = goes_both old.shape old.part mid.part new.part one.goes (subst (λ (s : Shape). MakesSteps s mid.part new.part) one.ring.0 two.goes);
   stands = λ frame below top.
       let (between, at, kind_is, is) = one.stands frame below top in
       let (next, there, same, still) = two.stands between below at in (next, there, same ∙ kind_is, still);
@@ -101,5 +101,5 @@ amid_turned shape kind below before old new same a t =
       top = at;
       kind_is = kind_is ∙ a.kind_is;
       reserves = is;
-      ends = λ answer after r. a.ends answer after (reserves_past shape kind below old.part new.part after answer (subst (λ (s : Shape). GoesOn s old.part new.part) same t.goes) r);
+      ends = λ answer after r. a.ends answer after (reserves_past shape kind below old.part new.part after answer (subst (λ (s : Shape). MakesSteps s old.part new.part) same t.goes) r);
     }

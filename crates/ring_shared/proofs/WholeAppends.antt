@@ -21,7 +21,7 @@ use Rattle.ring_steps.specs.declared.rule.Shape.{Shape}
 use Rattle.ring_steps.specs.Views.{Writing, writing_of}
 use Rattle.ring_shared.specs.Calls.{IsCall}
 use Rattle.ring_shared.specs.Laws.{actions_of_refusal}
-use Rattle.ring_shared.specs.Finishing.{GoesOn, at_once, one_more, Reserves, Leaves, is_gone, was_refused}
+use Rattle.ring_shared.specs.Finishing.{MakesSteps, at_once, one_more, Reserves, Leaves, is_gone, was_refused}
 use Rattle.ring_shared.specs.WholeWrites.{GoesAway, IsRefusedAmid}
 use Rattle.ring_shared.specs.WholeLaws.{AreFills, AreForReader, FinishesReserve, FinishesRefused, FinishesClose, FinishesLeft, WritesAppend, RefusedWritesAppend, written_record, WritesReserve, RefusedWritesReserveNone, RefusedWritesLeaveNoFrame, PaddedTwice, WritersHaveHistories}
 use Rattle.ring_shared.proofs.CallsAppend.{pushes_append, ends_append, reservations_append, refusals_append}
@@ -42,7 +42,7 @@ module _ (shape : Shape) (frame : Frame) (below : List Frame) where
     are : AreFills fills
     history_is : between.history ≡ before.history ++ fills
 
-  waits_so : (before between : Writing) → before.frames ≡ frame ∷ below → IsReserving frame.kind frame.state → GoesOn shape before between → Waits before between
+  waits_so : (before between : Writing) → before.frames ≡ frame ∷ below → IsReserving frame.kind frame.state → MakesSteps shape before between → Waits before between
   waits_so before _ top is at_once = record { going_on = reserving_first shape frame below before top is; fills = []; are = tt; history_is = sym (append-nil before.history) }
   waits_so before _ top is (one_more between after goes call) =
       let w = waits_so before between top is goes in
@@ -110,7 +110,7 @@ module _ (shape : Shape) (below : List Frame) where
       on (has_gone other gone) acts (inl e) = absurd (other e)
       on (has_gone other gone) acts (inr some) = absurd (some gone)
 
-  left_goes : (before between : Writing) (frame : Frame) → before.frames ≡ frame ∷ below → frame.state ≡ left → GoesOn shape before between → Lingers before between
+  left_goes : (before between : Writing) (frame : Frame) → before.frames ≡ frame ∷ below → frame.state ≡ left → MakesSteps shape before between → Lingers before between
   left_goes before _ frame top s at_once = record { frame = frame; top = top; state_is = s; acts = ([], tt, sym (append-nil before.history)) }
   left_goes before _ frame top s (one_more between after goes call) = lingers_on before between after Going call (inl refl) (left_goes before between frame top s goes)
 
@@ -182,7 +182,7 @@ module _ (shape : Shape) (below : List Frame) where
       let l = lingers_on between between after result call remains record { frame = t.frame; top = t.top; state_is = t.state_is; acts = ([], tt, sym (append-nil between.history)) } in
       inr record { frame = l.frame; top = l.top; state_is = l.state_is; acts = closes_then before between after t.acts l.acts }
 
-  close_goes : (before between : Writing) (frame : Frame) → before.frames ≡ frame ∷ below → frame.kind ≡ for_close → frame.state ≡ waiting → GoesOn shape before between → WaitsOn before between ⊎ HasClosed before between
+  close_goes : (before between : Writing) (frame : Frame) → before.frames ≡ frame ∷ below → frame.kind ≡ for_close → frame.state ≡ waiting → MakesSteps shape before between → WaitsOn before between ⊎ HasClosed before between
   close_goes before _ frame top k s at_once = inl record { frame = frame; top = top; kind_is = k; state_is = s; history_is = refl }
   close_goes before _ frame top k s (one_more between after goes call) = closing_on before between after Going call (inl refl) (close_goes before between frame top k s goes)
 

@@ -17,7 +17,7 @@ use Rattle.nested_writer.specs.Calls.{IsTopSlot}
 use Rattle.ring_frames.specs.declared.answer.Answer.{Answer}
 use Rattle.ring_frames.specs.declared.answer.Answer.TheVariants.{Pushed, Going, Reserved, Ended, Gone, Refused, Looking, Empty, Moving, Taken, Wished}
 use Rattle.ring_frames.specs.declared.phase.Phase.{Phase}
-use Rattle.ring_frames.specs.Answers.{top_bytes, refusal_of, Tells}
+use Rattle.ring_frames.specs.Answers.{top_bytes, refusal_of, IsAnswerOf}
 use Rattle.ring_frames.specs.AreFrames.{ring_frames}
 use Rattle.ring_frames.proofs.Lent.{slot_keeps}
 use Rattle.ring_steps.specs.declared.rule.Shape.{Shape}
@@ -27,7 +27,7 @@ use Rattle.ring_shared.specs.Lending.{with_slot_payload, FitsFrame}
 use Rattle.ring_shared.specs.Calls.{IsWriter, IsCall}
 use Rattle.ring_shared.specs.Finishing.{IsReservedOr, is_reserved, stays_refused, is_refused, Reserves, Leaves, is_gone, was_refused, FinishesFrame, FinishesTop, Finishes, met_behind}
 use Rattle.ring_shared.specs.WholeWrites.{GoesAway, IsReserved, EndsRecord, IsRefusedWrite, IsWritten}
-use Rattle.ring_shared.proofs.Aims.{frames_of}
+use Rattle.ring_shared.proofs.Targets.{frames_of}
 use Rattle.ring_shared.proofs.Finishes.{IsRefusal, is_refusal}
 use Rattle.ring_shared.proofs.PushedEnded.{IsPushed, push_answers, HasEnded, end_answers}
 
@@ -50,7 +50,7 @@ met_refusal (Wished fill) fault e = absurd (cc)
 pub not_refused : (result : Answer) → ((fault : WriteFault) → met_behind None result ≢ Some fault) → IsRefusal result → ⊥
 not_refused result none (fault, is) = none fault (ap (met_behind None) is)
 
-is_pushed : (size : ℕ) (result : Answer) (told : model.Answer) → Tells size result told → told ≡ model.pushed → result ≡ Pushed
+is_pushed : (size : ℕ) (result : Answer) (told : model.Answer) → IsAnswerOf size result told → told ≡ model.pushed → result ≡ Pushed
 is_pushed size Pushed told t e = refl
 is_pushed size Going told t e = absurd (let both : model.going ≡ model.pushed = sym t ∙ e in cc)
 is_pushed size (Reserved number) told t e = absurd (let both : model.reserved_as number.0 ≡ model.pushed = sym t ∙ e in cc)
@@ -64,7 +64,7 @@ is_pushed size (Moving fill body) told t e = absurd (let both : model.moving fil
 is_pushed size (Taken page missed) told t e = absurd (let both : model.swapped t.0 ≡ model.pushed = sym t.1 ∙ e in cc)
 is_pushed size (Wished fill) told t e = absurd (let both : model.wished_for fill.0 ≡ model.pushed = sym t ∙ e in cc)
 
-is_pending : (size : ℕ) (result : Answer) (told : model.Answer) → Tells size result told → told ≡ model.pending → result ≡ Ended Pending
+is_pending : (size : ℕ) (result : Answer) (told : model.Answer) → IsAnswerOf size result told → told ≡ model.pending → result ≡ Ended Pending
 is_pending size Pushed told t e = absurd (let both : model.pushed ≡ model.pending = sym t ∙ e in cc)
 is_pending size Going told t e = absurd (let both : model.going ≡ model.pending = sym t ∙ e in cc)
 is_pending size (Reserved number) told t e = absurd (let both : model.reserved_as number.0 ≡ model.pending = sym t ∙ e in cc)
@@ -78,7 +78,7 @@ is_pending size (Moving fill body) told t e = absurd (let both : model.moving fi
 is_pending size (Taken page missed) told t e = absurd (let both : model.swapped t.0 ≡ model.pending = sym t.1 ∙ e in cc)
 is_pending size (Wished fill) told t e = absurd (let both : model.wished_for fill.0 ≡ model.pending = sym t ∙ e in cc)
 
-is_full : (size : ℕ) (result : Answer) (told : model.Answer) → Tells size result told → told ≡ model.full → result ≡ Ended Full
+is_full : (size : ℕ) (result : Answer) (told : model.Answer) → IsAnswerOf size result told → told ≡ model.full → result ≡ Ended Full
 is_full size Pushed told t e = absurd (let both : model.pushed ≡ model.full = sym t ∙ e in cc)
 is_full size Going told t e = absurd (let both : model.going ≡ model.full = sym t ∙ e in cc)
 is_full size (Reserved number) told t e = absurd (let both : model.reserved_as number.0 ≡ model.full = sym t ∙ e in cc)

@@ -4,7 +4,7 @@ use Rattle.trace_model.specs.Ring.{Core}
 use Rattle.trace_model.specs.Steps as model
 use Rattle.link_marks.specs.Reached.{IsReached}
 use Rattle.ring_frames.specs.declared.answer.Answer.{Answer}
-use Rattle.ring_frames.specs.Answers.{Tells}
+use Rattle.ring_frames.specs.Answers.{IsAnswerOf}
 use Rattle.ring_frames.specs.AreFrames.{AreFrames}
 use Rattle.ring_steps.specs.declared.rule.Shape.{Shape}
 use Rattle.ring_steps.specs.Views.{Writing, writing_of}
@@ -29,7 +29,7 @@ pub record IsCall (shape : Shape) (before : Writing) (event : model.Event) (resu
   pub before_is : writing_of core ≡ before
   pub step : model.Step shape.pages shape.size core event answer next
   pub after_is : writing_of next ≡ after
-  pub tells : Tells shape.size result answer
+  pub tells : IsAnswerOf shape.size result answer
 
 -- so the writer makes of the ring, and is the same one
 pub record MakesSome (old : WriterValue) (event : model.Event) (result : Answer) (new : WriterValue) : Type 0 where

@@ -16,8 +16,8 @@ use Rattle.ring_frames.specs.declared.phase.Turned.TheVariants as turned
 use Rattle.ring_frames.specs.Answers.{bytes_in}
 use Rattle.ring_steps.specs.declared.rule.Shape.{Shape}
 use Rattle.ring_steps.specs.Views.{Writing}
-use Rattle.ring_shared.specs.declared.writer.finish.Aim.{Aim}
-use Rattle.ring_shared.specs.declared.writer.finish.Aim.TheVariants as aim
+use Rattle.ring_shared.specs.declared.writer.finish.Target.{Target}
+use Rattle.ring_shared.specs.declared.writer.finish.Target.TheVariants as target
 use Rattle.ring_shared.specs.declared.writer.finish.Finished.{Finished}
 use Rattle.ring_shared.specs.declared.writer.finish.Finished.TheVariants as finished
 use Rattle.ring_shared.specs.Value.{WriterValue}
@@ -26,12 +26,12 @@ use Rattle.ring_shared.specs.Calls.{IsCall}
 -- ---- runs
 
 -- the frame on top makes steps, one after the other, each of which is answered `Going`
-pub data GoesOn (shape : Shape) (before : Writing) : Writing → Type 0 where
-  at_once : GoesOn shape before before
+pub data MakesSteps (shape : Shape) (before : Writing) : Writing → Type 0 where
+  at_once : MakesSteps shape before before
   one_more : (between after : Writing)
-      → GoesOn shape before between
+      → MakesSteps shape before between
       → IsCall shape between model.steps Going after
-      → GoesOn shape before after
+      → MakesSteps shape before after
 
 -- this frame's record is reserved under a number; or the frame is refused, and is gone from the stack or has left
 pub data IsReservedOr (kind : Kind) (below : List Frame) : Answer → List Frame → Type 0 where
@@ -53,7 +53,7 @@ pub record Reserves (shape : Shape) (kind : Kind) (below : List Frame) (before :
     (after : Writing)
     : Type 0 where
   pub between : Writing
-  pub goes : GoesOn shape before between
+  pub goes : MakesSteps shape before between
   pub last : IsCall shape between model.steps result after
   pub ends : IsReservedOr kind below result after.frames
 
@@ -61,12 +61,12 @@ pub record Reserves (shape : Shape) (kind : Kind) (below : List Frame) (before :
 -- answers that refusal.
 pub data Leaves (shape : Shape) (below : List Frame) : Writing → Answer → Writing → Type 0 where
   is_gone : (before between after : Writing) (answer : Answer)
-      → GoesOn shape before between
+      → MakesSteps shape before between
       → IsCall shape between model.steps answer after
       → after.frames ≡ below
       → Leaves shape below before answer after
   was_refused : (before between next after : Writing) (frame : Frame) (fault : WriteFault) (answer : Answer)
-      → GoesOn shape before between
+      → MakesSteps shape before between
       → IsCall shape between model.steps (Refused fault) next
       → next.frames ≡ frame ∷ below
       → IsLeaving frame.kind frame.state
@@ -77,7 +77,7 @@ pub data Leaves (shape : Shape) (below : List Frame) : Writing → Answer → Wr
 -- answered that it is gone.
 abbrev pub Closes : Shape → List Frame → Writing → Turned → Writing → Type 0
 Closes shape below before turned.Going after =
-    (frame : Frame) × (after.frames ≡ frame ∷ below) × IsLeaving frame.kind frame.state × GoesOn shape before after
+    (frame : Frame) × (after.frames ≡ frame ∷ below) × IsLeaving frame.kind frame.state × MakesSteps shape before after
 Closes shape below before turned.Gone after = Leaves shape below before Gone after
 
 -- ---- the frame on top
@@ -108,10 +108,10 @@ IsNumberOrRefused answer =
     ((number : RecordNo) × (answer ≡ Reserved number)) ⊎ ((fault : WriteFault) × (answer ≡ Refused fault))
 
 -- this states the answer, except for the record's number
-abbrev pub IsBrief : Answer → Finished → Type 0
-IsBrief answer finished.Reserved = (number : RecordNo) × (answer ≡ Reserved number)
-IsBrief answer finished.Gone = answer ≡ Gone
-IsBrief answer (finished.Refused fault) = answer ≡ Refused fault
+abbrev pub IsOutcomeOf : Answer → Finished → Type 0
+IsOutcomeOf answer finished.Reserved = (number : RecordNo) × (answer ≡ Reserved number)
+IsOutcomeOf answer finished.Gone = answer ≡ Gone
+IsOutcomeOf answer (finished.Refused fault) = answer ≡ Refused fault
 
 -- the frame on top is stepped as far as it gets, and answers so; the number of its record is in the slot on top
 abbrev pub IsFinished : WriterValue → Finished → WriterValue → Type 0
@@ -132,15 +132,15 @@ ZerosFinished old result new = (slot : Slot)
 
 -- ---- what it is stepped to
 
-abbrev pub IsAimOf : Kind → FrameState → Aim → Type 0
-IsAimOf kind state aim.Record = IsReserving kind state
-IsAimOf kind state aim.End = IsLeaving kind state
-IsAimOf kind state aim.Step = (number : ℕ) × (state ≡ reserved number)
+abbrev pub IsTargetOf : Kind → FrameState → Target → Type 0
+IsTargetOf kind state target.Record = IsReserving kind state
+IsTargetOf kind state target.End = IsLeaving kind state
+IsTargetOf kind state target.Step = (number : ℕ) × (state ≡ reserved number)
 
 -- what the stack's frame on top is stepped to
-abbrev pub IsAim : Option stack.Frame → Aim → Type 0
-IsAim None to = to ≡ aim.Step
-IsAim (Some frame) to = IsAimOf (kind_of frame.purpose) (state_of frame.progress) to
+abbrev pub IsTarget : Option stack.Frame → Target → Type 0
+IsTarget None to = to ≡ target.Step
+IsTarget (Some frame) to = IsTargetOf (kind_of frame.purpose) (state_of frame.progress) to
 
 -- ---- refusals
 

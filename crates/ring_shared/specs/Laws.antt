@@ -11,7 +11,7 @@ use Rattle.nested_writer.specs.declared.fault.WriteFault.{WriteFault}
 use Rattle.nested_writer.specs.declared.stack.leave.Ended.{Ended as How}
 use Rattle.ring_frames.specs.declared.answer.Answer.{Answer}
 use Rattle.ring_frames.specs.declared.answer.Answer.TheVariants.{Pushed, Reserved, Ended, Refused}
-use Rattle.ring_frames.specs.Answers.{Tells}
+use Rattle.ring_frames.specs.Answers.{IsAnswerOf}
 use Rattle.ring_steps.specs.declared.rule.Shape.{Shape}
 use Rattle.ring_steps.specs.Views.{Writing, writing_of}
 use Rattle.ring_shared.specs.Calls.{IsCall}
@@ -24,7 +24,7 @@ pub record IsAppended (shape : Shape) (before : Writing) (event : model.Event) (
   pub answer : model.Answer
   pub actions : List Action
   pub before_is : writing_of core ≡ before
-  pub tells : Tells shape.size result answer
+  pub tells : IsAnswerOf shape.size result answer
   pub appends : Appends shape.pages core event answer actions
   pub history_is : after.history ≡ before.history ++ actions
 
@@ -68,7 +68,7 @@ NumbersAreToldAgain = (shape : Shape) (before : Writing) (frame : Frame) (below 
     → before.frames ≡ frame ∷ below
     → frame.state ≡ reserved number
     → IsCall shape before model.steps result after
-    → Tells shape.size result (model.reserved_as number) × (after.history ≡ before.history)
+    → IsAnswerOf shape.size result (model.reserved_as number) × (after.history ≡ before.history)
 
 -- what a refusal appends: if there is a frame whose step is refused, it leaves without a record
 abbrev pub actions_of_refusal : model.Event → List Frame → List Action

@@ -1,15 +1,14 @@
 -- The payload of the frame on top, which a writer lends out to be written.
-use Rattle.std.specs.Prelude.{◌≡◌, ℕ, List, ◌∷◌, length, Result}
+use Rattle.std.specs.Prelude.{◌≡◌, ℕ, List, ◌∷◌, Result}
 use Rattle.std.specs.Borrow.{LendsIfOk, MutBor, Fml}
 use Rattle.trace_model.specs.Words.{slot_len}
 use Rattle.trace_model.specs.Frames.{for_record, Frame}
 use Rattle.nested_writer.specs.declared.fault.WriteFault.{WriteFault}
 use Rattle.nested_writer.specs.declared.frame.Slot.{Slot}
-use Rattle.nested_writer.specs.Lent.{Lent, lent_bytes, with_bytes}
+use Rattle.nested_writer.specs.Lent.{Lent}
 use Rattle.nested_writer.specs.contracts.payload.Payload as payload_rows
 use Rattle.ring_frames.specs.Lending as frames
 use Rattle.ring_shared.specs.Value.{WriterValue}
-use Rattle.ring_shared.specs.Calls.{IsWriter}
 use Rattle.ring_shared.specs.contracts.writer.Writer.{the_row}
 
 -- the writer with these bytes in a slot
@@ -24,12 +23,6 @@ with_lent v payload = record v { frames = frames.with_lent v.frames payload }
 abbrev pub LendsTop : MutBor WriterValue → Result (MutBor Lent) WriteFault → Fml
 LendsTop writer result =
     LendsIfOk the_row payload_rows.the_row writer result (with_lent writer.now) writer.now
-
--- whatever is written there, the writer's fields are its part of the ring
-abbrev pub StaysWriter : WriterValue → Lent → Type 0
-StaysWriter v payload = (part : List ℕ)
-    → length part ≡ length (lent_bytes payload)
-    → IsWriter (with_lent v (with_bytes payload part))
 
 -- the slot has exactly the room of the record that the frame on top was pushed for
 abbrev pub FitsFrame : WriterValue → Slot → Type 0

@@ -72,7 +72,7 @@ pub record IsReader (v : ReaderValue) : Type 0 where
 -- What was taken and observed stays, and the wish; and the reader knows at least as much.
 pub record TakesNothing (before after : Reading) : Type 0 where
   pub taken_is : after.reader.taken ≡ before.reader.taken
-  pub heard_is : after.heard ≡ before.heard
+  pub observed_is : after.observed ≡ before.observed
   pub expected_is : after.reader.expected ≡ before.reader.expected
   pub wish_is : after.wish ≡ before.wish
   pub hint_le : before.reader.hint ≤ after.reader.hint
@@ -104,8 +104,8 @@ pub record IsPageTaken (shape : Shape) (before : Reading) (page : Contents) (mis
   pub wish_is : after.wish ≡ before.wish
   pub lost : List Record
   pub lost_are : length lost ≡ missed
-  pub heard_is : after.heard ≡ before.heard ++ lost ++ records_of_page page
-  pub partition : IsPartition after.heard (pieces_of after.reader.taken) []
+  pub observed_is : after.observed ≡ before.observed ++ lost ++ records_of_page page
+  pub partition : IsPartition after.observed (pieces_of after.reader.taken) []
 
 -- All closed fills, `done` of them, are taken or lost, and the reader knows exactly that; they are no fewer than it had
 -- seen.

@@ -6,7 +6,7 @@ use Rattle.ring_frames.specs.Answers.{KeepsPayloads}
 use Rattle.ring_shared.specs.Value.{WriterValue, SameWriter}
 use Rattle.ring_shared.specs.Calls.{IsWriter}
 use Rattle.ring_shared.specs.Nearer.{rank_of}
-use Rattle.ring_shared.specs.Finishing.{GoesOn}
+use Rattle.ring_shared.specs.Finishing.{MakesSteps}
 
 -- the frame on top has a record to reserve
 abbrev pub IsReservingTop : List Frame → Type 0
@@ -18,7 +18,7 @@ IsReservingTop frames =
 pub record TurnsOn (old new : WriterValue) : Type 0 where
   pub ring : SameWriter old new
   pub writer : IsWriter new
-  pub goes : GoesOn old.shape old.part new.part
+  pub goes : MakesSteps old.shape old.part new.part
   pub stands : (frame : Frame) (below : List Frame)
       → old.part.frames ≡ frame ∷ below
       → (next : Frame)

@@ -1,5 +1,5 @@
 pub mod Placed
-pub mod Heard
+pub mod Observed
 pub mod Private
 pub mod Allowing
 pub mod Words
@@ -15,6 +15,6 @@ pub mod Paging
 pub mod Linking
 pub mod LinkBounds
 pub mod Taking
-pub mod HeardMore
+pub mod ObservedMore
 pub mod SwapWords
 pub mod Swaps

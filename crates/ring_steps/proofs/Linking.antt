@@ -12,7 +12,7 @@ use Rattle.trace_model.specs.declared.limits.TheConstants.{MAX_PAGES, LINK_PAGES
 use Rattle.trace_model.specs.Links.{Link, word_of, normal_link, header_link, update_link, FitsWord}
 use Rattle.trace_model.specs.Frames.{Role, owner, helper, Phase, looking, claiming, looking_next, marking, clearing, opening, wishing, Frame, noted_fill}
 use Rattle.trace_model.specs.Ring.{Core, link_into, links_with, page_at}
-use Rattle.trace_model.specs.Steps.{steps, going, Answer, GoesOn, after_next, in_phase, with_head_claimed, with_link, contents_of, LookStep, look_late, sees_free, sees_header, sees_update, ClaimStep, claim_late, claims, claim_fails, NextStep, next_late, sees_normal, sees_other, MarkStep, mark_late, marks, mark_fails, ClearStep, clears, WishStep, grants, closes_more, goes_away, Step}
+use Rattle.trace_model.specs.Steps.{steps, going, Answer, MayOpen, after_next, in_phase, with_head_claimed, with_link, contents_of, LookStep, look_late, sees_free, sees_header, sees_update, ClaimStep, claim_late, claims, claim_fails, NextStep, next_late, sees_normal, sees_other, MarkStep, mark_late, marks, mark_fails, ClearStep, clears, WishStep, grants, closes_more, goes_away, Step}
 use Rattle.trace_model.proofs.LinkWords.{word_tells}
 use Rattle.link_marks.specs.KeptLinks.{passed_spot}
 use Rattle.link_marks.specs.RingKept.{IsRingKept}
@@ -107,7 +107,7 @@ module _ (shape : Shape) (me : Sat) (is : IsWriting me) (now : Writing) (c : Cor
         spare_link_is = s.is_reading.spare_link_is;
         reader_is = s.is_reading.reader_is;
         wish_is = s.is_reading.wish_is;
-        heard_is = s.is_reading.heard_is;
+        observed_is = s.is_reading.observed_is;
       };
     };
     told = record {
@@ -202,9 +202,9 @@ module _ (shape : Shape) (me : Sat) (is : IsWriting me) (now : Writing) (c : Cor
       looks tail now.opened top.frame top.below answer after (tail_is ∙ tail_front) opened_is step
       (top_stepped shape.pages shape.size c top.frame top.below (looking now.opened) answer after top.is top.phase_is step)
 
-  nexts : (page behind : ℕ) (frame : Frame) (below : List Frame) (role : Role) (noted : ℕ) (answer : Answer) (after : Core) → page ≡ page_before shape.pages c.order behind → GoesOn role noted c.opened
+  nexts : (page behind : ℕ) (frame : Frame) (below : List Frame) (role : Role) (noted : ℕ) (answer : Answer) (after : Core) → page ≡ page_before shape.pages c.order behind → MayOpen role noted c.opened
       → Step shape.pages shape.size c steps answer after → NextStep shape.pages c frame below role noted page answer after → LoadMoves page behind
-  nexts page behind frame below role noted answer after e on step (next_late helps late) = absurd (late.passed (subst (λ (x : Role). GoesOn x noted c.opened) helps on))
+  nexts page behind frame below role noted answer after e on step (next_late helps late) = absurd (late.passed (subst (λ (x : Role). MayOpen x noted c.opened) helps on))
   nexts page behind frame below role noted answer after e on step (sees_normal lost next x sum at a after_is) = loads page behind frame below (marking role noted page next) answer after e step a after_is
   nexts page behind frame below role noted answer after e on step (sees_other lost x sum other a after_is) = loads page behind frame below (after_next role noted page) answer after e step a after_is
 
@@ -215,7 +215,7 @@ module _ (shape : Shape) (me : Sat) (is : IsWriting me) (now : Writing) (c : Cor
       let known = top_kept shape.pages c top.frame top.below kept.links top.is in
       let passed = known.passed due.noted page (ap passed_spot top.phase_is) in
       subst (λ (fill : ℕ). LoadMoves page fill) (looks_behind shape.pages now page behind due)
-      (nexts page behind top.frame top.below due.role due.noted answer after (passed_front page due.noted behind passed.2 due.behind_is) (subst (GoesOn due.role due.noted) opened_is due.goes_on) step
+      (nexts page behind top.frame top.below due.role due.noted answer after (passed_front page due.noted behind passed.2 due.behind_is) (subst (MayOpen due.role due.noted) opened_is due.goes_on) step
       (top_stepped shape.pages shape.size c top.frame top.below (looking_next due.role due.noted page) answer after top.is top.phase_is step))
 
   -- ---- the wish
@@ -328,10 +328,10 @@ module _ (shape : Shape) (me : Sat) (is : IsWriting me) (now : Writing) (c : Cor
       (top_stepped shape.pages shape.size c top.frame top.below (claiming now.opened page) answer after top.is top.phase_is step)
 
   marks_at : (page next behind from to : ℕ) (frame : Frame) (below : List Frame) (role : Role) (noted : ℕ) (answer : Answer) (after : Core)
-      → GoesOn role noted c.opened → behind + shape.pages ≡ noted + 1 → FitsWord (normal_link next behind) → from ≡ word_of (normal_link next behind) → to ≡ word_of (header_link next behind)
+      → MayOpen role noted c.opened → behind + shape.pages ≡ noted + 1 → FitsWord (normal_link next behind) → from ≡ word_of (normal_link next behind) → to ≡ word_of (header_link next behind)
       → page ≡ page_before shape.pages c.order behind
       → Step shape.pages shape.size c steps answer after → MarkStep shape.pages c frame below role noted page next answer after → ExchangeMoves page behind from to
-  marks_at page next behind from to frame below role noted answer after on sum fits from_is to_is e step (mark_late helps late) = absurd (late.passed (subst (λ (x : Role). GoesOn x noted c.opened) helps on))
+  marks_at page next behind from to frame below role noted answer after on sum fits from_is to_is e step (mark_late helps late) = absurd (late.passed (subst (λ (x : Role). MayOpen x noted c.opened) helps on))
   marks_at page next behind from to frame below role noted answer after on sum fits from_is to_is e step (marks lost x lost_sum at a after_is) =
       let same : suc lost ≡ behind = omega arith in
       done_on page behind from to (normal_link next behind) (header_link next behind) (record frame { phase = after_next role noted page } ∷ below) c.head e from_is to_is
@@ -353,7 +353,7 @@ module _ (shape : Shape) (me : Sat) (is : IsWriting me) (now : Writing) (c : Cor
       let passed = known.passed due.noted page (ap passed_spot top.phase_is) in
       let (low, high, room, numbers) = known.noted due.noted (ap noted_fill top.phase_is) in let some = kept.links.some_pages in let sum = due.behind_is in
       subst (λ (fill : ℕ). ExchangeMoves page fill from to) (marks_behind shape.pages now page next behind due)
-      (marks_at page next behind from to top.frame top.below due.role due.noted answer after (subst (GoesOn due.role due.noted) opened_is due.goes_on) due.behind_is
+      (marks_at page next behind from to top.frame top.below due.role due.noted answer after (subst (MayOpen due.role due.noted) opened_is due.goes_on) due.behind_is
       record { page_fits = fits; fill_fits = omega arith } from_is to_is (passed_front page due.noted behind passed.2 due.behind_is) step
       (top_stepped shape.pages shape.size c top.frame top.below (marking due.role due.noted page next) answer after top.is top.phase_is step))
 

@@ -22,8 +22,8 @@ leads_on shape before noted now leads due c reached is =
     let (second, aside, on, now_is) = due mid (private_reached shape.pages shape.size shape.start c mid first reached run) mid_is in
     (first ++ second, aside, runs_on shape.pages shape.size c mid aside first second run on, now_is)
 
-pub pending_on : (shape : Shape) (before noted now memo : Writing) → ∥ Leads shape before noted ∥₁ → Leads shape noted now → memo ≡ now → ∥ Leads shape before memo ∥₁
-pending_on shape before noted now memo pending due same =
+pub pending_on : (shape : Shape) (before noted now ghost_part : Writing) → ∥ Leads shape before noted ∥₁ → Leads shape noted now → ghost_part ≡ now → ∥ Leads shape before ghost_part ∥₁
+pending_on shape before noted now ghost_part pending due same =
     subst (λ (w : Writing). ∥ Leads shape before w ∥₁) (sym same) (∥∥₁_elim pending (Prim.hlevel props) (λ leads. ∣ leads_on shape before noted now leads due ∣₁))
 
 -- they leave the reader's part as it is

@@ -10,7 +10,7 @@ use Rattle.atomic_table.specs.Table.{takes, gives, rest, turned, Allows}
 use Rattle.atomic_table.proofs.Lists.{set_here, set_else}
 use Rattle.trace_model.specs.Frames.{Kind, for_record, for_close, FrameState, waiting, reserved, left, opening, releasing, wishing, Phase, Frame}
 use Rattle.trace_model.specs.History.{Action}
-use Rattle.trace_model.specs.Ring.{Held, Core, empty_page, page_at, fill_of}
+use Rattle.trace_model.specs.Ring.{PageRecords, Core, empty_page, page_at, fill_of}
 use Rattle.trace_model.specs.Steps.{steps, going, Answer, contents_of, with_new_tail, held_with_payload, own_number, after_begin, begin_answer, ReleaseStep, releases, releases_last, opens, FrameStep, Step, frame_step}
 use Rattle.link_marks.specs.RingKept.{IsRingKept}
 use Rattle.link_marks.specs.KeptLinks.{passed_spot}
@@ -30,7 +30,7 @@ use Rattle.ring_steps.specs.Shown.{Homes, IsHome, HasBody, AreWords, AreHomes, I
 use Rattle.ring_steps.specs.Seats.{Sat, emptied, IsWriting, Leads, WriterTold}
 use Rattle.ring_steps.specs.Paging.{IsTopIn, begun_answer, OpenTold}
 use Rattle.ring_steps.proofs.Words as words
-use Rattle.ring_steps.proofs.Heard.{first_records, heard_stays}
+use Rattle.ring_steps.proofs.Observed.{first_records, observed_stays}
 use Rattle.ring_steps.proofs.Allowing.{IsShownBy, WriterMoves, writer_allows}
 
 -- ---- the writer's hand
@@ -88,13 +88,13 @@ module _ (shape : Shape) (c : Core) (r : Reading) (ws : List ℕ) (homes : Homes
   reading_stays : (answer : Answer) (after : Core) → Step shape.pages shape.size c steps answer after → IsReading after r
   reading_stays answer after step =
       let stays = writer_leaves_reader shape.pages shape.size c steps answer after (λ own. own) step in
-      let heard = heard_stays shape.pages shape.size shape.start c steps answer after kept step in record {
+      let observed = observed_stays shape.pages shape.size shape.start c steps answer after kept step in record {
         order_is = s.is_reading.order_is ∙ sym stays.order;
         spare_is = s.is_reading.spare_is ∙ sym stays.spare;
         spare_link_is = s.is_reading.spare_link_is ∙ sym stays.spare_link;
         reader_is = s.is_reading.reader_is ∙ sym stays.reader;
         wish_is = s.is_reading.wish_is ∙ sym stays.wish;
-        heard_is = s.is_reading.heard_is ∙ (sym heard ∙ sym (ap (λ (x : Rattle.trace_model.specs.Ring.Reader). first_records x.expected after.history) stays.reader));
+        observed_is = s.is_reading.observed_is ∙ (sym observed ∙ sym (ap (λ (x : Rattle.trace_model.specs.Ring.Reader). first_records x.expected after.history) stays.reader));
       }
 
   some_pages : 1 ≤ shape.pages
@@ -118,7 +118,7 @@ module _ (shape : Shape) (c : Core) (r : Reading) (ws : List ℕ) (homes : Homes
       here : get_elem? (set homes number slot) (page_at shape.pages c.order fill) ≡ some slot
       here = subst (λ (page : ℕ). get_elem? (set homes number slot) page ≡ some slot) at (set_here homes number slot inside)
 
-      home_stays : (page f : ℕ) (held : Held) → page ≢ number → IsHome homes shape.size page f held → IsHome (set homes number slot) shape.size page f held
+      home_stays : (page f : ℕ) (held : PageRecords) → page ≢ number → IsHome homes shape.size page f held → IsHome (set homes number slot) shape.size page f held
       home_stays page f held ne (body, home, is) = (body, elsewhere page ne ∙ home, is)
 
       body_stays : (page : ℕ) → page ≢ number → HasBody homes shape.size page → HasBody (set homes number slot) shape.size page
@@ -142,7 +142,7 @@ module _ (shape : Shape) (c : Core) (r : Reading) (ws : List ℕ) (homes : Homes
     homes_with = set homes number (some (Some page))
 
     holds : IsWrittenPage shape.size c.done (contents_of c (page_at shape.pages c.order c.done)) page
-    holds = subst (λ (h : Held). IsWrittenPage shape.size c.done h page) (sym (kept.contents.each c.done kept.links.head_le kept.links.done_lt)) written
+    holds = subst (λ (h : PageRecords). IsWrittenPage shape.size c.done h page) (sym (kept.contents.each c.done kept.links.head_le kept.links.done_lt)) written
 
     closed_home : (f : ℕ) → c.head ≤ f → f < c.done + 1 → IsHome homes_with shape.size (page_at shape.pages c.order f) f (contents_of c (page_at shape.pages c.order f))
     closed_home f low high = let behind = kept.links.done_lt in let within = kept.links.opened_le in
@@ -210,7 +210,7 @@ module _ (shape : Shape) (c : Core) (r : Reading) (ws : List ℕ) (homes : Homes
     others_hold page ne = begun_contents top_frame.kind top_frame.state (with_new_tail c number) top_frame below page refl
         ∙ get_or-set_other c.held number page _ empty_page ne
 
-    begun_homes : (frames : List Frame) (history : List Action) (held : List Held) → ((page : ℕ) → page ≢ number → slice_index_or held page empty_page ≡ contents_of c page)
+    begun_homes : (frames : List Frame) (history : List Action) (held : List PageRecords) → ((page : ℕ) → page ≢ number → slice_index_or held page empty_page ≡ contents_of c page)
         → AreHomes shape.pages shape.size (private_state (with_new_tail c number) frames history held) r homes_without
     begun_homes frames history held same = let at = position.2 in let room = position.1 in let low_head = kept.links.head_le in let behind = kept.links.done_lt in record {
       count = length-set homes number none ∙ s.are_homes.count;

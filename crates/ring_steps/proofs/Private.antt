@@ -1,6 +1,6 @@
 -- Private steps of the writer: the same words and pages at home show the state after them.
 use Rattle.std.proofs.Common.{◌≡◌, ◌≢◌, ℕ, ◌+◌, ◌<◌, ◌≤◌, List, [], ◌∷◌, length, slice_index_or, sym, ap, ◌∙◌, subst, arith}
-use Rattle.trace_model.specs.Ring.{Held, Core, page_at}
+use Rattle.trace_model.specs.Ring.{PageRecords, Core, page_at}
 use Rattle.trace_model.specs.Steps.{contents_of, Event, Answer, Exchange, Step}
 use Rattle.link_marks.specs.RingKept.{IsRingKept}
 use Rattle.link_marks.specs.Reached.{IsReached}
@@ -11,7 +11,7 @@ use Rattle.link_marks.proofs.SeatPages.{private_leaves_other_pages}
 use Rattle.link_marks.proofs.RingsKept.{reached_kept, reached_further}
 use Rattle.ring_steps.specs.Views.{Reading}
 use Rattle.ring_steps.specs.Shown.{Homes, IsHome, AreWords, AreHomes, IsReading, IsShown}
-use Rattle.ring_steps.proofs.Heard.{first_records, heard_stays}
+use Rattle.ring_steps.proofs.Observed.{first_records, observed_stays}
 
 -- the page of a closed fill is none of the writer's
 pub closed_is_other : (n size start : ℕ) (c : Core) (f : ℕ) → IsRingKept n size start c → c.head ≤ f → f < c.done → (i : ℕ) → i < length c.open_pages → slice_index_or c.open_pages i 0 ≢ page_at n c.order f
@@ -22,13 +22,13 @@ closed_is_other n size start c f k low high i inside e =
 -- the reader's part is the same one
 stays_read : (n size start : ℕ) (c : Core) (event : Event) (answer : Answer) (after : Core) (r : Reading) → IsReached n size start c → Step n size c event answer after → IsPrivateOf c after → IsReading c r → IsReading after r
 stays_read n size start c event answer after r reached step is reading_is =
-    let heard = heard_stays n size start c event answer after (reached_kept n size start c reached) step in record {
+    let observed = observed_stays n size start c event answer after (reached_kept n size start c reached) step in record {
       order_is = reading_is.order_is ∙ sym (ap (λ (d : Core). d.order) is);
       spare_is = reading_is.spare_is ∙ sym (ap (λ (d : Core). d.spare) is);
       spare_link_is = reading_is.spare_link_is ∙ sym (ap (λ (d : Core). d.spare_link) is);
       reader_is = reading_is.reader_is ∙ sym (ap (λ (d : Core). d.reader) is);
       wish_is = reading_is.wish_is ∙ sym (ap (λ (d : Core). d.wish) is);
-      heard_is = reading_is.heard_is ∙ (sym heard ∙ sym (ap (λ (x : Rattle.trace_model.specs.Ring.Reader). first_records x.expected after.history) (ap (λ (d : Core). d.reader) is)));
+      observed_is = reading_is.observed_is ∙ (sym observed ∙ sym (ap (λ (x : Rattle.trace_model.specs.Ring.Reader). first_records x.expected after.history) (ap (λ (d : Core). d.reader) is)));
     }
 
 pub private_read : (n size start : ℕ) (c aside : Core) (exchanges : List Exchange) (r : Reading) → IsReached n size start c → PrivateRun n size c exchanges aside → IsReading c r → IsReading aside r

@@ -46,7 +46,7 @@ module _ (shape : Shape) (me : Sat) (is : IsSeatOfReader me) (c : Core) (ws : Li
         spare_link_is = s.is_reading.spare_link_is;
         reader_is = s.is_reading.reader_is;
         wish_is = ap (λ (k : ℕ). k + 1) seen;
-        heard_is = s.is_reading.heard_is;
+        observed_is = s.is_reading.observed_is;
       } in record {
         next = next;
         after = after;

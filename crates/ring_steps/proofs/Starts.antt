@@ -111,7 +111,7 @@ module _ (shape : Shape) (is : IsShape shape) (ws : List ℕ) (first_ws : AreFir
       spare_link_is = sym s.spare_link;
       reader_is = sym s.reader;
       wish_is = sym s.wish;
-      heard_is = sym (ap (λ (r : Reader). take r.expected (map as_record (reserved_records c.history))) s.reader);
+      observed_is = sym (ap (λ (r : Reader). take r.expected (map as_record (reserved_records c.history))) s.reader);
     }
 
     first_writing_is : writing_of c ≡ first_writing shape

@@ -8,7 +8,7 @@ use native.Mathlib.Decide.{ℕ_discrete}
 use lib.ListN.{get_elem?}
 use Rattle.atomic_table.proofs.Lists.{set_here, set_else}
 use Rattle.trace_model.specs.Links.{Link, word_of, normal_link, header_link}
-use Rattle.trace_model.specs.Ring.{Held, Core, swapping, empty_page, link_into, links_with, page_at}
+use Rattle.trace_model.specs.Ring.{PageRecords, Core, swapping, empty_page, link_into, links_with, page_at}
 use Rattle.trace_model.specs.Steps.{contents_of, after_swap}
 use Rattle.link_marks.specs.KeptLinks.{ReaderKept}
 use Rattle.link_marks.specs.RingKept.{IsRingKept}
@@ -163,7 +163,7 @@ module _ (n size start : ℕ) (c : Core) (k : IsRingKept n size start c) (page f
         ∙ get_or-set_other c.held c.spare p empty_page empty_page ne_spare in
         let (body, at, written) = h.closed f (omega arith) high in
         subst (λ (q : ℕ). IsHome homes_behind size q f (contents_of (after_swap n c page fill) q)) (sym here)
-        (subst (λ (held : Held). IsHome homes_behind size p f held) (sym held) (body, elsewhere p ne_spare ne_page ∙ at, written))
+        (subst (λ (held : PageRecords). IsHome homes_behind size p f held) (sym held) (body, elsewhere p ne_spare ne_page ∙ at, written))
 
     -- there is a page for each fill that may be begun, the reader's old one among them
     free_behind : (f : ℕ) → c.opened ≤ f → f < c.done + n → HasBody homes_behind size (page_at n order_behind f)

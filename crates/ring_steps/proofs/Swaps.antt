@@ -14,7 +14,7 @@ use Rattle.trace_model.specs.Record.{Record}
 use Rattle.trace_model.specs.declared.limits.TheConstants.{LINK_FILLS}
 use Rattle.trace_model.specs.History.{as_record, reserved_records}
 use Rattle.trace_model.specs.Links.{word_of, normal_link, header_link, FitsWord}
-use Rattle.trace_model.specs.Ring.{Held, Core, ReaderPhase, loading_link, swapping, Reader, link_into, first_of_fill, fill_of}
+use Rattle.trace_model.specs.Ring.{PageRecords, Core, ReaderPhase, loading_link, swapping, Reader, link_into, first_of_fill, fill_of}
 use Rattle.trace_model.specs.Steps as model
 use Rattle.trace_model.specs.Steps.{contents_of}
 use Rattle.trace_model.proofs.LinkWords.{word_tells}
@@ -29,8 +29,8 @@ use Rattle.ring_steps.specs.Shown.{page_before, AreWords, Homes, AreHomes, Shows
 use Rattle.ring_steps.specs.Seats.{Sat, kept_slots, IsSeatOfReader, IsReaderStep}
 use Rattle.ring_steps.specs.Swapping.{HeadTaken, HeadMissed, head_to_take, SwapTold}
 use Rattle.ring_steps.proofs.Allowing.{IsShownBy, ReaderMoves, reader_allows}
-use Rattle.ring_steps.proofs.Heard.{first_records}
-use Rattle.ring_steps.proofs.HeardMore.{heard_with}
+use Rattle.ring_steps.proofs.Observed.{first_records}
+use Rattle.ring_steps.proofs.ObservedMore.{observed_with}
 use Rattle.ring_steps.proofs.Paging.{body_of, same_body}
 use Rattle.ring_steps.proofs.SwapWords as behind
 use Rattle.ring_steps.proofs.Taking.{part_of, gone_on, words_on, homes_on, link_fits, kept, phase_in, step_in, word_into, reads_on}
@@ -71,7 +71,7 @@ module _ (shape : Shape) (me : Sat) (c : Core) (ws : List ℕ) (homes : Homes) (
     seen = seen;
     of_reader = tt;
     step = step;
-    after_is = record { order_is = refl; spare_is = refl; spare_link_is = refl; reader_is = refl; wish_is = refl; heard_is = refl };
+    after_is = record { order_is = refl; spare_is = refl; spare_link_is = refl; reader_is = refl; wish_is = refl; observed_is = refl };
   }
 
   -- ---- it fails
@@ -106,7 +106,7 @@ module _ (shape : Shape) (me : Sat) (c : Core) (ws : List ℕ) (homes : Homes) (
                 spare_link = sym s.is_reading.spare_link_is i;
                 reader = record (sym s.is_reading.reader_is i) { phase = loading_link; hint = on i };
                 wish = sym s.is_reading.wish_is i;
-                heard = sym s.is_reading.heard_is i;
+                observed = sym s.is_reading.observed_is i;
                 keeps_spare = sym keeps_slot i;
               };
             },
@@ -149,7 +149,7 @@ module _ (shape : Shape) (me : Sat) (c : Core) (ws : List ℕ) (homes : Homes) (
     hears = let is = behind.head shape.pages shape.size shape.start c ring page fill facts told in
         let fill_is = is.fill_is in let below = facts.1 in let open_yet = ring.links.done_lt in
         let begun = ring.contents.begun in let from_start = ring.contents.from_start in
-        heard_with shape.start c.history fill c.reader.expected (contents_of c page) (omega arith) ring.contents.rising expected_low holds
+        observed_with shape.start c.history fill c.reader.expected (contents_of c page) (omega arith) ring.contents.rising expected_low holds
 
     numbers_fit : 8 * (home.0.first + home.0.count) ≤ shape.size * LINK_FILLS
     numbers_fit = let few = records_few shape.pages shape.size shape.start c ring in let fits = ring.links.fits in
@@ -165,7 +165,7 @@ module _ (shape : Shape) (me : Sat) (c : Core) (ws : List ℕ) (homes : Homes) (
 
     taken : HeadTaken shape (reading me.0) page fill home.0 (part_of next true)
     unfolding next
-    taken = let on : suc fill ≡ fill + 1 = omega arith in let first = written.first_is in let held = ap (λ (h : Held). h.first) holds in let low = expected_low in let same_number = expected_is in record {
+    taken = let on : suc fill ≡ fill + 1 = omega arith in let first = written.first_is in let held = ap (λ (h : PageRecords). h.first) holds in let low = expected_low in let same_number = expected_is in record {
       told = model.taken_fill c page fill;
       fill_is = refl;
       written = written;
@@ -175,7 +175,7 @@ module _ (shape : Shape) (me : Sat) (c : Core) (ws : List ℕ) (homes : Homes) (
       lost = hears.0;
       lost_are = hears.1;
       numbers_fit = numbers_fit;
-      heard_is = hears.3 ∙ ((λ i. sym s.is_reading.heard_is i ++ (hears.0 ++ sym written.records_are i)) ∙ sym (append_assoc (reading me.0).heard hears.0 (records_of_page home.0)));
+      observed_is = hears.3 ∙ ((λ i. sym s.is_reading.observed_is i ++ (hears.0 ++ sym written.records_are i)) ∙ sym (append_assoc (reading me.0).observed hears.0 (records_of_page home.0)));
       reader_is = λ i. record {
         phase = loading_link;
         hint = on i;

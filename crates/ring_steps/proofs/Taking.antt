@@ -40,7 +40,7 @@ part_of c keeps_spare = record {
   spare_link = c.spare_link;
   reader = c.reader;
   wish = c.wish;
-  heard = take c.reader.expected (map as_record (reserved_records c.history));
+  observed = take c.reader.expected (map as_record (reserved_records c.history));
   keeps_spare = keeps_spare;
 }
 
@@ -160,7 +160,7 @@ module _ (shape : Shape) (me : Sat) (c : Core) (ws : List ℕ) (homes : Homes) (
   reads_on i f tells sees b answer next act step head_le seen valid words at_home tell =
       let reached = reached_further shape.pages shape.size shape.start c model.reads answer next s.reached step in
       let stays = reader_leaves_writer shape.pages shape.size c model.reads answer next tt step in
-      let is_reading : IsReading next (part_of next b) = record { order_is = refl; spare_is = refl; spare_link_is = refl; reader_is = refl; wish_is = refl; heard_is = refl } in record {
+      let is_reading : IsReading next (part_of next b) = record { order_is = refl; spare_is = refl; spare_link_is = refl; reader_is = refl; wish_is = refl; observed_is = refl } in record {
         next = next;
         after = part_of next b;
         act = act;

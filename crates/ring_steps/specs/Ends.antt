@@ -7,7 +7,7 @@ use Rattle.ring_steps.specs.Views.{Writing, Reading, passed, reading}
 
 -- the writer's part, as of its last step on a word or note of what it did in private
 abbrev pub writing_in : WriterSeat → Writing
-writing_in writer = writer.memo.now
+writing_in writer = writer.ghost_part.now
 
 -- below which each fill is passed, as the writer knows
 abbrev pub passed_in : WriterSeat → ℕ

@@ -3,7 +3,7 @@ use Rattle.std.specs.Prelude.{◌≡◌, ℕ, ◌+◌, ◌-◌, ◌<◌, ◌≤�
 use Rattle.trace_model.specs.Links.{word_of}
 use Rattle.trace_model.specs.Frames.{Role, looking_next, marking, Frame, noted_fill}
 use Rattle.trace_model.specs.Ring.{link_into, Core}
-use Rattle.trace_model.specs.Steps.{GoesOn, going, Answer}
+use Rattle.trace_model.specs.Steps.{MayOpen, going, Answer}
 use Rattle.ring_steps.specs.declared.rule.Shape.{Shape}
 use Rattle.ring_steps.specs.Views.{Writing, writing, passed}
 use Rattle.ring_steps.specs.Seats.{Sat, IsWriting, IsWriterStep, WriterTold}
@@ -19,7 +19,7 @@ pub record LooksBehind (n : ℕ) (w : Writing) (page behind : ℕ) : Type 0 wher
   pub role : Role
   pub noted : ℕ
   pub phase : IsTopIn w.frames (looking_next role noted page)
-  pub goes_on : GoesOn role noted w.opened
+  pub goes_on : MayOpen role noted w.opened
   pub behind_is : behind + n ≡ noted + 1
 
 -- and it is about to set the HEADER there
@@ -27,7 +27,7 @@ pub record MarksBehind (n : ℕ) (w : Writing) (page next behind : ℕ) : Type 0
   pub role : Role
   pub noted : ℕ
   pub phase : IsTopIn w.frames (marking role noted page next)
-  pub goes_on : GoesOn role noted w.opened
+  pub goes_on : MayOpen role noted w.opened
   pub behind_is : behind + n ≡ noted + 1
 
 abbrev pub number_or_zero : Option ℕ → ℕ

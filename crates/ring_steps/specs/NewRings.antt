@@ -44,7 +44,7 @@ first_reading shape = record {
   spare_link = normal_link 0 0;
   reader = first_reader shape.start;
   wish = 0;
-  heard = [];
+  observed = [];
   keeps_spare = false;
 }
 

@@ -8,7 +8,7 @@ use Rattle.atomic_table.specs.Table.{State}
 use Rattle.trace_model.specs.declared.limits.TheConstants.{MAX_PAGES}
 use Rattle.trace_model.specs.History.{as_record, reserved_records}
 use Rattle.trace_model.specs.Links.{word_of}
-use Rattle.trace_model.specs.Ring.{Held, Core, link_into, page_at}
+use Rattle.trace_model.specs.Ring.{PageRecords, Core, link_into, page_at}
 use Rattle.trace_model.specs.Steps.{contents_of}
 use Rattle.link_marks.specs.Reached.{IsReached}
 use Rattle.page_image.specs.Contents.{Contents}
@@ -53,7 +53,7 @@ abbrev pub Homes : Type 0
 Homes = List (maybe.Option (Option Contents))
 
 -- the page of this number is at home, and is the one of this fill with what it holds
-abbrev pub IsHome : Homes → (size page fill : ℕ) → Held → Type 0
+abbrev pub IsHome : Homes → (size page fill : ℕ) → PageRecords → Type 0
 IsHome homes size page fill held =
     (body : Contents) × (get_elem? homes page ≡ some (some (Some body))) × IsWrittenPage size fill held body
 
@@ -81,7 +81,7 @@ pub record IsReading (c : Core) (r : Reading) : Type 0 where
   pub spare_link_is : r.spare_link ≡ c.spare_link
   pub reader_is : r.reader ≡ c.reader
   pub wish_is : r.wish ≡ c.wish
-  pub heard_is : r.heard ≡ take c.reader.expected (map as_record (reserved_records c.history))
+  pub observed_is : r.observed ≡ take c.reader.expected (map as_record (reserved_records c.history))
 
 -- These words and pages at home, with what the reader knows, show this state, which steps reach from a new ring of n
 -- positions, of pages of this size, whose first fill has the number start.

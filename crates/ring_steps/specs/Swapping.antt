@@ -28,7 +28,7 @@ pub record HeadTaken (shape : Shape) (before : Reading) (page fill : ℕ) (taken
   pub skipped_is : told.skipped ≡ taken.first - before.reader.expected
   pub lost : List Record
   pub lost_are : length lost ≡ told.skipped
-  pub heard_is : after.heard ≡ before.heard ++ lost ++ records_of_page taken
+  pub observed_is : after.observed ≡ before.observed ++ lost ++ records_of_page taken
   pub numbers_fit : 8 * (taken.first + taken.count) ≤ shape.size * LINK_FILLS
   pub reader_is : after.reader
       ≡ record {

@@ -26,7 +26,7 @@ writing_of c = record {
 }
 
 -- The reader's part: the page at each position, the page outside the ring and its link, how far its take has come and
--- what it took, and the wish, which it alone stores. heard: the committed records up to the last one that it took,
+-- what it took, and the wish, which it alone stores. observed: the committed records up to the last one that it took,
 -- those that were lost before it among them. keeps_spare: the spare's slot is out with it.
 pub record Reading : Type 0 where
   pub order : List ℕ
@@ -34,7 +34,7 @@ pub record Reading : Type 0 where
   pub spare_link : Link
   pub reader : Reader
   pub wish : ℕ
-  pub heard : List Record
+  pub observed : List Record
   pub keeps_spare : Bool
 
 -- What a seat knows. laid: the first one, before it has the tail's slot; whole: and then, before it is split. writes:
@@ -58,7 +58,7 @@ no_reading = record {
   spare_link = normal_link 0 0;
   reader = first_reader 0;
   wish = 0;
-  heard = [];
+  observed = [];
   keeps_spare = false;
 }
 

@@ -5,7 +5,7 @@ ghost use Rattle.ring_steps.specs.Views.{writing, reading};
 ghost use Rattle.ring_steps.specs.Seats.{IsTableOf, IsWriting, IsSeatOfReader, IsReaderWithin, Leads};
 ghost use Rattle.ring_steps.specs.Paging.{IsWriterReached};
 
-use crate::memo::Memo;
+use crate::ghost_part::GhostPart;
 use crate::plays::Place;
 use crate::rule::{Board, Shape};
 use std::sync::Arc;
@@ -15,14 +15,14 @@ use std::sync::Arc;
 pub struct WriterSeat {
     pub(crate) board: Arc<Board>,
     pub(crate) seat: Place,
-    pub(crate) memo: Memo,
+    pub(crate) ghost_part: GhostPart,
     pub shape: Shape,
     ghost key_is: { (arc_value board).shared.key ≡ shape },
     ghost table: { IsTableOf shape (arc_value board).shared.table_id },
     ghost seated: { seat.table_id ≡ (arc_value board).shared.table_id },
     ghost is_writing: { IsWriting seat.me },
     ghost reached: { ∥ IsWriterReached shape (writing seat.me.0) ∥₁ },
-    ghost pending: { ∥ Leads shape (writing seat.me.0) memo.now ∥₁ },
+    ghost pending: { ∥ Leads shape (writing seat.me.0) ghost_part.now ∥₁ },
 }
 
 /// The reader's seat.

@@ -6,10 +6,10 @@
 #![tactic(auto)]
 
 mod ends;
+mod ghost_part;
 mod laying;
 mod links;
 mod making;
-mod memo;
 mod plays;
 mod reader;
 mod rule;
@@ -23,4 +23,4 @@ pub use making::{seats, seats_at};
 pub use rule::Shape;
 pub use settling::settle;
 pub use views::View;
-pub use writer::Present;
+pub use writer::ChosenPart;

@@ -6,8 +6,8 @@ ghost use Rattle.ring_steps.specs.NewRings.{IsShape, AreNewSeats, IsWholeSeat, f
 ghost use Rattle.ring_steps.specs.Views.{laid};
 
 use crate::ends::{ReaderSeat, WriterSeat};
+use crate::ghost_part::ghost_part_at_rest;
 use crate::laying::{first_slots, first_words};
-use crate::memo::memo_at_rest;
 use crate::plays::{Place, load};
 use crate::rule::{Board, Shape};
 use crate::views::View;
@@ -79,12 +79,12 @@ pub fn seats_at(
     let board = Arc::new(alloc, table)?;
     let other = Arc::try_clone(&board)?;
     let reader = board.shared.split_seat::<Ends>(&mut seat);
-    let memo = memo_at_rest(&seat);
+    let ghost_part = ghost_part_at_rest(&seat);
     Ok((
         WriterSeat {
             board,
             seat,
-            memo,
+            ghost_part,
             shape,
         },
         ReaderSeat {

@@ -14,8 +14,8 @@ ghost use Rattle.ring_steps.specs.Paging.{IsTopIn, begun_answer};
 ghost use Rattle.ring_steps.specs.Linking.{tail_in, LooksBehind, MarksBehind};
 
 use crate::ends::WriterSeat;
+use crate::ghost_part::{ghost_part_at_rest, ghost_part_of};
 use crate::links::{header_word, link_in, normal_word, update_word};
-use crate::memo::{memo_at_rest, memo_of};
 use crate::plays::{exchange, load, store};
 use crate::rule::{DONE, LINKS, OPENED, WISH};
 use link_marks::Link;
@@ -28,14 +28,14 @@ impl WriterSeat {
     /// is by now. No word is loaded or stored, and the next step on one is from there. `given` is what a caller states
     /// to the proof; no code reads it.
     #[inline(always)]
-    pub fn note<J: Present, G>(&mut self, given: &G)
+    pub fn note<J: ChosenPart, G>(&mut self, given: &G)
         requires due { Leads self.old.shape (writing_in self.old) J.now }
         ensures shape { self.new.shape ≡ self.old.shape }
         ensures table { writer_table self.new ≡ writer_table self.old }
         ensures knows { passed_in self.old ≤ passed_in self.new }
         ensures noted { writing_in self.new ≡ J.now }
     {
-        self.memo = memo_of::<J, G>(given);
+        self.ghost_part = ghost_part_of::<J, G>(given);
     }
 
     /// What the writer did in private since its last step on a word leads from the part that its seat knows to its
@@ -47,7 +47,7 @@ impl WriterSeat {
 
     /// A load of the link into the position of the fill to open, which is in the word of the tail page. What the
     /// seat knew to be passed is at most the head of the state that is seen.
-    pub fn load_link<J: Present>(&mut self, tail: u16) -> Link
+    pub fn load_link<J: ChosenPart>(&mut self, tail: u16) -> Link
         requires due { Leads self.old.shape (writing_in self.old) J.now }
         requires phase { IsTopIn J.now.frames (looking J.now.opened) }
         requires tail { tail ≡ tail_in J.now }
@@ -63,13 +63,13 @@ impl WriterSeat {
         self.recall();
         let word = tail as usize + LINKS;
         let found = load::<Brand>(&self.board, self.shape, &mut self.seat, word);
-        self.memo = memo_at_rest(&self.seat);
+        self.ghost_part = ghost_part_at_rest(&self.seat);
         link_in(found)
     }
 
     /// A load of the next link, which is in the word of this page: that into the position of the fill after the
     /// lost one.
-    pub fn load_next<J: Present>(&mut self, page: u16, behind: FillNo) -> Link
+    pub fn load_next<J: ChosenPart>(&mut self, page: u16, behind: FillNo) -> Link
         requires due { Leads self.old.shape (writing_in self.old) J.now }
         requires phase { LooksBehind self.old.shape.pages J.now page behind.0 }
         ensures shape { self.new.shape ≡ self.old.shape }
@@ -84,13 +84,13 @@ impl WriterSeat {
         self.recall();
         let word = page as usize + LINKS;
         let found = load::<Brand>(&self.board, self.shape, &mut self.seat, word);
-        self.memo = memo_at_rest(&self.seat);
+        self.ghost_part = ghost_part_at_rest(&self.seat);
         link_in(found)
     }
 
     /// A load of the reader's wish, when no fill is left to close. `given` is what a caller states to the proof of what
     /// was done in private before; no code reads it.
-    pub fn load_wish<J: Present, G>(&mut self, given: &G) -> u64
+    pub fn load_wish<J: ChosenPart, G>(&mut self, given: &G) -> u64
         requires due { Leads self.old.shape (writing_in self.old) J.now }
         requires phase { IsTopIn J.now.frames wishing }
         ensures shape { self.new.shape ≡ self.old.shape }
@@ -102,13 +102,13 @@ impl WriterSeat {
         let _given = given;
         self.recall();
         let wish = load::<Brand>(&self.board, self.shape, &mut self.seat, WISH);
-        self.memo = memo_at_rest(&self.seat);
+        self.ghost_part = ghost_part_at_rest(&self.seat);
         wish
     }
 
     /// A compare and exchange of the link in the tail page's word from HEADER to UPDATE, by which the head, this page
     /// as this fill, is lost; whether it was done. If not, the head was moved on before: the fill is passed either way.
-    pub fn claim_head<J: Present>(&mut self, tail: u16, page: u16, lost: FillNo) -> bool
+    pub fn claim_head<J: ChosenPart>(&mut self, tail: u16, page: u16, lost: FillNo) -> bool
         requires due { Leads self.old.shape (writing_in self.old) J.now }
         requires phase { IsTopIn J.now.frames (claiming J.now.opened page) }
         requires tail { tail ≡ tail_in J.now }
@@ -127,12 +127,12 @@ impl WriterSeat {
         let from = header_word(page, lost);
         let to = update_word(page, lost);
         let found = exchange::<Brand>(&self.board, self.shape, &mut self.seat, word, from, to);
-        self.memo = memo_at_rest(&self.seat);
+        self.ghost_part = ghost_part_at_rest(&self.seat);
         found == from
     }
 
     /// A compare and exchange of the next link, in the word of this page, from NORMAL to HEADER; whether it was done.
-    pub fn mark_next<J: Present>(&mut self, page: u16, next: u16, behind: FillNo) -> bool
+    pub fn mark_next<J: ChosenPart>(&mut self, page: u16, next: u16, behind: FillNo) -> bool
         requires due { Leads self.old.shape (writing_in self.old) J.now }
         requires phase { MarksBehind self.old.shape.pages J.now page next behind.0 }
         requires fits { next < LINK_PAGES }
@@ -148,13 +148,13 @@ impl WriterSeat {
         let from = normal_word(next, behind);
         let to = header_word(next, behind);
         let found = exchange::<Brand>(&self.board, self.shape, &mut self.seat, word, from, to);
-        self.memo = memo_at_rest(&self.seat);
+        self.ghost_part = ghost_part_at_rest(&self.seat);
         found == from
     }
 
     /// A compare and exchange of the link in the word of the page before from the frame's own UPDATE to NORMAL with
     /// the fill that it noted; whether it was done. It always is: only the frame that set an UPDATE replaces it.
-    pub fn clear<J: Present>(&mut self, front: u16, page: u16, noted: FillNo) -> bool
+    pub fn clear<J: ChosenPart>(&mut self, front: u16, page: u16, noted: FillNo) -> bool
         requires due { Leads self.old.shape (writing_in self.old) J.now }
         requires phase { IsTopIn J.now.frames (clearing noted.0 page) }
         requires front { front ≡ slice_index_or J.now.open_pages (noted.0 - 1 - J.now.done) 0 }
@@ -171,13 +171,13 @@ impl WriterSeat {
         let from = update_word(page, FillNo(noted.0 - self.shape.pages as u64));
         let to = normal_word(page, noted);
         let found = exchange::<Brand>(&self.board, self.shape, &mut self.seat, word, from, to);
-        self.memo = memo_at_rest(&self.seat);
+        self.ghost_part = ghost_part_at_rest(&self.seat);
         found == from
     }
 
     /// A store of the number of begun fills: the next fill, which the frame on top noted, is begun on the page of this
     /// number, whose body is answered.
-    pub fn open<J: Present>(&mut self, number: u16, fill: FillNo) -> Body
+    pub fn open<J: ChosenPart>(&mut self, number: u16, fill: FillNo) -> Body
         requires due { Leads self.old.shape (writing_in self.old) J.now }
         requires phase { IsTopIn J.now.frames (opening fill.0 number) }
         requires next { fill.0 ≡ J.now.opened }
@@ -195,13 +195,13 @@ impl WriterSeat {
             unreachable!()
         };
         self.seat.turn();
-        self.memo = memo_at_rest(&self.seat);
+        self.ghost_part = ghost_part_at_rest(&self.seat);
         page.into_body()
     }
 
     /// A store of the number of closed fills: the oldest fill that isn't closed is, and its page, of this number, is
     /// put home.
-    pub fn release<J: Present>(&mut self, number: u16, page: Page)
+    pub fn release<J: ChosenPart>(&mut self, number: u16, page: Page)
         requires due { Leads self.old.shape (writing_in self.old) J.now }
         requires phase { IsTopIn J.now.frames releasing }
         requires oldest { number ≡ slice_index_or J.now.open_pages 0 0 }
@@ -217,19 +217,19 @@ impl WriterSeat {
         let slot = number as usize;
         self.board.shared.exchange(&mut self.seat, slot, Some(page));
         store::<Brand>(&self.board, self.shape, &mut self.seat, DONE, fill.0 + 1);
-        self.memo = memo_at_rest(&self.seat);
+        self.ghost_part = ghost_part_at_rest(&self.seat);
     }
 }
 
 /// What the writer's part of the ring is by now, after what it did in private since its last step on a word. No code
 /// reads it: a caller picks it for the proof.
-pub trait Present {
+pub trait ChosenPart {
     ghost use Rattle.ring_steps.specs.Views.{Writing};
 
     ghost now: { Writing };
 }
 
-impl Present for Brand {
+impl ChosenPart for Brand {
     ghost use Rattle.ring_steps.specs.Views.{no_writing};
 
     ghost now = { no_writing };

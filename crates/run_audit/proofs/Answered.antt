@@ -5,7 +5,7 @@ use Rattle.trace_model.specs.Parcel.{Parcel}
 use Rattle.trace_model.specs.Collection.{IsBelow}
 use Rattle.trace_model.specs.declared.numbers.CpuId.{CpuId}
 use Rattle.trace_model.specs.declared.numbers.FillNo.{FillNo}
-use Rattle.run_audit.specs.declared.least.Place.{Place}
+use Rattle.run_audit.specs.declared.least.ParcelKey.{ParcelKey}
 use Rattle.run_audit.specs.declared.fault.Audited.{Audited}
 use Rattle.run_audit.specs.declared.fault.AuditFault.{AuditFault}
 use Rattle.run_audit.specs.declared.fault.AuditFault.TheVariants.{Stray, Lacks}
@@ -28,7 +28,7 @@ strays_are a b f g r s is other e = (cc, cc)
 lacks_are : (a b : CpuId) (f g : FillNo) (r s : Answer) → r ≡ Err (Lacks a f) → s ≡ Err (Lacks b g) → r ≡ s → (a ≡ b) × (f ≡ g)
 lacks_are a b f g r s is other e = (cc, cc)
 
--- the least place, under other names of its numbers
+-- the least key, under other names of its numbers
 moved : (these : Parcel → Type 0) (a b : CpuId) (f g : FillNo) → a ≡ b → f ≡ g → IsLeast these a.0 f.0 → IsLeast these b.0 g.0
 moved these a b f g cpu fill l =
     subst (λ (c : CpuId). IsLeast these c.0 g.0) cpu (subst (λ (h : FillNo). IsLeast these a.0 h.0) fill l)
@@ -36,17 +36,17 @@ moved these a b f g cpu fill l =
 module _ (kept taken : List Parcel) where
   -- ---- a stray was found
 
-  module _ (place : Place) (l : IsLeastFault kept (Contains taken) (Some place)) where
+  module _ (key : ParcelKey) (l : IsLeastFault kept (Contains taken) (Some key)) where
     abbrev answer : Answer
-    answer = Err (Stray place.cpu place.fill)
+    answer = Err (Stray key.cpu key.fill)
 
     not_taken : WereTaken kept taken → ⊥
     not_taken all = l.is_one.1 (all l.parcel l.is_one.0)
 
     pub stray_is_stray : (cpu : CpuId) (fill : FillNo) → (answer ≡ Err (Stray cpu fill)) ↔ IsLeast (IsStray kept taken) cpu.0 fill.0
     stray_is_stray cpu fill = (
-      λ e. let (a, b) = strays_are place.cpu cpu place.fill fill answer (Err (Stray cpu fill)) refl refl e in moved (IsStray kept taken) place.cpu cpu place.fill fill a b l,
-      λ other. let (a, b) = least_is_one (IsStray kept taken) place.cpu.0 place.fill.0 cpu.0 fill.0 l other in ap Err (same_stray place.cpu cpu place.fill fill a b),
+      λ e. let (a, b) = strays_are key.cpu cpu key.fill fill answer (Err (Stray cpu fill)) refl refl e in moved (IsStray kept taken) key.cpu cpu key.fill fill a b l,
+      λ other. let (a, b) = least_is_one (IsStray kept taken) key.cpu.0 key.fill.0 cpu.0 fill.0 l other in ap Err (same_stray key.cpu cpu key.fill fill a b),
     )
 
     pub stray_is_no_lack : (cpu : CpuId) (fill : FillNo) → (answer ≡ Err (Lacks cpu fill)) ↔ (WereTaken kept taken × IsLeast (IsLacking kept taken) cpu.0 fill.0)
@@ -58,15 +58,15 @@ module _ (kept taken : List Parcel) where
     no_stray : (cpu fill : ℕ) → IsLeast (IsStray kept taken) cpu fill → ⊥
     no_stray cpu fill s = s.is_one.1 (all s.parcel s.is_one.0)
 
-    module _ (place : Place) (l : IsLeastFault taken (λ parcel. IsBelow (parcel ∷ []) kept) (Some place)) where
+    module _ (key : ParcelKey) (l : IsLeastFault taken (λ parcel. IsBelow (parcel ∷ []) kept) (Some key)) where
       abbrev lack : Answer
-      lack = Err (Lacks place.cpu place.fill)
+      lack = Err (Lacks key.cpu key.fill)
 
       pub lack_is_no_stray : (cpu : CpuId) (fill : FillNo) → (lack ≡ Err (Stray cpu fill)) ↔ IsLeast (IsStray kept taken) cpu.0 fill.0
       lack_is_no_stray cpu fill = (λ e. cc, λ s. absurd (no_stray cpu.0 fill.0 s))
 
       pub lack_is_lack : (cpu : CpuId) (fill : FillNo) → (lack ≡ Err (Lacks cpu fill)) ↔ (WereTaken kept taken × IsLeast (IsLacking kept taken) cpu.0 fill.0)
       lack_is_lack cpu fill = (
-        λ e. let (a, b) = lacks_are place.cpu cpu place.fill fill lack (Err (Lacks cpu fill)) refl refl e in (all, moved (IsLacking kept taken) place.cpu cpu place.fill fill a b l),
-        λ (_, other). let (a, b) = least_is_one (IsLacking kept taken) place.cpu.0 place.fill.0 cpu.0 fill.0 l other in ap Err (same_lacks place.cpu cpu place.fill fill a b),
+        λ e. let (a, b) = lacks_are key.cpu cpu key.fill fill lack (Err (Lacks cpu fill)) refl refl e in (all, moved (IsLacking kept taken) key.cpu cpu key.fill fill a b l),
+        λ (_, other). let (a, b) = least_is_one (IsLacking kept taken) key.cpu.0 key.fill.0 cpu.0 fill.0 l other in ap Err (same_lacks key.cpu cpu key.fill fill a b),
       )

@@ -1,15 +1,15 @@
--- The least place of the parcels at fault.
+-- The least key of the parcels at fault.
 use Rattle.std.proofs.Common.{◌≡◌, ⊎_elim, ℕ, ◌+◌, ◌<◌, List, [], ◌∷◌, ◌++◌, get_or, take, Option, Some, None, refl, sym, ap, ◌∙◌, subst, append_assoc, arith}
 use Rattle.std.specs.Prelude.{Contains, length}
 use Rattle.std.proofs.lemmas.List.{take_more}
 use Rattle.std.proofs.lemmas.List.Elements.{Contains-append_left, Contains-push, Contains-push_cases}
 use Rattle.trace_model.specs.Parcel.{Parcel}
-use Rattle.run_audit.specs.declared.least.Place.{Place}
+use Rattle.run_audit.specs.declared.least.ParcelKey.{ParcelKey}
 use Rattle.run_audit.specs.Audit.{IsUpTo, IsLeast}
-use Rattle.run_audit.specs.Least.{IsLeastPlace, IsLeastFault}
+use Rattle.run_audit.specs.Least.{IsLeastKey, IsLeastFault}
 
-some_place : (a b : Place) → Some a ≡ Some b → a ≡ b
-some_place a b e = cc
+some_key : (a b : ParcelKey) → Some a ≡ Some b → a ≡ b
+some_key a b e = cc
 
 up_to_all : (a b c d e f : ℕ) → IsUpTo a b c d → IsUpTo c d e f → IsUpTo a b e f
 up_to_all a b c d e f one other =
@@ -20,9 +20,9 @@ up_to_all a b c d e f one other =
 
 module _ (good : Parcel → Type 0) (these : List Parcel) (x : Parcel) where
   -- one parcel more, that is good
-  pub good_more : (found : Option Place) → good x → IsLeastFault these good found → IsLeastFault (these ++ x ∷ []) good found
+  pub good_more : (found : Option ParcelKey) → good x → IsLeastFault these good found → IsLeastFault (these ++ x ∷ []) good found
   good_more None fine all = λ p has. ⊎_elim (λ before. all p before) (λ is. subst good is fine) (Contains-push_cases these x p has)
-  good_more (Some place) fine l = record {
+  good_more (Some key) fine l = record {
     parcel = l.parcel;
     is_one = (Contains-append_left these (x ∷ []) l.parcel l.is_one.0, l.is_one.1);
     cpu_is = l.cpu_is;
@@ -33,29 +33,29 @@ module _ (good : Parcel → Type 0) (these : List Parcel) (x : Parcel) where
   abbrev IsBad : Parcel → Type 0
   IsBad p = Contains (these ++ x ∷ []) p × (good p → ⊥)
 
-  -- none is before the least of the place that was found and the parcel's own
-  none_before : (found : Option Place) (place : Place) → IsLeastFault these good found → IsLeastPlace found x place → (p : Parcel) → IsBad p → IsUpTo place.cpu.0 place.fill.0 p.cpu p.fill
-  none_before None place all least p bad =
-      ⊎_elim (λ before. absurd (bad.1 (all p before))) (λ is. subst (λ (q : Parcel). IsUpTo place.cpu.0 place.fill.0 q.cpu q.fill) is least.up_to_parcel) (Contains-push_cases these x p bad.0)
-  none_before (Some other) place l least p bad =
-      ⊎_elim (λ before. up_to_all place.cpu.0 place.fill.0 other.cpu.0 other.fill.0 p.cpu p.fill (least.up_to_found other refl) (l.least p (before, bad.1)))
-      (λ is. subst (λ (q : Parcel). IsUpTo place.cpu.0 place.fill.0 q.cpu q.fill) is least.up_to_parcel) (Contains-push_cases these x p bad.0)
+  -- none is before the least of the key that was found and the parcel's own
+  none_before : (found : Option ParcelKey) (key : ParcelKey) → IsLeastFault these good found → IsLeastKey found x key → (p : Parcel) → IsBad p → IsUpTo key.cpu.0 key.fill.0 p.cpu p.fill
+  none_before None key all least p bad =
+      ⊎_elim (λ before. absurd (bad.1 (all p before))) (λ is. subst (λ (q : Parcel). IsUpTo key.cpu.0 key.fill.0 q.cpu q.fill) is least.up_to_parcel) (Contains-push_cases these x p bad.0)
+  none_before (Some other) key l least p bad =
+      ⊎_elim (λ before. up_to_all key.cpu.0 key.fill.0 other.cpu.0 other.fill.0 p.cpu p.fill (least.up_to_found other refl) (l.least p (before, bad.1)))
+      (λ is. subst (λ (q : Parcel). IsUpTo key.cpu.0 key.fill.0 q.cpu q.fill) is least.up_to_parcel) (Contains-push_cases these x p bad.0)
 
-  -- the place that was found is a bad parcel's
-  found_before : (found : Option Place) (place : Place) → IsLeastFault these good found → found ≡ Some place → (p : Parcel) × IsBad p × (p.cpu ≡ place.cpu.0) × (p.fill ≡ place.fill.0)
-  found_before None place all is = cc
-  found_before (Some other) place l is = let same = some_place other place is in
-      (l.parcel, (Contains-append_left these (x ∷ []) l.parcel l.is_one.0, l.is_one.1), l.cpu_is ∙ ap (λ (q : Place). q.cpu.0) same, l.fill_is ∙ ap (λ (q : Place). q.fill.0) same)
+  -- the key that was found is a bad parcel's
+  found_before : (found : Option ParcelKey) (key : ParcelKey) → IsLeastFault these good found → found ≡ Some key → (p : Parcel) × IsBad p × (p.cpu ≡ key.cpu.0) × (p.fill ≡ key.fill.0)
+  found_before None key all is = cc
+  found_before (Some other) key l is = let same = some_key other key is in
+      (l.parcel, (Contains-append_left these (x ∷ []) l.parcel l.is_one.0, l.is_one.1), l.cpu_is ∙ ap (λ (q : ParcelKey). q.cpu.0) same, l.fill_is ∙ ap (λ (q : ParcelKey). q.fill.0) same)
 
-  one_bad : (found : Option Place) (place : Place) → (good x → ⊥) → IsLeastFault these good found → IsLeastPlace found x place → (p : Parcel) × IsBad p × (p.cpu ≡ place.cpu.0) × (p.fill ≡ place.fill.0)
-  one_bad found place bad l least = ⊎_elim
-      (λ own. (x, (Contains-push these x, bad), sym (ap (λ (q : Place). q.cpu.0) own), sym (ap (λ (q : Place). q.fill.0) own)))
-      (λ before. found_before found place l before) least.one_of
+  one_bad : (found : Option ParcelKey) (key : ParcelKey) → (good x → ⊥) → IsLeastFault these good found → IsLeastKey found x key → (p : Parcel) × IsBad p × (p.cpu ≡ key.cpu.0) × (p.fill ≡ key.fill.0)
+  one_bad found key bad l least = ⊎_elim
+      (λ own. (x, (Contains-push these x, bad), sym (ap (λ (q : ParcelKey). q.cpu.0) own), sym (ap (λ (q : ParcelKey). q.fill.0) own)))
+      (λ before. found_before found key l before) least.one_of
 
   -- one parcel more, that isn't good
-  pub bad_more : (found : Option Place) (place : Place) → (good x → ⊥) → IsLeastFault these good found → IsLeastPlace found x place → IsLeastFault (these ++ x ∷ []) good (Some place)
-  bad_more found place bad l least = let (p, is_bad, cpu_is, fill_is) = one_bad found place bad l least in
-      record { parcel = p; is_one = is_bad; cpu_is = cpu_is; fill_is = fill_is; least = none_before found place l least }
+  pub bad_more : (found : Option ParcelKey) (key : ParcelKey) → (good x → ⊥) → IsLeastFault these good found → IsLeastKey found x key → IsLeastFault (these ++ x ∷ []) good (Some key)
+  bad_more found key bad l least = let (p, is_bad, cpu_is, fill_is) = one_bad found key bad l least in
+      record { parcel = p; is_one = is_bad; cpu_is = cpu_is; fill_is = fill_is; least = none_before found key l least }
 
 -- ---- an element of a list, after others and those before it
 
@@ -64,17 +64,17 @@ one_more these xs i x within is =
     append_assoc these (take i xs) (x ∷ [])
     ∙ ap (λ (l : List Parcel). these ++ l) (ap (λ (y : Parcel). take i xs ++ y ∷ []) is ∙ sym (take_more xs i x within))
 
-pub good_at : (good : Parcel → Type 0) (these xs : List Parcel) (i : ℕ) (x : Parcel) (found : Option Place) → i < length xs → x ≡ get_or xs i x → good x
+pub good_at : (good : Parcel → Type 0) (these xs : List Parcel) (i : ℕ) (x : Parcel) (found : Option ParcelKey) → i < length xs → x ≡ get_or xs i x → good x
     → IsLeastFault (these ++ take i xs) good found → IsLeastFault (these ++ take (i + 1) xs) good found
 good_at good these xs i x found within is fine l =
     subst (λ (all : List Parcel). IsLeastFault all good found) (one_more these xs i x within is) (good_more good (these ++ take i xs) x found fine l)
 
-pub bad_at : (good : Parcel → Type 0) (these xs : List Parcel) (i : ℕ) (x : Parcel) (found : Option Place) (place : Place) → i < length xs → x ≡ get_or xs i x → (good x → ⊥)
-    → IsLeastFault (these ++ take i xs) good found → IsLeastPlace found x place → IsLeastFault (these ++ take (i + 1) xs) good (Some place)
-bad_at good these xs i x found place within is bad l least =
-    subst (λ (all : List Parcel). IsLeastFault all good (Some place)) (one_more these xs i x within is) (bad_more good (these ++ take i xs) x found place bad l least)
+pub bad_at : (good : Parcel → Type 0) (these xs : List Parcel) (i : ℕ) (x : Parcel) (found : Option ParcelKey) (key : ParcelKey) → i < length xs → x ≡ get_or xs i x → (good x → ⊥)
+    → IsLeastFault (these ++ take i xs) good found → IsLeastKey found x key → IsLeastFault (these ++ take (i + 1) xs) good (Some key)
+bad_at good these xs i x found key within is bad l least =
+    subst (λ (all : List Parcel). IsLeastFault all good (Some key)) (one_more these xs i x within is) (bad_more good (these ++ take i xs) x found key bad l least)
 
--- ---- there is one least place
+-- ---- there is one least key
 
 pub least_is_one : (these : Parcel → Type 0) (cpu fill other_cpu other_fill : ℕ) → IsLeast these cpu fill → IsLeast these other_cpu other_fill → (cpu ≡ other_cpu) × (fill ≡ other_fill)
 least_is_one these cpu fill other_cpu other_fill a b =

@@ -65,7 +65,7 @@ module _ (n size start : ℕ) (cores : ℕ → Core) (ledgers : List Ledger) (ri
       all : IsBelow taken (taken_in ledgers)
       all = below_more taken (taken_in ledgers) (λ p has. of_all ledgers cpu ledger p at has)
 
-      exact : IsExact (cores cpu).history start (is_cut n size start (cores cpu) reached cpu taken (rings cpu ledger at).1).deeds cpu taken
+      exact : IsExact (cores cpu).history start (is_cut n size start (cores cpu) reached cpu taken (rings cpu ledger at).1).events cpu taken
       exact = is_exact n size start (cores cpu) reached cpu taken (λ parcel one. page_of_one n size start (cores cpu) reached cpu taken (rings cpu ledger at).1 parcel one.0)
 
       of_cpu : (parcel : Parcel) → Contains taken parcel → parcel.cpu ≡ cpu

@@ -30,7 +30,7 @@ IsStray kept taken parcel = Contains kept parcel × (Contains taken parcel → �
 abbrev pub IsLacking : (kept taken : List Parcel) → Parcel → Type 0
 IsLacking kept taken parcel = Contains taken parcel × (IsBelow (parcel ∷ []) kept → ⊥)
 
--- The first place isn't after the other one, by CPU and then by fill.
+-- The first key isn't after the other one, by CPU and then by fill.
 pub record IsUpTo (cpu fill other_cpu other_fill : ℕ) : Type 0 where
   pub cpu_le : cpu ≤ other_cpu
   pub fill_le : cpu ≡ other_cpu → fill ≤ other_fill

@@ -6,7 +6,7 @@ use Rattle.trace_model.specs.History.{Action, committed_records}
 use Rattle.trace_model.specs.Parcel.{Parcel}
 use Rattle.trace_model.specs.Collection.{Has, Misses}
 use Rattle.trace_model.specs.Ring.{Core}
-use Rattle.trace_model.specs.Window.{Deed}
+use Rattle.trace_model.specs.Window.{RingEvent}
 use Rattle.link_marks.specs.Reached.{IsReached}
 use Rattle.world_model.specs.World.{parcel_of}
 use Rattle.world_model.specs.Headline.{StandsIn, IsOverwrittenBefore, IsCut}
@@ -22,7 +22,8 @@ AreOfRings n size start cores ledgers = (cpu : ℕ) (ledger : Ledger)
 
 -- What is kept has the committed records of a CPU that are in a fill that was taken, under their own numbers, and no
 -- others; and it misses the numbers that were overwritten unread before such a fill, and no others.
-pub record KeepsExactly (history : List Action) (start : ℕ) (deeds : List Deed) (cpu : ℕ) (kept taken : List Parcel)
+pub record KeepsExactly (history : List Action) (start : ℕ) (events : List RingEvent) (cpu : ℕ)
+    (kept taken : List Parcel)
     : Type 0 where
   pub has : (number : ℕ) (r : Record)
       → Has kept cpu number r
@@ -34,13 +35,13 @@ pub record KeepsExactly (history : List Action) (start : ℕ) (deeds : List Deed
       → Misses kept cpu number
       ↔ ((parcel : Parcel)
       × Contains taken parcel
-      × IsOverwrittenBefore history start deeds parcel.fill number)
+      × IsOverwrittenBefore history start events parcel.fill number)
 
 -- The history of a CPU's ring is cut into the parcels that were taken from it, by what happened in a run of that ring,
 -- and of that CPU exactly this is kept.
 pub record IsKept (n size start cpu : ℕ) (c : Core) (kept taken : List Parcel) : Type 0 where
   pub cut : IsCut n size start c taken
-  pub exact : KeepsExactly c.history start cut.deeds cpu kept taken
+  pub exact : KeepsExactly c.history start cut.events cpu kept taken
 
 -- nothing of this CPU is kept
 pub record IsUnknown (cpu : ℕ) (kept : List Parcel) : Type 0 where

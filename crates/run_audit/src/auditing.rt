@@ -11,7 +11,7 @@ ghost use Rattle.run_audit.specs.Headline.{AreOfRings, IsHeadline};
 ghost use Rattle.run_audit.specs.declared.fault.AuditFault.TheVariants.{Stray, Lacks};
 
 use crate::fault::{AuditFault, Audited};
-use crate::least::{Place, least};
+use crate::least::{ParcelKey, least};
 use crate::ledger::Ledger;
 use crate::order::order_of;
 use crate::search::is_taken;
@@ -19,7 +19,7 @@ use collector::Collector;
 use page_numbers::Parcel;
 
 /// The least kept parcel that equals none of those that were taken.
-fn least_stray(kept: &[Parcel], ledgers: &[Ledger]) -> Option<Place>
+fn least_stray(kept: &[Parcel], ledgers: &[Ledger]) -> Option<ParcelKey>
     ensures { IsLeastFault kept.now (Contains (taken_in ledgers.now)) result }
 {
     let order = order_of(ledgers);
@@ -32,8 +32,12 @@ fn least_stray(kept: &[Parcel], ledgers: &[Ledger]) -> Option<Place>
     found
 }
 
-/// The least of a place, if there is one, and the places of these parcels that the collector doesn't hold whole.
-fn least_lacking_of(collector: &Collector, found: Option<Place>, taken: &[Parcel]) -> Option<Place>
+/// The least of a key, if there is one, and the keys of these parcels that the collector doesn't hold whole.
+fn least_lacking_of(
+    collector: &Collector,
+    found: Option<ParcelKey>,
+    taken: &[Parcel],
+) -> Option<ParcelKey>
     ensures { (these : List ParcelSeen) → IsLeastFault these (λ parcel. IsBelow (parcel ∷ []) collector.now) found
         → IsLeastFault (these ++ taken.now) (λ parcel. IsBelow (parcel ∷ []) collector.now) result }
 {
@@ -47,7 +51,7 @@ fn least_lacking_of(collector: &Collector, found: Option<Place>, taken: &[Parcel
 }
 
 /// The least parcel that was taken and that the collector doesn't hold whole.
-fn least_lacking(collector: &Collector, ledgers: &[Ledger]) -> Option<Place>
+fn least_lacking(collector: &Collector, ledgers: &[Ledger]) -> Option<ParcelKey>
     ensures { IsLeastFault (taken_in ledgers.now) (λ parcel. IsBelow (parcel ∷ []) collector.now) result }
 {
     let mut found = None;
@@ -75,11 +79,11 @@ pub fn audit(collector: &Collector, ledgers: &[Ledger]) -> Result<Audited, Audit
         → AreOfRings n size start cores ledgers.now
         → IsHeadline n size start cores collector.now ledgers.now) }
 {
-    if let Some(place) = least_stray(collector.parcels(), ledgers) {
-        return Err(AuditFault::Stray(place.cpu, place.fill));
+    if let Some(key) = least_stray(collector.parcels(), ledgers) {
+        return Err(AuditFault::Stray(key.cpu, key.fill));
     }
-    if let Some(place) = least_lacking(collector, ledgers) {
-        return Err(AuditFault::Lacks(place.cpu, place.fill));
+    if let Some(key) = least_lacking(collector, ledgers) {
+        return Err(AuditFault::Lacks(key.cpu, key.fill));
     }
     Ok(Audited)
 }

@@ -1,50 +1,50 @@
 //! The least of the parcels at fault, by CPU and then by fill.
 ghost use Rattle.std.specs.Prelude.{◌≡◌, ◌⊎◌};
-ghost use Rattle.run_audit.specs.Least.{place_of, IsPlaceUpTo, IsLeastPlace};
+ghost use Rattle.run_audit.specs.Least.{key_of, IsKeyUpTo, IsLeastKey};
 
 use page_numbers::Parcel;
 use trace_model::{CpuId, FillNo};
 
 /// A parcel's CPU and fill.
 #[derive(Clone, Copy, Debug)]
-pub(crate) struct Place {
+pub(crate) struct ParcelKey {
     pub(crate) cpu: CpuId,
     pub(crate) fill: FillNo,
 }
 
-/// The place of a parcel.
-fn own_place(parcel: &Parcel) -> Place
-    ensures { result ≡ place_of parcel.now }
+/// The key of a parcel.
+fn own_key(parcel: &Parcel) -> ParcelKey
+    ensures { result ≡ key_of parcel.now }
 {
-    Place {
+    ParcelKey {
         cpu: parcel.cpu(),
         fill: parcel.fill(),
     }
 }
 
-/// The lesser of two places.
-fn lesser(place: Place, other: Place) -> Place
-    ensures one_of { (result ≡ place) ⊎ (result ≡ other) }
-    ensures up_to { IsPlaceUpTo result place }
-    ensures up_to_other { IsPlaceUpTo result other }
+/// The lesser of two keys.
+fn lesser(key: ParcelKey, other: ParcelKey) -> ParcelKey
+    ensures one_of { (result ≡ key) ⊎ (result ≡ other) }
+    ensures up_to { IsKeyUpTo result key }
+    ensures up_to_other { IsKeyUpTo result other }
 {
-    if place.cpu.0 < other.cpu.0 {
-        return place;
+    if key.cpu.0 < other.cpu.0 {
+        return key;
     }
-    if other.cpu.0 < place.cpu.0 {
+    if other.cpu.0 < key.cpu.0 {
         return other;
     }
-    if place.fill.0 <= other.fill.0 {
-        return place;
+    if key.fill.0 <= other.fill.0 {
+        return key;
     }
     other
 }
 
-/// The least of a place, if there is one, and the place of a parcel.
-pub(crate) fn least(found: Option<Place>, parcel: &Parcel) -> Place
-    ensures { IsLeastPlace found parcel.now result }
+/// The least of a key, if there is one, and the key of a parcel.
+pub(crate) fn least(found: Option<ParcelKey>, parcel: &Parcel) -> ParcelKey
+    ensures { IsLeastKey found parcel.now result }
 {
-    let own = own_place(parcel);
+    let own = own_key(parcel);
     match found {
         None => own,
         Some(other) => lesser(own, other),

@@ -6,7 +6,7 @@ use Rattle.run_audit.specs.Audit.{IsLeast}
 use Rattle.collector_text.proofs.OneText.{one_text}
 use Rattle.world_model.specs.Printing.{printed_collector}
 use Rattle.run_text.specs.Verdicts.{Verdict, IsVerdict, yes, stray, lacks}
-use Rattle.run_text.specs.Printing.{AuditedShown, TellsAudited, printed_audit, printed_audited, printed_run}
+use Rattle.run_text.specs.Printing.{AuditedShown, IsAuditedPrintOf, printed_audit, printed_audited, printed_run}
 
 -- two least places have the same CPU
 same_cpu : (these : Parcel → Type 0) (cpu fill other_cpu other_fill : ℕ) → IsLeast these cpu fill
@@ -48,8 +48,8 @@ one_verdict kept taken (lacks cpu fill) (lacks other_cpu other_fill) a b =
     rw (same_cpu _ cpu fill other_cpu other_fill a.1 b.1, same_fill _ cpu fill other_cpu other_fill a.1 b.1) refl
 
 -- a collector and its audit have one text
-one_audited : (taken kept : List Parcel) (number : ℕ) (shown other : AuditedShown) → TellsAudited taken kept shown
-    → TellsAudited taken kept other → printed_audited number shown ≡ printed_audited number other
+one_audited : (taken kept : List Parcel) (number : ℕ) (shown other : AuditedShown) → IsAuditedPrintOf taken kept shown
+    → IsAuditedPrintOf taken kept other → printed_audited number shown ≡ printed_audited number other
 one_audited taken kept number shown other a b =
     ap (λ (text : List ℕ). text ++ printed_audit shown.verdict)
     (one_text kept shown.collector other.collector number a.tells b.tells)
@@ -61,7 +61,7 @@ abbrev text_of_all : ℕ → List AuditedShown → List ℕ
 text_of_all number shown = flat_map (λ (pair : ℕ × AuditedShown). printed_audited pair.0 pair.1) (enumerate_from number shown)
 
 one_text_of_all : (taken : List Parcel) (number : ℕ) (collectors : List (List Parcel)) (shown other : List AuditedShown)
-    → AllZip (TellsAudited taken) collectors shown → AllZip (TellsAudited taken) collectors other
+    → AllZip (IsAuditedPrintOf taken) collectors shown → AllZip (IsAuditedPrintOf taken) collectors other
     → text_of_all number shown ≡ text_of_all number other
 one_text_of_all taken number [] [] [] a b = refl
 one_text_of_all taken number [] [] (o ∷ os) a b = absurd b
@@ -75,6 +75,6 @@ one_text_of_all taken number (c ∷ cs) (s ∷ ss) (o ∷ os) a b =
     ∙ ap (λ (text : List ℕ). printed_audited number o ++ text) rest
 
 pub one_run : (taken : List Parcel) (collectors : List (List Parcel)) (shown other : List AuditedShown)
-    → AllZip (TellsAudited taken) collectors shown → AllZip (TellsAudited taken) collectors other
+    → AllZip (IsAuditedPrintOf taken) collectors shown → AllZip (IsAuditedPrintOf taken) collectors other
     → printed_run shown ≡ printed_run other
 one_run taken collectors shown other a b = one_text_of_all taken 0 collectors shown other a b

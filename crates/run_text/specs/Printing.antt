@@ -5,7 +5,7 @@ use Rattle.std.specs.List.{enumerate_from}
 use Rattle.trace_model.specs.Parcel.{Parcel}
 use Rattle.text_model.specs.Text.{line_feed, space}
 use Rattle.world_model.specs.Printing.{Shown, printed_collector}
-use Rattle.collector_text.specs.Tells.{Tells}
+use Rattle.collector_text.specs.Prints.{IsPrintOf}
 use Rattle.run_text.specs.Verdicts.{Verdict, IsVerdict, yes, stray, lacks}
 
 -- a CPU and a fill of its ring
@@ -28,8 +28,8 @@ pub record AuditedShown : Type 0 where
   pub verdict : Verdict
 
 -- It states exactly what the collector has and misses, and how its audit against these taken parcels ends.
-pub record TellsAudited (taken kept : List Parcel) (shown : AuditedShown) : Type 0 where
-  pub tells : Tells kept shown.collector
+pub record IsAuditedPrintOf (taken kept : List Parcel) (shown : AuditedShown) : Type 0 where
+  pub tells : IsPrintOf kept shown.collector
   pub verdict : IsVerdict kept taken shown.verdict
 
 -- a collector of this number, and its audit

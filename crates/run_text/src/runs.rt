@@ -2,10 +2,10 @@
 ghost use Rattle.std.specs.Prelude.{◌≡◌, ◌++◌, List, OnOk, OnErr, IfOk, IfSome};
 ghost use Rattle.std.specs.List.{AllZip};
 ghost use Rattle.trace_model.specs.Sublist.{IsPrefix};
-ghost use Rattle.collector_text.specs.Tells.{StandsBetween};
+ghost use Rattle.collector_text.specs.Prints.{StandsBetween};
 ghost use Rattle.run_audit.specs.Audit.{taken_in};
 ghost use Rattle.run_text.specs.Verdicts.{IsVerdict, verdict_of};
-ghost use Rattle.run_text.specs.Printing.{AuditedShown, TellsAudited, printed_audited, printed_run};
+ghost use Rattle.run_text.specs.Printing.{AuditedShown, IsAuditedPrintOf, printed_audited, printed_run};
 
 use crate::audits::put_audit;
 use collector::Collector;
@@ -35,7 +35,7 @@ fn put_audited(
 ) -> Result<Span, NoMemory>
     requires { IfSome before (λ b. StandsBetween b.now out.old.items span.start span.end) }
     ensures told { OnOk result ((shown : AuditedShown)
-        × TellsAudited (taken_in ledgers.now) collector.now shown
+        × IsAuditedPrintOf (taken_in ledgers.now) collector.now shown
         × (out.new.items ≡ out.old.items ++ printed_audited number shown)) }
     ensures below { IfOk result (λ own. StandsBetween collector.now out.new.items own.start own.end) }
     ensures behind { IsPrefix out.old.items out.new.items }
@@ -55,7 +55,7 @@ fn put_all(
     ledgers: &[Ledger],
 ) -> Result<(), NoMemory>
     ensures text { OnOk result ((shown : List AuditedShown)
-        × AllZip (TellsAudited (taken_in ledgers.now)) collectors.now shown
+        × AllZip (IsAuditedPrintOf (taken_in ledgers.now)) collectors.now shown
         × (out.new.items ≡ out.old.items ++ printed_run shown)) }
     ensures behind { IsPrefix out.old.items out.new.items }
 {
@@ -77,7 +77,7 @@ pub fn put_run(
     ledgers: &[Ledger],
 ) -> Result<(), NoMemory>
     ensures text { OnOk result ((shown : List AuditedShown)
-        × AllZip (TellsAudited (taken_in ledgers.now)) collectors.now shown
+        × AllZip (IsAuditedPrintOf (taken_in ledgers.now)) collectors.now shown
         × (out.new.items ≡ out.old.items ++ printed_run shown)) }
     ensures kept { OnErr result (out.new.items ≡ out.old.items) }
 {

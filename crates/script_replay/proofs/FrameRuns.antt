@@ -19,7 +19,7 @@ use Rattle.ring_frames.specs.declared.answer.Answer.{Answer}
 use Rattle.replay_log.specs.declared.line.LogLine.{LogLine}
 use Rattle.replay_log.specs.LogTypes.{shown_log}
 use Rattle.script_replay.specs.Value.{LaneValue}
-use Rattle.script_replay.specs.Lanes.{IsLane, Happens, Has}
+use Rattle.script_replay.specs.Lanes.{IsLane, Happens, MakesExchanges}
 use Rattle.script_replay.specs.Frames.{StepsOnce, FollowsFrame, IsAmid}
 use Rattle.script_replay.proofs.Logs.{told_one, told_more}
 use Rattle.script_replay.proofs.Told.{IsTold}
@@ -101,11 +101,11 @@ amid_more n size start cpu line depth count before v new answer first log more h
 
 -- in each lane that the value was
 pub amid_turn : (line cpu depth count : ℕ) (old v new : LaneValue) (answer : Answer) (first log more : List LogLine)
-    → Has (IsAmid depth count) line cpu old first v log
+    → MakesExchanges (IsAmid depth count) line cpu old first v log
     → length v.core.stack.frames ≡ depth
     → StepsOnce v answer new
     → IsTold line cpu answer log more
-    → Has (IsAmid depth (count + 1)) line cpu old first new more
+    → MakesExchanges (IsAmid depth (count + 1)) line cpu old first new more
 amid_turn line cpu depth count old v new answer first log more amid deep once told n size start lane is =
     amid_more n size start cpu line depth count lane v new answer first log more (amid n size start lane is) deep once
     told

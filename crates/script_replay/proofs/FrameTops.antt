@@ -23,7 +23,7 @@ use Rattle.ring_frames.specs.declared.answer.Answer.{Answer}
 use Rattle.ring_core.specs.Value.{CoreValue}
 use Rattle.ring_frames.specs.AreFrames.{ring_frames}
 use Rattle.ring_frames.proofs.Lent.{slot_keeps}
-use Rattle.ring_core.specs.IsCore.{Shows, IsCore}
+use Rattle.ring_core.specs.IsCore.{HasStateOf, IsCore}
 use Rattle.ring_frames.specs.Answers.{top_bytes}
 use Rattle.ring_core.specs.Steps.{IsStep, Makes}
 use Rattle.ring_core.specs.Lending.{with_reserved, with_top, with_slot_payload, StaysRing, FitsFrame}
@@ -52,7 +52,7 @@ pub asked_step : (old : LaneValue) (answer : Answer) (new : CoreValue)
     → Makes old.core steps answer new
     → AsksTop old answer new
 asked_step old answer new none makes n size start cpu lane is =
-    let k : Shows n size start old.core lane.core = is.is_core.shows in
+    let k : HasStateOf n size start old.core lane.core = is.is_core.shows in
     let asks : event_on_top lane.core.frames lane.payloads
     ≡ steps = ap (λ (fs : List Frame). event_on_top fs lane.payloads) k.frames.frames_are
     ∙ steps_on_top old.core.stack.frames old.core.phase old.core.below lane.payloads none in
@@ -106,7 +106,7 @@ pub has_top_payload : (n size start cpu : ℕ) (old : LaneValue) (lane : Lane) (
     → FitsFrame old.core slot
     → HasTopPayload old lane slot
 has_top_payload n size start cpu old lane slot is top fits =
-    let k : Shows n size start old.core lane.core = is.is_core.shows in
+    let k : HasStateOf n size start old.core lane.core = is.is_core.shows in
     let r : IsRingKept n size start lane.core = reached_kept n size start lane.core is.is_core.reached in
     let (frame, under, shown, state) = shown_top old.core.stack.frames old.core.phase old.core.below slot top in
     let frames_are : lane.core.frames ≡ frame ∷ under = k.frames.frames_are ∙ shown in

@@ -14,9 +14,9 @@ use Rattle.nested_writer.specs.declared.frame.Frame as stack
 use Rattle.ring_frames.specs.declared.phase.Phase.{Phase}
 use Rattle.ring_core.specs.Value.{CoreValue}
 use Rattle.ring_frames.specs.AreFrames.{ring_frames, AreBelow}
-use Rattle.ring_core.specs.IsCore.{Shows, IsCore}
+use Rattle.ring_core.specs.IsCore.{HasStateOf, IsCore}
 use Rattle.script_replay.specs.declared.lane.Lane.TheInside.{Inside}
-use Rattle.script_replay.specs.Value.{LaneValue, shown}
+use Rattle.script_replay.specs.Value.{LaneValue, lane_of}
 use Rattle.script_replay.specs.Lanes.{IsLane}
 
 -- a ring's value has as many frames as the state that it shows
@@ -37,7 +37,7 @@ pub frames_shown : (n size start : ℕ) (v : CoreValue) (c : Core)
     → IsCore n size start v c
     → length v.stack.frames ≡ length c.frames
 frames_shown n size start v c core =
-    let k : Shows n size start v c = core.shows in
+    let k : HasStateOf n size start v c = core.shows in
     sym (ap length k.frames.frames_are ∙ as_many_shown v.stack.frames v.phase v.below k.frames.below_are)
 
 pub depth_is : (n size start cpu : ℕ) (v : LaneValue) (lane : Lane)
@@ -64,7 +64,7 @@ as_many n size start cpu v lane is =
 
 pub kept_many : (n size start cpu : ℕ) (v : LaneValue) (lane : Lane) (inside : Inside) (kept : ℕ)
     → IsLane n size start cpu v lane
-    → shown inside ≡ v
+    → lane_of inside ≡ v
     → kept ≡ length inside.payloads.items
     → kept ≡ length v.core.stack.frames
 kept_many n size start cpu v lane inside kept is view same =

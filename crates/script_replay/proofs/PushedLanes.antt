@@ -15,7 +15,7 @@ use Rattle.ring_frames.specs.declared.answer.Answer.{Answer}
 use Rattle.ring_frames.specs.declared.answer.Answer.TheVariants as answer
 use Rattle.nested_writer.specs.declared.stack.leave.Ended.TheVariants.{Pending, Full}
 use Rattle.ring_core.specs.Value.{CoreValue}
-use Rattle.ring_frames.specs.Answers.{Tells}
+use Rattle.ring_frames.specs.Answers.{IsAnswerOf}
 use Rattle.ring_core.specs.Answers.{event_of}
 use Rattle.ring_core.specs.Steps.{IsStep, Makes}
 use Rattle.replay_log.specs.declared.line.LogLine.{LogLine}
@@ -161,14 +161,14 @@ pub stands_pushed : (old : LaneValue) (push : Event) (payload : List ℕ) (a : A
     → Pushes (push_event push) payload old a (record old { core = core; payloads = payloads })
 stands_pushed old push payload a core payloads of makes pushed_is is n size start cpu lane lane_is =
     let s = made_push old push payload a core of makes n size start lane.core lane_is.is_core in
-    let told : s.answer ≡ pushed = subst (λ (x : Answer). Tells size x s.answer) pushed_is s.tells in
+    let told : s.answer ≡ pushed = subst (λ (x : Answer). IsAnswerOf size x s.answer) pushed_is s.tells in
     pushed_lane n size start cpu old (record old { core = core; payloads = payloads }) lane push payload a core lane_is
     of s
     (ap (λ (p : List (List ℕ)). record old { core = core; payloads = p })
     (is ∙ ap (λ (x : model.Answer). payloads_with payload x old.payloads) (sym told)))
 
 payloads_stay : (size : ℕ) (payload : List ℕ) (payloads : List (List ℕ)) (a : Answer) (told : model.Answer)
-    → Tells size a told
+    → IsAnswerOf size a told
     → a ≢ answer.Pushed
     → payloads_with payload told payloads ≡ payloads
 payloads_stay size payload payloads answer.Pushed told t not = absurd (not refl)
@@ -236,7 +236,7 @@ begun n size start cpu line moment lane payload a new first log p told =
 -- of a push that isn't refused nothing is logged
 pub untold : (line cpu : ℕ) (a : Answer) (log : List LogLine) → a ≡ answer.Pushed → IsTold line cpu a log log
 untold line cpu a log is size told tells =
-    let pushed_is : told ≡ pushed = subst (λ (y : Answer). Tells size y told) is tells in
+    let pushed_is : told ≡ pushed = subst (λ (y : Answer). IsAnswerOf size y told) is tells in
     sym (append-nil (shown_log log)) ∙ ap (λ (x : model.Answer). shown_log log ++ logged line cpu x) (sym pushed_is)
 
 -- pushed, and finished
@@ -251,7 +251,7 @@ pub written : (n size start cpu line : ℕ) (lane : Lane) (push : model.Event) (
     start lane first new more
 written n size start cpu line lane push payload a between new first log more p is told h =
     let x : Exchange = record { event = push; answer = p.told } in
-    let pushed_is : p.told ≡ pushed = subst (λ (y : Answer). Tells size y p.told) is p.tells in
+    let pushed_is : p.told ≡ pushed = subst (λ (y : Answer). IsAnswerOf size y p.told) is p.tells in
     record {
       exchanges = x ∷ h.exchanges;
       after = h.after;
@@ -273,7 +273,7 @@ written n size start cpu line lane push payload a between new first log more p i
 -- ---- a push that is refused
 
 -- the model answers `pushed` if the ring does
-told_pushed : (size : ℕ) (a : Answer) (told : model.Answer) → Tells size a told → told ≡ pushed → a ≢ answer.Pushed → ⊥
+told_pushed : (size : ℕ) (a : Answer) (told : model.Answer) → IsAnswerOf size a told → told ≡ pushed → a ≢ answer.Pushed → ⊥
 told_pushed size answer.Pushed told t is not = not refl
 told_pushed size answer.Going told t is not = let z : ⊥ = cc in z
 told_pushed size (answer.Reserved number) told t is not = let z : ⊥ = cc in z

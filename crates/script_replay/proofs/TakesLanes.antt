@@ -20,13 +20,13 @@ use Rattle.ring_frames.specs.declared.answer.Answer.{Answer}
 use Rattle.ring_frames.specs.declared.answer.Answer.TheVariants.{Pushed, Going, Reserved, Ended, Gone, Refused, Looking, Empty, Moving, Taken, Wished}
 use Rattle.ring_core.specs.Value.{CoreValue}
 use Rattle.ring_core.specs.IsCore.{IsCore}
-use Rattle.ring_frames.specs.Answers.{Tells}
+use Rattle.ring_frames.specs.Answers.{IsAnswerOf}
 use Rattle.ring_core.specs.Answers.{GivesBack}
 use Rattle.ring_core.specs.Steps.{Makes}
 use Rattle.replay_log.specs.declared.line.LogLine.{LogLine}
 use Rattle.replay_log.specs.LogTypes.{shown_log}
 use Rattle.script_replay.specs.Value.{LaneValue}
-use Rattle.script_replay.specs.Lanes.{IsLane, IsLaneOf, Has}
+use Rattle.script_replay.specs.Lanes.{IsLane, IsLaneOf, MakesExchanges}
 use Rattle.script_replay.specs.Takes.{ReadsOnce, MayKeep, Keeps}
 use Rattle.script_replay.proofs.Logs.{told_one}
 use Rattle.script_replay.proofs.Told.{IsTold}
@@ -109,7 +109,7 @@ pub wishes_of : (line cpu : ℕ) (v : LaneValue) (result : Answer) (new : LaneVa
     → Makes v.core wishes result new.core
     → new ≡ record v { core = new.core }
     → IsTold line cpu result old_log new_log
-    → Has (λ n size before xs after. Wishes n size before xs after) line cpu v old_log new new_log
+    → MakesExchanges (λ n size before xs after. Wishes n size before xs after) line cpu v old_log new new_log
 wishes_of line cpu v result new old_log new_log makes same told = λ n size start lane is.
     let s = makes n size start lane.core is.is_core in
     let x : Exchange = record { event = wishes; answer = s.answer } in
@@ -180,7 +180,7 @@ module _ (line cpu n size start : ℕ) (v : LaneValue) (lane : Lane) (is : IsLan
   no_more given stopped goes = absurd (false≢true (sym stopped ∙ goes))
 
   keeps_reads : (result : Answer)
-      → Tells size result told
+      → IsAnswerOf size result told
       → GivesBack body result
       → Keeps cpu result goes_on (record v { core = core; body = None }) new
       → Reads
@@ -220,7 +220,7 @@ pub reads_once : (line cpu : ℕ) (v between new : LaneValue) (body : List ℕ) 
     → GivesBack body result
     → IsTold line cpu result old_log new_log
     → Keeps cpu result goes_on between new
-    → Has (ReadsOnce goes_on) line cpu v old_log new new_log
+    → MakesExchanges (ReadsOnce goes_on) line cpu v old_log new new_log
 reads_once line cpu v between new body result goes_on old_log new_log body_is makes same gives told keeps =
     λ n size start lane is.
     let s = makes n size start lane.core is.is_core in

@@ -18,7 +18,7 @@ use Rattle.link_marks.proofs.RingsKept.{ring_step}
 use Rattle.page_image.specs.Contents.{records_of_page}
 use Rattle.ring_frames.specs.declared.answer.Answer.{Answer}
 use Rattle.ring_frames.specs.declared.answer.Answer.TheVariants.{Pushed, Going, Reserved, Ended, Gone, Refused, Looking, Empty, Moving, Taken as IsTaken, Wished}
-use Rattle.ring_frames.specs.Answers.{Tells}
+use Rattle.ring_frames.specs.Answers.{IsAnswerOf}
 use Rattle.ring_core.specs.Answers.{GivesBack}
 use Rattle.script_replay.specs.Takes.{MayKeep}
 
@@ -91,7 +91,7 @@ pub may_keep : (n size start cpu : ℕ) (c : Core) (event : Event) (body : List 
     → cpu < MAX_CPUS
     → Step n size c event told after
     → GivesBack body result
-    → Tells size result told
+    → IsAnswerOf size result told
     → MayKeep cpu result
 may_keep n size start cpu c event body Pushed told after kept large known step gives tells = absurd gives
 may_keep n size start cpu c event body Going told after kept large known step gives tells = absurd gives

@@ -12,7 +12,7 @@ use Rattle.world_model.proofs.LineEnds.{reader_runs_short}
 use Rattle.replay_log.specs.declared.line.LogLine.{LogLine}
 use Rattle.replay_log.specs.LogTypes.{shown_log}
 use Rattle.script_replay.specs.Value.{LaneValue}
-use Rattle.script_replay.specs.Lanes.{IsLaneOf, Has, HasLine}
+use Rattle.script_replay.specs.Lanes.{IsLaneOf, MakesExchanges, HasLine}
 use Rattle.script_replay.specs.Takes.{ReadsOnce, ReadsOn, IsReading}
 use Rattle.script_replay.proofs.Logs.{told_more}
 
@@ -65,9 +65,9 @@ reading_more steps n size goes_on before between after xs ys r once =
 
 pub read_more : (line cpu steps : ℕ) (goes_on : Bool) (first between new : LaneValue)
     (log log_between new_log : List LogLine)
-    → Has (IsReading steps true) line cpu first log between log_between
-    → Has (ReadsOnce goes_on) line cpu between log_between new new_log
-    → Has (IsReading (steps + 1) goes_on) line cpu first log new new_log
+    → MakesExchanges (IsReading steps true) line cpu first log between log_between
+    → MakesExchanges (ReadsOnce goes_on) line cpu between log_between new new_log
+    → MakesExchanges (IsReading (steps + 1) goes_on) line cpu first log new new_log
 read_more line cpu steps goes_on first between new log log_between new_log so_far once = λ n size start lane is.
     let h = so_far n size start lane is in
     let k = once n size start h.after h.is_lane in
@@ -85,7 +85,7 @@ read_more line cpu steps goes_on first between new log log_between new_log so_fa
 pub lane_of : {run : (n size : ℕ) → Lane → List Exchange → Lane → Type 0} (line cpu : ℕ) (v new : LaneValue)
     (log new_log : List LogLine)
     → IsLaneOf cpu v
-    → Has run line cpu v log new new_log
+    → MakesExchanges run line cpu v log new new_log
     → IsLaneOf cpu new
 lane_of line cpu v new log new_log (n, size, start, lane, is) has =
     let h = has n size start lane is in
@@ -94,8 +94,8 @@ lane_of line cpu v new log new_log (n, size, start, lane, is) has =
 -- all steps are made
 pub all_read : (line cpu steps count : ℕ) (goes_on : Bool) (v new : LaneValue) (log new_log : List LogLine)
     → steps ≡ count
-    → Has (IsReading steps goes_on) line cpu v log new new_log
-    → Has (ReadsOn count) line cpu v log new new_log
+    → MakesExchanges (IsReading steps goes_on) line cpu v log new new_log
+    → MakesExchanges (ReadsOn count) line cpu v log new new_log
 all_read line cpu steps count goes_on v new log new_log all has = λ n size start lane is.
     let h = has n size start lane is in
     record {
@@ -109,8 +109,8 @@ all_read line cpu steps count goes_on v new log new_log all has = λ n size star
 -- the take is answered
 pub answer_read : (line cpu steps count : ℕ) (v new : LaneValue) (log new_log : List LogLine)
     → steps ≤ count
-    → Has (IsReading steps false) line cpu v log new new_log
-    → Has (ReadsOn count) line cpu v log new new_log
+    → MakesExchanges (IsReading steps false) line cpu v log new new_log
+    → MakesExchanges (ReadsOn count) line cpu v log new new_log
 answer_read line cpu steps count v new log new_log few has = λ n size start lane is.
     let h = has n size start lane is in
     record {
@@ -131,7 +131,7 @@ answered_if (x ∷ y ∷ xs) not = answered_if (y ∷ xs) not
 
 pub take_is_answered : (line cpu count : ℕ) (v new : LaneValue) (log new_log : List LogLine)
     → reader_limit MAX_PAGES < count
-    → Has (ReadsOn count) line cpu v log new new_log
+    → MakesExchanges (ReadsOn count) line cpu v log new new_log
     → HasLine (take_page cpu) line cpu v log new new_log
 take_is_answered line cpu count v new log new_log many has = λ n size start lane is.
     let h = has n size start lane is in

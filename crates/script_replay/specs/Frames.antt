@@ -8,11 +8,11 @@ use Rattle.ring_core.specs.declared.event.Event.{Event}
 use Rattle.ring_core.specs.declared.event.Event.TheVariants as event
 use Rattle.ring_frames.specs.declared.answer.Answer.{Answer}
 use Rattle.ring_core.specs.Value.{CoreValue}
-use Rattle.ring_frames.specs.Answers.{Tells}
+use Rattle.ring_frames.specs.Answers.{IsAnswerOf}
 use Rattle.ring_core.specs.Steps.{IsStep}
 use Rattle.replay_log.specs.declared.line.LogLine.{LogLine}
 use Rattle.script_replay.specs.Value.{LaneValue}
-use Rattle.script_replay.specs.Lanes.{IsLane, Has}
+use Rattle.script_replay.specs.Lanes.{IsLane, MakesExchanges}
 
 -- ---- steps
 
@@ -27,7 +27,7 @@ pub record IsSteppedOnce (n size start cpu : ℕ) (lane : Lane) (answer : Answer
   pub told : model.Answer
   pub core : Core
   pub step : Step n size lane.core (event_on_top lane.core.frames lane.payloads) told core
-  pub tells : Tells size answer told
+  pub tells : IsAnswerOf size answer told
   pub is_lane : IsLane n size start cpu new (lane_behind lane core)
 
 abbrev pub StepsOnce : LaneValue → Answer → LaneValue → Type 0
@@ -74,7 +74,7 @@ pub record IsPushed (n size start cpu : ℕ) (lane : Lane) (event : model.Event)
   pub told : model.Answer
   pub core : Core
   pub step : Step n size lane.core event told core
-  pub tells : Tells size answer told
+  pub tells : IsAnswerOf size answer told
   pub is_lane : IsLane n size start cpu new (lane_with lane payload told core)
 
 abbrev pub Pushes : model.Event → List ℕ → LaneValue → Answer → LaneValue → Type 0
@@ -86,5 +86,5 @@ Pushes event payload old answer new = (n size start cpu : ℕ) (lane : Lane)
 abbrev pub HasWritten : model.Event → List ℕ → (line cpu : ℕ)
     → LaneValue → List LogLine → LaneValue → List LogLine → Type 0
 HasWritten event payload line cpu old old_log new new_log =
-    Has (λ n size before exchanges after. WritesFrame n size event payload before exchanges after)
+    MakesExchanges (λ n size before exchanges after. WritesFrame n size event payload before exchanges after)
     line cpu old old_log new new_log

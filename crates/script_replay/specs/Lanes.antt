@@ -46,14 +46,14 @@ pub record Happens (run : (n size : ℕ) → Lane → List Exchange → Lane →
   pub log : shown_log new_log ≡ shown_log old_log ++ log_of line cpu exchanges
 
 -- so it is for each lane that the value before is
-abbrev pub Has : ((n size : ℕ) → Lane → List Exchange → Lane → Type 0) → (line cpu : ℕ)
+abbrev pub MakesExchanges : ((n size : ℕ) → Lane → List Exchange → Lane → Type 0) → (line cpu : ℕ)
     → LaneValue → List LogLine → LaneValue → List LogLine → Type 0
-Has run line cpu old old_log new new_log = (n size start : ℕ) (lane : Lane)
+MakesExchanges run line cpu old old_log new new_log = (n size start : ℕ) (lane : Lane)
     → IsLane n size start cpu old lane
     → Happens run line cpu n size start lane old_log new new_log
 
 -- what a line of the script asks for is done
 abbrev pub HasLine : Command → (line cpu : ℕ) → LaneValue → List LogLine → LaneValue → List LogLine → Type 0
 HasLine command line cpu old old_log new new_log =
-    Has (λ n size before exchanges after. LineRun n size command before exchanges after)
+    MakesExchanges (λ n size before exchanges after. LineRun n size command before exchanges after)
     line cpu old old_log new new_log

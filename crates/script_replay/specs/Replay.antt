@@ -3,7 +3,7 @@ use Rattle.std.specs.Prelude.{◌≡◌, ℕ, [], ◌∷◌, ◌++◌, ◌↔◌
 use Rattle.std.specs.List.{slice_get}
 use Rattle.trace_model.specs.Record.{Record}
 use Rattle.trace_model.specs.History.{Action, committed_records}
-use Rattle.trace_model.specs.Window.{Deed}
+use Rattle.trace_model.specs.Window.{RingEvent}
 use Rattle.trace_model.specs.Parcel.{Parcel}
 use Rattle.trace_model.specs.Collection.{Has, Misses, IsSame, IsLeastUpperBound}
 use Rattle.script_model.specs.Script.{Command, begin_frame, step_frame, finish_frame, write, close, step_reader, take_page, wish, deliver, Script}
@@ -29,7 +29,8 @@ pub record IsReplay (script : Script) (collectors : List (List Parcel)) (log : L
 -- What a collector keeps makes of a CPU's history: it has exactly the committed records that are in the fill of one of
 -- the pages that were delivered to it, under their own numbers, and misses exactly the numbers that were overwritten
 -- unread before one of them.
-pub record KeepsExactly (history : List Action) (start : ℕ) (deeds : List Deed) (cpu : ℕ) (kept delivered : List Parcel)
+pub record KeepsExactly (history : List Action) (start : ℕ) (events : List RingEvent) (cpu : ℕ)
+    (kept delivered : List Parcel)
     : Type 0 where
   pub has : (number : ℕ) (r : Record)
       → Has kept cpu number r
@@ -41,7 +42,7 @@ pub record KeepsExactly (history : List Action) (start : ℕ) (deeds : List Deed
       → Misses kept cpu number
       ↔ ((parcel : Parcel)
       × IsOneOf delivered cpu parcel
-      × IsOverwrittenBefore history start deeds parcel.fill number)
+      × IsOverwrittenBefore history start events parcel.fill number)
 
 -- so it is of each collector, for each CPU
 abbrev pub AreExact : (script : Script) → List (List Parcel) → (w : World) → IsGenuineWorld script w → Type 0
@@ -49,7 +50,7 @@ AreExact script collectors w genuine = (collector cpu : ℕ) (kept delivered : L
     → slice_get collectors collector ≡ Some kept
     → slice_get w.delivered collector ≡ Some delivered
     → (at : slice_get w.lanes cpu ≡ Some lane)
-    → KeepsExactly lane.core.history script.start (genuine.cut cpu lane at).deeds cpu kept delivered
+    → KeepsExactly lane.core.history script.start (genuine.cut cpu lane at).events cpu kept delivered
 
 -- two collectors to which the same pages were delivered have and miss the same
 abbrev pub AreAlike : List (List Parcel) → World → Type 0

@@ -12,8 +12,8 @@ pub record LaneValue : Type 0 where
   pub body : Option (List ℕ)
   pub taken : List Parcel
 
-abbrev pub shown : Inside → LaneValue
-shown w = record {
+abbrev pub lane_of : Inside → LaneValue
+lane_of w = record {
   core = w.core;
   payloads = reverse (map (λ payload. payload.now) w.payloads.items);
   body = w.body;

@@ -23,11 +23,11 @@ pub struct Lane<'a> {
 }
 
 impl<'a> Model for Lane<'a> {
-    ghost use Rattle.script_replay.specs.Value.{LaneValue, shown};
+    ghost use Rattle.script_replay.specs.Value.{LaneValue, lane_of};
 
     ghost Value = { LaneValue };
 
-    ghost view = { shown };
+    ghost view = { lane_of };
 }
 
 impl<'a> Lane<'a> {

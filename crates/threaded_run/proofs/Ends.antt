@@ -7,7 +7,7 @@ use Rattle.trace_model.specs.History.{Action, committed_records}
 use Rattle.trace_model.specs.Packing.{IsPacked}
 use Rattle.script_model.specs.Script.{Command, Script}
 use Rattle.line_model.specs.Lines.{IsMadeByLines}
-use Rattle.line_model.specs.WrittenRecords.{AreWhole, records_of_lines}
+use Rattle.line_model.specs.WrittenRecords.{AllWriteOrClose, records_of_lines}
 use Rattle.ring_steps.specs.declared.rule.Shape.{Shape}
 use Rattle.ring_shared.specs.Value.{WriterValue}
 use Rattle.ring_shared.specs.Calls.{IsWriter}
@@ -54,7 +54,7 @@ reader_by_gate {Gate} answers v w gate cpu stop fault view same told is shut =
 
 -- with whole lines alone, it commits their records
 abbrev CommitsWhole : Shape → List Command → List Action → Type 0
-CommitsWhole s lines history = AreWhole lines
+CommitsWhole s lines history = AllWriteOrClose lines
     → s.start + length lines + s.pages ≤ LINK_FILLS
     → committed_records history ≡ records_of_lines s.size 0 lines
 

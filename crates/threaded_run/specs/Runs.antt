@@ -7,7 +7,7 @@ use Rattle.trace_model.specs.Packing.{IsPacked}
 use Rattle.trace_model.specs.Ring.{Core}
 use Rattle.script_model.specs.Script.{Command, Script}
 use Rattle.line_model.specs.Lines.{writer_lines, IsMadeByLines}
-use Rattle.line_model.specs.WrittenRecords.{AreWhole, records_of_lines}
+use Rattle.line_model.specs.WrittenRecords.{AllWriteOrClose, records_of_lines}
 use Rattle.line_model.specs.ReplayedLines.{commands_of}
 use Rattle.ring_steps.specs.declared.rule.Shape.{Shape}
 use Rattle.ring_steps.specs.Views.{Writing}
@@ -31,7 +31,7 @@ pub record IsRunHistory (script : Script) (cpu : ℕ) (history : List Action) : 
   pub allowed : IsHistory history
   pub packed : IsPacked history script.size
   pub made : IsMadeByLines script.pages script.size script.start (lines_of script cpu) history
-  pub committed : AreWhole (lines_of script cpu)
+  pub committed : AllWriteOrClose (lines_of script cpu)
       → script.start + length (lines_of script cpu) + script.pages ≤ LINK_FILLS
       → committed_records history ≡ records_of_lines script.size 0 (lines_of script cpu)
 

@@ -1,3 +1,1 @@
-pub mod OneOutput
-pub mod Told
 pub mod StatusFour

@@ -5,10 +5,10 @@ use Rattle.script_model.specs.Script.{Script, ParsesScript}
 use Rattle.run_audit.specs.Audit.{taken_in}
 use Rattle.threaded_run.specs.Runs.{IsRan}
 use Rattle.threaded_run.specs.declared.running.Ran.{Ran}
-use Rattle.run_text.specs.Printing.{AuditedShown, TellsAudited, printed_run}
+use Rattle.run_text.specs.Printing.{AuditedShown, IsAuditedPrintOf, printed_run}
 use Rattle.command_io.specs.declared.output.TheConstants.{THREAD_LINE}
 use Rattle.command_io.specs.declared.status.TheConstants.{DONE, END_FAILED}
-use Rattle.trace_cli.specs.Commands.{PrintsFault}
+use Rattle.replay_command.specs.Commands.{PrintsFault}
 
 -- These bytes are the printing of what a run of the script left: of each collector what its parcels have and miss, and
 -- what its audit against the parcels of the run's ledgers answers.
@@ -16,7 +16,7 @@ pub record IsRunPrinting (script : Script) (bytes : List ℕ) : Type 0 where
   pub ran : Ran
   pub of_script : IsRan script ran
   pub shown : List AuditedShown
-  pub told : AllZip (TellsAudited (taken_in ran.ledgers.items)) ran.collectors.items shown
+  pub told : AllZip (IsAuditedPrintOf (taken_in ran.ledgers.items)) ran.collectors.items shown
   pub printed : bytes ≡ printed_run shown
 
 -- the printing of a run of the script, or the line that reports that a thread could not be started

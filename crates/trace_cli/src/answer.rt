@@ -1,31 +1,18 @@
 //! What the program does for its command line.
-ghost use Rattle.std.specs.Prelude.{◌≡◌, ◌≢◌, ◌≤◌, false, true, Err, Ok};
+ghost use Rattle.std.specs.Prelude.{◌≡◌, false, true, Err, Ok};
 ghost use Rattle.std.specs.Io.KnownBytes.{Appends};
-ghost use Rattle.command_io.specs.CommandRun.{AppendsPrefix, IsCommandRun};
+ghost use Rattle.command_io.specs.CommandRun.{AppendsPrefix, IsCommandRun, OnlyUsage};
 ghost use Rattle.command_line.specs.declared.call.Call.{Call as CallSeen};
-ghost use Rattle.trace_cli.specs.Answers.{CallGives, OnlyUsage};
+ghost use Rattle.trace_cli.specs.Answers.{CallGives};
 
-use crate::commands::replay_to;
 use crate::running::run_to;
 use command_io::{END_FAILED, MEMORY_LINE, NO_MEMORY, Sink, Source, USAGE, print_memory_line};
 use command_line::{Call, CallFault};
 use image_dump::dump_to;
+use replay_command::replay_to;
 use std::alloc::Global;
-use std::io::ErrorKind;
 use std::sync::Wait;
 use std::thread::Threads;
-
-/// The fault of a command line whose words can't be given, by the kind of the error: memory was refused, or a word
-/// can't be read.
-pub fn fault_of_words(kind: ErrorKind) -> CallFault
-    ensures memory { kind ≡ ErrorKind.OutOfMemory → result ≡ CallFault.NoMemory }
-    ensures unreadable { kind ≢ ErrorKind.OutOfMemory → result ≡ CallFault.Usage }
-{
-    match kind {
-        ErrorKind::OutOfMemory => CallFault::NoMemory,
-        _ => CallFault::Usage,
-    }
-}
 
 /// Carries out the command that was called, over these ends. If the command line is refused, nothing is read or
 /// written; if memory was refused to it, only the line for that is written. Gives the exit status.

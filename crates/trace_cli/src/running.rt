@@ -5,13 +5,13 @@ ghost use Rattle.std.specs.Thread.{IsSync};
 ghost use Rattle.command_io.specs.CommandRun.{IsCommandRun};
 ghost use Rattle.command_io.specs.Output.{bytes_of, status_of};
 ghost use Rattle.run_audit.specs.Audit.{taken_in};
-ghost use Rattle.run_text.specs.Printing.{AuditedShown, TellsAudited, printed_run};
+ghost use Rattle.run_text.specs.Printing.{AuditedShown, IsAuditedPrintOf, printed_run};
 ghost use Rattle.threaded_run.specs.Runs.{IsRan};
 ghost use Rattle.trace_cli.specs.Runs.{IsRunOutput, RunGives};
 
-use crate::commands::{fault_line, read_text};
 use command_io::{Command, Output, Sink, Source, run_command};
 use line_writer::OpenGate;
+use replay_command::{fault_line, read_text};
 use run_text::put_run;
 use std::alloc::Global;
 use std::sync::Wait;
@@ -39,7 +39,7 @@ fn ran<R: Threads + Wait + Sync>(
 /// The printing of what a run left.
 fn print_ran(alloc: Global, ran: &Ran) -> Result<Vec<u8>, NoMemory>
     ensures { IfOk result (λ text. (shown : List AuditedShown)
-        × AllZip (TellsAudited (taken_in ran.now.ledgers.items)) ran.now.collectors.items shown
+        × AllZip (IsAuditedPrintOf (taken_in ran.now.ledgers.items)) ran.now.collectors.items shown
         × (text.items ≡ printed_run shown)) }
 {
     let mut text = Vec::new(alloc);

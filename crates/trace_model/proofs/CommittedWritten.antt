@@ -5,7 +5,7 @@ use Rattle.std.specs.List.{All, AllByRecursion}
 use Rattle.std.proofs.lemmas.List.{length-replicate}
 use Rattle.std.proofs.lemmas.List.Elements.{All-from_recursion}
 use Rattle.trace_model.specs.Words.{slot_len, padded}
-use Rattle.trace_model.specs.History.{Action, push, push_close, open_fill, reserve, leave, wished, Reservation, IsWritten, PushedFrame, record_frame, close_frame, WriterState, reservation_for, records_with_payload, after_reserve, records_after_leave, after_action, writer_after, reserved_records, settled_prefix, MayAct, IsHistory}
+use Rattle.trace_model.specs.History.{Action, push, push_close, open_fill, reserve, leave, wished, Reservation, HasItsBytes, PushedFrame, record_frame, close_frame, WriterState, reservation_for, records_with_payload, after_reserve, records_after_leave, after_action, writer_after, reserved_records, settled_prefix, MayAct, IsHistory}
 use Rattle.trace_model.specs.Packing.{FillsSlot}
 use Rattle.trace_model.proofs.Lengths.{length-padded}
 use Rattle.trace_model.proofs.NextRecords.{length-records_with_payload}
@@ -75,14 +75,14 @@ Stands k (f ∷ stack) = HasNumber k f ⊎ Stands k stack
 -- each record is written, or its frame is on the stack; in both cases it fills its slot
 record IsKept (stack : List PushedFrame) (records : List Reservation) : Type 0 where
   frames : AllByRecursion (IsFrameOf records) stack
-  each : (k : ℕ) (r : Reservation) → StandsAt k records r → IsWritten r ⊎ Stands k stack
+  each : (k : ℕ) (r : Reservation) → StandsAt k records r → HasItsBytes r ⊎ Stands k stack
   fills : (k : ℕ) (r : Reservation) → StandsAt k records r → FillsSlot r
 
 bytes_fill : (len : ℕ) (bytes : Option (List ℕ)) → IsSomeAnd bytes (λ b. length b ≡ len) → length (unwrap_or bytes (replicate len 0)) ≡ len
 bytes_fill len None h = absurd h
 bytes_fill len (Some b) h = h
 
-written_fills : (r : Reservation) → IsWritten r → FillsSlot r
+written_fills : (r : Reservation) → HasItsBytes r → FillsSlot r
 written_fills r h = bytes_fill r.len r.bytes h
 
 none_is_no_number : (k : ℕ) → (let none : Option ℕ = None in none ≡ Some k) → ⊥
@@ -138,9 +138,9 @@ frames-finished number payload records (record_frame moment len other ∷ stack)
 frames-finished number payload records (close_frame ∷ stack) h = (tt, frames-finished number payload records stack h.1)
 
 -- the payload fills the slot that was reserved for it
-written_with-IsWritten : (payload : List ℕ) (len : ℕ) (before r : Reservation) → written_with payload before ≡ r → before.len ≡ slot_len len → slot_len (length payload) ≡ slot_len len → IsWritten r
+written_with-IsWritten : (payload : List ℕ) (len : ℕ) (before r : Reservation) → written_with payload before ≡ r → before.len ≡ slot_len len → slot_len (length payload) ≡ slot_len len → HasItsBytes r
 written_with-IsWritten payload len before r is slot fits =
-    subst IsWritten is (length-padded payload ∙ fits ∙ sym slot)
+    subst HasItsBytes is (length-padded payload ∙ fits ∙ sym slot)
 
 leave-IsKept : (f : PushedFrame) (stack : List PushedFrame) (records : List Reservation) (payload : Option (List ℕ)) → MayAct (f ∷ stack) (leave payload) → IsKept (f ∷ stack) records → IsKept stack (records_after_leave f payload records)
 leave-IsKept (record_frame moment len None) stack records payload may h = record {
@@ -191,11 +191,11 @@ fold-IsKept : (w : WriterState) (history : List Action) → AreAllowed w history
 fold-IsKept w [] allowed h = h
 fold-IsKept w (a ∷ history) allowed h = fold-IsKept (after_action w.stack w.records a) history allowed.1 (after_action-IsKept w.stack w.records a allowed.0 h)
 
-each_written : (records : List Reservation) → ((k : ℕ) (r : Reservation) → StandsAt k records r → IsWritten r) → AllByRecursion IsWritten records
+each_written : (records : List Reservation) → ((k : ℕ) (r : Reservation) → StandsAt k records r → HasItsBytes r) → AllByRecursion HasItsBytes records
 each_written [] h = tt
 each_written (r ∷ records) h = (h 0 r refl, each_written records (λ k q at. h (suc k) q at))
 
-pub committed-IsWritten : (history : List Action) → IsHistory history → All IsWritten (reserved_records (settled_prefix history))
+pub committed-IsWritten : (history : List Action) → IsHistory history → All HasItsBytes (reserved_records (settled_prefix history))
 committed-IsWritten history keeps =
     let start : WriterState = record { stack = []; records = [] } in
     let front = settled_prefix history in
@@ -203,7 +203,7 @@ committed-IsWritten history keeps =
     let allowed : AreAllowed start front = AreAllowed-front start front found.is_prefix.0 (subst (AreAllowed start) found.is_prefix.1 (allowed-IsHistory history keeps)) in
     let kept = fold-IsKept start front allowed (record { frames = tt; each = λ k r at. absurd at; fills = λ k r at. absurd at }) in
     let none : (writer_after front).stack ≡ [] = none_stands front found.settled in
-    All-from_recursion IsWritten (reserved_records front) (each_written (reserved_records front) (λ k r at. ⊎_elim (λ done. done) (λ stands. absurd (subst (Stands k) none stands)) (kept.each k r at)))
+    All-from_recursion HasItsBytes (reserved_records front) (each_written (reserved_records front) (λ k r at. ⊎_elim (λ done. done) (λ stands. absurd (subst (Stands k) none stands)) (kept.each k r at)))
 
 each_fills : (records : List Reservation) → ((k : ℕ) (r : Reservation) → StandsAt k records r → FillsSlot r) → AllByRecursion FillsSlot records
 each_fills [] h = tt

@@ -7,7 +7,7 @@ use mathlib.Core.Logic.{dite}
 use native.Mathlib.Decide.{dec_le}
 use Rattle.trace_model.specs.History.{Action, push, push_close, open_fill, reserve, leave, wished, Reservation, records_with_payload, reserved_records}
 use Rattle.trace_model.specs.Packing.{opens_behind, opens_of, cut_from}
-use Rattle.trace_model.specs.Ring.{Held}
+use Rattle.trace_model.specs.Ring.{PageRecords}
 use Rattle.trace_model.specs.Steps.{held_with_payload}
 use Rattle.trace_model.specs.Fitting.{IsRising}
 
@@ -157,5 +157,5 @@ finished_cut from (cut ∷ cuts) xs k p (suc i) low = finished_cut cut cuts xs k
 pub finished_fill : (number : Option ℕ) (payload : Option (List ℕ)) (cuts : List ℕ) (xs : List Reservation) (i : ℕ) → i ≤ length cuts
     → held_with_payload number payload record { first = get_or (0 ∷ cuts) i 0; records = get_or (cut_from 0 cuts xs) i [] } ≡ record { first = get_or (0 ∷ cuts) i 0; records = get_or (cut_from 0 cuts (records_with_payload number payload xs)) i [] }
 finished_fill None payload cuts xs i low = refl
-finished_fill (Some k) None cuts xs i low = cond_both (nat_lt k (get_or (0 ∷ cuts) i 0)) (get_or (cut_from 0 cuts xs) i []) (get_or (cut_from 0 cuts xs) i []) (λ (l : List Reservation). ◌≡◌ {A = Held} record { first = get_or (0 ∷ cuts) i 0; records = l } record { first = get_or (0 ∷ cuts) i 0; records = get_or (cut_from 0 cuts xs) i [] }) (λ _. refl) (λ _. refl)
-finished_fill (Some k) (Some p) cuts xs i low = ap (λ (l : List Reservation). let h : Held = record { first = get_or (0 ∷ cuts) i 0; records = l } in h) (sym (finished_cut 0 cuts xs k p i low))
+finished_fill (Some k) None cuts xs i low = cond_both (nat_lt k (get_or (0 ∷ cuts) i 0)) (get_or (cut_from 0 cuts xs) i []) (get_or (cut_from 0 cuts xs) i []) (λ (l : List Reservation). ◌≡◌ {A = PageRecords} record { first = get_or (0 ∷ cuts) i 0; records = l } record { first = get_or (0 ∷ cuts) i 0; records = get_or (cut_from 0 cuts xs) i [] }) (λ _. refl) (λ _. refl)
+finished_fill (Some k) (Some p) cuts xs i low = ap (λ (l : List Reservation). let h : PageRecords = record { first = get_or (0 ∷ cuts) i 0; records = l } in h) (sym (finished_cut 0 cuts xs k p i low))

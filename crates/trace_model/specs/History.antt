@@ -24,8 +24,8 @@ pub record Reservation : Type 0 where
   pub bytes : Option (List ℕ)
 
 -- its frame has left, and its bytes fill its slot
-abbrev pub IsWritten : Reservation → Type 0
-IsWritten r = IsSomeAnd r.bytes (λ bytes. length bytes ≡ r.len)
+abbrev pub HasItsBytes : Reservation → Type 0
+HasItsBytes r = IsSomeAnd r.bytes (λ bytes. length bytes ≡ r.len)
 
 -- A frame that was pushed and hasn't left. A record frame has what it was pushed with, and the number of its
 -- record once it has reserved one.

@@ -27,12 +27,12 @@ page_at n order f = slice_index_or order (f % n) 0
 -- ---- the state
 
 -- What a page holds: records, and the number of the first of them.
-pub record Held : Type 0 where
+pub record PageRecords : Type 0 where
   pub first : ℕ
   pub records : List Reservation
 
 -- a page without a record
-abbrev pub empty_page : Held
+abbrev pub empty_page : PageRecords
 empty_page = record { first = 0; records = [] }
 
 -- A fill that the reader took: how many records were lost before it since the last one taken, and
@@ -40,7 +40,7 @@ empty_page = record { first = 0; records = [] }
 pub record Taken : Type 0 where
   pub fill : ℕ
   pub skipped : ℕ
-  pub held : Held
+  pub held : PageRecords
 
 -- How far the reader's take has come. fill: the head that it has seen, on this page.
 pub data ReaderPhase : Type 0 where
@@ -73,7 +73,7 @@ pub record Core : Type 0 where
   pub opened : ℕ
   pub wish : ℕ
   pub head : ℕ
-  pub held : List Held
+  pub held : List PageRecords
   pub frames : List Frame
   pub open_pages : List ℕ
   pub history : List Action
@@ -159,7 +159,7 @@ abbrev pub first_of_fill : List Action → ℕ → ℕ → ℕ
 first_of_fill history start f = slice_index_or (0 ∷ opens_of history) (f - start) 0
 
 -- a fill as the history has it: its records, from its first number on
-abbrev pub fill_of : List Action → ℕ → ℕ → Held
+abbrev pub fill_of : List Action → ℕ → ℕ → PageRecords
 fill_of history start f = record {
   first = first_of_fill history start f;
   records = slice_index_or (fills_of history) (f - start) [];

@@ -9,7 +9,7 @@ use Rattle.trace_model.specs.Packing.{tail_of, FitsBehind}
 use Rattle.trace_model.specs.Links.{Link, normal_link, header_link, update_link}
 use Rattle.trace_model.specs.Frames.{Kind, for_record, for_close, FrameState, waiting, reserved, left, number_of, Role, owner, helper, Phase, idle, looking, claiming, looking_next, marking, clearing, opening, releasing, wishing, Frame, Refusal, too_deep, too_long, late_moment, crowded, worn, no_frame, not_reserved}
 use Rattle.trace_model.specs.declared.limits.TheConstants.{MAX_FRAMES, MOMENT_LIMIT, LINK_FILLS}
-use Rattle.trace_model.specs.Ring.{Held, empty_page, Taken, Reader, ReaderPhase, loading_link, loading_done, storing_link, swapping, Core, link_into, links_with, page_at}
+use Rattle.trace_model.specs.Ring.{PageRecords, empty_page, Taken, Reader, ReaderPhase, loading_link, loading_done, storing_link, swapping, Core, link_into, links_with, page_at}
 
 -- A frame is pushed, for a record or for a close; the frame on top makes one step, or is ended with its
 -- payload, which takes the slot that the record has; the reader makes one step, which begins a take where
@@ -55,11 +55,11 @@ abbrev pub with_link : ℕ → Core → ℕ → Link → Core
 with_link n c f l = record c { links = links_with n c.links f l }
 
 -- a page holds these records from now on
-abbrev pub with_held : Core → ℕ → Held → Core
+abbrev pub with_held : Core → ℕ → PageRecords → Core
 with_held c page h = record c { held = slice_set c.held page h }
 
 -- what a page holds
-abbrev pub contents_of : Core → ℕ → Held
+abbrev pub contents_of : Core → ℕ → PageRecords
 contents_of c page = slice_index_or c.held page empty_page
 
 -- the tail page: the last one that the writer holds
@@ -73,7 +73,7 @@ new_reservation c moment len = reservation_for moment len (reserved_records c.hi
 -- the state in which a record is reserved: it is the last in the tail page
 abbrev pub with_reservation : Core → Reservation → Core
 with_reservation c r =
-    let tail : Held = contents_of c (tail_page c) in
+    let tail : PageRecords = contents_of c (tail_page c) in
     with_action (with_held c (tail_page c) record { first = tail.first; records = tail.records ++ r ∷ [] }) reserve
 
 -- the frame on top has reserved the record of this number
@@ -96,7 +96,7 @@ leave_answer [] = going
 leave_answer (next ∷ below) = gone
 
 -- what a page holds, with the payload of the record of this number
-abbrev pub held_with_payload : Option ℕ → Option (List ℕ) → Held → Held
+abbrev pub held_with_payload : Option ℕ → Option (List ℕ) → PageRecords → PageRecords
 held_with_payload None payload h = h
 held_with_payload (Some number) payload h = record {
   first = h.first;
@@ -139,9 +139,9 @@ after_next owner noted page = clearing noted page
 after_next helper noted page = opening noted page
 
 -- a helper stops where another frame has begun a fill
-abbrev pub GoesOn : Role → ℕ → ℕ → Type 0
-GoesOn owner noted opened = Unit {0}
-GoesOn helper noted opened = noted ≡ opened
+abbrev pub MayOpen : Role → ℕ → ℕ → Type 0
+MayOpen owner noted opened = Unit {0}
+MayOpen helper noted opened = noted ≡ opened
 
 -- the frame needs a page: its record doesn't fit in the tail page, or it closes one that holds a record
 abbrev pub NeedsPage : ℕ → Core → Kind → Type 0
@@ -190,7 +190,7 @@ pub data ReserveStep (n size : ℕ) (c : Core) (frame : Frame) (below : List Fra
       → ReserveStep n size c frame below answer after
 
 -- Another frame has begun a fill since this one noted what to open.
-pub record BeginsAnew (c : Core) (frame : Frame) (below : List Frame) (noted : ℕ) (answer : Answer) (after : Core)
+pub record BeginsAgain (c : Core) (frame : Frame) (below : List Frame) (noted : ℕ) (answer : Answer) (after : Core)
     : Type 0 where
   pub passed : noted ≢ c.opened
   pub answer_is : answer ≡ begin_answer frame.kind frame.state below
@@ -202,7 +202,7 @@ pub data LookStep (n : ℕ) (c : Core) (frame : Frame) (below : List Frame)
     (noted : ℕ) (answer : Answer) (after : Core)
     : Type 0 where
   look_late :
-      BeginsAnew c frame below noted answer after
+      BeginsAgain c frame below noted answer after
       → LookStep n c frame below noted answer after
   sees_free : (page : ℕ)
       → noted ≡ c.opened
@@ -235,7 +235,7 @@ pub data ClaimStep (n : ℕ) (c : Core) (frame : Frame) (below : List Frame)
     (noted page : ℕ) (answer : Answer) (after : Core)
     : Type 0 where
   claim_late :
-      BeginsAnew c frame below noted answer after
+      BeginsAgain c frame below noted answer after
       → ClaimStep n c frame below noted page answer after
   claims : (lost : ℕ)
       → noted ≡ c.opened
@@ -257,17 +257,17 @@ pub data NextStep (n : ℕ) (c : Core) (frame : Frame) (below : List Frame)
     : Type 0 where
   next_late :
       role ≡ helper
-      → BeginsAnew c frame below noted answer after
+      → BeginsAgain c frame below noted answer after
       → NextStep n c frame below role noted page answer after
   sees_normal : (lost next : ℕ)
-      → GoesOn role noted c.opened
+      → MayOpen role noted c.opened
       → lost + n ≡ noted
       → link_into n c.links (suc lost) ≡ normal_link next (suc lost)
       → answer ≡ going
       → after ≡ in_phase c frame below (marking role noted page next)
       → NextStep n c frame below role noted page answer after
   sees_other : (lost : ℕ)
-      → GoesOn role noted c.opened
+      → MayOpen role noted c.opened
       → lost + n ≡ noted
       → ((next : ℕ) → link_into n c.links (suc lost) ≢ normal_link next (suc lost))
       → answer ≡ going
@@ -280,10 +280,10 @@ pub data MarkStep (n : ℕ) (c : Core) (frame : Frame) (below : List Frame)
     : Type 0 where
   mark_late :
       role ≡ helper
-      → BeginsAnew c frame below noted answer after
+      → BeginsAgain c frame below noted answer after
       → MarkStep n c frame below role noted page next answer after
   marks : (lost : ℕ)
-      → GoesOn role noted c.opened
+      → MayOpen role noted c.opened
       → lost + n ≡ noted
       → link_into n c.links (suc lost) ≡ normal_link next (suc lost)
       → answer ≡ going
@@ -291,7 +291,7 @@ pub data MarkStep (n : ℕ) (c : Core) (frame : Frame) (below : List Frame)
       ≡ in_phase (with_link n c (suc lost) (header_link next (suc lost))) frame below (after_next role noted page)
       → MarkStep n c frame below role noted page next answer after
   mark_fails : (lost : ℕ)
-      → GoesOn role noted c.opened
+      → MayOpen role noted c.opened
       → lost + n ≡ noted
       → link_into n c.links (suc lost) ≢ normal_link next (suc lost)
       → answer ≡ going
@@ -313,7 +313,7 @@ pub data ClearStep (n : ℕ) (c : Core) (frame : Frame) (below : List Frame)
 -- the next one that is reserved.
 abbrev pub with_new_tail : Core → ℕ → Core
 with_new_tail c page =
-    let empty : Held = record { first = length (reserved_records c.history); records = [] } in
+    let empty : PageRecords = record { first = length (reserved_records c.history); records = [] } in
     record (with_action (with_held c page empty) open_fill) {
       opened = c.opened + 1;
       open_pages = c.open_pages ++ page ∷ [];
@@ -324,7 +324,7 @@ pub data OpenStep (n : ℕ) (c : Core) (frame : Frame) (below : List Frame)
     (noted page : ℕ) (answer : Answer) (after : Core)
     : Type 0 where
   open_late :
-      BeginsAnew c frame below noted answer after
+      BeginsAgain c frame below noted answer after
       → OpenStep n c frame below noted page answer after
   opens :
       noted ≡ c.opened

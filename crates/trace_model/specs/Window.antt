@@ -17,14 +17,14 @@ first_window start = record { head = start; done = start; opened = start + 1 }
 
 -- A fill is begun; the oldest one that isn't closed is closed; the head is taken by the reader; the
 -- head is lost to a writer.
-pub data Happening : Type 0 where
-  opened_one : Happening
-  released_one : Happening
-  took_one : Happening
-  lost_one : Happening
+pub data WindowEvent : Type 0 where
+  opened_one : WindowEvent
+  released_one : WindowEvent
+  took_one : WindowEvent
+  lost_one : WindowEvent
 
--- the counts after a happening: each moves one of them by one
-abbrev pub window_after : Window → Happening → Window
+-- the counts after an event: each moves one of them by one
+abbrev pub window_after : Window → WindowEvent → Window
 window_after w opened_one = record { head = w.head; done = w.done; opened = w.opened + 1 }
 window_after w released_one = record { head = w.head; done = w.done + 1; opened = w.opened }
 window_after w took_one = record { head = w.head + 1; done = w.done; opened = w.opened }
@@ -33,69 +33,69 @@ window_after w lost_one = record { head = w.head + 1; done = w.done; opened = w.
 -- When each may happen, after this history: a fill is begun only if a position is free; one is closed
 -- only if it isn't the tail and each push has its leave; the head is taken only if it is closed, and lost
 -- only if it is closed and the ring is full.
-abbrev pub MayHappen : ℕ → List Action → Window → Happening → Type 0
-MayHappen n history w opened_one = w.opened < w.head + n
-MayHappen n history w released_one = (w.done + 1 < w.opened) × IsTrue (is_settled history)
-MayHappen n history w took_one = w.head < w.done
-MayHappen n history w lost_one = (w.head < w.done) × (w.opened ≡ w.head + n)
+abbrev pub MayMove : ℕ → List Action → Window → WindowEvent → Type 0
+MayMove n history w opened_one = w.opened < w.head + n
+MayMove n history w released_one = (w.done + 1 < w.opened) × IsTrue (is_settled history)
+MayMove n history w took_one = w.head < w.done
+MayMove n history w lost_one = (w.head < w.done) × (w.opened ≡ w.head + n)
 
--- the happening may happen, after this history, and makes the one window of the other
-pub record WindowStep (n : ℕ) (history : List Action) (before : Window) (happening : Happening) (after : Window)
+-- the event may happen, after this history, and makes the second window of the first
+pub record WindowStep (n : ℕ) (history : List Action) (before : Window) (event : WindowEvent) (after : Window)
     : Type 0 where
-  pub may : MayHappen n history before happening
-  pub after_is : after ≡ window_after before happening
+  pub may : MayMove n history before event
+  pub after_is : after ≡ window_after before event
 
 -- What is done to a ring, in one order: what the frames do; and a fill is closed, taken by the reader, or lost to
--- a writer. That a fill is begun is an action of the frames, and happens to the window with it.
-pub data Deed : Type 0 where
-  acts : Action → Deed
-  closes : Deed
-  takes : Deed
-  loses : Deed
+-- a writer. That a fill is begun is an action of the frames, and an event of the window too.
+pub data RingEvent : Type 0 where
+  acts : Action → RingEvent
+  closes : RingEvent
+  takes : RingEvent
+  loses : RingEvent
 
--- the actions among the deeds
-abbrev pub actions_of : List Deed → List Action
+-- the actions among the events
+abbrev pub actions_of : List RingEvent → List Action
 actions_of [] = []
-actions_of (acts a ∷ deeds) = a ∷ actions_of deeds
-actions_of (closes ∷ deeds) = actions_of deeds
-actions_of (takes ∷ deeds) = actions_of deeds
-actions_of (loses ∷ deeds) = actions_of deeds
+actions_of (acts a ∷ events) = a ∷ actions_of events
+actions_of (closes ∷ events) = actions_of events
+actions_of (takes ∷ events) = actions_of events
+actions_of (loses ∷ events) = actions_of events
 
--- what happens to the window with an action
-abbrev pub happens_with : Action → Option Happening
-happens_with (push moment len) = None
-happens_with push_close = None
-happens_with open_fill = Some opened_one
-happens_with reserve = None
-happens_with (leave payload) = None
-happens_with wished = None
+-- the event of the window that an action is, if it is one
+abbrev pub window_event_of : Action → Option WindowEvent
+window_event_of (push moment len) = None
+window_event_of push_close = None
+window_event_of open_fill = Some opened_one
+window_event_of reserve = None
+window_event_of (leave payload) = None
+window_event_of wished = None
 
 -- nothing happens, or what may
-abbrev pub MayPass : ℕ → List Action → Window → Option Happening → Type 0
+abbrev pub MayPass : ℕ → List Action → Window → Option WindowEvent → Type 0
 MayPass n history w None = Unit {0}
-MayPass n history w (Some what) = MayHappen n history w what
+MayPass n history w (Some what) = MayMove n history w what
 
 -- the window after it
-abbrev pub window_behind : Window → Option Happening → Window
+abbrev pub window_behind : Window → Option WindowEvent → Window
 window_behind w None = w
 window_behind w (Some what) = window_after w what
 
--- After a history, the deeds lead from one window to another.
-abbrev pub WindowRunFrom : ℕ → List Action → Window → List Deed → Window → Type 0
+-- After a history, the events lead from one window to another.
+abbrev pub WindowRunFrom : ℕ → List Action → Window → List RingEvent → Window → Type 0
 WindowRunFrom n history before [] after = before ≡ after
-WindowRunFrom n history before (acts a ∷ deeds) after =
-    MayPass n history before (happens_with a)
-    × WindowRunFrom n (history ++ a ∷ []) (window_behind before (happens_with a)) deeds after
-WindowRunFrom n history before (closes ∷ deeds) after =
-    MayHappen n history before released_one × WindowRunFrom n history (window_after before released_one) deeds after
-WindowRunFrom n history before (takes ∷ deeds) after =
-    MayHappen n history before took_one × WindowRunFrom n history (window_after before took_one) deeds after
-WindowRunFrom n history before (loses ∷ deeds) after =
-    MayHappen n history before lost_one × WindowRunFrom n history (window_after before lost_one) deeds after
+WindowRunFrom n history before (acts a ∷ events) after =
+    MayPass n history before (window_event_of a)
+    × WindowRunFrom n (history ++ a ∷ []) (window_behind before (window_event_of a)) events after
+WindowRunFrom n history before (closes ∷ events) after =
+    MayMove n history before released_one × WindowRunFrom n history (window_after before released_one) events after
+WindowRunFrom n history before (takes ∷ events) after =
+    MayMove n history before took_one × WindowRunFrom n history (window_after before took_one) events after
+WindowRunFrom n history before (loses ∷ events) after =
+    MayMove n history before lost_one × WindowRunFrom n history (window_after before lost_one) events after
 
--- the deeds of a ring from its start lead to this window
-abbrev pub WindowRun : ℕ → ℕ → List Deed → Window → Type 0
-WindowRun n start deeds window = WindowRunFrom n [] (first_window start) deeds window
+-- the events of a ring from its start lead to this window
+abbrev pub WindowRun : ℕ → ℕ → List RingEvent → Window → Type 0
+WindowRun n start events window = WindowRunFrom n [] (first_window start) events window
 
 -- no page is released, so that a frame that needs one is refused
 abbrev pub IsCrowded : ℕ → Window → Type 0

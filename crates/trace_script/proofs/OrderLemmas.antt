@@ -20,7 +20,7 @@ use Rattle.trace_script.specs.declared.fields.Fields.{Fields}
 use Rattle.trace_script.specs.declared.fields.Fields.TheVariants.{One, Two, Three, More}
 use Rattle.trace_script.specs.Kept.{shown_order}
 use Rattle.trace_script.specs.ScriptFaults.{Fails}
-use Rattle.trace_script.specs.ScriptFields.{fields_seen, AreFields, IsWhole}
+use Rattle.trace_script.specs.ScriptFields.{fields_seen, AreFields, HasNoFifth}
 use Rattle.trace_script.proofs.TextParts.{parts_behind, one_part}
 use Rattle.trace_script.proofs.ValueLemmas.{decimal_parts}
 
@@ -179,12 +179,12 @@ one_alone cpus collectors (a ∷ []) h = refl
 one_alone cpus collectors (a ∷ b ∷ fields) h = absurd (omega (arith, h))
 
 -- fields at fault in a line of the right form
-pub fault_stands : (cpus collectors : ℕ) (text : List ℕ) (fields : Fields) (fault : line.LineFault) → AreFields fields (fields_of text) → IsWhole fields → is_well_spaced (fields_of text) ≡ true
+pub fault_stands : (cpus collectors : ℕ) (text : List ℕ) (fields : Fields) (fault : line.LineFault) → AreFields fields (fields_of text) → HasNoFifth fields → is_well_spaced (fields_of text) ≡ true
     → Fails fault (command_of cpus collectors (fields_seen fields)) → Fails fault (command_in cpus collectors text)
 fault_stands cpus collectors text fields fault are whole spaced h =
     subst (λ (read : Result Command LineFault). Fails fault read) (sym (command_in_form cpus collectors text (fields_of text) refl spaced ∙ same_command cpus collectors fields (fields_of text) are whole)) h
   where
-    same_command : (cpus collectors : ℕ) (fields : Fields) (all : List (List ℕ)) → AreFields fields all → IsWhole fields → command_of cpus collectors all ≡ command_of cpus collectors (fields_seen fields)
+    same_command : (cpus collectors : ℕ) (fields : Fields) (all : List (List ℕ)) → AreFields fields all → HasNoFifth fields → command_of cpus collectors all ≡ command_of cpus collectors (fields_seen fields)
     same_command cpus collectors One all are whole = one_alone cpus collectors all are
     same_command cpus collectors (Two a b) all are whole = ap (command_of cpus collectors) are
     same_command cpus collectors (Three a b d) all are whole = ap (command_of cpus collectors) are
@@ -208,7 +208,7 @@ no_order cpus collectors text h =
       | inr badly ↦ badly_spaced cpus collectors text badly
     ]
 
-not_whole : (cpus collectors : ℕ) (text : List ℕ) (fields : Fields) → AreFields fields (fields_of text) → (IsWhole fields → ⊥) → command_in cpus collectors text ≡ Err bad_line
+not_whole : (cpus collectors : ℕ) (text : List ℕ) (fields : Fields) → AreFields fields (fields_of text) → (HasNoFifth fields → ⊥) → command_in cpus collectors text ≡ Err bad_line
 not_whole cpus collectors text One are more = absurd (more tt)
 not_whole cpus collectors text (Two a b) are more = absurd (more tt)
 not_whole cpus collectors text (Three a b d) are more = absurd (more tt)
@@ -217,7 +217,7 @@ not_whole cpus collectors text (More a b d rest) are more =
     no_order cpus collectors text (ap (command_of cpus collectors) are ∙ too_many cpus collectors a.now b.now d.now (fields_of rest.now) (omega (arith, some)) more)
 
 -- what is wrong with a line whose form is
-pub no_command : (text : List ℕ) (fields : Fields) → AreFields fields (fields_of text) → (IsWhole fields → ⊥) ⊎ (is_well_spaced (fields_of text) ≡ false)
+pub no_command : (text : List ℕ) (fields : Fields) → AreFields fields (fields_of text) → (HasNoFifth fields → ⊥) ⊎ (is_well_spaced (fields_of text) ≡ false)
     → (cpus collectors : ℕ) → command_in cpus collectors text ≡ Err bad_line
 no_command text fields are (inl more) cpus collectors = not_whole cpus collectors text fields are more
 no_command text fields are (inr badly) cpus collectors = badly_spaced cpus collectors text badly

@@ -90,6 +90,6 @@ BeginAsCommands cpus collectors lines = (commands : List (ℕ × model.Command))
     × (0 < length commands)
 
 -- a command that was read leaves less than there was
-abbrev pub GoesOn : Result (Option Order) ScriptFault → ℕ → ℕ → Type 0
-GoesOn (Ok (Some order)) old new = new < old
-GoesOn _ old new = ⊤
+abbrev pub LeavesLess : Result (Option Order) ScriptFault → ℕ → ℕ → Type 0
+LeavesLess (Ok (Some order)) old new = new < old
+LeavesLess _ old new = ⊤

@@ -19,6 +19,6 @@ AreFields (Three first second third) fields = fields ≡ first.now ∷ second.no
 AreFields (More first second third rest) fields = fields ≡ first.now ∷ second.now ∷ third.now ∷ fields_of rest.now
 
 -- what follows the third field is one field
-abbrev pub IsWhole : Fields → Type 0
-IsWhole (More first second third rest) = length (fields_of rest.now) ≡ 1
-IsWhole _ = ⊤
+abbrev pub HasNoFifth : Fields → Type 0
+HasNoFifth (More first second third rest) = length (fields_of rest.now) ≡ 1
+HasNoFifth _ = ⊤

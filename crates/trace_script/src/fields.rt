@@ -1,7 +1,7 @@
 //! A line as its fields.
 ghost use Rattle.std.specs.Prelude.{◌≡◌, ◌↔◌, IsTrue, [], ◌∷◌, bytes_eq};
 ghost use Rattle.text_model.specs.Text.{fields_of, is_well_spaced};
-ghost use Rattle.trace_script.specs.ScriptFields.{AreFields, IsWhole};
+ghost use Rattle.trace_script.specs.ScriptFields.{AreFields, HasNoFifth};
 
 use crate::lines::field_cut;
 
@@ -53,7 +53,7 @@ pub fn is_well_spaced(line: &[u8]) -> bool
 
 /// Whether what follows the third field is one field.
 pub fn is_whole(fields: Fields) -> bool
-    ensures { IsTrue result ↔ IsWhole fields.entry }
+    ensures { IsTrue result ↔ HasNoFifth fields.entry }
 {
     match fields {
         Fields::More(_, _, _, rest) => field_cut(rest).1.is_none(),

@@ -3,7 +3,7 @@ ghost use Rattle.std.specs.Prelude.{◌≡◌, [], length, IfOk, IfErr};
 ghost use Rattle.text_model.specs.ScriptReading.{numbered_reading, significant_lines_after};
 ghost use Rattle.script_model.specs.Script.{ParsesScript, command_in};
 ghost use Rattle.script_model.specs.ScriptReading.{commands_from, script_in};
-ghost use Rattle.trace_script.specs.Kept.{PutsCommandAt, PutsNext, BeginAsCommands, GoesOn};
+ghost use Rattle.trace_script.specs.Kept.{PutsCommandAt, PutsNext, BeginAsCommands, LeavesLess};
 ghost use Rattle.trace_script.specs.ScriptFaults.{GivesAt, BeginsAsScript, TellsFirstFault};
 
 use crate::commands::Commands;
@@ -44,7 +44,7 @@ fn next_of_any_form(
     ensures next { PutsNext cpus collectors result payloads.old.items payloads.new.items
         (significant_lines_after lines.old.passed lines.old.rest.now) lines.new.passed
         (significant_lines_after lines.new.passed lines.new.rest.now) }
-    ensures shorter { GoesOn result (length lines.old.rest.now) (length lines.new.rest.now) }
+    ensures shorter { LeavesLess result (length lines.old.rest.now) (length lines.new.rest.now) }
 {
     let Some(line) = lines.next_significant() else {
         return Ok(None);
@@ -64,7 +64,7 @@ fn next_order(
     ensures next { PutsNext cpus collectors result payloads.old.items payloads.new.items
         (significant_lines_after lines.old.passed lines.old.rest.now) lines.new.passed
         (significant_lines_after lines.new.passed lines.new.rest.now) }
-    ensures shorter { GoesOn result (length lines.old.rest.now) (length lines.new.rest.now) }
+    ensures shorter { LeavesLess result (length lines.old.rest.now) (length lines.new.rest.now) }
 {
     if let Some(line) = usual_line(cpus, collectors, lines.rest, payloads) {
         lines.pass_to(line.rest);

@@ -14,8 +14,8 @@ use Rattle.trace_model.specs.Fitting.{IsRising}
 use Rattle.trace_model.specs.Partition.{Piece, IsPartition, covered_count, first_from, first_of}
 use Rattle.trace_model.specs.Parcel.{Parcel, IsMissingOf}
 use Rattle.trace_model.specs.Collection.{Has}
-use Rattle.trace_model.specs.Ring.{Held, Taken, Core, first_of_fill, window_of}
-use Rattle.trace_model.specs.Window.{Deed, first_window}
+use Rattle.trace_model.specs.Ring.{PageRecords, Taken, Core, first_of_fill, window_of}
+use Rattle.trace_model.specs.Window.{RingEvent, first_window}
 use Rattle.trace_model.proofs.Elements.{some_is}
 use Rattle.trace_model.proofs.FillFirsts.{first_below, first_rises_to}
 use Rattle.trace_model.proofs.FillOfNumber.{LiesIn, lies_in, ends_before}
@@ -29,9 +29,9 @@ use Rattle.link_marks.proofs.PackedRuns.{runs_packed}
 use Rattle.link_marks.proofs.TakenHoldRecords.{taken_hold}
 use Rattle.link_marks.proofs.WindowRuns.{passed_by, lost_closed}
 use Rattle.world_model.specs.World.{parcel_of}
-use Rattle.world_model.specs.Headline.{pieces_in, IsWhole, StandsIn, IsOverwrittenBefore, IsCut, IsOneOf, IsExact}
-use Rattle.world_model.specs.RunDeeds.{IsRunToldBy}
-use Rattle.world_model.proofs.RunDeeds.{run_deeds, run_tells}
+use Rattle.world_model.specs.Headline.{pieces_in, IsWholeFill, StandsIn, IsOverwrittenBefore, IsCut, IsOneOf, IsExact}
+use Rattle.world_model.specs.RunEvents.{IsRunToldBy}
+use Rattle.world_model.proofs.RunEvents.{run_events, run_tells}
 use Rattle.world_model.proofs.Lookups.{element_at, contains_at, get_map, get_from_map}
 
 -- ---- first numbers
@@ -98,8 +98,8 @@ module _ (n size start : ℕ) (c : Core) (r : IsReached n size start c) where
         from_start = from;
         below = below;
         within = omega arith;
-        first_is = ap (λ (h : Held). h.first) fill.held;
-        size_is = length-map t.held.records as_record ∙ ap (λ (h : Held). length h.records) fill.held;
+        first_is = ap (λ (h : PageRecords). h.first) fill.held;
+        size_is = length-map t.held.records as_record ∙ ap (λ (h : PageRecords). length h.records) fill.held;
         some = some_length t.held.records (taken_hold n size start c kept k t at);
         piece_at = get_map piece_of taken k t at;
         first_at = kept.partition.firsts k t at;
@@ -111,22 +111,22 @@ module _ (n size start : ℕ) (c : Core) (r : IsReached n size start c) where
   apart j k u t number at_u at_t low high least below = let a = page j u at_u in let b = page k t at_t in
       own_or_skipped 0 (pieces_of taken) j k (piece_of u) (piece_of t) u.held.first t.held.first number a.piece_at b.piece_at a.first_at b.first_at low high least below
 
-  pub deeds : List Deed
-  deeds = (run_deeds n size start r.from c r.exchanges (ring_start n size start r.from r.may_start r.is_new) r.run).0
+  pub events : List RingEvent
+  events = (run_events n size start r.from c r.exchanges (ring_start n size start r.from r.may_start r.is_new) r.run).0
 
-  pub run_of : IsRunToldBy n size r.from r.exchanges deeds c
-  unfolding deeds
-  run_of = (run_deeds n size start r.from c r.exchanges (ring_start n size start r.from r.may_start r.is_new) r.run).1
+  pub run_of : IsRunToldBy n size r.from r.exchanges events c
+  unfolding events
+  run_of = (run_events n size start r.from c r.exchanges (ring_start n size start r.from r.may_start r.is_new) r.run).1
 
-  pub told : IsToldBy n start c deeds
-  told = run_tells n size start r.from c r.exchanges deeds r.is_new run_of
+  pub told : IsToldBy n start c events
+  told = run_tells n size start r.from c r.exchanges events r.is_new run_of
 
   -- a fill that was taken has its page
-  page_of : (f : ℕ) → Contains (fills_taken start deeds) f → (k : ℕ) × (t : Taken) × (slice_get taken k ≡ Some t) × (t.fill ≡ f)
+  page_of : (f : ℕ) → Contains (fills_taken start events) f → (k : ℕ) × (t : Taken) × (slice_get taken k ≡ Some t) × (t.fill ≡ f)
   page_of f has = let (k, at) = element_at (numbers_of taken) f (subst (λ (l : List ℕ). Contains l f) told.took has) in
       let (t, there, is) = get_from_map (λ (t : Taken). t.fill) taken k f at in (k, t, there, is)
 
-  fill_of_page : (k : ℕ) (t : Taken) → slice_get taken k ≡ Some t → Contains (fills_taken start deeds) t.fill
+  fill_of_page : (k : ℕ) (t : Taken) → slice_get taken k ≡ Some t → Contains (fills_taken start events) t.fill
   fill_of_page k t at = subst (λ (l : List ℕ). Contains l t.fill) (sym told.took) (contains_at (numbers_of taken) k t.fill (get_map (λ (t : Taken). t.fill) taken k t at))
 
   first_at_fill : (i : ℕ) → first_of_fill c.history start (start + i) ≡ get_or (0 ∷ cuts) i 0
@@ -162,18 +162,18 @@ module _ (n size start : ℕ) (c : Core) (r : IsReached n size start c) where
         let next = ends_before cuts xs j (suc j) (omega arith) (omega arith) rising in
         let a = first_at_fill j in let b = first_behind_fill j in (omega arith, omega arith)
 
-    not_taken : Contains (fills_taken start deeds) (start + j) → ⊥
+    not_taken : Contains (fills_taken start events) (start + j) → ⊥
     not_taken has = let (i, u, at_u, is) = page_of (start + j) has in let q = page i u at_u in
         let here : u.fill - start ≡ j = omega arith in
         let begins = lies.first_le in let ends = lies.number_lt in let first = q.first_is in let size = q.size_is in
         let e = ap (λ (m : ℕ). get_or (0 ∷ cuts) m 0) here in let e' = ap (λ (m : ℕ). length (get_or (cut_from 0 cuts xs) m [])) here in
         apart i k u t number at_u at (omega arith) (omega arith) low high
 
-    lost : Contains (fills_lost start deeds) (start + j)
+    lost : Contains (fills_lost start events) (start + j)
     lost = let less = earlier in let below = p.below in
-        ⊎_elim (λ has. absurd (not_taken has)) (λ has. has) (passed_by n [] (first_window start) (window_of c) deeds (start + j) told.window (omega arith) (omega arith))
+        ⊎_elim (λ has. absurd (not_taken has)) (λ has. has) (passed_by n [] (first_window start) (window_of c) events (start + j) told.window (omega arith) (omega arith))
 
-    behind : (f : ℕ) → Contains (fills_taken start deeds) f → f < t.fill → f < start + j
+    behind : (f : ℕ) → Contains (fills_taken start events) f → f < t.fill → f < start + j
     behind f has before = dite (dec_le (suc f) (start + j)) (λ less. less) (λ more. absurd (by_page (page_of f has) (omega arith)))
       where
         by_page : (i : ℕ) × (u : Taken) × (slice_get taken i ≡ Some u) × (u.fill ≡ f) → start + j ≤ f → ⊥
@@ -189,14 +189,14 @@ module _ (n size start : ℕ) (c : Core) (r : IsReached n size start c) where
             (λ no. let next = ends_before cuts xs (u.fill - start) (t.fill - start) (omega arith) (omega arith) rising in
             apart i k u t u.held.first at_u at (omega arith) (omega arith) (omega arith) (omega arith))
 
-    overwritten : IsOverwrittenBefore c.history start deeds t.fill number
+    overwritten : IsOverwrittenBefore c.history start events t.fill number
     overwritten = record { lost = start + j; was_lost = lost; stands = stands; before = let less = earlier in omega arith; behind = behind }
 
   -- ---- what was lost is missing
 
-  module _ (t : Taken) (number : ℕ) (o : IsOverwrittenBefore c.history start deeds t.fill number) where
+  module _ (t : Taken) (number : ℕ) (o : IsOverwrittenBefore c.history start events t.fill number) where
     from_start : start ≤ o.lost
-    from_start = (lost_closed n [] (first_window start) (window_of c) deeds o.lost told.window o.was_lost).0
+    from_start = (lost_closed n [] (first_window start) (window_of c) events o.lost told.window o.was_lost).0
 
     is_high : (k : ℕ) → slice_get taken k ≡ Some t → number < t.held.first
     is_high k at = let p = page k t at in let first = p.first_is in let within = p.within in let from = from_start in let before = o.before in let ends = o.stands.1 in
@@ -239,13 +239,13 @@ module _ (n size start : ℕ) (c : Core) (r : IsReached n size start c) where
       pub page_at : slice_get taken index ≡ Some taken_page
       pub parcel_is : parcel_of cpu taken_page ≡ parcel
 
-    pub is_whole : (k : ℕ) (t : Taken) → slice_get taken k ≡ Some t → IsWhole c.history start (parcel_of cpu t)
+    pub is_whole : (k : ℕ) (t : Taken) → slice_get taken k ≡ Some t → IsWholeFill c.history start (parcel_of cpu t)
     is_whole k t at = let fill = kept.partition.fills.each k t at in record {
-      first_is = ap (λ (h : Held). h.first) fill.held;
-      records_are = ap (λ (h : Held). map as_record h.records) fill.held;
+      first_is = ap (λ (h : PageRecords). h.first) fill.held;
+      records_are = ap (λ (h : PageRecords). map as_record h.records) fill.held;
     }
 
-    pub is_missing : (k : ℕ) (t : Taken) (number : ℕ) → slice_get taken k ≡ Some t → IsMissingOf (parcel_of cpu t) cpu number ↔ IsOverwrittenBefore c.history start deeds t.fill number
+    pub is_missing : (k : ℕ) (t : Taken) (number : ℕ) → slice_get taken k ≡ Some t → IsMissingOf (parcel_of cpu t) cpu number ↔ IsOverwrittenBefore c.history start events t.fill number
     is_missing k t number at = (
       λ m. overwritten k t at number m.low m.high,
       λ o. record { cpu_is = refl; low = is_low t number o k at; high = is_high t number o k at },
@@ -274,15 +274,15 @@ module _ (n size start : ℕ) (c : Core) (r : IsReached n size start c) where
         from = r.from;
         is_new = r.is_new;
         exchanges = r.exchanges;
-        deeds = deeds;
+        events = events;
         run = run_of;
         told = told;
         took = told.took ∙ fills_same taken ∙ ap (map (λ (parcel : Parcel). parcel.fill)) (sym same);
-        whole = λ parcel has. let p = page_of_one parcel has in subst (IsWhole c.history start) p.parcel_is (is_whole p.index p.taken_page p.page_at);
+        whole = λ parcel has. let p = page_of_one parcel has in subst (IsWholeFill c.history start) p.parcel_is (is_whole p.index p.taken_page p.page_at);
         rest = (taken_partition n size start c kept).0;
         partition = subst (λ (l : List Piece). IsPartition (committed_records c.history) l (taken_partition n size start c kept).0) (pieces_same taken ∙ ap pieces_in (sym same)) (taken_partition n size start c kept).1;
         missing = λ parcel number has. let p = page_of_one parcel has in
-            subst (λ (x : Parcel). IsMissingOf x x.cpu number ↔ IsOverwrittenBefore c.history start deeds x.fill number) p.parcel_is (is_missing p.index p.taken_page number p.page_at);
+            subst (λ (x : Parcel). IsMissingOf x x.cpu number ↔ IsOverwrittenBefore c.history start events x.fill number) p.parcel_is (is_missing p.index p.taken_page number p.page_at);
       }
 
     -- ---- a collector
@@ -334,11 +334,11 @@ module _ (n size start : ℕ) (c : Core) (r : IsReached n size start c) where
             };
           }
 
-      missing_of : (parcel : Parcel) (number : ℕ) → IsOneOf parcels cpu parcel → IsMissingOf parcel cpu number ↔ IsOverwrittenBefore c.history start deeds parcel.fill number
+      missing_of : (parcel : Parcel) (number : ℕ) → IsOneOf parcels cpu parcel → IsMissingOf parcel cpu number ↔ IsOverwrittenBefore c.history start events parcel.fill number
       missing_of parcel number one = let p = pages parcel one in
-          subst (λ (x : Parcel). IsMissingOf x cpu number ↔ IsOverwrittenBefore c.history start deeds x.fill number) p.parcel_is (is_missing p.index p.taken_page number p.page_at)
+          subst (λ (x : Parcel). IsMissingOf x cpu number ↔ IsOverwrittenBefore c.history start events x.fill number) p.parcel_is (is_missing p.index p.taken_page number p.page_at)
 
-      pub is_exact : IsExact c.history start deeds cpu parcels
+      pub is_exact : IsExact c.history start events cpu parcels
       is_exact = record {
         has = λ number x. (has_stands number x, λ (committed, parcel, one, stands). stands_has number x parcel committed one stands);
         misses = λ number. (

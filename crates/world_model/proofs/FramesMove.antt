@@ -2,7 +2,7 @@
 use Rattle.std.proofs.Common.{◌≡◌, ℕ, List, [], ◌∷◌, refl, sym, ap, ◌∙◌, subst}
 use Rattle.trace_model.specs.Frames.{Kind, for_record, for_close, FrameState, waiting, reserved, left, Role, Phase, idle, looking, claiming, looking_next, marking, clearing, opening, releasing, wishing, Frame}
 use Rattle.trace_model.specs.Ring.{ReaderPhase, loading_link, loading_done, storing_link, swapping, Core}
-use Rattle.trace_model.specs.Steps.{Event, pushes, pushes_close, steps, ends, reads, wishes, Answer, closing_phase, frames_after_leave, with_new_tail, after_begin, BeginsAnew, ReserveStep, reserves, finds_nothing, is_crowded, is_worn, notes, LookStep, look_late, sees_free, sees_header, sees_update, ClaimStep, claim_late, claims, claim_fails, NextStep, next_late, sees_normal, sees_other, MarkStep, mark_late, marks, mark_fails, ClearStep, clears, OpenStep, open_late, opens, ReleaseStep, releases, releases_last, WishStep, grants, closes_more, goes_away, IdleStep, FrameStep, loads_header, loads_update, loads_owed, loads_passed, finds_none, finds_closed, swaps, swap_fails, ReadStep, Step, push_step, push_refused, close_step, close_refused, frame_step, frame_lacks, end_step, end_lacks, end_early, read_step, wish_step}
+use Rattle.trace_model.specs.Steps.{Event, pushes, pushes_close, steps, ends, reads, wishes, Answer, closing_phase, frames_after_leave, with_new_tail, after_begin, BeginsAgain, ReserveStep, reserves, finds_nothing, is_crowded, is_worn, notes, LookStep, look_late, sees_free, sees_header, sees_update, ClaimStep, claim_late, claims, claim_fails, NextStep, next_late, sees_normal, sees_other, MarkStep, mark_late, marks, mark_fails, ClearStep, clears, OpenStep, open_late, opens, ReleaseStep, releases, releases_last, WishStep, grants, closes_more, goes_away, IdleStep, FrameStep, loads_header, loads_update, loads_owed, loads_passed, finds_none, finds_closed, swaps, swap_fails, ReadStep, Step, push_step, push_refused, close_step, close_refused, frame_step, frame_lacks, end_step, end_lacks, end_early, read_step, wish_step}
 
 -- a step that pushes none
 pub data Moves (before after : List Frame) : Type 0 where
@@ -28,8 +28,8 @@ module _ (n size : ℕ) (c : Core) (frame : Frame) (below : List Frame) (answer 
   begins kind (reserved number) d is = to _ _ refl refl is
   begins kind left d is = to _ _ refl refl is
 
-  anew : (noted : ℕ) → BeginsAnew c frame below noted answer after → Moves c.frames after.frames
-  anew noted step = begins frame.kind frame.state c step.after_is
+  again : (noted : ℕ) → BeginsAgain c frame below noted answer after → Moves c.frames after.frames
+  again noted step = begins frame.kind frame.state c step.after_is
 
   reserve_moves : ReserveStep n size c frame below answer after → Moves c.frames after.frames
   reserve_moves (reserves moment len r kind r_is fits a is) = to _ _ refl refl is
@@ -39,23 +39,23 @@ module _ (n size : ℕ) (c : Core) (frame : Frame) (below : List Frame) (answer 
   reserve_moves (notes needs room small a is) = to _ _ refl refl is
 
   look_moves : (noted : ℕ) → LookStep n c frame below noted answer after → Moves c.frames after.frames
-  look_moves noted (look_late step) = anew noted step
+  look_moves noted (look_late step) = again noted step
   look_moves noted (sees_free page now at a is) = to _ _ refl refl is
   look_moves noted (sees_header page lost now sum at a is) = to _ _ refl refl is
   look_moves noted (sees_update page lost now sum at a is) = to _ _ refl refl is
 
   claim_moves : (noted page : ℕ) → ClaimStep n c frame below noted page answer after → Moves c.frames after.frames
-  claim_moves noted page (claim_late step) = anew noted step
+  claim_moves noted page (claim_late step) = again noted step
   claim_moves noted page (claims lost now sum at a is) = to _ _ refl refl is
   claim_moves noted page (claim_fails now other a is) = to _ _ refl refl is
 
   next_moves : (role : Role) (noted page : ℕ) → NextStep n c frame below role noted page answer after → Moves c.frames after.frames
-  next_moves role noted page (next_late helps step) = anew noted step
+  next_moves role noted page (next_late helps step) = again noted step
   next_moves role noted page (sees_normal lost next on sum at a is) = to _ _ refl refl is
   next_moves role noted page (sees_other lost on sum other a is) = to _ _ refl refl is
 
   mark_moves : (role : Role) (noted page next : ℕ) → MarkStep n c frame below role noted page next answer after → Moves c.frames after.frames
-  mark_moves role noted page next (mark_late helps step) = anew noted step
+  mark_moves role noted page next (mark_late helps step) = again noted step
   mark_moves role noted page next (marks lost on sum at a is) = to _ _ refl refl is
   mark_moves role noted page next (mark_fails lost on sum other a is) = to _ _ refl refl is
 
@@ -63,7 +63,7 @@ module _ (n size : ℕ) (c : Core) (frame : Frame) (below : List Frame) (answer 
   clear_moves noted page (clears lost sum at a is) = to _ _ refl refl is
 
   open_moves : (noted page : ℕ) → OpenStep n c frame below noted page answer after → Moves c.frames after.frames
-  open_moves noted page (open_late step) = anew noted step
+  open_moves noted page (open_late step) = again noted step
   open_moves noted page (opens now a is) = begins frame.kind frame.state (with_new_tail c page) is
 
   release_moves : ReleaseStep c frame below answer after → Moves c.frames after.frames

@@ -9,7 +9,7 @@ pub mod LanePayloads
 pub mod Lookups
 pub mod WorldsKept
 pub mod OneWorld
-pub mod RunDeeds
+pub mod RunEvents
 pub mod Cuts
 pub mod GenuineWorlds
 -- frames and takes end

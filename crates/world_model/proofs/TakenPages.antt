@@ -2,12 +2,12 @@
 use Rattle.std.proofs.Common.{◌≡◌, ◌≢◌, ℕ, List, [], ◌∷◌, ◌++◌, map, flat_map, refl, sym, ap, ◌∙◌, ⊎_elim, arith, append_assoc, append-nil}
 use Rattle.std.proofs.lemmas.Bool.{eq-eqb, ne_eqb}
 use Rattle.std.proofs.lemmas.List.{map-append}
-use Rattle.trace_model.specs.Window.{Window, Happening, opened_one, released_one, took_one, lost_one}
+use Rattle.trace_model.specs.Window.{Window, WindowEvent, opened_one, released_one, took_one, lost_one}
 use Rattle.trace_model.specs.Ring.{Taken, Reader, Core}
 use Rattle.trace_model.specs.Steps.{Event, Answer, pushed, going, reserved_as, pending, full, gone, refused, reading, empty, moving, swapped, wished_for, Step, Exchange, Run}
 use Rattle.trace_model.specs.Parcel.{Parcel}
 use Rattle.link_marks.specs.RingKept.{IsRingKept}
-use Rattle.link_marks.specs.WindowLaws.{Happened}
+use Rattle.link_marks.specs.WindowLaws.{MovesWindow}
 use Rattle.link_marks.proofs.AnswersRight.{swapped_right}
 use Rattle.link_marks.proofs.CountMoves.{losses_need_a_full_ring}
 use Rattle.link_marks.proofs.HistorySteps.{step_owed}
@@ -40,7 +40,7 @@ module _ (n size start : ℕ) (c : Core) (event : Event) (answer : Answer) (afte
   none_taken : ((t : Taken) → answer ≢ swapped t) → after.reader.taken ≡ c.reader.taken ++ []
   none_taken not = ⊎_elim (λ stays. stays.1) (λ (what, happened). by_what what happened) (step_owed n size start c event answer after kept.links kept.stack kept.history step).window ∙ sym (append-nil c.reader.taken)
     where
-      by_what : (what : Happening) → Happened n c what after → after.reader.taken ≡ c.reader.taken
+      by_what : (what : WindowEvent) → MovesWindow n c what after → after.reader.taken ≡ c.reader.taken
       by_what opened_one h = ap (λ (r : Reader). r.taken) h.shown.1
       by_what released_one h = ap (λ (r : Reader). r.taken) h.shown.1
       by_what lost_one h = ap (λ (r : Reader). r.taken) h.shown.1

@@ -10,12 +10,12 @@ use Rattle.trace_model.specs.Parcel.{Parcel, IsMissingOf, AreGenuine}
 use Rattle.trace_model.specs.Collection.{Has, Misses, Agree}
 use Rattle.trace_model.specs.Ring.{Core, IsStart, first_of_fill, fill_of}
 use Rattle.trace_model.specs.Steps.{Exchange}
-use Rattle.trace_model.specs.Window.{Deed}
+use Rattle.trace_model.specs.Window.{RingEvent}
 use Rattle.link_marks.specs.ToldRuns.{fills_taken, fills_lost, IsToldBy}
 use Rattle.script_model.specs.Script.{Script}
 use Rattle.world_model.specs.Lanes.{Lane}
 use Rattle.world_model.specs.World.{World}
-use Rattle.world_model.specs.RunDeeds.{IsRunToldBy}
+use Rattle.world_model.specs.RunEvents.{IsRunToldBy}
 
 -- the parcels of a CPU, in their order
 abbrev pub parcels_from : ℕ → List Parcel → List Parcel
@@ -29,7 +29,7 @@ abbrev pub pieces_in : List Parcel → List Piece
 pieces_in parcels = map piece_in parcels
 
 -- The parcel is the whole of its fill: it has all of that fill's records and no others, under their own numbers.
-pub record IsWhole (history : List Action) (start : ℕ) (parcel : Parcel) : Type 0 where
+pub record IsWholeFill (history : List Action) (start : ℕ) (parcel : Parcel) : Type 0 where
   pub first_is : parcel.first ≡ (fill_of history start parcel.fill).first
   pub records_are : parcel.records ≡ map as_record (fill_of history start parcel.fill).records
 
@@ -40,17 +40,18 @@ StandsIn history start fill number =
 
 -- The record of this number was overwritten unread before a fill: it is in one that was lost, after all
 -- that were taken before that fill.
-pub record IsOverwrittenBefore (history : List Action) (start : ℕ) (deeds : List Deed) (fill number : ℕ) : Type 0 where
+pub record IsOverwrittenBefore (history : List Action) (start : ℕ) (events : List RingEvent) (fill number : ℕ)
+    : Type 0 where
   pub lost : ℕ
-  pub was_lost : Contains (fills_lost start deeds) lost
+  pub was_lost : Contains (fills_lost start events) lost
   pub stands : StandsIn history start lost number
   pub before : lost < fill
-  pub behind : (taken : ℕ) → Contains (fills_taken start deeds) taken → taken < fill → taken < lost
+  pub behind : (taken : ℕ) → Contains (fills_taken start events) taken → taken < fill → taken < lost
 
 -- What the ring of a CPU, of n positions, did up to this state, and the parcels that were taken from it. Its frames
--- made a packed history. Steps lead to this state from a new ring, and the deeds are those of these steps, one step
+-- made a packed history. Steps lead to this state from a new ring, and the events are those of these steps, one step
 -- after the other: so a fill was lost only if the step that lost it found it closed and the ring full. Together the
--- deeds are the history, the window and the takes of this state. The parcels are the fills that were taken, in order,
+-- events are the history, the window and the takes of this state. The parcels are the fills that were taken, in order,
 -- each whole; they part the committed records; and the numbers that are missing before one are exactly those of the
 -- records that were overwritten unread between it and the one that was taken before it, or the start.
 pub record IsCut (n size start : ℕ) (c : Core) (parcels : List Parcel) : Type 0 where
@@ -59,16 +60,16 @@ pub record IsCut (n size start : ℕ) (c : Core) (parcels : List Parcel) : Type 
   pub from : Core
   pub is_new : IsStart n start from
   pub exchanges : List Exchange
-  pub deeds : List Deed
-  pub run : IsRunToldBy n size from exchanges deeds c
-  pub told : IsToldBy n start c deeds
-  pub took : fills_taken start deeds ≡ map (λ parcel. parcel.fill) parcels
-  pub whole : (parcel : Parcel) → Contains parcels parcel → IsWhole c.history start parcel
+  pub events : List RingEvent
+  pub run : IsRunToldBy n size from exchanges events c
+  pub told : IsToldBy n start c events
+  pub took : fills_taken start events ≡ map (λ parcel. parcel.fill) parcels
+  pub whole : (parcel : Parcel) → Contains parcels parcel → IsWholeFill c.history start parcel
   pub rest : List Record
   pub partition : IsPartition (committed_records c.history) (pieces_in parcels) rest
   pub missing : (parcel : Parcel) (number : ℕ)
       → Contains parcels parcel
-      → IsMissingOf parcel parcel.cpu number ↔ IsOverwrittenBefore c.history start deeds parcel.fill number
+      → IsMissingOf parcel parcel.cpu number ↔ IsOverwrittenBefore c.history start events parcel.fill number
 
 -- of these parcels, this one is of the CPU
 abbrev pub IsOneOf : List Parcel → (cpu : ℕ) → Parcel → Type 0
@@ -77,7 +78,7 @@ IsOneOf parcels cpu parcel = Contains parcels parcel × (parcel.cpu ≡ cpu)
 -- What the parcels that were delivered to a collector make of a CPU's history: the collector has exactly the committed
 -- records that are in the fill of one of them, under their own numbers, and misses exactly the numbers that were
 -- overwritten unread before one of them.
-pub record IsExact (history : List Action) (start : ℕ) (deeds : List Deed) (cpu : ℕ) (delivered : List Parcel)
+pub record IsExact (history : List Action) (start : ℕ) (events : List RingEvent) (cpu : ℕ) (delivered : List Parcel)
     : Type 0 where
   pub has : (number : ℕ) (r : Record)
       → Has delivered cpu number r
@@ -89,7 +90,7 @@ pub record IsExact (history : List Action) (start : ℕ) (deeds : List Deed) (cp
       → Misses delivered cpu number
       ↔ ((parcel : Parcel)
       × IsOneOf delivered cpu parcel
-      × IsOverwrittenBefore history start deeds parcel.fill number)
+      × IsOverwrittenBefore history start events parcel.fill number)
 
 -- Of a world: it has the CPUs and the collectors of its script. Each CPU's history is cut into the parcels that were
 -- taken from its ring, and each parcel that was taken is one of a CPU that there is, and genuine for that CPU's. So
@@ -110,4 +111,4 @@ pub record IsGenuineWorld (script : Script) (w : World) : Type 0 where
   pub exact : (collector cpu : ℕ) (parcels : List Parcel) (lane : Lane)
       → slice_get w.delivered collector ≡ Some parcels
       → (at : slice_get w.lanes cpu ≡ Some lane)
-      → IsExact lane.core.history script.start (cut cpu lane at).deeds cpu parcels
+      → IsExact lane.core.history script.start (cut cpu lane at).events cpu parcels

@@ -1,7 +1,7 @@
 pub mod Lanes
 pub mod Log
 pub mod World
-pub mod RunDeeds
+pub mod RunEvents
 pub mod Headline
 pub mod LineEnds
 pub mod Printing

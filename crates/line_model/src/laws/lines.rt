@@ -1,7 +1,7 @@
 //! Laws over what lines make of a history.
 ghost use Rattle.std.specs.Prelude.{◌≡◌, ◌<◌, ℕ, List, length};
 ghost use Rattle.trace_model.specs.History.{Action};
-ghost use Rattle.trace_model.specs.Window.{Window, Deed, actions_of, WindowRun};
+ghost use Rattle.trace_model.specs.Window.{Window, RingEvent, actions_of, WindowRun};
 ghost use Rattle.script_model.specs.Script.{Command};
 ghost use Rattle.line_model.specs.Lines.{IsMadeByLines};
 ghost use Rattle.line_model.specs.LineExamples.{OneWrite, RefusedBegin, BeginAndSteps, NestedFrames, DroppedWrite, RecordsOfThree};
@@ -21,5 +21,5 @@ pub fn lines_make_histories()
 pub fn lines_are_window_runs()
     ensures run { (n size start : ℕ) (lines : List Command) (history : List Action) →
         IsMadeByLines n size start lines history →
-        (events : List Deed) × (w : Window) × WindowRun n start events w × (actions_of events ≡ history) }
+        (events : List RingEvent) × (w : Window) × WindowRun n start events w × (actions_of events ≡ history) }
 {}

@@ -1,12 +1,12 @@
 //! Laws of a ring's window: how the counts of fills move, and which fills are taken or lost.
-ghost use Rattle.link_marks.specs.WindowLaws.{ClosesNeedNoFrame, CountsRise, LossesNeedAFullRing, LostAreClosed, NoneIsTakenAndLost, NothingHappens, OneHappening, PassedAreTakenOrLost, RunsExtendDeeds, RunsMoveWindow, StepsMoveWindow, TakenAreClosed};
+ghost use Rattle.link_marks.specs.WindowLaws.{ClosesNeedNoFrame, CountsRise, LossesNeedAFullRing, LostAreClosed, NoneIsTakenAndLost, NothingHappens, OneWindowEvent, PassedAreTakenOrLost, RunsExtendEvents, RunsMoveWindow, StepsMoveWindow, TakenAreClosed};
 
 /// Every step is one step of the window, the one that the history and the taken pages show, or leaves the
 /// window and what was taken as they were: so no fill is both taken and lost, and none is lost but a closed
 /// one, in a full ring.
 pub fn steps_move_window()
     ensures window { StepsMoveWindow }
-    ensures one { OneHappening }
+    ensures one { OneWindowEvent }
     ensures none { NothingHappens }
 {}
 
@@ -14,7 +14,7 @@ pub fn steps_move_window()
 /// that the reader took; a longer run goes on from there; and its counts only rise.
 pub fn runs_move_window()
     ensures runs { RunsMoveWindow }
-    ensures extends { RunsExtendDeeds }
+    ensures extends { RunsExtendEvents }
     ensures rises { CountsRise }
 {}
 

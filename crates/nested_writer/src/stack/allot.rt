@@ -20,10 +20,10 @@ impl WriterStack {
     ghost use Rattle.trace_model.specs.History.{Action, reserve, leave};
     ghost use Rattle.page_image.specs.Contents.{Contents};
     ghost use Rattle.nested_writer.specs.Stack.{opened, tail_fill, next_number};
-    ghost use Rattle.nested_writer.specs.Calls.{with_progress, after_leave, IsTop, HasLeft, IsUnchanged, WantsPage, NeedsPage, IsCrowded, IsWorn, IsReserved, HasRecordRoom, HasTopLeft, IsTopSlot};
+    ghost use Rattle.nested_writer.specs.Calls.{with_progress, after_leave, IsTop, HasLeft, IsUnchanged, WantsPage, NeedsPage, IsCrowded, IsWorn, ReservesRecord, HasRecordRoom, HasTopLeft, IsTopSlot};
     ghost use Rattle.nested_writer.specs.Ends.{MayEndTop};
     ghost use Rattle.nested_writer.specs.Kept.{SameFills, SamePages};
-    ghost use Rattle.nested_writer.specs.Next.{IsPlaced, IsReadyForPage};
+    ghost use Rattle.nested_writer.specs.Next.{IsPlaced, IsReadyForPage, IsAllottedTo, IsSameFrame, IsRefusedTo};
     ghost use Rattle.nested_writer.specs.PlainTop.{IsPlainTop};
     ghost use Rattle.nested_writer.specs.IsStack.{IsStack, Stands};
     ghost use Rattle.nested_writer.specs.Allotted.{IsAllotted, HasActed};
@@ -106,6 +106,9 @@ impl WriterStack {
             → IsAnswered self.old history self.old.frames result }
         ensures kept { SameFills self.old self.new }
         ensures page { result ≡ Ok Allot.NeedsPage → IsReadyForPage self.old self.new }
+        ensures next { IfOk result (λ allot. IsAllottedTo self.old self.new allot) }
+        ensures same { OnOk result (IsSameFrame self.old self.new) }
+        ensures refused { IfErr result (λ fault. IsRefusedTo self.old self.new fault) }
     {
         if self.older.len() + 1 == self.pages {
             self.leave();
@@ -129,7 +132,7 @@ impl WriterStack {
         requires raised { raised ≡ max moment self.old.last_moment }
         requires room { HasRecordRoom self.old moment len }
         ensures reserved { (top : Frame) (below : List Frame) → IsTop self.old top below
-            → IsReserved self.old top below moment len result self.new }
+            → ReservesRecord self.old top below moment len result self.new }
         ensures stack { HasActed self.old (reserve ∷ []) self.new }
     {
         let number = self.tail.first_number().0 + self.tail.count();
@@ -169,7 +172,7 @@ impl WriterStack {
         requires stack { Stands self.old }
         requires plain { IsPlainTop self.old pushed }
         ensures reserved { (top : Frame) (below : List Frame) → IsTop self.old top below
-            → IsReserved self.old top below pushed.moment pushed.len result.place self.new }
+            → ReservesRecord self.old top below pushed.moment pushed.len result.place self.new }
         ensures stack { HasActed self.old (reserve ∷ []) self.new }
         ensures number { result.number ≡ next_number self.old }
         ensures slot { IsTopSlot self.new.frames result }
@@ -227,6 +230,9 @@ impl WriterStack {
         ensures kept { SameFills self.old self.new }
         ensures fits { (place : Place) → result ≡ Ok (Allot.Fits place) → IsPlaced self.old self.new place }
         ensures page { result ≡ Ok Allot.NeedsPage → IsReadyForPage self.old self.new }
+        ensures next { IfOk result (λ allot. IsAllottedTo self.old self.new allot) }
+        ensures same { OnOk result (IsSameFrame self.old self.new) }
+        ensures refused { IfErr result (λ fault. IsRefusedTo self.old self.new fault) }
     {
         let Some((pushed, noted)) = self.top.trying() else {
             return self.allot_again();
@@ -262,6 +268,9 @@ impl WriterStack {
         ensures kept { SameFills self.old self.new }
         ensures fits { (place : Place) → result ≡ Ok (Allot.Fits place) → IsPlaced self.old self.new place }
         ensures page { result ≡ Ok Allot.NeedsPage → IsReadyForPage self.old self.new }
+        ensures next { IfOk result (λ allot. IsAllottedTo self.old self.new allot) }
+        ensures same { OnOk result (IsSameFrame self.old self.new) }
+        ensures refused { IfErr result (λ fault. IsRefusedTo self.old self.new fault) }
     {
         let Some(top) = self.top.get() else {
             return Err(WriteFault::NoFrame);
@@ -310,6 +319,9 @@ impl WriterStack {
         ensures kept { SameFills self.old self.new }
         ensures fits { (place : Place) → result ≡ Ok (Allot.Fits place) → IsPlaced self.old self.new place }
         ensures page { result ≡ Ok Allot.NeedsPage → IsReadyForPage self.old self.new }
+        ensures next { IfOk result (λ allot. IsAllottedTo self.old self.new allot) }
+        ensures same { OnOk result (IsSameFrame self.old self.new) }
+        ensures refused { IfErr result (λ fault. IsRefusedTo self.old self.new fault) }
     {
         let Some(pushed) = self.plain_top() else {
             return self.allot_any();

@@ -13,7 +13,7 @@ pub enum Ended {
 }
 
 impl WriterStack {
-    ghost use Rattle.std.specs.Prelude.{◌≡◌, ◌≢◌, ℕ, ◌≤◌, ◌<◌, ◌↔◌, [], ◌∷◌, ◌++◌, List, Some, length, IsTrue, OnOk, OnErr, IsOk};
+    ghost use Rattle.std.specs.Prelude.{◌≡◌, ◌≢◌, ℕ, ◌≤◌, ◌<◌, ◌↔◌, [], ◌∷◌, ◌++◌, List, Some, length, IsTrue, OnOk, OnErr, IsOk, IfOk};
     ghost use Rattle.trace_model.specs.History.{Action, wished};
     ghost use Rattle.trace_model.specs.Packing.{tail_of};
     ghost use Rattle.nested_writer.specs.Stack.{opened};
@@ -21,7 +21,7 @@ impl WriterStack {
     ghost use Rattle.nested_writer.specs.Allotted.{HasActed};
     ghost use Rattle.nested_writer.specs.Ends.{MayEndTop, MayNotEndTop, IsEnd};
     ghost use Rattle.nested_writer.specs.Kept.{SamePages};
-    ghost use Rattle.nested_writer.specs.Next.{below_top};
+    ghost use Rattle.nested_writer.specs.Next.{below_top, IsEndedTo};
     ghost use Rattle.nested_writer.specs.IsStack.{IsStack, Stands};
 
     /// `end`, however far the frame on top has come.
@@ -38,6 +38,7 @@ impl WriterStack {
         ensures kept { SamePages self.old self.new }
         ensures below { result ≡ Ok Ended.Pending → self.new.frames ≡ below_top self.old.frames }
         ensures bottom { result ≡ Ok Ended.Full → IsAtBottom self.new.frames }
+        ensures next { IfOk result (λ ended. IsEndedTo self.old self.new ended) }
     {
         let Some(top) = self.top.get() else {
             return Err(WriteFault::NoFrame);
@@ -69,6 +70,7 @@ impl WriterStack {
         ensures kept { SamePages self.old self.new }
         ensures below { result ≡ Ok Ended.Pending → self.new.frames ≡ below_top self.old.frames }
         ensures bottom { result ≡ Ok Ended.Full → IsAtBottom self.new.frames }
+        ensures next { IfOk result (λ ended. IsEndedTo self.old self.new ended) }
     {
         if self.top.holds_record() && self.below.is_empty() {
             self.leave();

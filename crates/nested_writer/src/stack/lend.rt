@@ -56,7 +56,9 @@ impl WriterStack {
         ensures place { (place : Place)
             → top_place self.old.frames ≡ Some place
             → IfOk result (λ payload. payload.now.place ≡ place) }
+        ensures here { IfOk result (λ payload. top_place self.old.frames ≡ Some payload.now.place) }
         ensures lent { IfOk result (λ payload. IsLent self.old payload.now) }
+        ensures unwritten { IfOk result (λ payload. with_top self.old payload.now ≡ self.old) }
         ensures held { (place : Place) → top_place self.old.frames ≡ Some place → IsOk result }
         ensures fits { (len : ℕ)
             → pushed_len self.old.frames ≡ Some len

@@ -74,6 +74,7 @@ impl WriterStack {
         ensures bottom { IsAtBottom self.new.frames }
         ensures done { self.new.done ≡ self.old.done + 1 }
         ensures fewer { length self.old.older ≡ length self.new.older + 1 }
+        ensures last { length self.old.older ≡ 1 → self.new.older ≡ [] }
     {
         match self.older.pop() {
             Some(page) => {

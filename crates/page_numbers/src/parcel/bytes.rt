@@ -12,7 +12,7 @@ impl Parcel {
     ghost use Rattle.trace_model.specs.Parcel.{Parcel as ParcelSeen};
     ghost use Rattle.trace_model.specs.ParcelBytes.{DecodesParcel, ParcelCause, FirstParcelFault};
     ghost use Rattle.page_numbers.specs.Faults.{parcel_fault, IsParcelFault, HasReading};
-    ghost use Rattle.page_numbers.specs.Written.{IsWritten};
+    ghost use Rattle.page_numbers.specs.Written.{IsWrittenAs};
 
     /// Reads a parcel from its bytes: 32 bytes of numbers, and a page image of at most `MAX_IMAGE` bytes. Memory is
     /// asked for after all faults, for the page and for sharing it, so refused memory hides no fault.
@@ -43,7 +43,7 @@ impl Parcel {
 
     /// The parcel as bytes: its numbers, and its page's image, which states of missed events what the parcel does.
     pub fn to_bytes(&self, alloc: Global) -> Result<Vec<u8>, NoMemory>
-        ensures written { IfOk result (λ bytes. IsWritten self.now bytes.items) }
+        ensures written { IfOk result (λ bytes. IsWrittenAs self.now bytes.items) }
         ensures reads { IfOk result (λ bytes. DecodesParcel bytes.items self.now) }
     {
         self.numbered.to_bytes(alloc)

@@ -10,12 +10,12 @@ impl Core {
     ghost use Rattle.ring_frames.specs.declared.phase.Turned.TheVariants.{Going};
     ghost use Rattle.ring_frames.specs.Answers.{top_bytes, EndsPayload, KeepsPayloads, ZerosSlot};
     ghost use Rattle.ring_frames.specs.Phases.{told};
-    ghost use Rattle.ring_core.specs.Steps.{Makes, IsRing, IsLate};
+    ghost use Rattle.ring_core.specs.Steps.{Makes, IsReachedCore, IsLate};
 
     /// A frame is pushed for a record of this moment and of a payload of `len` bytes.
     #[inline(always)]
     pub(crate) fn push(&mut self, moment: u64, len: usize) -> Answer
-        requires ring { IsRing self.old }
+        requires ring { IsReachedCore self.old }
         ensures makes { Makes self.old (model.pushes moment len) result self.new }
         ensures payloads { KeepsPayloads self.old.stack self.new.stack }
     {
@@ -24,7 +24,7 @@ impl Core {
 
     /// A frame is pushed that leaves the tail page.
     pub(crate) fn push_close(&mut self) -> Answer
-        requires ring { IsRing self.old }
+        requires ring { IsReachedCore self.old }
         ensures makes { Makes self.old model.pushes_close result self.new }
         ensures payloads { KeepsPayloads self.old.stack self.new.stack }
     {
@@ -34,7 +34,7 @@ impl Core {
     /// The frame on top ends with the payload that is in its slot.
     #[inline(always)]
     pub(crate) fn end(&mut self) -> Answer
-        requires ring { IsRing self.old }
+        requires ring { IsReachedCore self.old }
         ensures makes { Makes self.old (model.ends (top_bytes self.old.stack self.old.stack.frames)) result self.new }
         ensures payloads { EndsPayload self.old.stack self.new.stack }
     {
@@ -45,7 +45,7 @@ impl Core {
     /// and refused or noted.
     #[inline(always)]
     pub(crate) fn reserve(&mut self) -> Answer
-        requires ring { IsRing self.old }
+        requires ring { IsReachedCore self.old }
         requires top { self.old.stack.frames ≢ [] }
         requires phase { self.old.phase ≡ Idle }
         ensures makes { Makes self.old model.steps result self.new }
@@ -57,14 +57,14 @@ impl Core {
 
     /// Another frame has begun a fill since the frame on top noted what to open.
     #[inline(always)]
-    pub(crate) fn begin_anew(&mut self) -> Turned
-        requires ring { IsRing self.old }
+    pub(crate) fn begin_again(&mut self) -> Turned
+        requires ring { IsReachedCore self.old }
         requires top { self.old.stack.frames ≢ [] }
         requires late { IsLate self.old }
         ensures makes { Makes self.old model.steps (told result) self.new }
         ensures payloads { KeepsPayloads self.old.stack self.new.stack }
     {
-        self.frames.begin_anew()
+        self.frames.begin_again()
     }
 
     /// The frame on top continues in this phase.

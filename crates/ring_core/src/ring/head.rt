@@ -11,20 +11,20 @@ impl Core {
     ghost use Rattle.ring_core.specs.Heads.{HasHeader, ClaimsHead};
     ghost use Rattle.ring_frames.specs.Phases.{told};
     ghost use Rattle.ring_frames.specs.Answers.{KeepsPayloads};
-    ghost use Rattle.ring_core.specs.Steps.{Makes, IsRing};
+    ghost use Rattle.ring_core.specs.Steps.{Makes, IsReachedCore};
 
     /// A load of the link into the position of the fill to open: it is free, or its page is the head, or a frame below
     /// is moving the head.
     #[inline(never)]
     pub(crate) fn look(&mut self, noted: u64) -> Turned
-        requires ring { IsRing self.old }
+        requires ring { IsReachedCore self.old }
         requires top { self.old.stack.frames ≢ [] }
         requires phase { self.old.phase ≡ Looking noted }
         ensures makes { Makes self.old model.steps (told result) self.new }
         ensures payloads { KeepsPayloads self.old.stack self.new.stack }
     {
         if noted != self.frames.opened() {
-            return self.begin_anew();
+            return self.begin_again();
         }
         let link = self.link_into(noted);
         let page = link.page;
@@ -43,14 +43,14 @@ impl Core {
     /// A compare and exchange of that link from HEADER to UPDATE, by which the head is lost.
     #[inline(never)]
     pub(crate) fn claim(&mut self, noted: u64, page: u16) -> Turned
-        requires ring { IsRing self.old }
+        requires ring { IsReachedCore self.old }
         requires top { self.old.stack.frames ≢ [] }
         requires phase { self.old.phase ≡ Claiming noted page }
         ensures makes { Makes self.old model.steps (told result) self.new }
         ensures payloads { KeepsPayloads self.old.stack self.new.stack }
     {
         if noted != self.frames.opened() {
-            return self.begin_anew();
+            return self.begin_again();
         }
         let phase = if self.claim_head(noted, page) {
             Phase::LookingNext {
@@ -79,14 +79,14 @@ impl Core {
     /// A load of the next link: does it still wait for the HEADER?
     #[inline(never)]
     pub(crate) fn look_next(&mut self, role: Role, noted: u64, page: u16) -> Turned
-        requires ring { IsRing self.old }
+        requires ring { IsReachedCore self.old }
         requires top { self.old.stack.frames ≢ [] }
         requires phase { self.old.phase ≡ LookingNext role noted page }
         ensures makes { Makes self.old model.steps (told result) self.new }
         ensures payloads { KeepsPayloads self.old.stack self.new.stack }
     {
         if self.frames.stops(role, noted) {
-            return self.begin_anew();
+            return self.begin_again();
         }
         let behind = noted - self.positions() + 1;
         let link = self.link_into(behind);
@@ -105,14 +105,14 @@ impl Core {
     /// A compare and exchange of the next link from NORMAL to HEADER.
     #[inline(never)]
     pub(crate) fn mark(&mut self, role: Role, noted: u64, page: u16, next: u16) -> Turned
-        requires ring { IsRing self.old }
+        requires ring { IsReachedCore self.old }
         requires top { self.old.stack.frames ≢ [] }
         requires phase { self.old.phase ≡ Marking role noted page next }
         ensures makes { Makes self.old model.steps (told result) self.new }
         ensures payloads { KeepsPayloads self.old.stack self.new.stack }
     {
         if self.frames.stops(role, noted) {
-            return self.begin_anew();
+            return self.begin_again();
         }
         let behind = noted - self.positions() + 1;
         self.exchange(behind, normal(next, behind), header(next, behind));
@@ -122,7 +122,7 @@ impl Core {
     /// A store of that link, from the frame's own UPDATE to NORMAL.
     #[inline(never)]
     pub(crate) fn clear(&mut self, noted: u64, page: u16) -> Turned
-        requires ring { IsRing self.old }
+        requires ring { IsReachedCore self.old }
         requires top { self.old.stack.frames ≢ [] }
         requires phase { self.old.phase ≡ Clearing noted page }
         ensures makes { Makes self.old model.steps (told result) self.new }

@@ -11,26 +11,26 @@ impl Core {
     ghost use Rattle.ring_frames.specs.Phases.{told};
     ghost use Rattle.ring_frames.specs.declared.answer.Answer.TheVariants.{Going};
     ghost use Rattle.ring_frames.specs.Answers.{KeepsPayloads};
-    ghost use Rattle.ring_core.specs.Steps.{Makes, IsRing};
+    ghost use Rattle.ring_core.specs.Steps.{Makes, IsReachedCore};
 
     /// The page to open is taken from its home and is the tail from now on, unless another frame has begun the fill.
     #[inline(never)]
     pub(crate) fn open(&mut self, noted: u64, page: u16) -> Turned
-        requires ring { IsRing self.old }
+        requires ring { IsReachedCore self.old }
         requires top { self.old.stack.frames ≢ [] }
         requires phase { self.old.phase ≡ Opening noted page }
         ensures makes { Makes self.old model.steps (told result) self.new }
         ensures payloads { KeepsPayloads self.old.stack self.new.stack }
     {
         if noted != self.frames.opened() {
-            return self.begin_anew();
+            return self.begin_again();
         }
         self.begin_fill(page)
     }
 
     /// The next fill is begun on the page of this number.
     fn begin_fill(&mut self, page: u16) -> Turned
-        requires ring { IsRing self.old }
+        requires ring { IsReachedCore self.old }
         requires top { self.old.stack.frames ≢ [] }
         requires phase { self.old.phase ≡ Opening (opened self.old.stack) page }
         ensures makes { Makes self.old model.steps (told result) self.new }
@@ -45,7 +45,7 @@ impl Core {
     /// The oldest fill that isn't closed is closed: its page goes home.
     #[inline(never)]
     pub(crate) fn release(&mut self) -> Turned
-        requires ring { IsRing self.old }
+        requires ring { IsReachedCore self.old }
         requires top { self.old.stack.frames ≢ [] }
         requires phase { self.old.phase ≡ Releasing }
         ensures makes { Makes self.old model.steps (told result) self.new }
@@ -60,7 +60,7 @@ impl Core {
     /// frame closes it; else it closes what was begun meanwhile, or is gone.
     #[inline(always)]
     pub(crate) fn load_wish(&mut self) -> Turned
-        requires ring { IsRing self.old }
+        requires ring { IsReachedCore self.old }
         requires top { self.old.stack.frames ≢ [] }
         requires phase { self.old.phase ≡ Wishing }
         ensures makes { Makes self.old model.steps (told result) self.new }

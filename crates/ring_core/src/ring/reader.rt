@@ -13,13 +13,13 @@ impl Core {
     ghost use Rattle.ring_frames.specs.declared.reader.ReaderPhase.TheVariants.{LoadingLink, LoadingDone, StoringLink, Swapping};
     ghost use Rattle.ring_frames.specs.declared.answer.Answer.TheVariants.{Taken};
     ghost use Rattle.ring_core.specs.Answers.{GivesBack};
-    ghost use Rattle.ring_core.specs.Steps.{Makes, IsRing};
+    ghost use Rattle.ring_core.specs.Steps.{Makes, IsReachedCore};
     ghost use Rattle.ring_core.specs.Taking.{with_spare_home, with_head_taken};
 
     /// The reader makes one step. It keeps the body only if it takes a page.
     #[inline(never)]
     pub(crate) fn read(&mut self, body: Body) -> Answer
-        requires ring { IsRing self.old }
+        requires ring { IsReachedCore self.old }
         requires size { length body ≡ self.old.stack.size }
         ensures step { Makes self.old model.reads result self.new }
         ensures given_back { GivesBack body result }
@@ -46,7 +46,7 @@ impl Core {
 
     /// A load of the link into the position of the hint.
     fn load_link(&mut self, body: Body) -> Answer
-        requires ring { IsRing self.old }
+        requires ring { IsReachedCore self.old }
         requires phase { self.old.reader.phase ≡ LoadingLink }
         ensures step { Makes self.old model.reads result self.new }
         ensures given_back { GivesBack body result }
@@ -76,7 +76,7 @@ impl Core {
 
     /// A load of the number of closed fills.
     fn load_done(&mut self, page: u16, fill: u64, body: Body) -> Answer
-        requires ring { IsRing self.old }
+        requires ring { IsReachedCore self.old }
         requires phase { self.old.reader.phase ≡ LoadingDone page fill }
         ensures step { Makes self.old model.reads result self.new }
         ensures given_back { GivesBack body result }
@@ -94,7 +94,7 @@ impl Core {
 
     /// A store of the link of the reader's page: it will lead to the fill after the one that is taken.
     fn store_link(&mut self, page: u16, fill: u64, body: Body) -> Answer
-        requires ring { IsRing self.old }
+        requires ring { IsReachedCore self.old }
         requires phase { self.old.reader.phase ≡ StoringLink page fill }
         ensures step { Makes self.old model.reads result self.new }
         ensures given_back { GivesBack body result }
@@ -107,7 +107,7 @@ impl Core {
 
     /// A compare and exchange of the link to the head from HEADER to NORMAL: the swap.
     fn swap(&mut self, page: u16, fill: u64, body: Body) -> Answer
-        requires ring { IsRing self.old }
+        requires ring { IsReachedCore self.old }
         requires size { length body ≡ self.old.stack.size }
         requires phase { self.old.reader.phase ≡ Swapping page fill }
         ensures step { Makes self.old model.reads result self.new }
@@ -166,7 +166,7 @@ impl Core {
 
     /// The reader wishes for the fill after those that it knows to be closed.
     pub(crate) fn make_wish(&mut self) -> Answer
-        requires ring { IsRing self.old }
+        requires ring { IsReachedCore self.old }
         ensures step { Makes self.old model.wishes result self.new }
         ensures stack { self.new.stack ≡ self.old.stack }
     {

@@ -8,23 +8,23 @@ impl Core {
     ghost use Rattle.trace_model.specs.Steps as model;
     ghost use Rattle.std.specs.Prelude.{◌≡◌};
     ghost use Rattle.ring_frames.specs.Answers.{KeepsPayloads, ZerosSlot};
-    ghost use Rattle.ring_core.specs.Answers.{event_of, IsWhole, StepsPayloads, StepsTop};
-    ghost use Rattle.ring_core.specs.Steps.{Makes, IsRing, HasItsSize, GivesBodyBack};
+    ghost use Rattle.ring_core.specs.Answers.{event_of, HasWholePage, StepsPayloads, StepsTop};
+    ghost use Rattle.ring_core.specs.Steps.{Makes, IsReachedCore, HasItsSize, GivesBodyBack};
 
     /// One event, which is one step of the ring's model: its answer means the model's, and the ring is in the state
     /// after it. The body of a `Read` is returned with every answer but `Taken`.
     #[inline(always)]
     pub fn step(&mut self, event: Event) -> Answer
-        requires ring { IsRing self.old }
+        requires ring { IsReachedCore self.old }
         requires size { HasItsSize self.old event }
         ensures step { Makes self.old (event_of self.old event) result self.new }
         ensures given_back { GivesBodyBack event result }
         ensures payloads { StepsPayloads event self.old.stack self.new.stack }
         ensures zeros { ZerosSlot self.old.stack result self.new.stack }
         ensures top { StepsTop event result self.old.stack self.new.stack }
-        ensures ring { IsRing self.new }
+        ensures ring { IsReachedCore self.new }
         ensures size { self.new.stack.size ≡ self.old.stack.size }
-        ensures page { IsWhole self.old.stack.size result }
+        ensures page { HasWholePage self.old.stack.size result }
     {
         self.obey(event)
     }
@@ -32,7 +32,7 @@ impl Core {
     /// Passes the event to the function of its kind.
     #[inline(always)]
     fn obey(&mut self, event: Event) -> Answer
-        requires ring { IsRing self.old }
+        requires ring { IsReachedCore self.old }
         requires size { HasItsSize self.old event }
         ensures step { Makes self.old (event_of self.old event) result self.new }
         ensures given_back { GivesBodyBack event result }
@@ -53,7 +53,7 @@ impl Core {
     /// One step of the frame on top, in its phase.
     #[inline(always)]
     fn step_top(&mut self) -> Answer
-        requires ring { IsRing self.old }
+        requires ring { IsReachedCore self.old }
         ensures makes { Makes self.old model.steps result self.new }
         ensures payloads { KeepsPayloads self.old.stack self.new.stack }
         ensures zeros { ZerosSlot self.old.stack result self.new.stack }

@@ -15,19 +15,20 @@ impl Core {
     ghost use Rattle.ring_frames.specs.Answers.{top_bytes};
     ghost use Rattle.ring_frames.specs.Lending.{LeavesOthers};
     ghost use Rattle.ring_core.specs.Lending.{FitsFrame, LendsTop, StaysRing, with_lent};
-    ghost use Rattle.ring_core.specs.Steps.{IsRing};
+    ghost use Rattle.ring_core.specs.Steps.{IsReachedCore};
 
     /// The payload in the slot of the frame on top, to be written: it acts as the slice of its bytes. All else stays as
     /// it is, so the payloads of the other frames; and the ring is in the same state whatever is written. Refused with
     /// `NoFrame` if there is no frame, and with `NotReserved` if the one on top has no record.
     #[inline(always)]
     pub fn top_mut(&mut self) -> Result<&mut Payload, WriteFault>
-        requires ring { IsRing self.old }
+        requires ring { IsReachedCore self.old }
         ensures* lends { sem 𝓛 (LendsTop self.entry result) }
         ensures no_frame { result ≡ Err WriteFault.NoFrame ↔ self.old.stack.frames ≡ [] }
         ensures not_reserved { result ≡ Err WriteFault.NotReserved ↔ LacksSlot self.old.stack.frames }
         ensures held { (place : Place) → top_place self.old.stack.frames ≡ Some place → IsOk result }
         ensures lent { IfOk result (λ payload. IsLent self.old.stack payload.now) }
+        ensures unwritten { IfOk result (λ payload. with_lent self.old payload.now ≡ self.old) }
         ensures len { (len : ℕ)
             → pushed_len self.old.stack.frames ≡ Some len
             → IfOk result (λ payload. length (lent_bytes payload.now) ≡ slot_len len) }
@@ -39,7 +40,7 @@ impl Core {
             → top_bytes (with_top self.old.stack (with_bytes payload.now part)) self.old.stack.frames ≡ part) }
         ensures ring { IfOk result (λ payload. (part : List ℕ)
             → length part ≡ length (lent_bytes payload.now)
-            → IsRing (with_lent self.old (with_bytes payload.now part))) }
+            → IsReachedCore (with_lent self.old (with_bytes payload.now part))) }
         ensures fits { (slot : Slot) → IsTopSlot self.old.stack.frames slot → FitsFrame self.old slot }
         ensures others { (slot : Slot) → IsTopSlot self.old.stack.frames slot → LeavesOthers self.old.stack slot }
         ensures stays { (slot : Slot) → IsTopSlot self.old.stack.frames slot → StaysRing self.old }

@@ -30,7 +30,7 @@ impl Frames {
         ensures payloads { KeepsPayloads self.old.stack self.new.stack }
     {
         self.stack.add_page(body);
-        self.begin_anew()
+        self.begin_again()
     }
 
     /// The oldest fill that isn't closed is closed, and its page let go.

@@ -8,13 +8,13 @@ impl Frames {
     ghost use Rattle.std.specs.Prelude.{◌≡◌, ◌≢◌, []};
     ghost use Rattle.trace_model.specs.Steps as model;
     ghost use Rattle.ring_frames.specs.Answers.{top_bytes, EndsPayload};
-    ghost use Rattle.ring_frames.specs.Steps.{MakesPrivate, IsShown};
+    ghost use Rattle.ring_frames.specs.Steps.{MakesPrivate, AreSomeFrames};
     ghost use Rattle.ring_frames.specs.Phases.{with_left_phase, left_answer, told, closing_phase};
 
     /// The frame on top ends with the payload that is in its slot.
     #[inline(always)]
     pub fn end(&mut self) -> Answer
-        requires shown { IsShown self.old }
+        requires shown { AreSomeFrames self.old }
         ensures step { MakesPrivate self.old (model.ends (top_bytes self.old.stack self.old.stack.frames)) result self.new }
         ensures payloads { EndsPayload self.old.stack self.new.stack }
     {

@@ -6,14 +6,14 @@ impl Frames {
     ghost use Rattle.std.specs.Prelude.{◌≡◌, ◌<◌, ◌↔◌, length, IsTrue};
     ghost use Rattle.trace_model.specs.declared.limits.TheConstants.{MAX_FRAMES};
     ghost use Rattle.trace_model.specs.Steps as model;
-    ghost use Rattle.ring_frames.specs.Steps.{MakesPrivate, IsShown};
+    ghost use Rattle.ring_frames.specs.Steps.{MakesPrivate, AreSomeFrames};
     ghost use Rattle.ring_frames.specs.Answers.{KeepsPayloads};
     ghost use Rattle.ring_frames.specs.Phases.{with_pushed_phase};
 
     /// A frame is pushed for a record of this moment and of a payload of `len` bytes.
     #[inline(always)]
     pub fn push(&mut self, moment: u64, len: usize) -> Answer
-        requires shown { IsShown self.old }
+        requires shown { AreSomeFrames self.old }
         ensures step { MakesPrivate self.old (model.pushes moment len) result self.new }
         ensures payloads { KeepsPayloads self.old.stack self.new.stack }
     {
@@ -26,7 +26,7 @@ impl Frames {
 
     /// A frame is pushed that leaves the tail page, if that holds a record.
     pub fn push_close(&mut self) -> Answer
-        requires shown { IsShown self.old }
+        requires shown { AreSomeFrames self.old }
         ensures step { MakesPrivate self.old model.pushes_close result self.new }
         ensures payloads { KeepsPayloads self.old.stack self.new.stack }
     {

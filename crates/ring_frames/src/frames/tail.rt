@@ -21,14 +21,14 @@ impl Frames {
     ghost use Rattle.ring_frames.specs.Value.{phase_of};
     ghost use Rattle.ring_frames.specs.Answers.{KeepsPayloads, ZerosSlot};
     ghost use Rattle.ring_frames.specs.Phases.{with_left_phase, left_answer, told};
-    ghost use Rattle.ring_frames.specs.Steps.{MakesPrivate, IsFrames, IsShown, GoesOnIn, IsNotedIn, BeginsAnew, LeavesWithout, IsCloseTop};
+    ghost use Rattle.ring_frames.specs.Steps.{MakesPrivate, IsFrames, AreSomeFrames, GoesOnIn, IsNotedIn, BeginsAgain, LeavesWithout, IsCloseTop};
 
     /// What the frame on top was pushed with, if it is a record frame that tried nothing yet, and its record is one as
     /// nearly all are: in the short form, after another one, and far enough from the page's end for any such record.
     /// `None` may be the answer for one that is near the end too.
     #[inline(always)]
     pub fn plain_top(&self) -> Option<Pushed>
-        requires shown { IsShown self.now }
+        requires shown { AreSomeFrames self.now }
         ensures { IfSome result (λ pushed. IsPlainTop self.now.stack pushed) }
     {
         self.stack.plain_top()
@@ -93,27 +93,27 @@ impl Frames {
     /// it wanted and leaves, and one that has left continues to close fills. If another frame has begun the fill, that
     /// is a step by itself.
     #[inline(always)]
-    pub fn begin_anew(&mut self) -> Turned
-        requires shown { IsShown self.old }
+    pub fn begin_again(&mut self) -> Turned
+        requires shown { AreSomeFrames self.old }
         requires top { self.old.stack.frames ≢ [] }
         requires passed { (noted : ℕ) × (noted_fill (phase_of self.old.phase) ≡ Some noted)
             × (noted ≢ opened self.old.stack) }
-        ensures anew { BeginsAnew self.old (told result) self.new }
+        ensures again { BeginsAgain self.old (told result) self.new }
         ensures late { PhaseIsPrivate (phase_of self.old.phase) (opened self.old.stack)
             → MakesPrivate self.old model.steps (told result) self.new }
         ensures payloads { KeepsPayloads self.old.stack self.new.stack }
     {
-        self.anew()
+        self.again()
     }
 
     /// The frame on top begins again, by what it is.
     #[inline(always)]
-    fn anew(&mut self) -> Turned
-        requires shown { IsShown self.old }
+    fn again(&mut self) -> Turned
+        requires shown { AreSomeFrames self.old }
         requires top { self.old.stack.frames ≢ [] }
         requires passed { (noted : ℕ) × (noted_fill (phase_of self.old.phase) ≡ Some noted)
             × (noted ≢ opened self.old.stack) }
-        ensures anew { BeginsAnew self.old (told result) self.new }
+        ensures again { BeginsAgain self.old (told result) self.new }
         ensures payloads { KeepsPayloads self.old.stack self.new.stack }
     {
         let Some(top) = self.stack.top() else {
@@ -146,7 +146,7 @@ impl Frames {
 
     /// The close frame on top leaves, since the tail that it was to close is closed.
     fn leave_closed(&mut self) -> Turned
-        requires shown { IsShown self.old }
+        requires shown { AreSomeFrames self.old }
         requires close { (noted : ℕ) × IsCloseTop self.old noted × (noted ≢ opened self.old.stack) }
         ensures without { LeavesWithout self.old (told result) self.new }
         ensures payloads { KeepsPayloads self.old.stack self.new.stack }

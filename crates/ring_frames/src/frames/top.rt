@@ -14,8 +14,8 @@ impl Frames {
     ghost use Rattle.nested_writer.specs.Lent.{lent_bytes, with_bytes};
     ghost use Rattle.nested_writer.specs.Lending.{IsLent, with_top};
     ghost use Rattle.ring_frames.specs.Answers.{top_bytes};
-    ghost use Rattle.ring_frames.specs.Lending.{FitsFrame, LeavesOthers, LendsTop, StaysFrames};
-    ghost use Rattle.ring_frames.specs.Steps.{IsShown};
+    ghost use Rattle.ring_frames.specs.Lending.{FitsFrame, LeavesOthers, LendsTop, StaysFrames, with_lent};
+    ghost use Rattle.ring_frames.specs.Steps.{AreSomeFrames};
 
     /// Where the record of the frame on top is. Refused with `NoFrame` if there is no frame, and with `NotReserved` if
     /// the one on top has no record.
@@ -34,12 +34,13 @@ impl Frames {
     /// Refused as `top_slot` is.
     #[inline(always)]
     pub fn top_mut(&mut self) -> Result<&mut Payload, WriteFault>
-        requires shown { IsShown self.old }
+        requires shown { AreSomeFrames self.old }
         ensures* lends { sem 𝓛 (LendsTop self.entry result) }
         ensures no_frame { result ≡ Err WriteFault.NoFrame ↔ self.old.stack.frames ≡ [] }
         ensures not_reserved { result ≡ Err WriteFault.NotReserved ↔ LacksSlot self.old.stack.frames }
         ensures held { (place : Place) → top_place self.old.stack.frames ≡ Some place → IsOk result }
         ensures lent { IfOk result (λ payload. IsLent self.old.stack payload.now) }
+        ensures unwritten { IfOk result (λ payload. with_lent self.old payload.now ≡ self.old) }
         ensures len { (len : ℕ)
             → pushed_len self.old.stack.frames ≡ Some len
             → IfOk result (λ payload. length (lent_bytes payload.now) ≡ slot_len len) }

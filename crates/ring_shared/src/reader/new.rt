@@ -14,7 +14,7 @@ impl Reader {
     /// The reader's end of a new ring, at this seat. All room is made here: no other call takes memory.
     pub(crate) fn new(alloc: Global, seat: ReaderSeat) -> Result<Reader, NoMemory>
         requires shape { IsShape seat.shape }
-        requires anew { reading_in seat ≡ first_reading seat.shape }
+        requires again { reading_in seat ≡ first_reading seat.shape }
         ensures { IfOk result (λ reader. IsNewReader seat reader) }
     {
         let shape = seat.shape;

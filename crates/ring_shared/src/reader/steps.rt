@@ -16,7 +16,7 @@ impl Reader {
     pub(crate) fn step(&mut self, body: Body) -> Turn
         requires reader { IsReader self.old }
         requires size { length body ≡ self.old.shape.size }
-        requires anew { self.old.empty_at ≡ None }
+        requires again { self.old.empty_at ≡ None }
         ensures turn { IsTurn self.old.shape self.old.part body result self.new.part }
         ensures answered { IsAnswered self.old.shape self.old.part result self.new.part }
         ensures empty { EmptyAfter self.new result }
@@ -43,7 +43,7 @@ impl Reader {
     /// A load of the link into the position of the hint.
     fn load_link(&mut self, body: Body) -> Turn
         requires reader { IsReader self.old }
-        requires anew { self.old.empty_at ≡ None }
+        requires again { self.old.empty_at ≡ None }
         requires phase { self.old.at.phase ≡ LoadingLink }
         ensures turn { IsTurn self.old.shape self.old.part body result self.new.part }
         ensures answered { IsAnswered self.old.shape self.old.part result self.new.part }
@@ -77,7 +77,7 @@ impl Reader {
     /// A load of the number of closed fills: the head, which is this fill, is closed, or no closed fill is unread.
     fn load_done(&mut self, page: u16, fill: u64, body: Body) -> Turn
         requires reader { IsReader self.old }
-        requires anew { self.old.empty_at ≡ None }
+        requires again { self.old.empty_at ≡ None }
         requires phase { self.old.at.phase ≡ LoadingDone page fill }
         ensures turn { IsTurn self.old.shape self.old.part body result self.new.part }
         ensures answered { IsAnswered self.old.shape self.old.part result self.new.part }
@@ -99,7 +99,7 @@ impl Reader {
     /// A store of the link of the reader's page: it will lead to the fill after the one that is taken.
     fn store_link(&mut self, page: u16, fill: u64, body: Body) -> Turn
         requires reader { IsReader self.old }
-        requires anew { self.old.empty_at ≡ None }
+        requires again { self.old.empty_at ≡ None }
         requires phase { self.old.at.phase ≡ StoringLink page fill }
         ensures turn { IsTurn self.old.shape self.old.part body result self.new.part }
         ensures answered { IsAnswered self.old.shape self.old.part result self.new.part }
@@ -118,7 +118,7 @@ impl Reader {
     fn swap(&mut self, page: u16, fill: u64, body: Body) -> Turn
         requires reader { IsReader self.old }
         requires size { length body ≡ self.old.shape.size }
-        requires anew { self.old.empty_at ≡ None }
+        requires again { self.old.empty_at ≡ None }
         requires phase { self.old.at.phase ≡ Swapping page fill }
         ensures turn { IsTurn self.old.shape self.old.part body result self.new.part }
         ensures answered { IsAnswered self.old.shape self.old.part result self.new.part }

@@ -37,7 +37,7 @@ impl Reader {
     fn look(&mut self, body: Body) -> Take
         requires reader { IsReader self.old }
         requires size { length body ≡ self.old.shape.size }
-        requires anew { self.old.empty_at ≡ None }
+        requires again { self.old.empty_at ≡ None }
         ensures took { IsTake self.old.shape self.old.part body result self.new.part }
         ensures steps { TakesSteps self.old.shape self.old.part result self.new.part }
         ensures empty { EmptyAfter self.new (Done result) }

@@ -16,7 +16,7 @@ enum Finished {
 }
 
 /// What the frame on top is stepped to.
-enum Aim {
+enum Target {
     /// Its record is reserved, or it is refused.
     Record,
     /// It is gone.
@@ -79,13 +79,13 @@ impl Writer {
         ensures ring { SameWriter self.old self.new }
         ensures writer { IsWriter self.new }
     {
-        match aim_of(self.frames.top()) {
-            Aim::Record => brief(self.reserve_top()),
-            Aim::End => match self.leave_on() {
+        match target_of(self.frames.top()) {
+            Target::Record => brief(self.reserve_top()),
+            Target::End => match self.leave_on() {
                 Some(fault) => Finished::Refused(fault),
                 None => Finished::Gone,
             },
-            Aim::Step => brief(self.step()),
+            Target::Step => brief(self.step()),
         }
     }
 
@@ -219,7 +219,7 @@ impl Writer {
 /// The answer, without what the frame on top states itself.
 fn brief(answer: Answer) -> Finished
     requires { IsNumberOrRefused answer }
-    ensures { IsBrief answer result }
+    ensures { IsOutcomeOf answer result }
 {
     match answer {
         Answer::Refused(fault) => Finished::Refused(fault),
@@ -259,22 +259,22 @@ fn told(met: Option<WriteFault>, last: Answer) -> Answer
 }
 
 /// What this frame, on top, is stepped to.
-fn aim_of(top: Option<Frame>) -> Aim
-    ensures { IsAim top result }
+fn target_of(top: Option<Frame>) -> Target
+    ensures { IsTarget top result }
 {
     let Some(top) = top else {
-        return Aim::Step;
+        return Target::Step;
     };
     match top.progress {
-        Progress::Reserved(_) => Aim::Step,
-        Progress::Left(_) => Aim::End,
+        Progress::Reserved(_) => Target::Step,
+        Progress::Left(_) => Target::End,
         Progress::Waiting(_) | Progress::Through(_) => match top.purpose {
-            Purpose::Record { .. } => Aim::Record,
-            Purpose::Close => Aim::End,
+            Purpose::Record { .. } => Target::Record,
+            Purpose::Close => Target::End,
         },
     }
 }
 
 ghost use Rattle.std.specs.Prelude.{◌≡◌, ◌≢◌};
 ghost use Rattle.ring_frames.specs.declared.answer.Answer.TheVariants.{Going};
-ghost use Rattle.ring_shared.specs.Finishing.{IsNumberOrRefused, IsBrief, IsAim, met_behind, told_behind};
+ghost use Rattle.ring_shared.specs.Finishing.{IsNumberOrRefused, IsOutcomeOf, IsTarget, met_behind, told_behind};

@@ -98,7 +98,7 @@ impl Writer {
 
     /// A fill was begun since the frame on top noted what to open, so that it begins again.
     #[inline(never)]
-    pub(crate) fn begin_anew(&mut self) -> Turned
+    pub(crate) fn begin_again(&mut self) -> Turned
         requires writer { IsWriter self.old }
         requires top { self.old.frames.stack.frames ≢ [] }
         requires passed { (noted : ℕ) × (noted_fill (phase_of self.old.frames.phase) ≡ Some noted)
@@ -109,6 +109,6 @@ impl Writer {
         ensures payloads { KeepsPayloads self.old.frames.stack self.new.frames.stack }
     {
         self.seat.note::<Brand, _>(&());
-        self.frames.begin_anew()
+        self.frames.begin_again()
     }
 }

@@ -39,7 +39,7 @@ impl Writer {
         ensures payloads { KeepsPayloads self.old.frames.stack self.new.frames.stack }
     {
         if noted != self.frames.opened() {
-            return self.begin_anew();
+            return self.begin_again();
         }
         let tail = self.tail();
         let link = self.seat.load_link::<Brand>(tail);
@@ -67,7 +67,7 @@ impl Writer {
         ensures payloads { KeepsPayloads self.old.frames.stack self.new.frames.stack }
     {
         if noted != self.frames.opened() {
-            return self.begin_anew();
+            return self.begin_again();
         }
         let tail = self.tail();
         let lost = FillNo(noted - self.frames.pages() as u64);
@@ -94,7 +94,7 @@ impl Writer {
         ensures payloads { KeepsPayloads self.old.frames.stack self.new.frames.stack }
     {
         if self.frames.stops(role, noted) {
-            return self.begin_anew();
+            return self.begin_again();
         }
         let behind = noted + 1 - self.frames.pages() as u64;
         let link = self.seat.load_next::<Brand>(page, FillNo(behind));
@@ -121,7 +121,7 @@ impl Writer {
         ensures payloads { KeepsPayloads self.old.frames.stack self.new.frames.stack }
     {
         if self.frames.stops(role, noted) {
-            return self.begin_anew();
+            return self.begin_again();
         }
         let behind = noted + 1 - self.frames.pages() as u64;
         let _marked = self.seat.mark_next::<Brand>(page, next, FillNo(behind));

@@ -25,7 +25,7 @@ impl Writer {
         ensures payloads { KeepsPayloads self.old.frames.stack self.new.frames.stack }
     {
         if noted != self.frames.opened() {
-            return self.begin_anew();
+            return self.begin_again();
         }
         let body = self.seat.open::<Brand>(page, FillNo(noted));
         self.pages.push_back_reserved(page);

@@ -4,7 +4,7 @@ use nested_writer::frame::Slot;
 use nested_writer::{Payload, WriteFault};
 
 impl Writer {
-    ghost use Rattle.std.specs.Prelude.{◌≡◌, ◌↔◌, ℕ, List, [], length, IsOk, IfOk};
+    ghost use Rattle.std.specs.Prelude.{◌≡◌, ◌↔◌, ℕ, List, [], ◌∷◌, Option, Some, length, IsOk, IfOk};
     ghost use Rattle.std.specs.Borrow.{sem};
     ghost use Rattle.nested_writer.specs.Calls.{LacksSlot, IsTopSlot};
     ghost use Rattle.nested_writer.specs.Lent.{lent_bytes, with_bytes};
@@ -12,8 +12,8 @@ impl Writer {
     ghost use Rattle.ring_frames.specs.Answers.{top_bytes};
     ghost use Rattle.ring_frames.specs.Lending.{LeavesOthers};
     ghost use Rattle.ring_shared.specs.Calls.{IsWriter};
-    ghost use Rattle.ring_shared.specs.Rooms.{IsTopRoom};
-    ghost use Rattle.ring_shared.specs.Lending.{FitsFrame, LendsTop, StaysWriter};
+    ghost use Rattle.ring_shared.specs.Rooms.{rooms, IsTopRoom};
+    ghost use Rattle.ring_shared.specs.Lending.{FitsFrame, LendsTop, with_lent};
 
     /// Where the record of the frame on top is. Refused with `NoFrame` if there is no frame, and with `NotReserved` if
     /// the one on top has no record.
@@ -38,9 +38,13 @@ impl Writer {
         ensures not_reserved { result ≡ Err WriteFault.NotReserved ↔ LacksSlot self.old.frames.stack.frames }
         ensures held { (slot : Slot) → IsTopSlot self.old.frames.stack.frames slot → IsOk result }
         ensures lent { IfOk result (λ payload. IsLent self.old.frames.stack payload.now) }
+        ensures unwritten { IfOk result (λ payload. with_lent self.old payload.now ≡ self.old) }
         ensures payload { IfOk result (λ payload.
             lent_bytes payload.now ≡ top_bytes self.old.frames.stack self.old.frames.stack.frames) }
         ensures room { IfOk result (λ payload. IsTopRoom self.old (length (lent_bytes payload.now))) }
+        ensures long { (bytes : ℕ) (below : List (Option ℕ))
+            → rooms self.old ≡ Some bytes ∷ below
+            → IfOk result (λ payload. length (lent_bytes payload.now) ≡ bytes) }
         ensures written { IfOk result (λ payload. (part : List ℕ)
             → length part ≡ length (lent_bytes payload.now)
             → top_bytes (with_top self.old.frames.stack (with_bytes payload.now part)) self.old.frames.stack.frames
@@ -49,7 +53,9 @@ impl Writer {
         ensures others { (slot : Slot)
             → IsTopSlot self.old.frames.stack.frames slot
             → LeavesOthers self.old.frames.stack slot }
-        ensures writer { IfOk result (λ payload. StaysWriter self.old payload.now) }
+        ensures writer { IfOk result (λ payload. (part : List ℕ)
+            → length part ≡ length (lent_bytes payload.now)
+            → IsWriter (with_lent self.old (with_bytes payload.now part))) }
     {
         self.frames.top_mut()
     }

@@ -24,7 +24,7 @@ fn put_padded(slot: &mut [u8], payload: &[u8])
 impl<'a> Lane<'a> {
     ghost use Rattle.std.specs.Prelude.{◌≡◌, ◌≢◌, ℕ, ◌-◌, [], drop, length, OnOk};
     ghost use Rattle.script_model.specs.Script.{step_frame, finish_frame};
-    ghost use Rattle.script_replay.specs.Lanes.{IsLaneOf, Has, HasLine};
+    ghost use Rattle.script_replay.specs.Lanes.{IsLaneOf, MakesExchanges, HasLine};
     ghost use Rattle.script_replay.specs.Frames.{AsksTop, StepsOnce, FollowsFrame};
 
     /// Lets the frame on top make `count` steps, or fewer if it is gone before.
@@ -63,7 +63,7 @@ impl<'a> Lane<'a> {
     fn follow(&mut self, at: At, count: u64, log: &mut Vec<LogLine>) -> Result<(), NoMemory>
         requires lane { IsLaneOf at.cpu.0 self.old }
         requires stands { self.old.core.stack.frames ≢ [] }
-        ensures { OnOk result (Has (FollowsFrame count) at.line at.cpu.0
+        ensures { OnOk result (MakesExchanges (FollowsFrame count) at.line at.cpu.0
             self.old log.old.items self.new log.new.items) }
     {
         let depth = self.payloads.len();

@@ -13,7 +13,7 @@ impl<'a> Lane<'a> {
     ghost use Rattle.trace_model.specs.declared.limits.TheConstants.{MAX_CPUS};
     ghost use Rattle.page_image.specs.Contents.{IsPage, records_of_page};
     ghost use Rattle.script_model.specs.Script.{step_reader, take_page, wish};
-    ghost use Rattle.script_replay.specs.Lanes.{IsLaneOf, Has, HasLine};
+    ghost use Rattle.script_replay.specs.Lanes.{IsLaneOf, MakesExchanges, HasLine};
     ghost use Rattle.script_replay.specs.Takes.{ReadsOnce, ReadsOn, Keeps, KeepsPage, MayKeep};
 
     /// Lets the reader make `count` steps, or fewer if its take ends before.
@@ -64,7 +64,7 @@ impl<'a> Lane<'a> {
         log: &mut Vec<LogLine>,
     ) -> Result<(), NoMemory>
         requires { IsLaneOf at.cpu.0 self.old }
-        ensures { OnOk result (Has (ReadsOn count) at.line at.cpu.0
+        ensures { OnOk result (MakesExchanges (ReadsOn count) at.line at.cpu.0
             self.old log.old.items self.new log.new.items) }
     {
         let mut steps = 0;
@@ -79,7 +79,7 @@ impl<'a> Lane<'a> {
     /// One step of the reader: the answer says whether its take continues.
     fn read_once(&mut self, alloc: Global, at: At, log: &mut Vec<LogLine>) -> Result<bool, NoMemory>
         requires { IsLaneOf at.cpu.0 self.old }
-        ensures { IfOk result (λ goes_on. Has (ReadsOnce goes_on) at.line at.cpu.0
+        ensures { IfOk result (λ goes_on. MakesExchanges (ReadsOnce goes_on) at.line at.cpu.0
             self.old log.old.items self.new log.new.items) }
     {
         let body = self.next_body(alloc)?;

@@ -1,7 +1,7 @@
 //! Laws over histories of frames.
 ghost use Rattle.std.specs.Prelude.{List, All};
 ghost use Rattle.std.specs.List.{AllByRecursion};
-ghost use Rattle.trace_model.specs.History.{Action, IsHistory, IsWritten, committed_records, reserved_records, settled_prefix};
+ghost use Rattle.trace_model.specs.History.{Action, IsHistory, HasItsBytes, committed_records, reserved_records, settled_prefix};
 ghost use Rattle.trace_model.specs.HistoryLaws.{CommittedIsPrefix};
 ghost use Rattle.trace_model.specs.Packing.{FillsSlot};
 ghost use Rattle.trace_model.specs.Record.{IsRecord};
@@ -36,5 +36,5 @@ pub fn reserved_records_fill_slots()
 /// as many bytes as its slot has.
 pub fn committed_records_are_written()
     ensures { (history : List Action) → IsHistory history
-        → All IsWritten (reserved_records (settled_prefix history)) }
+        → All HasItsBytes (reserved_records (settled_prefix history)) }
 {}

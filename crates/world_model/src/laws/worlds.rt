@@ -1,7 +1,7 @@
 //! Laws over the worlds of scripts.
 ghost use Rattle.std.specs.Prelude.{◌≡◌, ℕ, ◌+◌, ◌<◌, ◌≤◌, ◌↔◌, List, [], ◌∷◌, ◌++◌, Contains, Some};
 ghost use Rattle.std.specs.List.{slice_get};
-ghost use Rattle.trace_model.specs.Window.{Deed};
+ghost use Rattle.trace_model.specs.Window.{RingEvent};
 ghost use Rattle.trace_model.specs.Ring.{Core, IsStart};
 ghost use Rattle.trace_model.specs.Steps.{Exchange};
 ghost use Rattle.trace_model.specs.Parcel.{Parcel};
@@ -10,7 +10,7 @@ ghost use Rattle.link_marks.specs.ToldRuns.{IsToldBy};
 ghost use Rattle.script_model.specs.Script.{Script, Command};
 ghost use Rattle.script_model.specs.ScriptLimits.{IsWithinLimits};
 ghost use Rattle.world_model.specs.World.{World, Obeys, WorldBehind, WorldOf};
-ghost use Rattle.world_model.specs.RunDeeds.{AreDeedsOf, IsRunToldBy};
+ghost use Rattle.world_model.specs.RunEvents.{AreEventsOf, IsRunToldBy};
 ghost use Rattle.world_model.specs.Headline.{IsGenuineWorld};
 
 /// A script has one world at most, after any of its lines and after all of them; and a line that is obeyed leads
@@ -25,13 +25,13 @@ pub fn one_world()
         WorldBehind script (lines ++ (line, command) ∷ []) after }
 {}
 
-/// The deeds of a run of a new ring, step by step, determine the state that it leads to: its history, window and
+/// The events of a run of a new ring, step by step, determine the state that it leads to: its history, window and
 /// takes. And in each step, a fill that the head passed without being taken was closed, and a whole round of fills is
 /// begun from it on: none is lost early.
-pub fn runs_have_deeds()
-    ensures told { (n size start : ℕ) (from c : Core) (exchanges : List Exchange) (deeds : List Deed) →
-        IsStart n start from → IsRunToldBy n size from exchanges deeds c → IsToldBy n start c deeds }
-    ensures full { (n : ℕ) (before after : Core) (deeds : List Deed) → AreDeedsOf n before deeds after →
+pub fn runs_have_events()
+    ensures told { (n size start : ℕ) (from c : Core) (exchanges : List Exchange) (events : List RingEvent) →
+        IsStart n start from → IsRunToldBy n size from exchanges events c → IsToldBy n start c events }
+    ensures full { (n : ℕ) (before after : Core) (events : List RingEvent) → AreEventsOf n before events after →
         after.reader.taken ≡ before.reader.taken → before.head < after.head →
         (before.head < after.done) × (before.head + n ≤ after.opened) }
 {}

@@ -1,6 +1,6 @@
 use Rattle.std.proofs.Common.{◌≡◌, ℕ, List, ◌++◌, Bor, IfSome, Option, Some, None, arith}
 use Rattle.trace_model.specs.Parcel.{Parcel}
-use Rattle.collector_text.specs.Tells.{StandsBetween}
+use Rattle.collector_text.specs.Prints.{StandsBetween}
 use Rattle.text_values.proofs.Behind.{behind_behind}
 use Rattle.collector_text.proofs.Shown.{stands_kept, stands_last, told_whole}
 use Rattle.collector_text.proofs.collectors.put_whole.Goals as goal

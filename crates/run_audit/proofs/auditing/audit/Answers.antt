@@ -10,28 +10,28 @@ use Rattle.run_audit.proofs.auditing.audit.Goals as goal
 pub returns-in-Some-clause-stray : goal.returns-in-Some-clause-stray
 returns-in-Some-clause-stray c =
     let taken = taken_in c.args.ledgers.now in
-    stray_is_stray c.args.collector.now taken c.in-Some.place
-    (subst (λ (kept : List Parcel). IsLeastFault kept (Contains taken) (Some c.in-Some.place)) c.parcels.ensures.parcels c.in-Some.ensures)
+    stray_is_stray c.args.collector.now taken c.in-Some.key
+    (subst (λ (kept : List Parcel). IsLeastFault kept (Contains taken) (Some c.in-Some.key)) c.parcels.ensures.parcels c.in-Some.ensures)
 
 pub returns-in-Some-clause-lacks : goal.returns-in-Some-clause-lacks
 returns-in-Some-clause-lacks c =
     let taken = taken_in c.args.ledgers.now in
-    stray_is_no_lack c.args.collector.now taken c.in-Some.place
-    (subst (λ (kept : List Parcel). IsLeastFault kept (Contains taken) (Some c.in-Some.place)) c.parcels.ensures.parcels c.in-Some.ensures)
+    stray_is_no_lack c.args.collector.now taken c.in-Some.key
+    (subst (λ (kept : List Parcel). IsLeastFault kept (Contains taken) (Some c.in-Some.key)) c.parcels.ensures.parcels c.in-Some.ensures)
 
 pub returns-in-Some-least_lacking-clause-stray : goal.returns-in-Some-least_lacking-clause-stray
 returns-in-Some-least_lacking-clause-stray c =
     let taken = taken_in c.args.ledgers.now in
     lack_is_no_stray c.args.collector.now taken
     (subst (λ (kept : List Parcel). WereTaken kept taken) c.parcels.ensures.parcels c.in_default.ensures)
-    c.in-Some-least_lacking.place c.in-Some-least_lacking.ensures
+    c.in-Some-least_lacking.key c.in-Some-least_lacking.ensures
 
 pub returns-in-Some-least_lacking-clause-lacks : goal.returns-in-Some-least_lacking-clause-lacks
 returns-in-Some-least_lacking-clause-lacks c =
     let taken = taken_in c.args.ledgers.now in
     lack_is_lack c.args.collector.now taken
     (subst (λ (kept : List Parcel). WereTaken kept taken) c.parcels.ensures.parcels c.in_default.ensures)
-    c.in-Some-least_lacking.place c.in-Some-least_lacking.ensures
+    c.in-Some-least_lacking.key c.in-Some-least_lacking.ensures
 
 -- each kept parcel was taken, and each taken one is held
 whole : (kept own : List Parcel) (taken : List Parcel) → kept ≡ own → WereTaken kept taken → AreHeld own taken → IsAudited own taken

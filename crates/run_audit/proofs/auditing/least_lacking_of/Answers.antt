@@ -2,7 +2,7 @@ use Rattle.std.proofs.Common.{List, [], ◌∷◌, ◌++◌, ◌+◌, take, Opti
 use Rattle.std.proofs.lemmas.List.{take_all}
 use Rattle.trace_model.specs.Parcel.{Parcel}
 use Rattle.trace_model.specs.Collection.{IsBelow}
-use Rattle.run_audit.specs.declared.least.Place.{Place}
+use Rattle.run_audit.specs.declared.least.ParcelKey.{ParcelKey}
 use Rattle.run_audit.specs.Least.{IsLeastFault}
 use Rattle.run_audit.proofs.LeastFaults.{good_at, bad_at}
 use Rattle.run_audit.proofs.auditing.least_lacking_of.Goals as goal
@@ -13,10 +13,10 @@ loop-parcel-preserved c = λ these start.
     let l = c.loop-parcel in
     let good : Parcel → Type 0 = λ parcel. IsBelow (parcel ∷ []) c.args.collector.now in
     elim c.if-not-holds.branch [
-      | then-not-holds w ↦ subst (λ (found : Option Place). IsLeastFault (these ++ take (l.parcel-index + 1) c.args.taken.now) good found) (sym w.found-is)
+      | then-not-holds w ↦ subst (λ (found : Option ParcelKey). IsLeastFault (these ++ take (l.parcel-index + 1) c.args.taken.now) good found) (sym w.found-is)
           (bad_at good these c.args.taken.now l.parcel-index c.parcel-item.result l.found w.least.result c.loop-parcel-test.true c.parcel-item.is
           (λ held. let yes = c.holds.ensures.1 held in let no = w.if-not-holds.true in cc) (l.invariant these start) w.least.ensures)
-      | else-not-holds w ↦ subst (λ (found : Option Place). IsLeastFault (these ++ take (l.parcel-index + 1) c.args.taken.now) good found) (sym w.found-is)
+      | else-not-holds w ↦ subst (λ (found : Option ParcelKey). IsLeastFault (these ++ take (l.parcel-index + 1) c.args.taken.now) good found) (sym w.found-is)
           (good_at good these c.args.taken.now l.parcel-index c.parcel-item.result l.found c.loop-parcel-test.true c.parcel-item.is
           (c.holds.ensures.0 (let yes = w.if-not-holds.false in cc)) (l.invariant these start))
     ]

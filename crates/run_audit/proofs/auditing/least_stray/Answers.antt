@@ -2,7 +2,7 @@ use Rattle.std.proofs.Common.{◌+◌, List, [], take, Option, sym, subst}
 use Rattle.std.specs.Prelude.{Contains}
 use Rattle.std.proofs.lemmas.List.{take_all}
 use Rattle.trace_model.specs.Parcel.{Parcel}
-use Rattle.run_audit.specs.declared.least.Place.{Place}
+use Rattle.run_audit.specs.declared.least.ParcelKey.{ParcelKey}
 use Rattle.run_audit.specs.Audit.{taken_in}
 use Rattle.run_audit.specs.Least.{IsLeastFault}
 use Rattle.run_audit.proofs.LeastFaults.{good_at, bad_at}
@@ -14,10 +14,10 @@ loop-parcel-preserved c =
     let l = c.loop-parcel in
     let good : Parcel → Type 0 = Contains (taken_in c.args.ledgers.now) in
     elim c.if-not-is_taken.branch [
-      | then-not-is_taken w ↦ subst (λ (found : Option Place). IsLeastFault (take (l.parcel-index + 1) c.args.kept.now) good found) (sym w.found-is)
+      | then-not-is_taken w ↦ subst (λ (found : Option ParcelKey). IsLeastFault (take (l.parcel-index + 1) c.args.kept.now) good found) (sym w.found-is)
           (bad_at good [] c.args.kept.now l.parcel-index c.parcel-item.result l.found w.least.result c.loop-parcel-test.true c.parcel-item.is
           (λ taken. let yes = c.is_taken.ensures.1 taken in let no = w.if-not-is_taken.true in cc) l.invariant w.least.ensures)
-      | else-not-is_taken w ↦ subst (λ (found : Option Place). IsLeastFault (take (l.parcel-index + 1) c.args.kept.now) good found) (sym w.found-is)
+      | else-not-is_taken w ↦ subst (λ (found : Option ParcelKey). IsLeastFault (take (l.parcel-index + 1) c.args.kept.now) good found) (sym w.found-is)
           (good_at good [] c.args.kept.now l.parcel-index c.parcel-item.result l.found c.loop-parcel-test.true c.parcel-item.is
           (c.is_taken.ensures.0 (let yes = w.if-not-is_taken.false in cc)) l.invariant)
     ]

@@ -6,8 +6,8 @@ use Rattle.link_marks.proofs.laws.windows.passed_fills_are_taken_or_lost.Goals a
 
 pub returns : goal.returns
 returns c = record {
-  passed = λ n start core deeds f told low high. passed_by n [] (first_window start) (window_of core) deeds f told.window low high;
-  apart = λ n start core deeds f told taken lost. not_both start deeds f taken lost;
-  taken = λ n start core deeds f told has. taken_closed n [] (first_window start) (window_of core) deeds f told.window has;
-  lost = λ n start core deeds f told has. lost_closed n [] (first_window start) (window_of core) deeds f told.window has;
+  passed = λ n start core events f told low high. passed_by n [] (first_window start) (window_of core) events f told.window low high;
+  apart = λ n start core events f told taken lost. not_both start events f taken lost;
+  taken = λ n start core events f told has. taken_closed n [] (first_window start) (window_of core) events f told.window has;
+  lost = λ n start core events f told has. lost_closed n [] (first_window start) (window_of core) events f told.window has;
 }

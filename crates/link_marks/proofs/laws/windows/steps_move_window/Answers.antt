@@ -1,10 +1,10 @@
-use Rattle.link_marks.proofs.Happenings.{one_happening, nothing_happens}
+use Rattle.link_marks.proofs.WindowEvents.{one_window_event, nothing_happens}
 use Rattle.link_marks.proofs.HistorySteps.{step_owed}
 use Rattle.link_marks.proofs.laws.windows.steps_move_window.Goals as goal
 
 pub returns : goal.returns
 returns c = record {
   window = λ n size start core event answer after r step. (step_owed n size start core event answer after r.links r.stack r.history step).window;
-  one = one_happening;
+  one = one_window_event;
   none = nothing_happens;
 }

@@ -2,9 +2,9 @@ use Rattle.std.proofs.Common.{◌≡◌, ◌+◌, ℕ, ◌∷◌, [], length, sy
 use Rattle.trace_model.specs.History.{open_fill, reserved_records}
 use Rattle.trace_model.specs.Packing.{opens_of, is_wished}
 use Rattle.nested_writer.specs.Stack.{Stack, opened, next_number, blank_page}
-use Rattle.nested_writer.specs.Inside.{shown}
+use Rattle.nested_writer.specs.Inside.{stack_of}
 use Rattle.nested_writer.specs.Calls.{MayAddPage}
-use Rattle.nested_writer.specs.IsStack.{IsStack}
+use Rattle.nested_writer.specs.IsStack.{IsStack, Stands}
 use Rattle.nested_writer.proofs.Bounds.{number_fits}
 use Rattle.nested_writer.proofs.Answering.{number_counts}
 use Rattle.nested_writer.proofs.Opening.{page_may_be_added}
@@ -12,9 +12,10 @@ use Rattle.nested_writer.proofs.Staying.{acted_stays}
 use Rattle.nested_writer.proofs.stack.WriterStack.add_page.Goals as goal
 
 pub overflow_add-first : goal.overflow_add-first
+unfolding Stands
 overflow_add-first c =
     let (start, history, k) = c.requires.stack in
-    let s : Stack = shown c.self.inside in
+    let s : Stack = stack_of c.self.inside in
     let k' = (subst (IsStack start history) (sym c.self.view_is) k).holds in
     let fills = c.self.invariant.fills in
     let fits = number_fits start (opens_of history) (reserved_records history) (is_wished history) s k' (omega arith) in
@@ -22,7 +23,7 @@ overflow_add-first c =
 
 pub returns-clause-stack : goal.returns-clause-stack
 returns-clause-stack c = λ start history old.
-    let s : Stack = shown c.self.inside in
+    let s : Stack = stack_of c.self.inside in
     let k : IsStack start history s = subst (IsStack start history) (sym c.self.view_is) old in
     let needs = subst (λ (x : Stack). MayAddPage x x.frames) (sym c.self.view_is) c.requires.needs in
     let size : length c.args.body ≡ s.size = c.requires.size ∙ ap (λ (x : Stack). x.size) (sym c.self.view_is) in

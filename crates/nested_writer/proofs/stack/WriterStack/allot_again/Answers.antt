@@ -10,6 +10,7 @@ use Rattle.nested_writer.proofs.Allotting.{waited_through, stayed_through}
 use Rattle.trace_model.specs.History.{reserve}
 use Rattle.nested_writer.proofs.Staying.{allotted_stays}
 use Rattle.nested_writer.proofs.stack.WriterStack.allot_again.Goals as goal
+use Rattle.nested_writer.specs.IsStack.{Stands}
 use Rattle.nested_writer.proofs.stack.WriterStack.allot_again.Goals.{in-Waiting, in-Through}
 
 pub returns-in-Close-clause-after : goal.returns-in-Close-clause-after
@@ -49,6 +50,7 @@ pub returns-then-wants_page-clause-stays : goal.returns-then-wants_page-clause-s
 returns-then-wants_page-clause-stays c = allotted_stays c.args.self.now c.note_need.new.self c.note_need.result c.note_need.ensures.after c.requires.stack
 
 pub returns-in-Record-clause-stays : goal.returns-in-Record-clause-stays
+unfolding Stands
 returns-in-Record-clause-stays c = let (start, history, k) = c.requires.stack in (start, history ++ reserve ∷ [], c.reserve_any.ensures.stack start history k)
 
 pub returns-in-Close-clause-stays : goal.returns-in-Close-clause-stays

@@ -7,12 +7,14 @@ use Rattle.nested_writer.specs.Inside.{frames_from}
 use Rattle.nested_writer.proofs.Answering.{fits_answer}
 use Rattle.trace_model.specs.History.{reserve}
 use Rattle.nested_writer.proofs.Staying.{allotted_stays}
+use Rattle.nested_writer.specs.IsStack.{Stands}
 use Rattle.nested_writer.proofs.stack.WriterStack.allot_any.Goals as goal
 
 pub returns-then-self-end-clause-stays : goal.returns-then-self-end-clause-stays
 returns-then-self-end-clause-stays c = allotted_stays c.args.self.now c.note_need.new.self c.note_need.result c.note_need.ensures.after c.requires.stack
 
 pub returns-clause-stays : goal.returns-clause-stays
+unfolding Stands
 returns-clause-stays c = let (start, history, k) = c.requires.stack in (start, history ++ reserve ∷ [], c.reserve_any.ensures.stack start history k)
 
 pub returns-clause-answered : goal.returns-clause-answered

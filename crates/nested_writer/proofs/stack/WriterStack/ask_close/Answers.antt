@@ -2,7 +2,7 @@ use Rattle.std.proofs.Common.{◌≡◌, ◌≢◌, ◌∷◌, [], length, refl,
 use Rattle.std.specs.Prelude.{IsTrue, false}
 use Rattle.std.proofs.lemmas.List.{nil_from_length}
 use Rattle.nested_writer.specs.Stack.{Stack, opened}
-use Rattle.nested_writer.specs.Inside.{shown, frames_from}
+use Rattle.nested_writer.specs.Inside.{stack_of, frames_from}
 use Rattle.nested_writer.specs.Calls.{IsAtBottom}
 use Rattle.nested_writer.specs.IsStack.{IsStack}
 use Rattle.nested_writer.proofs.Leaving.{asked_at}
@@ -13,7 +13,7 @@ use Rattle.nested_writer.proofs.stack.WriterStack.ask_close.Goals as goal
 
 pub returns-in-Some-clause-wished : goal.returns-in-Some-clause-wished
 returns-in-Some-clause-wished c = λ yes start history old.
-    let s : Stack = shown c.self.inside in
+    let s : Stack = stack_of c.self.inside in
     let k : IsStack start history s = subst (IsStack start history) (sym c.self.view_is) old in
     let frames : s.frames ≡ c.in-Some.bottom ∷ c.self.inside.below.items = ap (λ t. frames_from t c.self.inside.below.items) (sym c.get.ensures ∙ c.in-Some.is) in
     let bottom : IsAtBottom (c.in-Some.bottom ∷ c.self.inside.below.items) = subst IsAtBottom (ap (λ (x : Stack). x.frames) (sym c.self.view_is) ∙ frames) c.requires.bottom in
@@ -22,7 +22,7 @@ returns-in-Some-clause-wished c = λ yes start history old.
 
 pub returns-then-end-eq0-clause-holds_record : goal.returns-then-end-eq0-clause-holds_record
 returns-then-end-eq0-clause-holds_record c = λ start history old.
-    let s : Stack = shown c.self.inside in
+    let s : Stack = stack_of c.self.inside in
     let k : IsStack start history s = subst (IsStack start history) (sym c.self.view_is) old in
     let none : s.tail.bytes ≡ [] = nil_from_length s.tail.bytes (omega (arith, c.end.ensures, c.if-end-eq0.true)) in
     (λ truth. absurd (false_is_not_true truth), λ some. absurd (some (tail_empty start history s k none)))
@@ -32,7 +32,7 @@ returns-then-end-eq0-clause-holds_record c = λ start history old.
 
 pub returns-in-Some-clause-holds_record : goal.returns-in-Some-clause-holds_record
 returns-in-Some-clause-holds_record c = λ start history old.
-    let s : Stack = shown c.self.inside in
+    let s : Stack = stack_of c.self.inside in
     let k : IsStack start history s = subst (IsStack start history) (sym c.self.view_is) old in
     let some : s.tail.bytes ≢ [] = λ none. c.if-end-eq0.false (c.end.ensures ∙ ap length none) in
     (λ yes. tail_holds start history s k some, λ holds. refl)

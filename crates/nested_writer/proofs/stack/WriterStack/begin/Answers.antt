@@ -5,7 +5,7 @@ use Rattle.nested_writer.specs.declared.frame.Purpose.TheVariants.{Record}
 use Rattle.nested_writer.specs.declared.frame.Progress.TheVariants.{Waiting}
 use Rattle.nested_writer.specs.declared.frame.Frame.{Frame}
 use Rattle.nested_writer.specs.Stack.{Stack}
-use Rattle.nested_writer.specs.Inside.{shown, frames_from}
+use Rattle.nested_writer.specs.Inside.{stack_of, frames_from}
 use Rattle.nested_writer.specs.IsStack.{IsStack}
 use Rattle.nested_writer.proofs.Pushing.{surely_fits, pushed_record}
 use Rattle.nested_writer.proofs.Staying.{acted_stays}
@@ -13,7 +13,7 @@ use Rattle.nested_writer.proofs.stack.WriterStack.begin.Goals as goal
 
 pub returns-clause-pushed : goal.returns-clause-pushed
 returns-clause-pushed c = λ start history old.
-    let s : Stack = shown c.self.inside in
+    let s : Stack = stack_of c.self.inside in
     let k : IsStack start history s = subst (IsStack start history) (sym c.self.view_is) old in
     let none : c.self.inside.top ≡ None = c.if-not-is_none.ensures.0 refl in
     let waits : Frame = record { purpose = Record c.args.moment c.args.len; progress = Waiting None } in

@@ -2,7 +2,7 @@ use Rattle.std.proofs.Common.{[], ◌≡◌, ◌∷◌, ◌++◌, Option, refl, 
 use Rattle.std.specs.Option.{option_to_list}
 use Rattle.page_image.specs.Contents.{Contents}
 use Rattle.nested_writer.specs.Stack.{Stack}
-use Rattle.nested_writer.specs.Inside.{shown}
+use Rattle.nested_writer.specs.Inside.{stack_of}
 use Rattle.nested_writer.specs.Calls.{IsAtBottom}
 use Rattle.nested_writer.specs.IsStack.{IsStack}
 use Rattle.nested_writer.proofs.Dropping.{released}
@@ -12,7 +12,7 @@ use Rattle.nested_writer.proofs.stack.WriterStack.drop_front.Goals as goal
 
 pub returns-clause-stack : goal.returns-clause-stack
 returns-clause-stack c = λ start h old.
-    let s : Stack = shown c.self.inside in
+    let s : Stack = stack_of c.self.inside in
     let k : IsStack start h s = subst (IsStack start h) (sym c.self.view_is) old in
     let bottom = subst (λ (x : Stack). IsAtBottom x.frames) (sym c.self.view_is) c.requires.bottom in
     let older : s.older ≡ c.in-Some.page ∷ c.pop.new.self.pages = c.pop.ensures.pages ∙ ap (λ (o : Option Contents). option_to_list o ++ c.pop.new.self.pages) c.in-Some.is in

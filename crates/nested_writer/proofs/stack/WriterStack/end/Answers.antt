@@ -35,3 +35,6 @@ returns-then-is_empty-clause-bottom c = λ full.
     let below : List Frame = c.self.inside.below.items in
     let frames : s.frames ≡ top ∷ below = ap (λ (x : Stack). x.frames) (sym c.self.view_is) ∙ ap (λ (t : Option Frame). frames_from t below) on_top in
     subst (λ (x : Stack). IsAtBottom x.frames) (sym (c.leave.ensures.after top below frames)) (left_bottom top below (none_left below c.is_empty.result (c.is_empty.ensures ∙ ap (λ (n : ℕ). n == 0) c.self.inside.below.ok.0) c.if-is_empty.true))
+
+pub returns-then-is_empty-clause-next : goal.returns-then-is_empty-clause-next
+returns-then-is_empty-clause-next c = returns-then-is_empty-clause-bottom c refl

@@ -1,4 +1,4 @@
-use Rattle.std.proofs.Common.{ℕ, ◌≡◌, ◌∷◌, ◌++◌, [], List, Option, None, sym, ap, ◌∙◌, subst, ⊎_elim}
+use Rattle.std.proofs.Common.{ℕ, ◌≡◌, ◌∷◌, ◌++◌, [], List, Option, None, Ok, sym, ap, ◌∙◌, subst, ⊎_elim}
 use Rattle.std.specs.Prelude.{◌==◌}
 use Rattle.nested_writer.specs.declared.frame.Frame.{Frame}
 use Rattle.nested_writer.specs.declared.frame.Progress.{Progress}
@@ -12,7 +12,7 @@ use Rattle.nested_writer.proofs.Ending.{ended}
 use Rattle.nested_writer.proofs.Staying.{ended_stays}
 use Rattle.nested_writer.specs.Calls.{IsAtBottom}
 use Rattle.nested_writer.specs.Next.{below_top}
-use Rattle.nested_writer.proofs.Keeping.{left_bottom, left_below, some_below, none_left}
+use Rattle.nested_writer.proofs.Keeping.{left_bottom, left_below, some_below, none_left, ended_to}
 use Rattle.nested_writer.proofs.stack.WriterStack.end_any.Goals as goal
 use Rattle.nested_writer.proofs.stack.WriterStack.end_any.Goals.{then-is_empty, else-is_empty}
 
@@ -56,3 +56,6 @@ returns-clause-bottom c =
       | then-is_empty w ↦ λ full. subst (λ (x : Stack). IsAtBottom x.frames) (sym is) (left_bottom top below (none_left below c.is_empty.result (c.is_empty.ensures ∙ ap (λ (n : ℕ). n == 0) c.self.inside.below.ok.0) w.if-is_empty.true))
       | else-is_empty w ↦ λ full. absurd (let pending = w.ended-is in cc)
     ]
+
+pub returns-clause-next : goal.returns-clause-next
+returns-clause-next c = ended_to c.args.self.now c.leave.new.self c.if-is_empty.ended (λ pending. returns-clause-below c (ap Ok pending)) (λ full. returns-clause-bottom c (ap Ok full))

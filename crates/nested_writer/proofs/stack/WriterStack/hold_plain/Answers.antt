@@ -7,64 +7,67 @@ use Rattle.nested_writer.specs.declared.frame.Pushed.{Pushed}
 use Rattle.nested_writer.specs.declared.frame.Purpose.TheVariants.{Record}
 use Rattle.nested_writer.specs.declared.frame.Progress.TheVariants.{Waiting}
 use Rattle.nested_writer.specs.Stack.{Stack, tail_fill, next_number}
-use Rattle.nested_writer.specs.Inside.{shown, frames_from}
-use Rattle.nested_writer.specs.IsStack.{IsStack}
+use Rattle.nested_writer.specs.Inside.{stack_of, frames_from}
+use Rattle.nested_writer.specs.IsStack.{IsStack, Stands}
 use Rattle.nested_writer.proofs.Tops.{top_is}
 use Rattle.nested_writer.proofs.Bounds.{tail_ends_at, number_fits}
 use Rattle.nested_writer.specs.Allotted.{HasActed}
-use Rattle.nested_writer.specs.Calls.{IsReserved}
+use Rattle.nested_writer.specs.Calls.{ReservesRecord}
 use Rattle.nested_writer.specs.PlainTop.{IsPlainTop}
 use Rattle.nested_writer.proofs.Plain.{plain_put, plain_reserved, plain_acted}
 use Rattle.nested_writer.proofs.stack.WriterStack.hold_plain.Goals as goal
 
 pub overflow_add-number : goal.overflow_add-number
+unfolding Stands
 overflow_add-number c =
     let (start, history, k) = c.requires.stack in
-    let s : Stack = shown c.self.inside in
+    let s : Stack = stack_of c.self.inside in
     let k' = (subst (IsStack start history) (sym c.self.view_is) k).holds in
     let fills = c.self.invariant.fills in
     let fits = number_fits start (opens_of history) (reserved_records history) (is_wished history) s k' (omega arith) in
     omega (arith, c.first_number.ensures, c.count.ensures.count)
 
 pub put_plain-place-requires-clause-last : goal.put_plain-place-requires-clause-last
+unfolding Stands
 put_plain-place-requires-clause-last c =
     let (start, history, k) = c.requires.stack in
-    tail_ends_at start (opens_of history) (reserved_records history) (is_wished history) (shown c.self.inside) (subst (IsStack start history) (sym c.self.view_is) k).holds
+    tail_ends_at start (opens_of history) (reserved_records history) (is_wished history) (stack_of c.self.inside) (subst (IsStack start history) (sym c.self.view_is) k).holds
 
 abbrev waits_of : Pushed → Frame
 waits_of pushed = record { purpose = Record pushed.moment pushed.len; progress = Waiting None }
 
 -- what the frame on top is
-plain : (c : goal.After-hold) → IsPlainTop (shown c.self.inside) c.args.pushed
+plain : (c : goal.After-hold) → IsPlainTop (stack_of c.self.inside) c.args.pushed
 plain c = subst (λ (x : Stack). IsPlainTop x c.args.pushed) (sym c.self.view_is) c.requires.plain
 
 abbrev slot_of : goal.After-hold → Slot
 slot_of c = record { number = c.first_number.result.0 + c.count.result; fill = c.fill_number-fill.result.0; place = c.put_plain-place.result }
 
 abbrev after : goal.After-hold → Stack
-after c = plain_put (shown c.self.inside) c.args.pushed (plain c) c.put_plain-place.new.self.page c.put_plain-place.result (slot_of c).number (slot_of c).fill
+after c = plain_put (stack_of c.self.inside) c.args.pushed (plain c) c.put_plain-place.new.self.page c.put_plain-place.result (slot_of c).number (slot_of c).fill
 
 found : (c : goal.After-hold) → (c.self.inside.top ≡ Some (waits_of c.args.pushed)) × (c.self.inside.below.items ≡ (plain c).below)
 found c = top_is c.self.inside.top c.self.inside.below.items (waits_of c.args.pushed) (plain c).below c.self.invariant.top_first (plain c).on_top
 
 -- the fields show the stack with the record put
 abbrev shown_after : goal.After-hold → Stack
-shown_after c = record (shown c.self.inside) { tail = c.put_plain-place.new.self.page; frames = frames_from c.hold.new.self c.self.inside.below.items; last_moment = c.args.pushed.moment }
+shown_after c = record (stack_of c.self.inside) { tail = c.put_plain-place.new.self.page; frames = frames_from c.hold.new.self c.self.inside.below.items; last_moment = c.args.pushed.moment }
 
 told : (c : goal.After-hold) → shown_after c ≡ after c
-told c = let held = c.hold.ensures (waits_of c.args.pushed) (found c).0 in λ i. record (shown c.self.inside) { tail = c.put_plain-place.new.self.page; frames = frames_from (held i) ((found c).1 i); last_moment = c.args.pushed.moment }
+told c = let held = c.hold.ensures (waits_of c.args.pushed) (found c).0 in λ i. record (stack_of c.self.inside) { tail = c.put_plain-place.new.self.page; frames = frames_from (held i) ((found c).1 i); last_moment = c.args.pushed.moment }
 
-number_is : (c : goal.After-hold) → (slot_of c).number ≡ next_number (shown c.self.inside)
+number_is : (c : goal.After-hold) → (slot_of c).number ≡ next_number (stack_of c.self.inside)
 number_is c = omega (arith, c.first_number.ensures, c.count.ensures.count)
 
-fill_is : (c : goal.After-hold) → (slot_of c).fill ≡ tail_fill (shown c.self.inside)
+fill_is : (c : goal.After-hold) → (slot_of c).fill ≡ tail_fill (stack_of c.self.inside)
+unfolding Stands
 fill_is c =
     let (start, history, k) = c.requires.stack in
     c.fill_number-fill.ensures ∙ (subst (IsStack start history) (sym c.self.view_is) k).holds.tail_is.fill_is
 
-acts : (c : goal.After-hold) → HasActed (shown c.self.inside) (reserve ∷ []) (after c)
+acts : (c : goal.After-hold) → HasActed (stack_of c.self.inside) (reserve ∷ []) (after c)
 acts c =
-    let s : Stack = shown c.self.inside in
+    let s : Stack = stack_of c.self.inside in
     let put = c.put_plain-place.ensures in
     plain_acted s c.args.pushed (plain c) c.put_plain-place.new.self.page c.put_plain-place.result (slot_of c).number (slot_of c).fill (number_is c) (fill_is c) record {
       page = put.page;
@@ -83,11 +86,11 @@ acts c =
 
 pub returns-clause-reserved : goal.returns-clause-reserved
 returns-clause-reserved c = λ top below on_top.
-    let s : Stack = shown c.self.inside in
+    let s : Stack = stack_of c.self.inside in
     let put = c.put_plain-place.ensures in
     let reserved = plain_reserved s c.args.pushed (plain c) c.put_plain-place.new.self.page c.put_plain-place.result (slot_of c).number (slot_of c).fill (number_is c) (fill_is c) put.bytes put.end put.len_is in
-    subst (λ (x : Stack). IsReserved x top below c.args.pushed.moment c.args.pushed.len c.put_plain-place.result (shown_after c)) c.self.view_is
-    (subst (IsReserved s top below c.args.pushed.moment c.args.pushed.len c.put_plain-place.result) (sym (told c)) (reserved top below (ap (λ (x : Stack). x.frames) c.self.view_is ∙ on_top)))
+    subst (λ (x : Stack). ReservesRecord x top below c.args.pushed.moment c.args.pushed.len c.put_plain-place.result (shown_after c)) c.self.view_is
+    (subst (ReservesRecord s top below c.args.pushed.moment c.args.pushed.len c.put_plain-place.result) (sym (told c)) (reserved top below (ap (λ (x : Stack). x.frames) c.self.view_is ∙ on_top)))
 
 pub returns-clause-stack : goal.returns-clause-stack
 returns-clause-stack c = λ start history k. rw (told c) (acts c start history (subst (IsStack start history) (sym c.self.view_is) k))

@@ -2,9 +2,10 @@ use Rattle.std.proofs.Common.{◌≡◌, ℕ, Some, sym, ap, ◌∙◌, arith}
 use Rattle.nested_writer.specs.declared.frame.Progress.TheVariants.{Waiting}
 use Rattle.nested_writer.specs.declared.frame.Frame.{Frame}
 use Rattle.nested_writer.specs.Stack.{Stack, opened}
-use Rattle.nested_writer.specs.Inside.{shown, frames_from}
+use Rattle.nested_writer.specs.Inside.{stack_of, frames_from}
 use Rattle.nested_writer.proofs.Tops.{top_is as top_is'}
 use Rattle.nested_writer.proofs.Allotting.{crowded_after, worn_after, noted_after}
+use Rattle.nested_writer.proofs.Keeping.{left_top}
 use Rattle.nested_writer.proofs.Answering.{crowded_answer, worn_answer, page_answer}
 use Rattle.nested_writer.proofs.stack.WriterStack.note_need.Goals as goal
 
@@ -21,7 +22,7 @@ returns-then-opened-self-ge-LINK_FILLS-clause-after c =
 pub returns-clause-after : goal.returns-clause-after
 returns-clause-after c =
     let (below, top_is) = c.requires.top in
-    let s : Stack = shown c.self.inside in
+    let s : Stack = stack_of c.self.inside in
     let found = top_is' c.self.inside.top c.self.inside.below.items c.args.top below c.self.invariant.top_first (ap (λ (x : Stack). x.frames) c.self.view_is ∙ top_is) in
     let begun : c.opened-opened.result ≡ opened s = c.opened-opened.ensures.begun ∙ ap opened (sym c.self.view_is) in
     let noted : c.note.new.self ≡ Some (record c.args.top { progress = Waiting (Some (opened s)) }) = c.note.ensures c.args.top found.0 ∙ ap (λ (n : ℕ). let f : Frame = record c.args.top { progress = Waiting (Some n) } in Some f) begun in
@@ -50,3 +51,13 @@ returns-clause-answered c = λ start history k.
     let closed = ap (λ (x : Stack). x.done) c.self.view_is in
     let pages = ap (λ (x : Stack). x.pages) c.self.view_is in
     page_answer start history c.args.self.now k c.args.top below top_is c.requires.wants (λ full. omega (arith, full, c.len.ensures, c.if-len-self.false, begun, closed, pages)) (omega (arith, c.opened-opened.ensures.begun, c.if-opened-self-ge-LINK_FILLS.false, pages))
+
+pub returns-then-len-self-clause-refused : goal.returns-then-len-self-clause-refused
+returns-then-len-self-clause-refused c =
+    let (below, top_is) = c.requires.top in
+    left_top c.args.self.now c.leave.new.self c.args.top below top_is (c.leave.ensures.after c.args.top below top_is)
+
+pub returns-then-opened-self-ge-LINK_FILLS-clause-refused : goal.returns-then-opened-self-ge-LINK_FILLS-clause-refused
+returns-then-opened-self-ge-LINK_FILLS-clause-refused c =
+    let (below, top_is) = c.requires.top in
+    left_top c.args.self.now c.leave-then-opened-self-ge-LINK_FILLS.new.self c.args.top below top_is (c.leave-then-opened-self-ge-LINK_FILLS.ensures.after c.args.top below top_is)

@@ -4,7 +4,7 @@ use Rattle.nested_writer.specs.declared.frame.Purpose.TheVariants.{Record}
 use Rattle.nested_writer.specs.declared.frame.Progress.TheVariants.{Left}
 use Rattle.nested_writer.specs.declared.frame.Frame.{Frame}
 use Rattle.nested_writer.specs.Stack.{Stack}
-use Rattle.nested_writer.specs.Inside.{shown}
+use Rattle.nested_writer.specs.Inside.{stack_of}
 use Rattle.nested_writer.specs.AtOnce.{MayStand}
 use Rattle.nested_writer.specs.IsStack.{IsStack}
 use Rattle.nested_writer.proofs.AtOnce.{stands_again, none_below}
@@ -13,7 +13,7 @@ use Rattle.nested_writer.proofs.stack.WriterStack.put_left.Goals as goal
 
 pub returns-clause-stack : goal.returns-clause-stack
 returns-clause-stack c = λ start history old.
-    let s : Stack = shown c.self.inside in
+    let s : Stack = stack_of c.self.inside in
     let k : IsStack start history s = subst (IsStack start history) (sym c.self.view_is) old in
     let none : s.frames ≡ [] = ap (λ (x : Stack). x.frames) c.self.view_is ∙ c.requires.none in
     let may : MayStand s c.args.moment c.args.len = subst (λ (x : Stack). MayStand x c.args.moment c.args.len) (sym c.self.view_is) c.requires.may in

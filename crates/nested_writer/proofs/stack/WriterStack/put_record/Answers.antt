@@ -7,20 +7,21 @@ use Rattle.record_words.specs.declared.put.Place.{Place}
 use Rattle.page_image.specs.Contents.{Contents, is_blank}
 use Rattle.nested_writer.specs.Stack.{Stack}
 use Rattle.nested_writer.specs.AtOnce.{FitsAtOnce}
-use Rattle.nested_writer.specs.Inside.{shown}
-use Rattle.nested_writer.specs.IsStack.{IsStack}
+use Rattle.nested_writer.specs.Inside.{stack_of}
+use Rattle.nested_writer.specs.IsStack.{IsStack, Stands}
 use Rattle.nested_writer.proofs.Bounds.{tail_ends_at}
 use Rattle.nested_writer.proofs.AtOnce.{IsPutWith, written_at_once, fits_page}
 use Rattle.nested_writer.proofs.stack.WriterStack.put_record.Goals as goal
 
 pub put_payload-requires-clause-last : goal.put_payload-requires-clause-last
+unfolding Stands
 put_payload-requires-clause-last c =
     let (start, history, k) = c.requires.stack in
-    tail_ends_at start (opens_of history) (reserved_records history) (is_wished history) (shown c.self.inside) (subst (IsStack start history) (sym c.self.view_is) k).holds
+    tail_ends_at start (opens_of history) (reserved_records history) (is_wished history) (stack_of c.self.inside) (subst (IsStack start history) (sym c.self.view_is) k).holds
 
 pub returns-clause-stack : goal.returns-clause-stack
 returns-clause-stack c = λ start history old.
-    let s : Stack = shown c.self.inside in
+    let s : Stack = stack_of c.self.inside in
     let k : IsStack start history s = subst (IsStack start history) (sym c.self.view_is) old in
     let payload : List ℕ = c.args.payload.now in
     let put = c.put_payload.ensures in
@@ -55,4 +56,5 @@ returns-clause-stack c = λ start history old.
     subst (λ (m : ℕ). IsStack start (history ++ actions) (record s { tail = tail'; last_moment = m })) (sym raised) done
 
 pub returns-clause-stays : goal.returns-clause-stays
+unfolding Stands
 returns-clause-stays c = let (start, history, k) = c.requires.stack in (start, _, returns-clause-stack c start history k)

@@ -8,31 +8,33 @@ use Rattle.nested_writer.specs.declared.frame.Slot.{Slot}
 use Rattle.nested_writer.specs.declared.frame.Purpose.{Purpose}
 use Rattle.nested_writer.specs.declared.frame.Progress.TheVariants.{Reserved}
 use Rattle.nested_writer.specs.Stack.{Stack, tail_fill}
-use Rattle.nested_writer.specs.Inside.{shown, frames_from}
+use Rattle.nested_writer.specs.Inside.{stack_of, frames_from}
 use Rattle.nested_writer.specs.Calls.{HasRecordRoom}
-use Rattle.nested_writer.specs.IsStack.{IsStack}
+use Rattle.nested_writer.specs.IsStack.{IsStack, Stands}
 use Rattle.nested_writer.proofs.Tops.{top_is}
 use Rattle.nested_writer.proofs.Bounds.{tail_ends_at, number_fits}
 use Rattle.nested_writer.proofs.Reserving.{reserved_with}
 use Rattle.nested_writer.proofs.stack.WriterStack.reserve_any.Goals as goal
 
 pub overflow_add-number : goal.overflow_add-number
+unfolding Stands
 overflow_add-number c =
     let (start, history, k) = c.requires.stack in
-    let s : Stack = shown c.self.inside in
+    let s : Stack = stack_of c.self.inside in
     let k' = (subst (IsStack start history) (sym c.self.view_is) k).holds in
     let fills = c.self.invariant.fills in
     let fits = number_fits start (opens_of history) (reserved_records history) (is_wished history) s k' (omega arith) in
     omega (arith, c.first_number.ensures, c.count.ensures.count)
 
 pub put-place-requires-clause-last : goal.put-place-requires-clause-last
+unfolding Stands
 put-place-requires-clause-last c =
     let (start, history, k) = c.requires.stack in
-    tail_ends_at start (opens_of history) (reserved_records history) (is_wished history) (shown c.self.inside) (subst (IsStack start history) (sym c.self.view_is) k).holds
+    tail_ends_at start (opens_of history) (reserved_records history) (is_wished history) (stack_of c.self.inside) (subst (IsStack start history) (sym c.self.view_is) k).holds
 
 pub returns-clause-stack : goal.returns-clause-stack
 returns-clause-stack c = λ start history old.
-    let s : Stack = shown c.self.inside in
+    let s : Stack = stack_of c.self.inside in
     let k : IsStack start history s = subst (IsStack start history) (sym c.self.view_is) old in
     let (top, below, noted, on_top, purpose, waits) = c.requires.top in
     let items : List Frame = c.self.inside.below.items in

@@ -1,26 +1,28 @@
-use Rattle.std.proofs.Common.{◌≡◌, ◌+◌, ◌≤◌, length, refl, sym, ap, ◌∙◌, subst, arith}
+use Rattle.std.proofs.Common.{Some, ◌≡◌, ◌+◌, ◌≤◌, length, refl, sym, ap, ◌∙◌, subst, arith}
 use Rattle.record_words.specs.declared.put.Place.{Place}
 use Rattle.nested_writer.specs.declared.frame.Slot.{Slot}
 use Rattle.nested_writer.specs.Stack.{Stack}
-use Rattle.nested_writer.specs.Inside.{shown}
+use Rattle.nested_writer.specs.Inside.{stack_of}
 use Rattle.nested_writer.specs.Calls.{IsTopSlot, top_slot}
 use Rattle.nested_writer.specs.Lent.{Lent}
 use Rattle.nested_writer.specs.Lending.{IsLent}
 use Rattle.nested_writer.specs.IsStack.{Stands}
-use Rattle.nested_writer.proofs.Lent.{same_ends, top_in_tail, top_in_older, some_frame, has_slot, slot_place, older_long, older_none, tail_within, tail_lent, other_page, older_within, older_lent, slot_fits, slot_word, lent_there, lent_written, lent_stays}
+use Rattle.nested_writer.proofs.Lent.{same_ends, top_in_tail, top_in_older, some_frame, has_slot, slot_place, slot_at, tail_stays, older_stays, older_long, older_none, tail_within, tail_lent, other_page, older_within, older_lent, slot_fits, slot_word, lent_there, lent_written, lent_stays}
 use Rattle.nested_writer.proofs.stack.WriterStack.top_mut.Goals as goal
 
 pub lend-requires : goal.lend-requires
+unfolding Stands
 lend-requires c =
-    let s : Stack = shown c.self.inside in
+    let s : Stack = stack_of c.self.inside in
     let slot : Slot = c.in_ok-slot.slot in
     let is : IsTopSlot s.frames slot = c.in_ok-slot.ensures.slot in
     let (start, h, k) = subst Stands (sym c.self.view_is) c.requires.stack in
     record { within = tail_within start h s slot is k (c.if-slot-fill_number.true ∙ c.fill_number.ensures) }
 
 pub returns-then-slot-fill_number : goal.returns-then-slot-fill_number
+unfolding Stands
 returns-then-slot-fill_number c =
-    let s : Stack = shown c.self.inside in
+    let s : Stack = stack_of c.self.inside in
     let slot : Slot = c.in_ok-slot.slot in
     let is : IsTopSlot s.frames slot = c.in_ok-slot.ensures.slot in
     let same : slot.fill ≡ s.tail.fill = c.if-slot-fill_number.true ∙ c.fill_number.ensures in
@@ -36,9 +38,11 @@ returns-then-slot-fill_number c =
         no_frame = (λ e. absurd cc, λ none. absurd (some_frame s.frames slot is none));
         not_reserved = (λ e. absurd cc, λ lacks. absurd (has_slot s.frames slot is lacks));
         place = λ place' at. place ∙ slot_place s.frames slot place' is at;
+        here = slot_at s.frames slot is ∙ ap Some (sym place);
         long = lent.long;
-        older = λ w. older_long s (top_slot s.frames) w.page;
-        alone = λ w none. older_none s (top_slot s.frames) w.page none;
+        older = λ w. older_long s (top_slot s.frames) w;
+        alone = λ w none. older_none s (top_slot s.frames) w none;
+        unwritten = tail_stays s slot payload is same (ap (λ (p : Lent). p.page) c.lend.ensures);
         lent = lent;
         held = λ place' there. refl;
         fits = λ len is'. lent.long ∙ ap (λ (p : Place). p.len) place ∙ slot_fits stands.0 stands.1 s slot is stands.2 len is';
@@ -50,24 +54,27 @@ returns-then-slot-fill_number c =
     )
 
 pub lend-payload-requires-clause-inside : goal.lend-payload-requires-clause-inside
+unfolding Stands
 lend-payload-requires-clause-inside c =
-    let s : Stack = shown c.self.inside in
+    let s : Stack = stack_of c.self.inside in
     let slot : Slot = c.in_ok-slot.slot in
     let is : IsTopSlot s.frames slot = c.in_ok-slot.ensures.slot in
     let (start, h, k) = subst Stands (sym c.self.view_is) c.requires.stack in
     (other_page start h s slot is k (λ same. c.if-slot-fill_number.false (same ∙ sym c.fill_number.ensures))).inside
 
 pub lend-payload-requires-clause-within : goal.lend-payload-requires-clause-within
+unfolding Stands
 lend-payload-requires-clause-within c =
-    let s : Stack = shown c.self.inside in
+    let s : Stack = stack_of c.self.inside in
     let slot : Slot = c.in_ok-slot.slot in
     let is : IsTopSlot s.frames slot = c.in_ok-slot.ensures.slot in
     let (start, h, k) = subst Stands (sym c.self.view_is) c.requires.stack in
     older_within start h s slot is k (λ same. c.if-slot-fill_number.false (same ∙ sym c.fill_number.ensures))
 
 pub returns : goal.returns
+unfolding Stands
 returns c =
-    let s : Stack = shown c.self.inside in
+    let s : Stack = stack_of c.self.inside in
     let slot : Slot = c.in_ok-slot.slot in
     let is : IsTopSlot s.frames slot = c.in_ok-slot.ensures.slot in
     let other : (slot.fill ≡ s.tail.fill → ⊥) = λ same. c.if-slot-fill_number.false (same ∙ sym c.fill_number.ensures) in
@@ -84,9 +91,11 @@ returns c =
         no_frame = (λ e. absurd cc, λ none. absurd (some_frame s.frames slot is none));
         not_reserved = (λ e. absurd cc, λ lacks. absurd (has_slot s.frames slot is lacks));
         place = λ place' at. place ∙ slot_place s.frames slot place' is at;
+        here = slot_at s.frames slot is ∙ ap Some (sym place);
         long = lent.long;
-        older = λ w. older_long s (top_slot s.frames) w.page;
-        alone = λ w none. older_none s (top_slot s.frames) w.page none;
+        older = λ w. older_long s (top_slot s.frames) w;
+        alone = λ w none. older_none s (top_slot s.frames) w none;
+        unwritten = older_stays s slot payload is other c.lend-payload.ensures.page;
         lent = lent;
         held = λ place' there. refl;
         fits = λ len is'. lent.long ∙ ap (λ (p : Place). p.len) place ∙ slot_fits stands.0 stands.1 s slot is stands.2 len is';

@@ -2,7 +2,7 @@ use Rattle.std.proofs.Common.{List, ℕ, sym, ap, subst, arith}
 use Rattle.trace_model.specs.Parcel.{Parcel}
 use Rattle.trace_model.specs.ParcelBytes.{IsParcel, DecodesParcel}
 use Rattle.trace_model.proofs.Parcels.{DecodesParcel-bytes_of_parcel}
-use Rattle.page_numbers.specs.Written.{IsWritten}
+use Rattle.page_numbers.specs.Written.{IsWrittenAs}
 use Rattle.page_numbers.proofs.Writing.{each_told}
 use Rattle.page_numbers.proofs.parcel.Parcel.to_bytes.Goals as goal
 
@@ -11,7 +11,7 @@ returns-clause-written c =
     let page = c.self.inside.numbered.page.value in
     let told = c.to_bytes.ensures in
     let is = c.self.invariant.0 in
-    each_told c.to_bytes.result _ _ _ _ told.bytes told.fits told.limit (λ bytes same fits limit. subst (λ (p : Parcel). IsWritten p bytes.items) c.self.view_is (record {
+    each_told c.to_bytes.result _ _ _ _ told.bytes told.fits told.limit (λ bytes same fits limit. subst (λ (p : Parcel). IsWrittenAs p bytes.items) c.self.view_is (record {
       time = page.time;
       contents = page.bytes;
       size = page.size;

@@ -8,23 +8,23 @@ use Rattle.nested_writer.specs.Stack.{opened}
 use Rattle.ring_frames.specs.declared.phase.Phase.TheVariants.{Opening}
 use Rattle.ring_frames.specs.Phases.{told}
 use Rattle.ring_core.specs.Value.{CoreValue, with_frames}
-use Rattle.ring_core.specs.Inside.{shown}
+use Rattle.ring_core.specs.Inside.{core_of}
 use Rattle.ring_core.specs.IsCore.{IsCore}
-use Rattle.ring_core.specs.Steps.{IsStep, IsRing}
+use Rattle.ring_core.specs.Steps.{IsStep, IsReachedCore}
 use Rattle.ring_core.proofs.Beginning.{page_low, comes_out, begun}
 use Rattle.ring_core.proofs.ring.Core.begin_fill.Goals as goal
 
 pub index_mut-requires : goal.index_mut-requires
 index_mut-requires c =
-    let v : CoreValue = shown c.self.inside in
-    let (n, size, start, m, core) = subst IsRing (sym c.self.view_is) c.requires.ring in
+    let v : CoreValue = core_of c.self.inside in
+    let (n, size, start, m, core) = subst IsReachedCore (sym c.self.view_is) c.requires.ring in
     let some = subst (λ (x : CoreValue). x.stack.frames ≢ []) (sym c.self.view_is) c.requires.top in
     let is = subst (λ (x : CoreValue). x.phase ≡ Opening (opened x.stack) c.args.page) (sym c.self.view_is) c.requires.phase in
     omega (arith, page_low n size start v m core some c.args.page is, c.self.inside.homes.ok.0)
 
 pub open-requires-clause-frames : goal.open-requires-clause-frames
 open-requires-clause-frames c =
-    let (n, size, start, m, core) = subst IsRing (sym c.self.view_is) c.requires.ring in
+    let (n, size, start, m, core) = subst IsReachedCore (sym c.self.view_is) c.requires.ring in
     (n, size, start, m, record { reached = core.reached; are = core.shows.frames })
 
 pub open-requires-clause-phase : goal.open-requires-clause-phase
@@ -32,8 +32,8 @@ open-requires-clause-phase c = (c.args.page, subst (λ (x : CoreValue). x.phase 
 
 pub open-requires-clause-size : goal.open-requires-clause-size
 open-requires-clause-size c =
-    let v : CoreValue = shown c.self.inside in
-    let (n, size, start, m, core) = subst IsRing (sym c.self.view_is) c.requires.ring in
+    let v : CoreValue = core_of c.self.inside in
+    let (n, size, start, m, core) = subst IsReachedCore (sym c.self.view_is) c.requires.ring in
     let some = subst (λ (x : CoreValue). x.stack.frames ≢ []) (sym c.self.view_is) c.requires.top in
     let is = subst (λ (x : CoreValue). x.phase ≡ Opening (opened x.stack) c.args.page) (sym c.self.view_is) c.requires.phase in
     let (body, out, wide) = comes_out n size start v m core some c.args.page is c.index_mut.result.now c.index_mut.ensures.value in
@@ -42,7 +42,7 @@ open-requires-clause-size c =
 
 pub returns-clause-makes : goal.returns-clause-makes
 returns-clause-makes c = λ n size start m old.
-    let v : CoreValue = shown c.self.inside in
+    let v : CoreValue = core_of c.self.inside in
     let core : IsCore n size start v m = subst (λ (x : CoreValue). IsCore n size start x m) (sym c.self.view_is) old in
     let some = subst (λ (x : CoreValue). x.stack.frames ≢ []) (sym c.self.view_is) c.requires.top in
     let is = subst (λ (x : CoreValue). x.phase ≡ Opening (opened x.stack) c.args.page) (sym c.self.view_is) c.requires.phase in
@@ -51,8 +51,8 @@ returns-clause-makes c = λ n size start m old.
 
 pub unreachable-requires : goal.unreachable-requires
 unreachable-requires c =
-    let v : CoreValue = shown c.self.inside in
-    let (n, size, start, m, core) = subst IsRing (sym c.self.view_is) c.requires.ring in
+    let v : CoreValue = core_of c.self.inside in
+    let (n, size, start, m, core) = subst IsReachedCore (sym c.self.view_is) c.requires.ring in
     let some = subst (λ (x : CoreValue). x.stack.frames ≢ []) (sym c.self.view_is) c.requires.top in
     let is = subst (λ (x : CoreValue). x.phase ≡ Opening (opened x.stack) c.args.page) (sym c.self.view_is) c.requires.phase in
     let (body, out, wide) = comes_out n size start v m core some c.args.page is c.index_mut.result.now c.index_mut.ensures.value in

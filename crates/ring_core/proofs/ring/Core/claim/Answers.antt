@@ -10,8 +10,8 @@ use Rattle.ring_core.proofs.HeadMoves.{is_late, gone_on, claims_head, claims_non
 use Rattle.ring_core.proofs.ring.Core.claim.Goals.{then-claim_head, else-claim_head}
 use Rattle.ring_core.proofs.ring.Core.claim.Goals as goal
 
-pub begin_anew-requires-clause-late : goal.begin_anew-requires-clause-late
-begin_anew-requires-clause-late c = is_late c.args.self.now (Claiming c.args.noted c.args.page) c.args.noted c.requires.phase refl (λ own. own)
+pub begin_again-requires-clause-late : goal.begin_again-requires-clause-late
+begin_again-requires-clause-late c = is_late c.args.self.now (Claiming c.args.noted c.args.page) c.args.noted c.requires.phase refl (λ own. own)
     (λ e. c.if-noted-opened.true (e ∙ sym (c.opened.ensures.begun ∙ ap (λ (x : CoreValue). opened x.stack) c.self.view_is)))
 
 pub returns-clause-makes : goal.returns-clause-makes

@@ -2,17 +2,17 @@ use Rattle.std.proofs.Common.{sym, subst}
 use Rattle.trace_model.specs.Steps.{steps}
 use Rattle.ring_frames.specs.Phases.{told}
 use Rattle.ring_core.specs.Value.{CoreValue}
-use Rattle.ring_core.specs.Inside.{shown}
-use Rattle.ring_core.specs.Steps.{IsRing, Makes}
+use Rattle.ring_core.specs.Inside.{core_of}
+use Rattle.ring_core.specs.Steps.{IsReachedCore, Makes}
 use Rattle.ring_core.proofs.Privately.{looked_for_wish}
 use Rattle.ring_core.proofs.ring.Core.load_wish.Goals as goal
 
 pub load_wish-requires-clause-frames : goal.load_wish-requires-clause-frames
 load_wish-requires-clause-frames c =
-    let (n, size, start, m, core) = subst IsRing (sym c.self.view_is) c.requires.ring in
+    let (n, size, start, m, core) = subst IsReachedCore (sym c.self.view_is) c.requires.ring in
     (n, size, start, m, record { reached = core.reached; are = core.shows.frames })
 
 pub returns-clause-makes : goal.returns-clause-makes
 returns-clause-makes c =
-    subst (λ (x : CoreValue). Makes x steps (told c.load_wish.result) (shown record c.self.inside { frames = c.load_wish.new.self })) c.self.view_is
-    (looked_for_wish (shown c.self.inside) (told c.load_wish.result) c.load_wish.new.self c.load_wish.ensures.looks)
+    subst (λ (x : CoreValue). Makes x steps (told c.load_wish.result) (core_of record c.self.inside { frames = c.load_wish.new.self })) c.self.view_is
+    (looked_for_wish (core_of c.self.inside) (told c.load_wish.result) c.load_wish.new.self c.load_wish.ensures.looks)

@@ -14,8 +14,8 @@ use Rattle.ring_core.proofs.HeadMoves.{is_late, gone_on, looks_normal, looks_hea
 use Rattle.ring_core.proofs.ring.Core.look.Goals.{in-Normal, in-Header, in-Update}
 use Rattle.ring_core.proofs.ring.Core.look.Goals as goal
 
-pub begin_anew-requires-clause-late : goal.begin_anew-requires-clause-late
-begin_anew-requires-clause-late c = is_late c.args.self.now (Looking c.args.noted) c.args.noted c.requires.phase refl (λ own. own)
+pub begin_again-requires-clause-late : goal.begin_again-requires-clause-late
+begin_again-requires-clause-late c = is_late c.args.self.now (Looking c.args.noted) c.args.noted c.requires.phase refl (λ own. own)
     (λ e. c.if-noted-opened.true (e ∙ sym (c.opened.ensures.begun ∙ ap (λ (x : CoreValue). opened x.stack) c.self.view_is)))
 
 pub returns-clause-makes : goal.returns-clause-makes

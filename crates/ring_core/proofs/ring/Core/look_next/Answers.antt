@@ -2,7 +2,7 @@ use Rattle.std.proofs.Common.{◌≡◌, ℕ, suc, ◌+◌, ◌-◌, length, ref
 use Rattle.trace_model.specs.Links.{Link, normal_link}
 use Rattle.trace_model.specs.Ring.{link_into}
 use Rattle.trace_model.specs.Steps as model
-use Rattle.trace_model.specs.Steps.{GoesOn}
+use Rattle.trace_model.specs.Steps.{MayOpen}
 use Rattle.link_marks.specs.declared.link.Mark.{Mark}
 use Rattle.link_marks.specs.ModelLinks.{mark_of, link_of}
 use Rattle.nested_writer.specs.Stack.{opened}
@@ -18,8 +18,8 @@ use Rattle.ring_core.proofs.HeadMoves.{is_late, gone_on, says_normal, round_next
 use Rattle.ring_core.proofs.ring.Core.look_next.Goals.{in-Normal, in_default, in_default-via-in-Normal+else-link-behind, in_default-via-in_default}
 use Rattle.ring_core.proofs.ring.Core.look_next.Goals as goal
 
-pub begin_anew-requires-clause-late : goal.begin_anew-requires-clause-late
-begin_anew-requires-clause-late c =
+pub begin_again-requires-clause-late : goal.begin_again-requires-clause-late
+begin_again-requires-clause-late c =
     let (helps, passed) = c.stops.ensures.stops c.if-stops.true in
     is_late c.args.self.now (LookingNext Helper c.args.noted c.args.page) c.args.noted (c.requires.phase ∙ ap (λ (r : Role). LookingNext r c.args.noted c.args.page) helps) refl (λ own. own)
     (λ e. passed (e ∙ sym (ap (λ (x : CoreValue). opened x.stack) c.self.view_is)))
@@ -33,7 +33,7 @@ overflow_sub-behind c =
 pub returns-clause-makes : goal.returns-clause-makes
 returns-clause-makes c = λ n size start s old.
     let v : CoreValue = c.args.self.now in
-    let now : GoesOn (role_of c.args.role) c.args.noted (opened v.stack) = subst (GoesOn (role_of c.args.role) c.args.noted) (ap (λ (x : CoreValue). opened x.stack) c.self.view_is) (c.stops.ensures.goes_on c.if-stops.false) in
+    let now : MayOpen (role_of c.args.role) c.args.noted (opened v.stack) = subst (MayOpen (role_of c.args.role) c.args.noted) (ap (λ (x : CoreValue). opened x.stack) c.self.view_is) (c.stops.ensures.goes_on c.if-stops.false) in
     let round = round_next n size start v s old c.requires.top c.args.role c.args.noted c.args.page c.requires.phase in
     let wide : c.positions.result ≡ length v.links = c.positions.ensures.positions in
     let lost : ℕ = c.args.noted - c.positions.result in

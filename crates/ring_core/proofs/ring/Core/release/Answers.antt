@@ -1,29 +1,29 @@
 use Rattle.std.proofs.Common.{length, sym, ap, subst, ◌∙◌, arith}
 use Rattle.trace_model.specs.Ring.{page_at}
 use Rattle.ring_core.specs.Value.{CoreValue}
-use Rattle.ring_core.specs.Inside.{shown}
+use Rattle.ring_core.specs.Inside.{core_of}
 use Rattle.ring_core.specs.IsCore.{IsCore}
-use Rattle.ring_core.specs.Steps.{IsRing}
+use Rattle.ring_core.specs.Steps.{IsReachedCore}
 use Rattle.ring_core.proofs.Homes.{page_has_home, homes_in}
 use Rattle.ring_core.proofs.Releasing.{released}
 use Rattle.ring_core.proofs.ring.Core.release.Goals as goal
 
 pub release-requires-clause-frames : goal.release-requires-clause-frames
 release-requires-clause-frames c =
-    let (n, size, start, m, core) = subst IsRing (sym c.self.view_is) c.requires.ring in
+    let (n, size, start, m, core) = subst IsReachedCore (sym c.self.view_is) c.requires.ring in
     (n, size, start, m, record { reached = core.reached; are = core.shows.frames })
 
 pub index_mut-requires : goal.index_mut-requires
 index_mut-requires c =
-    let v : CoreValue = shown c.self.inside in
-    let (n, size, start, m, core) = subst IsRing (sym c.self.view_is) c.requires.ring in
+    let v : CoreValue = core_of c.self.inside in
+    let (n, size, start, m, core) = subst IsReachedCore (sym c.self.view_is) c.requires.ring in
     let at = c.page_at-page.ensures ∙ ap (λ (x : CoreValue). page_at (length x.links) x.order c.done.result) (sym c.self.view_is) in
     let low = page_has_home n size start v m c.page_at-page.result c.done.result core (homes_in c.self.inside c.self.invariant) at in
     omega (arith, low, c.self.inside.homes.ok.0)
 
 pub returns-clause-makes : goal.returns-clause-makes
 returns-clause-makes c = λ n size start m old.
-    let v : CoreValue = shown c.self.inside in
+    let v : CoreValue = core_of c.self.inside in
     let core : IsCore n size start v m = subst (λ (x : CoreValue). IsCore n size start x m) (sym c.self.view_is) old in
     released n size start v m core c.release.new.self c.release.result c.page_at-page.result
     record {

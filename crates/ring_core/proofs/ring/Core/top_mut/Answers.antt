@@ -1,4 +1,4 @@
-use Rattle.std.proofs.Common.{◌≡◌, ℕ, List, Some, IfOk, length, refl, sym, ◌∙◌, subst}
+use Rattle.std.proofs.Common.{◌≡◌, ℕ, List, Some, IfOk, length, refl, sym, ap, ◌∙◌, subst}
 use Rattle.std.specs.Borrow.{MutBor}
 use Rattle.std.proofs.lemmas.Result.{IfOk-weaker}
 use Rattle.trace_model.specs.Words.{slot_len}
@@ -7,25 +7,26 @@ use Rattle.nested_writer.specs.Calls.{IsTopSlot}
 use Rattle.nested_writer.specs.Next.{pushed_len}
 use Rattle.nested_writer.specs.Lent.{Lent, lent_bytes, with_bytes}
 use Rattle.nested_writer.specs.Lending.{IsLent, with_top}
+use Rattle.ring_frames.specs.Value.{FramesValue}
 use Rattle.ring_frames.specs.Answers.{top_bytes}
 use Rattle.ring_frames.specs.Lending.{LeavesOthers}
 use Rattle.ring_core.specs.Value.{CoreValue, frames_of}
-use Rattle.ring_core.specs.Inside.{shown}
+use Rattle.ring_core.specs.Inside.{core_of}
 use Rattle.ring_core.specs.Lending.{FitsFrame, StaysRing, with_lent}
-use Rattle.ring_core.specs.Steps.{IsRing}
+use Rattle.ring_core.specs.Steps.{IsReachedCore}
 use Rattle.ring_frames.proofs.Lent.{top_long}
 use Rattle.ring_core.proofs.Lent.{top_stays, lent_stays}
 use Rattle.ring_core.proofs.ring.Core.top_mut.Goals as goal
 
 pub top_mut-requires : goal.top_mut-requires
 top_mut-requires c =
-    let (n, size, start, m, core) = subst IsRing (sym c.self.view_is) c.requires.ring in
-    record { shown = (n, size, start, m, core.shows.frames) }
+    let (n, size, start, m, core) = subst IsReachedCore (sym c.self.view_is) c.requires.ring in
+    record { core_of = (n, size, start, m, core.shows.frames) }
 
 pub returns : goal.returns
 returns c =
-    let v : CoreValue = shown c.self.inside in
-    let (n, size, start, s, core) = subst IsRing (sym c.self.view_is) c.requires.ring in
+    let v : CoreValue = core_of c.self.inside in
+    let (n, size, start, s, core) = subst IsReachedCore (sym c.self.view_is) c.requires.ring in
     let lends = c.top_mut.ensures in (
       rw (← c.self.view_is) refl,
       record {
@@ -34,11 +35,13 @@ returns c =
         not_reserved = rw (← c.self.view_is) lends.not_reserved;
         held = rw (← c.self.view_is) lends.held;
         lent = subst (λ (x : CoreValue). IfOk c.top_mut.result (λ (p : MutBor Lent). IsLent x.stack p.now)) c.self.view_is lends.lent;
+        unwritten = subst (λ (x : CoreValue). IfOk c.top_mut.result (λ (p : MutBor Lent). with_lent x p.now ≡ x)) c.self.view_is
+            (IfOk-weaker c.top_mut.result _ _ (λ p same. ap (λ (f : FramesValue). record v { stack = f.stack }) same) lends.unwritten);
         len = subst (λ (x : CoreValue). (len : ℕ) → pushed_len x.stack.frames ≡ Some len → IfOk c.top_mut.result (λ (p : MutBor Lent). length (lent_bytes p.now) ≡ slot_len len)) c.self.view_is lends.len;
         word = lends.word;
         payload = subst (λ (x : CoreValue). IfOk c.top_mut.result (λ (p : MutBor Lent). lent_bytes p.now ≡ top_bytes x.stack x.stack.frames)) c.self.view_is lends.payload;
         written = subst (λ (x : CoreValue). IfOk c.top_mut.result (λ (p : MutBor Lent). (part : List ℕ) → length part ≡ length (lent_bytes p.now) → top_bytes (with_top x.stack (with_bytes p.now part)) x.stack.frames ≡ part)) c.self.view_is lends.written;
-        ring = subst (λ (x : CoreValue). IfOk c.top_mut.result (λ (p : MutBor Lent). (part : List ℕ) → length part ≡ length (lent_bytes p.now) → IsRing (with_lent x (with_bytes p.now part)))) c.self.view_is
+        ring = subst (λ (x : CoreValue). IfOk c.top_mut.result (λ (p : MutBor Lent). (part : List ℕ) → length part ≡ length (lent_bytes p.now) → IsReachedCore (with_lent x (with_bytes p.now part)))) c.self.view_is
             (IfOk-weaker c.top_mut.result _ _ (λ p lent part long. (n, size, start, s, lent_stays n size start v s p.now part core lent (lends.stays lent.slot lent.on_top) long)) lends.lent);
         fits = subst (λ (x : CoreValue). (slot : Slot) → IsTopSlot x.stack.frames slot → FitsFrame x slot) c.self.view_is
             (λ slot is n' size' start' s' frame below moment long core' top kind. lends.fits slot is n' size' start' s' frame below moment long core'.shows.frames top kind);

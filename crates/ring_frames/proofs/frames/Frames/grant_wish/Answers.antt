@@ -3,7 +3,7 @@ use Rattle.nested_writer.specs.Stack.{Stack}
 use Rattle.ring_frames.specs.declared.phase.Phase.TheVariants.{Looking}
 use Rattle.ring_frames.specs.declared.answer.Answer.TheVariants.{Going}
 use Rattle.ring_frames.specs.Value.{FramesValue}
-use Rattle.ring_frames.specs.Inside.{shown}
+use Rattle.ring_frames.specs.Inside.{frames_in}
 use Rattle.ring_frames.specs.AreFrames.{AreFrames, HasFrames}
 use Rattle.ring_frames.specs.Steps.{IsFrames}
 use Rattle.ring_frames.specs.Fills.{IsLookForWish, GrantsNone}
@@ -12,14 +12,14 @@ use Rattle.ring_frames.proofs.frames.Frames.grant_wish.Goals as goal
 
 pub ask_close-requires : goal.ask_close-requires
 ask_close-requires c =
-    let v : FramesValue = shown c.self.inside in
+    let v : FramesValue = frames_in c.self.inside in
     let (n, size, start, m, core) = subst IsFrames (sym c.self.view_is) c.requires.frames in
     let some = subst (λ (x : FramesValue). x.stack.frames ≢ []) (sym c.self.view_is) c.requires.top in
     record { bottom = is_bottom n size start v m core some (ap (λ (x : FramesValue). x.phase) c.self.view_is ∙ c.requires.phase) }
 
 pub returns-then-not-ask_close-clause-refused : goal.returns-then-not-ask_close-clause-refused
 returns-then-not-ask_close-clause-refused c = λ e.
-    let v : FramesValue = shown c.self.inside in
+    let v : FramesValue = frames_in c.self.inside in
     let no = not_true c.ask_close.result c.if-not-ask_close.true in
     let blank = nil_if_not_some v.stack.tail.bytes (λ some. no (c.ask_close.ensures.asked.1 some)) in (
       subst (λ (x : FramesValue). GrantsNone x c.args.wish) c.self.view_is (no_record v c.args.wish (λ start history k some. no ((c.ask_close.ensures.holds_record start history k).1 some))),
@@ -28,7 +28,7 @@ returns-then-not-ask_close-clause-refused c = λ e.
 
 pub returns-clause-granted : goal.returns-clause-granted
 returns-clause-granted c = λ _ n size start m reached now asks.
-    let v : FramesValue = shown c.self.inside in
+    let v : FramesValue = frames_in c.self.inside in
     let core : HasFrames n size start v m = record { reached = reached; are = subst (λ (x : FramesValue). AreFrames n size start x m) (sym c.self.view_is) now } in
     let some = subst (λ (x : FramesValue). x.stack.frames ≢ []) (sym c.self.view_is) c.requires.top in
     let is = ap (λ (x : FramesValue). x.phase) c.self.view_is ∙ c.requires.phase in

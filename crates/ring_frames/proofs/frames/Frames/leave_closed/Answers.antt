@@ -6,9 +6,10 @@ use Rattle.nested_writer.specs.declared.stack.allot.Allot.TheVariants.{Fits}
 use Rattle.nested_writer.specs.declared.frame.Purpose.TheVariants.{Close}
 use Rattle.nested_writer.specs.declared.frame.Progress.TheVariants.{Waiting}
 use Rattle.nested_writer.specs.Stack.{opened}
+use Rattle.nested_writer.specs.IsStack.{Stands}
 use Rattle.ring_frames.specs.Value.{FramesValue}
-use Rattle.ring_frames.specs.Inside.{shown}
-use Rattle.ring_frames.specs.Steps.{IsShown, LeavesWithout, IsCloseTop}
+use Rattle.ring_frames.specs.Inside.{frames_in}
+use Rattle.ring_frames.specs.Steps.{AreSomeFrames, LeavesWithout, IsCloseTop}
 use Rattle.ring_frames.specs.Phases.{told}
 use Rattle.ring_frames.proofs.Closing.{top_fits, acted_none, closed_shown}
 use Rattle.ring_frames.specs.Answers.{KeepsPayloads}
@@ -20,16 +21,17 @@ abbrev HasPassed : FramesValue → Type 0
 HasPassed v = (noted : ℕ) × IsCloseTop v noted × (noted ≢ opened v.stack)
 
 pub end_close-requires-clause-stack : goal.end_close-requires-clause-stack
+unfolding Stands
 end_close-requires-clause-stack c =
-    let v : FramesValue = shown c.self.inside in
-    let (n, size, start, s, k) = subst IsShown (sym c.self.view_is) c.requires.shown in
+    let v : FramesValue = frames_in c.self.inside in
+    let (n, size, start, s, k) = subst AreSomeFrames (sym c.self.view_is) c.requires.frames_in in
     let (noted, top, ne) = subst HasPassed (sym c.self.view_is) c.requires.close in
     let (fits, through) = top_fits n size start v s noted _ c.allot.new.self k top ne c.in-Ok.ensures.answered c.in-Ok.ensures.after in
     (start, s.history, acted_none start s.history v.stack c.allot.new.self through.1 k.stack_is)
 
 pub returns-clause-without : goal.returns-clause-without
 returns-clause-without c =
-    let v : FramesValue = shown c.self.inside in
+    let v : FramesValue = frames_in c.self.inside in
     let (noted, top, ne) = subst HasPassed (sym c.self.view_is) c.requires.close in
     subst (λ (x : FramesValue). LeavesWithout x (told c.end_close.result) c.end_close.new.self) c.self.view_is (λ n size start s frame below k model_is.
     let (fits, through) = top_fits n size start v s noted _ c.allot.new.self k top ne c.in-Ok.ensures.answered c.in-Ok.ensures.after in
@@ -38,8 +40,8 @@ returns-clause-without c =
 
 pub unreachable-requires : goal.unreachable-requires
 unreachable-requires c =
-    let v : FramesValue = shown c.self.inside in
-    let (n, size, start, s, k) = subst IsShown (sym c.self.view_is) c.requires.shown in
+    let v : FramesValue = frames_in c.self.inside in
+    let (n, size, start, s, k) = subst AreSomeFrames (sym c.self.view_is) c.requires.frames_in in
     let (noted, top, ne) = subst HasPassed (sym c.self.view_is) c.requires.close in
     let (fits, through) = top_fits n size start v s noted _ c.allot.new.self k top ne c.in-Err.ensures.answered c.in-Err.ensures.after in
     absurd (not_both c.in-Err.field-0 (Fits fits.0) fits.1)
@@ -49,8 +51,8 @@ unreachable-requires c =
 
 pub returns-clause-payloads : goal.returns-clause-payloads
 returns-clause-payloads c =
-    let v : FramesValue = shown c.self.inside in
-    let (n, size, start, s, k) = subst IsShown (sym c.self.view_is) c.requires.shown in
+    let v : FramesValue = frames_in c.self.inside in
+    let (n, size, start, s, k) = subst AreSomeFrames (sym c.self.view_is) c.requires.frames_in in
     let (noted, top, ne) = subst HasPassed (sym c.self.view_is) c.requires.close in
     let (fits, through) = top_fits n size start v s noted _ c.allot.new.self k top ne c.in-Ok.ensures.answered c.in-Ok.ensures.after in
     subst (λ (x : FramesValue). KeepsPayloads x.stack c.end_close.new.self.stack) c.self.view_is

@@ -1,7 +1,7 @@
 use Rattle.std.proofs.Common.{◌≢◌, [], sym, ap, ◌∙◌, subst, arith}
 use Rattle.trace_model.specs.Steps.{IsGranted}
 use Rattle.ring_frames.specs.Value.{FramesValue}
-use Rattle.ring_frames.specs.Inside.{shown}
+use Rattle.ring_frames.specs.Inside.{frames_in}
 use Rattle.ring_frames.specs.AreFrames.{AreFrames, HasFrames}
 use Rattle.ring_frames.specs.Steps.{IsFrames}
 use Rattle.ring_frames.proofs.Wishing.{is_bottom, goes_away}
@@ -10,13 +10,13 @@ use Rattle.ring_frames.proofs.frames.Frames.load_wish.Goals as goal
 
 pub pop_bottom-requires-clause-bottom : goal.pop_bottom-requires-clause-bottom
 pop_bottom-requires-clause-bottom c =
-    let v : FramesValue = shown c.self.inside in
+    let v : FramesValue = frames_in c.self.inside in
     let (n, size, start, m, core) = subst IsFrames (sym c.self.view_is) c.requires.frames in
     is_bottom n size start v m core (subst (λ (x : FramesValue). x.stack.frames ≢ []) (sym c.self.view_is) c.requires.top) (ap (λ (x : FramesValue). x.phase) c.self.view_is ∙ c.requires.phase)
 
 pub returns-then-opened-done-clause-looks : goal.returns-then-opened-done-clause-looks
 returns-then-opened-done-clause-looks c = λ n size start m reached now asks.
-    let v : FramesValue = shown c.self.inside in
+    let v : FramesValue = frames_in c.self.inside in
     let core : HasFrames n size start v m = record { reached = reached; are = subst (λ (x : FramesValue). AreFrames n size start x m) (sym c.self.view_is) now } in
     let begun = c.opened.ensures.begun in
     let done = c.done.ensures in

@@ -1,7 +1,7 @@
 use Rattle.std.proofs.Common.{◌≡◌, ◌≢◌, [], sym, ◌∙◌, subst, arith}
 use Rattle.ring_frames.specs.declared.phase.Phase.TheVariants.{Wishing}
 use Rattle.ring_frames.specs.Value.{FramesValue}
-use Rattle.ring_frames.specs.Inside.{shown}
+use Rattle.ring_frames.specs.Inside.{frames_in}
 use Rattle.ring_frames.specs.AreFrames.{AreFrames}
 use Rattle.ring_frames.specs.Steps.{IsFrames}
 use Rattle.ring_frames.proofs.Wishing.{is_bottom, closes_more, goes_away}
@@ -10,7 +10,7 @@ use Rattle.ring_frames.proofs.frames.Frames.load_wish_any.Goals as goal
 
 pub returns-then-done-opened-clause-looks : goal.returns-then-done-opened-clause-looks
 returns-then-done-opened-clause-looks c = λ n size start m reached now asks.
-    let v : FramesValue = shown c.self.inside in
+    let v : FramesValue = frames_in c.self.inside in
     let (none, stays) = c.grant_wish.ensures.refused c.if-grant_wish.false in
     let same : c.args.self.now ≡ v = sym (c.self.view_is ∙ stays) in
     rw c.close.ensures
@@ -20,7 +20,7 @@ returns-then-done-opened-clause-looks c = λ n size start m reached now asks.
 
 pub pop_bottom-requires-clause-bottom : goal.pop_bottom-requires-clause-bottom
 pop_bottom-requires-clause-bottom c =
-    let v : FramesValue = shown c.self.inside in
+    let v : FramesValue = frames_in c.self.inside in
     let (none, stays) = c.grant_wish.ensures.refused c.if-grant_wish.false in
     let same : c.args.self.now ≡ v = sym (c.self.view_is ∙ stays) in
     let (n, size, start, m, core) = subst IsFrames same c.requires.frames in
@@ -28,7 +28,7 @@ pop_bottom-requires-clause-bottom c =
 
 pub returns-clause-looks : goal.returns-clause-looks
 returns-clause-looks c = λ n size start m reached now asks.
-    let v : FramesValue = shown c.self.inside in
+    let v : FramesValue = frames_in c.self.inside in
     let (none, stays) = c.grant_wish.ensures.refused c.if-grant_wish.false in
     let same : c.args.self.now ≡ v = sym (c.self.view_is ∙ stays) in
     goes_away n size start v m record { reached = reached; are = subst (λ (x : FramesValue). AreFrames n size start x m) same now } (subst (λ (x : FramesValue). x.stack.frames ≢ []) same c.requires.top)
@@ -44,7 +44,7 @@ returns-then-grant_wish-clause-payloads c =
 pub returns-then-done-opened-clause-payloads : goal.returns-then-done-opened-clause-payloads
 returns-then-done-opened-clause-payloads c =
     let (n, size, start, m, core) = c.requires.frames in
-    bottom_held c.args.self.now.stack (shown c.self.inside).stack (is_bottom n size start c.args.self.now m core c.requires.top c.requires.phase)
+    bottom_held c.args.self.now.stack (frames_in c.self.inside).stack (is_bottom n size start c.args.self.now m core c.requires.top c.requires.phase)
 
 pub returns-clause-payloads : goal.returns-clause-payloads
 returns-clause-payloads c =

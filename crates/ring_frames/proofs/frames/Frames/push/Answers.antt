@@ -2,7 +2,7 @@ use Rattle.std.proofs.Common.{◌≡◌, true, false, refl, sym, subst}
 use Rattle.std.specs.Prelude.{Result, Err}
 use Rattle.nested_writer.specs.declared.fault.WriteFault.{WriteFault}
 use Rattle.ring_frames.specs.Value.{FramesValue}
-use Rattle.ring_frames.specs.Inside.{shown}
+use Rattle.ring_frames.specs.Inside.{frames_in}
 use Rattle.ring_frames.specs.AreFrames.{AreFrames}
 use Rattle.ring_frames.proofs.Pushes.{record_pushed, record_refused}
 use Rattle.ring_frames.specs.Answers.{KeepsPayloads}
@@ -11,16 +11,16 @@ use Rattle.ring_frames.proofs.frames.Frames.push.Goals as goal
 
 pub returns-in-Ok-clause-step : goal.returns-in-Ok-clause-step
 returns-in-Ok-clause-step c = λ n size start s reached now.
-    let are : AreFrames n size start (shown c.self.inside) s = subst (λ (x : FramesValue). AreFrames n size start x s) (sym c.self.view_is) now in
+    let are : AreFrames n size start (frames_in c.self.inside) s = subst (λ (x : FramesValue). AreFrames n size start x s) (sym c.self.view_is) now in
     let (few, fits, early) = c.in-Ok.ensures.begun.0 refl in
     rw (c.push_phase.ensures.pushed, c.push_phase.ensures.phase)
-    (record_pushed n size start (shown c.self.inside) s c.args.moment c.args.len c.begin.new.self are few fits early c.in-Ok.ensures.ok (c.in-Ok.ensures.pushed start s.history are.stack_is))
+    (record_pushed n size start (frames_in c.self.inside) s c.args.moment c.args.len c.begin.new.self are few fits early c.in-Ok.ensures.ok (c.in-Ok.ensures.pushed start s.history are.stack_is))
 
 pub returns-in-Err-clause-step : goal.returns-in-Err-clause-step
 returns-in-Err-clause-step c = λ n size start s reached now.
-    let are : AreFrames n size start (shown c.self.inside) s = subst (λ (x : FramesValue). AreFrames n size start x s) (sym c.self.view_is) now in
+    let are : AreFrames n size start (frames_in c.self.inside) s = subst (λ (x : FramesValue). AreFrames n size start x s) (sym c.self.view_is) now in
     rw c.in-Err.ensures.err
-    (record_refused n size start (shown c.self.inside) s c.args.moment c.args.len c.in-Err.fault are
+    (record_refused n size start (frames_in c.self.inside) s c.args.moment c.args.len c.in-Err.fault are
     (λ many. err_is (c.in-Err.ensures.too_deep.1 many))
     (λ few long. err_is (c.in-Err.ensures.too_long.1 (few, long)))
     (λ few fits late. err_is (c.in-Err.ensures.late.1 (few, fits, late)))
@@ -36,11 +36,11 @@ returns-in-Err-clause-step c = λ n size start s reached now.
 
 pub returns-in-Ok-clause-payloads : goal.returns-in-Ok-clause-payloads
 returns-in-Ok-clause-payloads c =
-    let v : FramesValue = shown c.self.inside in
+    let v : FramesValue = frames_in c.self.inside in
     rw c.push_phase.ensures.phase
     (subst (λ (x : FramesValue). KeepsPayloads x.stack c.begin.new.self) c.self.view_is (pushed_kept v.stack c.begin.new.self _ c.in-Ok.ensures.ok))
 
 pub returns-in-Err-clause-payloads : goal.returns-in-Err-clause-payloads
 returns-in-Err-clause-payloads c =
-    let v : FramesValue = shown c.self.inside in
+    let v : FramesValue = frames_in c.self.inside in
     subst (λ (x : FramesValue). KeepsPayloads x.stack c.begin.new.self) c.self.view_is (same_stack v.stack c.begin.new.self c.in-Err.ensures.err)

@@ -1,6 +1,6 @@
 use Rattle.std.proofs.Common.{◌≢◌, [], refl, sym, ap, ◌∙◌, subst}
 use Rattle.ring_frames.specs.Value.{FramesValue}
-use Rattle.ring_frames.specs.Inside.{shown}
+use Rattle.ring_frames.specs.Inside.{frames_in}
 use Rattle.ring_frames.specs.AreFrames.{AreFrames, HasFrames}
 use Rattle.ring_frames.specs.Phases.{closing_phase}
 use Rattle.ring_frames.specs.Steps.{IsFrames}
@@ -10,21 +10,21 @@ use Rattle.ring_frames.proofs.frames.Frames.release.Goals as goal
 
 pub drop_front-page-requires-clause-more : goal.drop_front-page-requires-clause-more
 drop_front-page-requires-clause-more c =
-    let v : FramesValue = shown c.self.inside in
+    let v : FramesValue = frames_in c.self.inside in
     let (n, size, start, m, core) = subst IsFrames (sym c.self.view_is) c.requires.frames in
     let some = subst (λ (x : FramesValue). x.stack.frames ≢ []) (sym c.self.view_is) c.requires.top in
     some_older n size start v m core some (ap (λ (x : FramesValue). x.phase) c.self.view_is ∙ c.requires.phase)
 
 pub drop_front-page-requires-clause-bottom : goal.drop_front-page-requires-clause-bottom
 drop_front-page-requires-clause-bottom c =
-    let v : FramesValue = shown c.self.inside in
+    let v : FramesValue = frames_in c.self.inside in
     let (n, size, start, m, core) = subst IsFrames (sym c.self.view_is) c.requires.frames in
     let some = subst (λ (x : FramesValue). x.stack.frames ≢ []) (sym c.self.view_is) c.requires.top in
     is_bottom n size start v m core some (ap (λ (x : FramesValue). x.phase) c.self.view_is ∙ c.requires.phase)
 
 pub returns-clause-releases : goal.returns-clause-releases
 returns-clause-releases c = λ n size start m reached now.
-    let v : FramesValue = shown c.self.inside in
+    let v : FramesValue = frames_in c.self.inside in
     let core : HasFrames n size start v m = record { reached = reached; are = subst (λ (x : FramesValue). AreFrames n size start x m) (sym c.self.view_is) now } in
     let some = subst (λ (x : FramesValue). x.stack.frames ≢ []) (sym c.self.view_is) c.requires.top in
     rw c.start_closing.ensures

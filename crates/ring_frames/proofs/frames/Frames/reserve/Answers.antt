@@ -9,13 +9,14 @@ use Rattle.nested_writer.specs.Allotted.{IsAllotted}
 use Rattle.nested_writer.specs.Answered.{IsAnswered}
 use Rattle.ring_frames.specs.declared.phase.Phase.TheVariants.{Idle}
 use Rattle.ring_frames.specs.Value.{FramesValue}
-use Rattle.ring_frames.specs.Inside.{shown}
+use Rattle.ring_frames.specs.Inside.{frames_in}
 use Rattle.ring_frames.specs.AreFrames.{AreFrames, HasFrames}
 use Rattle.ring_frames.specs.Steps.{IsFrames}
 use Rattle.ring_frames.proofs.Closing.{through_may_end, acted_none}
 use Rattle.ring_frames.proofs.Reserves.{page_noted, refused, fits_slot, fits_close, nothing_found}
 use Rattle.ring_frames.specs.Answers.{KeepsPayloads}
 use Rattle.ring_frames.proofs.Payloads.{allotted_kept, ended_kept, kept_then, zeros_reserved}
+use Rattle.nested_writer.specs.IsStack.{Stands}
 use Rattle.ring_frames.proofs.frames.Frames.reserve.Goals as goal
 
 -- there is a frame, and this one is on top
@@ -28,7 +29,7 @@ not_both fault slot e = cc
 
 pub returns-in-Ok-clause-step : goal.returns-in-Ok-clause-step
 returns-in-Ok-clause-step c = λ n size start s reached now.
-    let v : FramesValue = shown c.self.inside in
+    let v : FramesValue = frames_in c.self.inside in
     let core : HasFrames n size start v s = record { reached = reached; are = subst (λ (x : FramesValue). AreFrames n size start x s) (sym c.self.view_is) now } in
     let (top, rest, is) = some_top v.stack.frames (λ none. c.requires.top (ap (λ (x : FramesValue). x.stack.frames) (sym c.self.view_is) ∙ none)) in
     fits_slot n size start v s core (ap (λ (x : FramesValue). x.phase) c.self.view_is ∙ c.requires.phase) top rest is c.in-Ok-Fits.field-0-0 c.in-Ok-Fits.field-0-0 c.allot.new.self c.in-Ok.slot
@@ -37,8 +38,9 @@ returns-in-Ok-clause-step c = λ n size start s reached now.
     c.in-Ok.ensures.slot
 
 pub end_close-requires : goal.end_close-requires
+unfolding Stands
 end_close-requires c =
-    let v : FramesValue = shown c.self.inside in
+    let v : FramesValue = frames_in c.self.inside in
     let (n, size, start, s, core) = subst IsFrames (sym c.self.view_is) c.requires.frames in
     let (top, rest, is) = some_top v.stack.frames (λ none. c.requires.top (ap (λ (x : FramesValue). x.stack.frames) (sym c.self.view_is) ∙ none)) in
     let closing = fits_close n size start v s core (ap (λ (x : FramesValue). x.phase) c.self.view_is ∙ c.requires.phase) top rest is c.in-Ok-Fits.field-0-0 c.allot.new.self
@@ -52,7 +54,7 @@ end_close-requires c =
 
 pub returns-in-Err-top_slot-clause-step : goal.returns-in-Err-top_slot-clause-step
 returns-in-Err-top_slot-clause-step c = λ n size start s reached now.
-    let v : FramesValue = shown c.self.inside in
+    let v : FramesValue = frames_in c.self.inside in
     let core : HasFrames n size start v s = record { reached = reached; are = subst (λ (x : FramesValue). AreFrames n size start x s) (sym c.self.view_is) now } in
     let resting : v.phase ≡ Idle = ap (λ (x : FramesValue). x.phase) c.self.view_is ∙ c.requires.phase in
     let (top, rest, is) = some_top v.stack.frames (λ none. c.requires.top (ap (λ (x : FramesValue). x.stack.frames) (sym c.self.view_is) ∙ none)) in
@@ -65,7 +67,7 @@ returns-in-Err-top_slot-clause-step c = λ n size start s reached now.
 
 pub returns-in-Ok-NeedsPage-clause-step : goal.returns-in-Ok-NeedsPage-clause-step
 returns-in-Ok-NeedsPage-clause-step c = λ n size start s reached now.
-    let v : FramesValue = shown c.self.inside in
+    let v : FramesValue = frames_in c.self.inside in
     let core : HasFrames n size start v s = record { reached = reached; are = subst (λ (x : FramesValue). AreFrames n size start x s) (sym c.self.view_is) now } in
     let (top, rest, is) = some_top v.stack.frames (λ none. c.requires.top (ap (λ (x : FramesValue). x.stack.frames) (sym c.self.view_is) ∙ none)) in
     rw c.put.ensures
@@ -76,7 +78,7 @@ returns-in-Ok-NeedsPage-clause-step c = λ n size start s reached now.
 
 pub returns-in-Err-clause-step : goal.returns-in-Err-clause-step
 returns-in-Err-clause-step c = λ n size start s reached now.
-    let v : FramesValue = shown c.self.inside in
+    let v : FramesValue = frames_in c.self.inside in
     let core : HasFrames n size start v s = record { reached = reached; are = subst (λ (x : FramesValue). AreFrames n size start x s) (sym c.self.view_is) now } in
     let (top, rest, is) = some_top v.stack.frames (λ none. c.requires.top (ap (λ (x : FramesValue). x.stack.frames) (sym c.self.view_is) ∙ none)) in
     rw c.pop_phase.ensures.phase
@@ -86,21 +88,21 @@ returns-in-Err-clause-step c = λ n size start s reached now.
 
 pub returns-in-Ok-clause-payloads : goal.returns-in-Ok-clause-payloads
 returns-in-Ok-clause-payloads c =
-    let v : FramesValue = shown c.self.inside in
+    let v : FramesValue = frames_in c.self.inside in
     let (n, size, start, s, core) = subst IsFrames (sym c.self.view_is) c.requires.frames in
     subst (λ (x : FramesValue). KeepsPayloads x.stack c.allot.new.self) c.self.view_is
     (allotted_kept start s.history v.stack c.allot.new.self _ core.are.stack_is (c.in-Ok-Fits.ensures.answered start s.history core.are.stack_is) c.in-Ok-Fits.ensures.after)
 
 pub returns-in-Ok-NeedsPage-clause-payloads : goal.returns-in-Ok-NeedsPage-clause-payloads
 returns-in-Ok-NeedsPage-clause-payloads c =
-    let v : FramesValue = shown c.self.inside in
+    let v : FramesValue = frames_in c.self.inside in
     let (n, size, start, s, core) = subst IsFrames (sym c.self.view_is) c.requires.frames in
     subst (λ (x : FramesValue). KeepsPayloads x.stack c.allot.new.self) c.self.view_is
     (allotted_kept start s.history v.stack c.allot.new.self _ core.are.stack_is (c.in-Ok-NeedsPage.ensures.answered start s.history core.are.stack_is) c.in-Ok-NeedsPage.ensures.after)
 
 pub returns-in-Err-clause-payloads : goal.returns-in-Err-clause-payloads
 returns-in-Err-clause-payloads c =
-    let v : FramesValue = shown c.self.inside in
+    let v : FramesValue = frames_in c.self.inside in
     let (n, size, start, s, core) = subst IsFrames (sym c.self.view_is) c.requires.frames in
     rw c.pop_phase.ensures.phase
     (subst (λ (x : FramesValue). KeepsPayloads x.stack c.allot.new.self) c.self.view_is
@@ -108,7 +110,7 @@ returns-in-Err-clause-payloads c =
 
 pub returns-in-Ok-clause-zeros : goal.returns-in-Ok-clause-zeros
 returns-in-Ok-clause-zeros c = λ number slot is lacks on_top.
-    let v : FramesValue = shown c.self.inside in
+    let v : FramesValue = frames_in c.self.inside in
     let (n, size, start, s, core) = subst IsFrames (sym c.self.view_is) c.requires.frames in
     zeros_reserved start s.history v.stack c.allot.new.self c.in-Ok-Fits.field-0-0 core.are.stack_is
     (subst (λ (a : Allot). IsAllotted v.stack v.stack.frames (Ok a) c.allot.new.self) c.in-Ok-Fits.field-0-is c.in-Ok-Fits.ensures.after)
@@ -116,7 +118,7 @@ returns-in-Ok-clause-zeros c = λ number slot is lacks on_top.
 
 pub returns-in-Err-top_slot-clause-payloads : goal.returns-in-Err-top_slot-clause-payloads
 returns-in-Err-top_slot-clause-payloads c =
-    let v : FramesValue = shown c.self.inside in
+    let v : FramesValue = frames_in c.self.inside in
     let (n, size, start, s, core) = subst IsFrames (sym c.self.view_is) c.requires.frames in
     subst (λ (x : FramesValue). KeepsPayloads x.stack c.end_close.new.self.stack) c.self.view_is
     (kept_then v.stack c.allot.new.self c.end_close.new.self.stack

@@ -4,7 +4,7 @@ use Rattle.trace_model.specs.Steps.{steps}
 use Rattle.nested_writer.specs.declared.stack.allot.Allot.TheVariants.{Fits}
 use Rattle.ring_frames.specs.declared.answer.Answer.TheVariants.{Reserved}
 use Rattle.ring_frames.specs.Value.{FramesValue}
-use Rattle.ring_frames.specs.Inside.{shown}
+use Rattle.ring_frames.specs.Inside.{frames_in}
 use Rattle.ring_frames.specs.AreFrames.{AreFrames, HasFrames}
 use Rattle.ring_frames.specs.Answers.{KeepsPayloads}
 use Rattle.ring_frames.specs.Steps.{IsFrames, IsPrivateStep}
@@ -17,7 +17,7 @@ use Rattle.ring_frames.proofs.frames.Frames.reserve_plain.Goals as goal
 
 pub returns-clause-step : goal.returns-clause-step
 returns-clause-step c = λ n size start s reached now.
-    let v : FramesValue = shown c.self.inside in
+    let v : FramesValue = frames_in c.self.inside in
     let core : HasFrames n size start v s = record { reached = reached; are = subst (λ (x : FramesValue). AreFrames n size start x s) (sym c.self.view_is) now } in
     let plain = subst (λ (x : FramesValue). IsPlainTop x.stack c.args.pushed) (sym c.self.view_is) c.requires.plain in
     let (slot, on_top, number) = c.reserve_plain.ensures.slot in
@@ -28,7 +28,7 @@ returns-clause-step c = λ n size start s reached now.
 
 pub returns-clause-payloads : goal.returns-clause-payloads
 returns-clause-payloads c =
-    let v : FramesValue = shown c.self.inside in
+    let v : FramesValue = frames_in c.self.inside in
     let (n, size, start, s, core) = subst IsFrames (sym c.self.view_is) c.requires.frames in
     let (place, allotted) = c.reserve_plain.ensures.after in
     let (other, answered) = c.reserve_plain.ensures.answered start s.history core.are.stack_is in
@@ -37,7 +37,7 @@ returns-clause-payloads c =
 
 pub returns-clause-zeros : goal.returns-clause-zeros
 returns-clause-zeros c = λ number slot is lacks on_top.
-    let v : FramesValue = shown c.self.inside in
+    let v : FramesValue = frames_in c.self.inside in
     let (n, size, start, s, core) = subst IsFrames (sym c.self.view_is) c.requires.frames in
     zeros_reserved start s.history v.stack c.reserve_plain.new.self _ core.are.stack_is c.reserve_plain.ensures.after.1
     (subst (λ (x : FramesValue). LacksSlot x.stack.frames) (sym c.self.view_is) lacks) slot on_top

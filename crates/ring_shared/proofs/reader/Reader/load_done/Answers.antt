@@ -43,7 +43,7 @@ returns-then-done-fill-clause-reader c =
     let read = subst (λ (w : ReaderValue). IsRead w.shape w.part (λ core. core.done ≡ done) after) c.self.view_is c.load_done-done.ensures.step in
     let at = c.requires.reader.phase_is ∙ ap reader_phase_of c.requires.phase in
     let old = fields _ v c.self.view_is c.requires.reader in
-    shown _ v c.self.view_is c.requires.reader new.shape (reader_table new) after (record v.part.reader { phase = ring.loading_link; seen = done }) _ c.requires.anew c.load_done-done.ensures.shape
+    shown _ v c.self.view_is c.requires.reader new.shape (reader_table new) after (record v.part.reader { phase = ring.loading_link; seen = done }) _ c.requires.again c.load_done-done.ensures.shape
     (finds_none v.shape v.part after (λ core. core.done ≡ done) read.0 read.1 c.args.page c.args.fill at done read.1.seen c.if-done-fill.true).0 (refl, old.1, refl, old.3) tt tt
 
 pub returns-clause-turn : goal.returns-clause-turn
@@ -63,7 +63,7 @@ returns-clause-reader c =
     let old = fields _ v c.self.view_is c.requires.reader in
     let more = c.if-done-fill.false in
     let no_slot = c.load_done-done.ensures.spare ∙ (ap (λ (w : ReaderValue). w.part.keeps_spare) c.self.view_is ∙ subst (λ (p : ReaderPhase). KeepsSlot p v.part.keeps_spare) c.requires.phase c.requires.reader.keeps) in
-    shown _ v c.self.view_is c.requires.reader new.shape (reader_table new) after (record v.part.reader { phase = ring.storing_link c.args.page c.args.fill; seen = done }) _ c.requires.anew c.load_done-done.ensures.shape
+    shown _ v c.self.view_is c.requires.reader new.shape (reader_table new) after (record v.part.reader { phase = ring.storing_link c.args.page c.args.fill; seen = done }) _ c.requires.again c.load_done-done.ensures.shape
     (finds_closed v.shape v.part after (λ core. core.done ≡ done) read.0 read.1 c.args.page c.args.fill at done read.1.seen (omega arith)).0 (refl, old.1, refl, old.3) no_slot (subst SawPage c.requires.phase c.requires.reader.saw)
 
 -- ---- what the model answers

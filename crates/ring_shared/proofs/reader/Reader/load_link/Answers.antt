@@ -39,7 +39,7 @@ returns-in-Header-clause-reader c =
     let read = subst (λ (w : ReaderValue). IsRead w.shape w.part (SeesLink w l) after) c.self.view_is c.load_link-mark.ensures.step in
     let at = c.requires.reader.phase_is ∙ ap reader_phase_of c.requires.phase in
     let old = fields _ v c.self.view_is c.requires.reader in
-    shown _ v c.self.view_is c.requires.reader new.shape (reader_table new) after (record v.part.reader { phase = ring.loading_done l.page l.fill; hint = l.fill }) _ c.requires.anew c.load_link-mark.ensures.shape
+    shown _ v c.self.view_is c.requires.reader new.shape (reader_table new) after (record v.part.reader { phase = ring.loading_done l.page l.fill; hint = l.fill }) _ c.requires.again c.load_link-mark.ensures.shape
     (at_header v l after read at c.in-Header.is).0 (refl, refl, old.2, old.3) c.load_link-mark.ensures.spare c.load_link-mark.ensures.fits.page_fits
 
 pub returns-in-Update-clause-turn : goal.returns-in-Update-clause-turn
@@ -57,7 +57,7 @@ returns-in-Update-clause-reader c =
     let at = c.requires.reader.phase_is ∙ ap reader_phase_of c.requires.phase in
     let old = fields _ v c.self.view_is c.requires.reader in
     let link : c.self.inside.at.phase ≡ LoadingLink = ap (λ (w : ReaderValue). w.at.phase) c.self.view_is ∙ c.requires.phase in
-    shown _ v c.self.view_is c.requires.reader new.shape (reader_table new) after (record v.part.reader { phase = ring.loading_link; hint = l.fill + 1 }) _ c.requires.anew c.load_link-mark.ensures.shape
+    shown _ v c.self.view_is c.requires.reader new.shape (reader_table new) after (record v.part.reader { phase = ring.loading_link; hint = l.fill + 1 }) _ c.requires.again c.load_link-mark.ensures.shape
     (at_update v l after read at c.in-Update.is).0 (ap reader_phase_of (sym link), refl, old.2, old.3) (subst (λ (p : ReaderPhase). KeepsSlot p after.keeps_spare) (sym link) tt) (subst SawPage (sym link) tt)
 
 pub returns-in-Normal-clause-turn : goal.returns-in-Normal-clause-turn
@@ -86,7 +86,7 @@ returns-in-Normal-2-clause-reader c =
     let old = fields _ v c.self.view_is c.requires.reader in
     let link : c.self.inside.at.phase ≡ LoadingLink = ap (λ (w : ReaderValue). w.at.phase) c.self.view_is ∙ c.requires.phase in
     let pages : c.len-pages.result ≡ v.shape.pages = c.len-pages.ensures ∙ (c.self.inside.order.ok.0 ∙ (ap (λ (w : ReaderValue). length w.order) c.self.view_is ∙ positions v c.requires.reader)) in
-    shown _ v c.self.view_is c.requires.reader new.shape (reader_table new) after (record v.part.reader { phase = ring.loading_link; hint = l.fill + 1 - v.shape.pages }) _ c.requires.anew c.load_link-mark.ensures.shape
+    shown _ v c.self.view_is c.requires.reader new.shape (reader_table new) after (record v.part.reader { phase = ring.loading_link; hint = l.fill + 1 - v.shape.pages }) _ c.requires.again c.load_link-mark.ensures.shape
     (at_passed v l after read at c.in-Normal-2.is (λ e. c.if-fill-hint.false (e ∙ old.1))).0
     (ap reader_phase_of (sym link), ap (λ (n : ℕ). l.fill + 1 - n) (sym pages), old.2, old.3) (subst (λ (p : ReaderPhase). KeepsSlot p after.keeps_spare) (sym link) tt) (subst SawPage (sym link) tt)
 

@@ -9,7 +9,7 @@ use Rattle.ring_shared.proofs.Onward.{nothing_yet, nothing_more, answered, given
 use Rattle.ring_shared.proofs.reader.Reader.look.Goals as goal
 
 pub loop-made-init : goal.loop-made-init
-loop-made-init c = record { reader = c.requires.reader; ring = (refl, refl); made = no_step; nothing = nothing_yet c.args.self.now.part; empty_at = c.requires.anew; body = refl }
+loop-made-init c = record { reader = c.requires.reader; ring = (refl, refl); made = no_step; nothing = nothing_yet c.args.self.now.part; empty_at = c.requires.again; body = refl }
 
 pub loop-made-preserved : goal.loop-made-preserved
 loop-made-preserved c = let kept = c.loop-made.invariant in let turn = c.in-Looking.ensures.turn in record {

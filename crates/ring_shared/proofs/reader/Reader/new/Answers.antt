@@ -4,7 +4,7 @@ use Rattle.ring_shared.proofs.FirstReader.{first_part}
 use Rattle.ring_shared.proofs.reader.Reader.new.Goals as goal
 
 pub returns : goal.returns
-returns c = let first = c.requires.anew in record {
+returns c = let first = c.requires.again in record {
   shape_is = refl;
   table_is = refl;
   part_is = first;

@@ -26,7 +26,7 @@ returns-clause-reader c =
     let read = subst (λ (w : ReaderValue). IsRead w.shape w.part (λ core. ⊤) after) c.self.view_is c.store_spare_link.ensures.step in
     let at = c.requires.reader.phase_is ∙ ap reader_phase_of c.requires.phase in
     let old = fields _ v c.self.view_is c.requires.reader in
-    shown _ v c.self.view_is c.requires.reader new.shape (reader_table new) after (record v.part.reader { phase = ring.swapping c.args.page c.args.fill }) _ c.requires.anew c.store_spare_link.ensures.shape
+    shown _ v c.self.view_is c.requires.reader new.shape (reader_table new) after (record v.part.reader { phase = ring.swapping c.args.page c.args.fill }) _ c.requires.again c.store_spare_link.ensures.shape
     (stores v.shape v.part after (λ core. ⊤) read.0 read.1 c.args.page c.args.fill at) (refl, old.1, old.2, old.3) c.store_spare_link.ensures.spare (subst SawPage c.requires.phase c.requires.reader.saw)
 
 pub returns-clause-answered : goal.returns-clause-answered

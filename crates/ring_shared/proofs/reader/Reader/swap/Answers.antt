@@ -47,7 +47,7 @@ returns-in-Ok-clause-reader c =
       expected_is = ap (λ (x : ring.Reader). x.expected) h.reader_is ∙ (λ i. sym c.first-first.ensures i + sym c.count.ensures.count i);
       keeps = tt;
       saw = tt;
-      empty = λ done e. (let none : c.self.inside.empty_at ≡ None = ap (λ (w : ReaderValue). w.empty_at) c.self.view_is ∙ c.requires.anew in let both = sym none ∙ e in absurd (cc));
+      empty = λ done e. (let none : c.self.inside.empty_at ≡ None = ap (λ (w : ReaderValue). w.empty_at) c.self.view_is ∙ c.requires.again in let both = sym none ∙ e in absurd (cc));
     }
 
 pub returns-in-Err-clause-turn : goal.returns-in-Err-clause-turn
@@ -66,7 +66,7 @@ returns-in-Err-clause-reader c =
     let h = subst (λ (w : ReaderValue). HeadMissed w.shape w.part c.args.page c.args.fill after) c.self.view_is c.in-Err.ensures.missed in
     let at = c.requires.reader.phase_is ∙ ap reader_phase_of c.requires.phase in
     let old = fields _ v c.self.view_is c.requires.reader in
-    shown _ v c.self.view_is c.requires.reader new.shape (reader_table new) after (record v.part.reader { phase = ring.loading_link; hint = c.args.fill + 1 }) _ c.requires.anew c.swap-swapped.ensures.shape
+    shown _ v c.self.view_is c.requires.reader new.shape (reader_table new) after (record v.part.reader { phase = ring.loading_link; hint = c.args.fill + 1 }) _ c.requires.again c.swap-swapped.ensures.shape
     (misses v.shape v.part c.args.page c.args.fill after at h).0 (refl, refl, old.2, old.3) tt tt
 
 -- ---- what the model answers

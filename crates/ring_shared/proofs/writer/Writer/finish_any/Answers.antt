@@ -3,33 +3,33 @@ use Rattle.std.proofs.Common.{◌≡◌, sym, ◌∙◌, subst}
 use Rattle.nested_writer.specs.declared.frame.Frame as stack
 use Rattle.nested_writer.specs.Calls.{top_of}
 use Rattle.ring_frames.specs.declared.answer.Answer.{Answer}
-use Rattle.ring_shared.specs.declared.writer.finish.Aim.{Aim}
+use Rattle.ring_shared.specs.declared.writer.finish.Target.{Target}
 use Rattle.ring_shared.specs.Value.{WriterValue}
-use Rattle.ring_shared.specs.Finishing.{IsAim, Finishes}
-use Rattle.ring_shared.proofs.Aims.{reserving_on_top, leaving_on_top, finishes_reserving, finishes_leaving, finishes_step}
+use Rattle.ring_shared.specs.Finishing.{IsTarget, Finishes}
+use Rattle.ring_shared.proofs.Targets.{reserving_on_top, leaving_on_top, finishes_reserving, finishes_leaving, finishes_step}
 use Rattle.ring_shared.proofs.FinishParts.{gone_unrefused, reserving_tells, number_or_refused, finished_so}
 use Rattle.ring_shared.proofs.TopAnswers.{step_tells}
 use Rattle.ring_shared.proofs.WholeWrites.{met_refusal, not_refused}
 use Rattle.ring_shared.proofs.writer.Writer.finish_any.Goals as goal
 
--- the aim is that of the stack's top
-aims : (top : Option stack.Frame) (v now : WriterValue) (found to : Aim) → top ≡ top_of v.frames.stack.frames → v ≡ now → IsAim top found → found ≡ to → IsAim (top_of now.frames.stack.frames) to
-aims top v now found to at same is e =
-    subst (λ (x : WriterValue). IsAim (top_of x.frames.stack.frames) to) same (subst (λ (t : Option stack.Frame). IsAim t to) at (subst (IsAim top) e is))
+-- the target is that of the stack's top
+targets : (top : Option stack.Frame) (v now : WriterValue) (found to : Target) → top ≡ top_of v.frames.stack.frames → v ≡ now → IsTarget top found → found ≡ to → IsTarget (top_of now.frames.stack.frames) to
+targets top v now found to at same is e =
+    subst (λ (x : WriterValue). IsTarget (top_of x.frames.stack.frames) to) same (subst (λ (t : Option stack.Frame). IsTarget t to) at (subst (IsTarget top) e is))
 
 pub reserve_top-requires-clause-top : goal.reserve_top-requires-clause-top
 reserve_top-requires-clause-top c =
-    let t = reserving_on_top c.args.self.now c.requires.writer (aims c.top.result _ c.args.self.now c.aim_of.result _ c.top.ensures c.self.view_is c.aim_of.ensures c.in-Record.is) in
+    let t = reserving_on_top c.args.self.now c.requires.writer (targets c.top.result _ c.args.self.now c.target_of.result _ c.top.ensures c.self.view_is c.target_of.ensures c.in-Record.is) in
     (t.frame, t.below, t.top, t.is)
 
 pub leave_on-requires-clause-top : goal.leave_on-requires-clause-top
 leave_on-requires-clause-top c =
-    let t = leaving_on_top c.args.self.now c.requires.writer (aims c.top.result _ c.args.self.now c.aim_of.result _ c.top.ensures c.self.view_is c.aim_of.ensures c.in-End.is) in
+    let t = leaving_on_top c.args.self.now c.requires.writer (targets c.top.result _ c.args.self.now c.target_of.result _ c.top.ensures c.self.view_is c.target_of.ensures c.in-End.is) in
     (t.frame, t.below, t.top, t.is)
 
 pub brief-requires : goal.brief-requires
 brief-requires c =
-    let t = reserving_on_top c.args.self.now c.requires.writer (aims c.top.result _ c.args.self.now c.aim_of.result _ c.top.ensures c.self.view_is c.aim_of.ensures c.in-Record.is) in
+    let t = reserving_on_top c.args.self.now c.requires.writer (targets c.top.result _ c.args.self.now c.target_of.result _ c.top.ensures c.self.view_is c.target_of.ensures c.in-Record.is) in
     number_or_refused c.reserve_top.result c.reserve_top.new.self.part.frames
     (reserving_tells t.frame.kind t.below c.reserve_top.result c.reserve_top.new.self.part.frames (c.reserve_top.ensures.reserves t.frame t.below t.top).ends)
 
@@ -38,12 +38,12 @@ brief-requires-in-Step c =
     let v : WriterValue = c.args.self.now in
     number_or_refused c.step.result c.step.new.self.part.frames
     (step_tells v c.requires.writer c.step.result c.step.new.self.part
-    (aims c.top.result _ v c.aim_of.result _ c.top.ensures c.self.view_is c.aim_of.ensures c.in-Step.is) c.step.ensures.makes.call)
+    (targets c.top.result _ v c.target_of.result _ c.top.ensures c.self.view_is c.target_of.ensures c.in-Step.is) c.step.ensures.makes.call)
 
 pub returns-in-Record-clause-finished : goal.returns-in-Record-clause-finished
 returns-in-Record-clause-finished c =
     let v : WriterValue = c.args.self.now in let new : WriterValue = c.reserve_top.new.self in
-    let t = reserving_on_top v c.requires.writer (aims c.top.result _ v c.aim_of.result _ c.top.ensures c.self.view_is c.aim_of.ensures c.in-Record.is) in
+    let t = reserving_on_top v c.requires.writer (targets c.top.result _ v c.target_of.result _ c.top.ensures c.self.view_is c.target_of.ensures c.in-Record.is) in
     finished_so v new c.reserve_top.ensures.writer c.reserve_top.result c.brief.result c.brief.ensures
     (reserving_tells t.frame.kind t.below c.reserve_top.result new.part.frames (c.reserve_top.ensures.reserves t.frame t.below t.top).ends)
     (finishes_reserving v.shape v.part c.reserve_top.result new.part t c.reserve_top.ensures.reserves)
@@ -54,7 +54,7 @@ returns-in-Some-clause-finished c =
     let (answer, told, how, leaves) = c.leave_on.ensures.leaves in
     subst (λ (x : Answer). Finishes v.shape v.part x new.part) (met_refusal answer c.in-Some.fault (sym told ∙ c.in-Some.is))
     (finishes_leaving v.shape v.part answer new.part
-    (leaving_on_top v c.requires.writer (aims c.top.result _ v c.aim_of.result _ c.top.ensures c.self.view_is c.aim_of.ensures c.in-End.is)) leaves)
+    (leaving_on_top v c.requires.writer (targets c.top.result _ v c.target_of.result _ c.top.ensures c.self.view_is c.target_of.ensures c.in-End.is)) leaves)
 
 pub returns-in-None-clause-finished : goal.returns-in-None-clause-finished
 returns-in-None-clause-finished c =
@@ -63,13 +63,13 @@ returns-in-None-clause-finished c =
     subst (λ (x : Answer). Finishes v.shape v.part x new.part)
     (gone_unrefused answer how (not_refused answer (λ f e. let both : None ≡ Some f = sym c.in-None.is ∙ (told ∙ e) in cc)))
     (finishes_leaving v.shape v.part answer new.part
-    (leaving_on_top v c.requires.writer (aims c.top.result _ v c.aim_of.result _ c.top.ensures c.self.view_is c.aim_of.ensures c.in-End.is)) leaves)
+    (leaving_on_top v c.requires.writer (targets c.top.result _ v c.target_of.result _ c.top.ensures c.self.view_is c.target_of.ensures c.in-End.is)) leaves)
 
 pub returns-in-Step-clause-finished : goal.returns-in-Step-clause-finished
 returns-in-Step-clause-finished c =
     let v : WriterValue = c.args.self.now in let new : WriterValue = c.step.new.self in
-    let aim = aims c.top.result _ v c.aim_of.result _ c.top.ensures c.self.view_is c.aim_of.ensures c.in-Step.is in
+    let target = targets c.top.result _ v c.target_of.result _ c.top.ensures c.self.view_is c.target_of.ensures c.in-Step.is in
     let makes = c.step.ensures.makes in
     finished_so v new makes.writer c.step.result c.brief-in-Step.result c.brief-in-Step.ensures
-    (step_tells v c.requires.writer c.step.result new.part aim makes.call)
-    (finishes_step v c.requires.writer c.step.result new.part aim makes.call)
+    (step_tells v c.requires.writer c.step.result new.part target makes.call)
+    (finishes_step v c.requires.writer c.step.result new.part target makes.call)

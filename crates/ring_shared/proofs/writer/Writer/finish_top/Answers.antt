@@ -7,12 +7,12 @@ use Rattle.nested_writer.specs.declared.frame.Pushed.{Pushed}
 use Rattle.nested_writer.specs.PlainTop.{IsPlainTop}
 use Rattle.ring_frames.specs.declared.answer.Answer.TheVariants.{Reserved, Gone}
 use Rattle.ring_frames.specs.declared.phase.Phase.TheVariants.{Wishing}
-use Rattle.ring_shared.specs.declared.writer.finish.Aim.TheVariants as aim
+use Rattle.ring_shared.specs.declared.writer.finish.Target.TheVariants as target
 use Rattle.ring_shared.specs.Value.{WriterValue}
 use Rattle.ring_shared.specs.Calls.{IsWriter}
-use Rattle.ring_shared.specs.Finishing.{IsAim}
+use Rattle.ring_shared.specs.Finishing.{IsTarget}
 use Rattle.ring_shared.specs.contracts.writer.Writer.{the_view}
-use Rattle.ring_shared.proofs.Aims.{IsOnTop, reserving_on_top, finishes_reserving, finishes_leaving}
+use Rattle.ring_shared.proofs.Targets.{IsOnTop, reserving_on_top, finishes_reserving, finishes_leaving}
 use Rattle.ring_shared.proofs.Depths.{reserving_top}
 use Rattle.ring_shared.proofs.Finishes.{reserving_first, reserving_ends}
 use Rattle.ring_shared.proofs.Rooms.{finished_rooms, finished_gone}
@@ -28,7 +28,7 @@ pub returns-in-Some-clause-finished : goal.returns-in-Some-clause-finished
 returns-in-Some-clause-finished c =
     let v : WriterValue = c.args.self.now in let new : WriterValue = c.reserve_plain.new.self in
     let plain : IsPlainTop v.frames.stack c.in-Some.pushed = subst (λ (x : WriterValue). IsPlainTop x.frames.stack c.in-Some.pushed) c.self.view_is (some_in c.plain_top.result c.in-Some.pushed (λ pushed. IsPlainTop c.self.inside.frames.stack pushed) c.in-Some.is c.plain_top.ensures) in
-    let t = reserving_on_top v c.requires.writer (subst (λ (fs : List stack.Frame). IsAim (top_of fs) aim.Record) (sym plain.on_top) tt) in
+    let t = reserving_on_top v c.requires.writer (subst (λ (fs : List stack.Frame). IsTarget (top_of fs) target.Record) (sym plain.on_top) tt) in
     finishes_reserving v.shape v.part (Reserved c.reserve_plain.result) new.part t
     (λ frame below top. reserving_ends v.shape frame.kind below v.part v.part new.part (Reserved c.reserve_plain.result)
     (reserving_first v.shape frame below v.part top (reserving_top v.part.frames t.frame frame t.below below t.top t.is top)) c.reserve_plain.ensures.makes.call (λ e. cc))

@@ -2,7 +2,7 @@ use Rattle.std.proofs.Common.{◌≡◌, ℕ, ◌+◌, ◌-◌, ◌≤◌, Some,
 use Rattle.trace_model.specs.Links.{Link, normal_link}
 use Rattle.trace_model.specs.Frames.{Phase as ModelPhase, looking_next, noted_fill}
 use Rattle.trace_model.specs.Steps as model
-use Rattle.trace_model.specs.Steps.{GoesOn}
+use Rattle.trace_model.specs.Steps.{MayOpen}
 use Rattle.link_marks.specs.declared.link.Mark.{Mark}
 use Rattle.link_marks.specs.ModelLinks.{mark_of, link_of}
 use Rattle.ring_steps.specs.Views.{Writing, writing_of}
@@ -53,7 +53,7 @@ load_next-link-requires-clause-phase c =
       role = role_of c.args.role;
       noted = c.args.noted;
       phase = phase_shown v w (looking_next (role_of c.args.role) c.args.noted c.args.page) some at;
-      goes_on = subst (GoesOn (role_of c.args.role) c.args.noted) (opened_now v w) (c.stops.ensures.goes_on c.if-stops.false);
+      goes_on = subst (MayOpen (role_of c.args.role) c.args.noted) (opened_now v w) (c.stops.ensures.goes_on c.if-stops.false);
       behind_is = omega arith;
     }
 
@@ -66,7 +66,7 @@ returns-clause-makes c =
     let at : phase_of v.frames.phase ≡ from = phase_seen c.self.view_is c.requires.phase in
     let new : WriterValue = the_view record { seat = c.load_next-link.new.self; frames = c.go_on.new.self; pages = c.self.inside.pages } in
     let s = c.load_next-link.ensures.step in
-    let on : GoesOn (role_of c.args.role) c.args.noted s.core.opened = subst (GoesOn (role_of c.args.role) c.args.noted)
+    let on : MayOpen (role_of c.args.role) c.args.noted s.core.opened = subst (MayOpen (role_of c.args.role) c.args.noted)
     (opened_now v w ∙ ap (λ (p : Writing). p.opened) (sym s.before_is)) (c.stops.ensures.goes_on c.if-stops.false) in
     let pages : c.pages.result ≡ v.shape.pages = c.pages.ensures.pages ∙ w.frames_are.pages_is in
     let round : v.shape.pages ≤ c.args.noted = advances v w from some at in

@@ -1,7 +1,7 @@
 use Rattle.std.proofs.Common.{◌≡◌, ◌≤◌, refl, sym, ap, ◌∙◌, subst, arith}
 use Rattle.trace_model.specs.Frames.{Phase as ModelPhase, marking, noted_fill}
 use Rattle.trace_model.specs.Steps as model
-use Rattle.trace_model.specs.Steps.{GoesOn}
+use Rattle.trace_model.specs.Steps.{MayOpen}
 use Rattle.ring_steps.specs.Views.{Writing, writing_of}
 use Rattle.ring_frames.specs.declared.phase.Phase.{Phase}
 use Rattle.ring_frames.specs.Phases.{told}
@@ -47,7 +47,7 @@ mark_next-marked-requires-clause-phase c =
       role = role_of c.args.role;
       noted = c.args.noted;
       phase = phase_shown v w (marking (role_of c.args.role) c.args.noted c.args.page c.args.next) some at;
-      goes_on = subst (GoesOn (role_of c.args.role) c.args.noted) (opened_now v w) (c.stops.ensures.goes_on c.if-stops.false);
+      goes_on = subst (MayOpen (role_of c.args.role) c.args.noted) (opened_now v w) (c.stops.ensures.goes_on c.if-stops.false);
       behind_is = omega arith;
     }
 
@@ -69,7 +69,7 @@ returns-clause-makes c =
     let at : phase_of v.frames.phase ≡ from = phase_seen c.self.view_is c.requires.phase in
     let new : WriterValue = the_view record { seat = c.mark_next-marked.new.self; frames = c.go_on.new.self; pages = c.self.inside.pages } in
     let s = c.mark_next-marked.ensures.step in
-    let on : GoesOn (role_of c.args.role) c.args.noted s.core.opened = subst (GoesOn (role_of c.args.role) c.args.noted)
+    let on : MayOpen (role_of c.args.role) c.args.noted s.core.opened = subst (MayOpen (role_of c.args.role) c.args.noted)
     (opened_now v w ∙ ap (λ (p : Writing). p.opened) (sym s.before_is)) (c.stops.ensures.goes_on c.if-stops.false) in
     let next : Phase = c.after_next.result in
     as_called v c.args.self.now new (told c.go_on.result) c.self.view_is (ap told c.go_on.ensures.answer)

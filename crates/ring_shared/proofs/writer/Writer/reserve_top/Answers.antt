@@ -4,7 +4,7 @@ use Rattle.ring_steps.specs.declared.rule.Shape.{Shape}
 use Rattle.ring_shared.specs.Value.{WriterValue}
 use Rattle.ring_shared.specs.Nearer.{rank_of}
 use Rattle.ring_shared.specs.Finishing.{Reserves}
-use Rattle.ring_shared.proofs.Aims.{lacks_slot}
+use Rattle.ring_shared.proofs.Targets.{lacks_slot}
 use Rattle.ring_shared.proofs.Depths.{reserving_top}
 use Rattle.ring_shared.proofs.Finishes.{IsAmidReserving, reserving_unnumbered, reserving_first, reserving_on, reserving_stands, reserving_ends, call_in, same_writer}
 use Rattle.ring_shared.proofs.Turning.{amid_turned, same_turned}

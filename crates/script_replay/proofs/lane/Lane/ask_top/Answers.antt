@@ -5,7 +5,7 @@ use Rattle.nested_writer.specs.Stack.{Stack}
 use Rattle.nested_writer.specs.Lending.{IsLent}
 use Rattle.ring_frames.specs.Answers.{top_bytes}
 use Rattle.ring_core.specs.Steps.{Makes}
-use Rattle.script_replay.specs.Value.{LaneValue, shown}
+use Rattle.script_replay.specs.Value.{LaneValue, lane_of}
 use Rattle.script_replay.specs.Lanes.{IsLane}
 use Rattle.script_replay.specs.Frames.{AsksTop}
 use Rattle.script_replay.proofs.FrameTops.{HasTopPayload, has_top_payload, has_room, last_of, is_first, top_has_place, asked_step, asked_end}
@@ -14,14 +14,14 @@ use Rattle.script_replay.proofs.lane.Lane.ask_top.Goals as goal
 -- the frame on top has no slot
 pub returns-in_default-clause-step : goal.returns-in_default-clause-step
 returns-in_default-clause-step c =
-    let v : LaneValue = shown c.self.inside in
+    let v : LaneValue = lane_of c.self.inside in
     subst (λ (x : LaneValue). AsksTop x c.step.result c.step.new.self) c.self.view_is
     (asked_step v c.step.result c.step.new.self
     (λ slot top. let no : false ≡ true = c.in_default.ensures.held slot.place (top_has_place v.core.stack.frames slot top) in absurd (let e = no in cc)) c.step.ensures.step)
 
 pub overflow_sub-len : goal.overflow_sub-len
 overflow_sub-len c =
-    let v : LaneValue = shown c.self.inside in
+    let v : LaneValue = lane_of c.self.inside in
     let lent : IsLent v.core.stack c.in-Ok.slot.now = c.in-Ok.ensures.lent in
     let (cpu, (n, size, start, lane, now)) = c.requires in
     let is : IsLane n size start cpu v lane =
@@ -35,7 +35,7 @@ overflow_sub-len c =
 
 pub index-payload-requires : goal.index-payload-requires
 index-payload-requires c =
-    let v : LaneValue = shown c.self.inside in
+    let v : LaneValue = lane_of c.self.inside in
     let lent : IsLent v.core.stack c.in-Ok.slot.now = c.in-Ok.ensures.lent in
     let (cpu, (n, size, start, lane, now)) = c.requires in
     let is : IsLane n size start cpu v lane =
@@ -49,7 +49,7 @@ index-payload-requires c =
 
 pub put_padded-requires : goal.put_padded-requires
 put_padded-requires c =
-    let v : LaneValue = shown c.self.inside in
+    let v : LaneValue = lane_of c.self.inside in
     let lent : IsLent v.core.stack c.in-Ok.slot.now = c.in-Ok.ensures.lent in
     let (cpu, (n, size, start, lane, now)) = c.requires in
     let is : IsLane n size start cpu v lane =
@@ -66,7 +66,7 @@ put_padded-requires c =
 
 pub returns-clause-step : goal.returns-clause-step
 returns-clause-step c =
-    let v : LaneValue = shown c.self.inside in
+    let v : LaneValue = lane_of c.self.inside in
     let lent : IsLent v.core.stack c.in-Ok.slot.now = c.in-Ok.ensures.lent in
     let (cpu, (n, size, start, lane, now)) = c.requires in
     let is : IsLane n size start cpu v lane =

@@ -1,0 +1,93 @@
+//! The lines that the program writes to standard error.
+ghost use Rattle.std.specs.Prelude.{◌≡◌, ◌≢◌, ◌<◌, ◌≤◌, true, false, MatchOption};
+ghost use Rattle.command_io.specs.Ends.{count_of, has_failed};
+
+use crate::ends::Std;
+use crate::status::{END_FAILED, USAGE};
+use std::io::{Read, Write};
+use trace_model::MAX_INPUT;
+
+/// How the program is called.
+pub const USAGE_LINE: &str = "usage: tracering replay [--log] | run | dump";
+
+/// The input couldn't be read to its end.
+pub const READ_FAILED: &str = "tracering: reading failed";
+
+/// The output couldn't be written, or only a beginning of it.
+pub const WRITE_FAILED: &str = "tracering: writing failed";
+
+/// The input is longer than `MAX_INPUT`.
+pub const INPUT_TOO_LONG: &str = "tracering: the input is longer than 268435456 bytes";
+
+/// Why a command gives the exit status 4, if it isn't for its output.
+#[derive(Clone, Copy, Debug, PartialEq, Eq)]
+pub enum EndFault {
+    /// A read failed.
+    Read,
+    /// A write failed.
+    Write,
+    /// Neither did: more was read than may be.
+    TooLong,
+}
+
+impl EndFault {
+    /// The fault of a command over these two ends, which gave the exit status 4. There is none if neither end failed
+    /// and no more was read than may be: then the command printed the line of its fault.
+    pub fn of_ends<R: Read, W: Write>(input: &Std<R>, output: &Std<W>) -> Option<EndFault>
+        ensures read { has_failed input.now ≡ true → result ≡ Some EndFault.Read }
+        ensures write { has_failed input.now ≡ false → has_failed output.now ≡ true
+            → result ≡ Some EndFault.Write }
+        ensures too_long { has_failed input.now ≡ false → has_failed output.now ≡ false
+            → MAX_INPUT < count_of input.now → result ≡ Some EndFault.TooLong }
+        ensures none { has_failed input.now ≡ false → has_failed output.now ≡ false
+            → count_of input.now ≤ MAX_INPUT → result ≡ None }
+    {
+        if input.has_failed() {
+            Some(EndFault::Read)
+        } else if output.has_failed() {
+            Some(EndFault::Write)
+        } else if input.count() > MAX_INPUT as u64 {
+            Some(EndFault::TooLong)
+        } else {
+            None
+        }
+    }
+
+    /// The line that states it.
+    pub fn message(self) -> &'static str
+        ensures read { self ≡ EndFault.Read → result.now ≡ READ_FAILED.now }
+        ensures write { self ≡ EndFault.Write → result.now ≡ WRITE_FAILED.now }
+        ensures too_long { self ≡ EndFault.TooLong → result.now ≡ INPUT_TOO_LONG.now }
+    {
+        match self {
+            EndFault::Read => READ_FAILED,
+            EndFault::Write => WRITE_FAILED,
+            EndFault::TooLong => INPUT_TOO_LONG,
+        }
+    }
+}
+
+/// The line of standard error for an exit status and the ends of the command that gave it. There is none if the work is
+/// done, or if what is wrong was printed.
+pub fn message_for<R: Read, W: Write>(
+    status: u8,
+    input: &Std<R>,
+    output: &Std<W>,
+) -> Option<&'static str>
+    ensures usage { status ≡ USAGE → MatchOption result ⊥ (λ line. line.now ≡ USAGE_LINE.now) }
+    ensures read { status ≡ END_FAILED → has_failed input.now ≡ true
+        → MatchOption result ⊥ (λ line. line.now ≡ READ_FAILED.now) }
+    ensures write { status ≡ END_FAILED → has_failed input.now ≡ false → has_failed output.now ≡ true
+        → MatchOption result ⊥ (λ line. line.now ≡ WRITE_FAILED.now) }
+    ensures too_long { status ≡ END_FAILED → has_failed input.now ≡ false → has_failed output.now ≡ false
+        → MAX_INPUT < count_of input.now → MatchOption result ⊥ (λ line. line.now ≡ INPUT_TOO_LONG.now) }
+    ensures printed { status ≡ END_FAILED → has_failed input.now ≡ false → has_failed output.now ≡ false
+        → count_of input.now ≤ MAX_INPUT → result ≡ None }
+    ensures none { status ≢ USAGE → status ≢ END_FAILED → result ≡ None }
+{
+    match status {
+        USAGE => Some(USAGE_LINE),
+        END_FAILED => EndFault::of_ends(input, output).map(|fault| fault.message()),
+        _ => None,
+    }
+}

@@ -1,0 +1,64 @@
+-- A text has one output: what a command gives for it are the same bytes, with the same exit status.
+use Rattle.std.proofs.Common.{◌≡◌, ℕ, Bool, List, inl, inr, sym, ap, subst, ◌∙◌}
+use Rattle.std.specs.List.{AllZip}
+use Rattle.text_model.specs.Script.{LineFault}
+use Rattle.text_model.specs.Printing.{printed_fault}
+use Rattle.script_model.specs.Script.{Script}
+use Rattle.script_model.specs.ScriptLimits.{IsWithinLimits}
+use Rattle.script_model.proofs.ParsedLimits.{ParsesScript-within}
+use Rattle.script_model.proofs.Readings.{same_ok, same_err, ok_is_no_err}
+use Rattle.script_model.proofs.ScriptReads.{script_reads, fault_reads}
+use Rattle.world_model.specs.World.{World}
+use Rattle.world_model.specs.Printing.{printed_world}
+use Rattle.world_model.proofs.OneWorld.{one_world}
+use Rattle.collector_text.specs.Prints.{IsPrintOf}
+use Rattle.collector_text.proofs.OneText.{one_world_text}
+use Rattle.replay_command.specs.Commands.{IsPrinting, PrintsReplay, PrintsFault, ReplayGives}
+
+-- a script has one world, whose collectors have one text
+one_printing : (script : Script) (asked : Bool) (bytes others : List ℕ) → IsWithinLimits script
+    → IsPrinting script asked bytes → IsPrinting script asked others → bytes ≡ others
+one_printing script asked bytes others limits a b =
+    let same : a.world ≡ b.world =
+    one_world script script.commands a.world b.world limits a.of_script b.of_script in
+    let also : AllZip IsPrintOf a.world.delivered b.shown =
+    subst (λ (w : World). AllZip IsPrintOf w.delivered b.shown) (sym same) b.told in
+    a.printed
+    ∙ one_world_text a.world.delivered a.shown b.shown asked a.world.log a.told also
+    ∙ ap (λ (w : World). printed_world asked w.log b.shown) same
+    ∙ sym b.printed
+
+same_replays : (asked : Bool) (text bytes others : List ℕ) (status other : ℕ) → PrintsReplay asked text bytes status
+    → PrintsReplay asked text others other → (bytes ≡ others) × (status ≡ other)
+same_replays asked text bytes others status other a b =
+    let same : a.script ≡ b.script =
+    same_ok a.script b.script
+    (sym ((script_reads text a.script).0 a.spelled) ∙ (script_reads text b.script).0 b.spelled) in
+    let printing = subst (λ (s : Script). IsPrinting s asked bytes) same a.printing in (
+      one_printing b.script asked bytes others (ParsesScript-within text b.script b.spelled) printing b.printing,
+      a.done ∙ sym b.done,
+    )
+
+same_faults : (text bytes others : List ℕ) (status other : ℕ) → PrintsFault text bytes status
+    → PrintsFault text others other → (bytes ≡ others) × (status ≡ other)
+same_faults text bytes others status other a b =
+    let same : (a.number, a.fault) ≡ (b.number, b.fault) =
+    same_err (a.number, a.fault) (b.number, b.fault)
+    (sym ((fault_reads text a.number a.fault).0 a.first) ∙ (fault_reads text b.number b.fault).0 b.first) in
+    (a.printed ∙ ap (λ (e : ℕ × LineFault). printed_fault e.0 e.1) same ∙ sym b.printed, a.refused ∙ sym b.refused)
+
+-- a text that spells a script has no fault
+not_both : (asked : Bool) (text bytes others : List ℕ) (status other : ℕ) → PrintsReplay asked text bytes status
+    → PrintsFault text others other → ⊥
+not_both asked text bytes others status other a b =
+    ok_is_no_err a.script (b.number, b.fault)
+    (sym ((script_reads text a.script).0 a.spelled) ∙ (fault_reads text b.number b.fault).0 b.first)
+
+pub one_replay : (asked : Bool) (text bytes others : List ℕ) (status other : ℕ) → ReplayGives asked text bytes status
+    → ReplayGives asked text others other → (bytes ≡ others) × (status ≡ other)
+one_replay asked text bytes others status other (inl a) (inl b) = same_replays asked text bytes others status other a b
+one_replay asked text bytes others status other (inl a) (inr b) =
+    absurd (not_both asked text bytes others status other a b)
+one_replay asked text bytes others status other (inr a) (inl b) =
+    absurd (not_both asked text others bytes other status b a)
+one_replay asked text bytes others status other (inr a) (inr b) = same_faults text bytes others status other a b

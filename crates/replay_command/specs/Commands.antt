@@ -1,0 +1,40 @@
+-- What the command `replay` prints for a text, with which exit status.
+use Rattle.std.specs.Prelude.{◌≡◌, ℕ, Bool, ◌⊎◌, List}
+use Rattle.std.specs.List.{AllZip}
+use Rattle.text_model.specs.Script.{LineFault}
+use Rattle.text_model.specs.Printing.{printed_fault}
+use Rattle.script_model.specs.Script.{Script, ParsesScript, FirstScriptFault}
+use Rattle.world_model.specs.World.{World, WorldOf}
+use Rattle.world_model.specs.Headline.{IsGenuineWorld}
+use Rattle.world_model.specs.Printing.{Shown, printed_world}
+use Rattle.collector_text.specs.Prints.{IsPrintOf}
+use Rattle.command_io.specs.declared.status.TheConstants.{DONE, REFUSED}
+
+-- These bytes are the printing of the script's world: its log, if it is asked for, and of each collector what the pages
+-- that were delivered to it have and miss.
+pub record IsPrinting (script : Script) (asked : Bool) (bytes : List ℕ) : Type 0 where
+  pub world : World
+  pub of_script : WorldOf script world
+  pub genuine : IsGenuineWorld script world
+  pub shown : List Shown
+  pub told : AllZip IsPrintOf world.delivered shown
+  pub printed : bytes ≡ printed_world asked world.log shown
+
+-- the text spells a script, and these bytes are the printing of its world
+pub record PrintsReplay (asked : Bool) (text bytes : List ℕ) (status : ℕ) : Type 0 where
+  pub script : Script
+  pub spelled : ParsesScript text script
+  pub printing : IsPrinting script asked bytes
+  pub done : status ≡ DONE
+
+-- the text has a first fault, and these bytes are its line
+pub record PrintsFault (text bytes : List ℕ) (status : ℕ) : Type 0 where
+  pub number : ℕ
+  pub fault : LineFault
+  pub first : FirstScriptFault text number fault
+  pub printed : bytes ≡ printed_fault number fault
+  pub refused : status ≡ REFUSED
+
+-- What `replay` gives for a text. A text spells a script or has a first fault, and never both.
+abbrev pub ReplayGives : Bool → List ℕ → List ℕ → ℕ → Type 0
+ReplayGives asked text bytes status = PrintsReplay asked text bytes status ⊎ PrintsFault text bytes status

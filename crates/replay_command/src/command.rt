@@ -1,0 +1,120 @@
+//! The command `replay`: a script in, the printing of its world out.
+ghost use Rattle.std.specs.Prelude.{◌≡◌, ℕ, ◌∷◌, ◌++◌, [], List, false, IfOk, IfErr};
+ghost use Rattle.std.specs.List.{AllZip};
+ghost use Rattle.script_model.specs.Script.{ParsesScript};
+ghost use Rattle.world_model.specs.Printing.{Shown, printed_world};
+ghost use Rattle.collector_text.specs.Prints.{IsPrintOf};
+ghost use Rattle.command_io.specs.CommandRun.{IsCommandRun};
+ghost use Rattle.command_io.specs.Output.{bytes_of, status_of};
+ghost use Rattle.trace_script.specs.ScriptFaults.{TellsFirstFault, script_fault_text};
+ghost use Rattle.replay_log.specs.LogTypes.{shown_log};
+ghost use Rattle.script_replay.specs.Replay.{IsHeadline};
+ghost use Rattle.replay_command.specs.Commands.{IsPrinting, ReplayGives};
+
+use collector_text::put_collectors;
+use command_io::{Command, Output, Sink, Source, run_command};
+use replay_log::put_log;
+use script_replay::{World, replay};
+use std::alloc::Global;
+use trace_model::NoMemory;
+use trace_script::{ReplayFault, Script, ScriptFault, put_fault, read_script};
+
+/// The world of a script.
+fn replayed(alloc: Global, script: &Script) -> Result<World, NoMemory>
+    ensures { IfOk result (λ world. IsHeadline script.now world.collectors.items world.log.items) }
+{
+    match replay(alloc, script) {
+        Ok(world) => Ok(world),
+        Err(ReplayFault::NoMemory) => Err(NoMemory),
+        Err(ReplayFault::GateShut | ReplayFault::NoThread) => unreachable!(),
+    }
+}
+
+/// The printing of a world: the log, if it is asked for, and the collectors. The log is given back before the
+/// collectors are printed.
+fn print_world(alloc: Global, world: World, log: bool) -> Result<Vec<u8>, NoMemory>
+    ensures { IfOk result (λ text. (shown : List Shown) × AllZip IsPrintOf world.collectors.items shown
+        × (text.items ≡ printed_world log (shown_log world.log.items) shown)) }
+{
+    let World {
+        collectors,
+        log: logged,
+    } = world;
+    let mut text = Vec::new(alloc);
+    if log {
+        put_log(&mut text, logged.as_slice())?;
+    }
+    drop(logged);
+    put_collectors(alloc, &mut text, collectors.as_slice())?;
+    Ok(text)
+}
+
+/// The printing of a script's world. The script is given back before the printing begins.
+fn print_replay(alloc: Global, script: Script, log: bool) -> Result<Vec<u8>, NoMemory>
+    ensures { IfOk result (λ text. IsPrinting script log text.items) }
+{
+    let world = replayed(alloc, &script)?;
+    drop(script);
+    let text = print_world(alloc, world, log)?;
+    Ok(text)
+}
+
+<<<<<<< HEAD:crates/trace_cli/src/commands.rt
+/// The line that states a script's fault.
+pub(crate) fn fault_line(alloc: Global, fault: ScriptFault) -> Result<Vec<u8>, NoMemory>
+=======
+/// The line that states a script's fault.
+pub fn fault_line(alloc: Global, fault: ScriptFault) -> Result<Vec<u8>, NoMemory>
+>>>>>>> 737574cf937407fa5a7c321508ad2dca2630833f:crates/replay_command/src/command.rt
+    ensures { IfOk result (λ line. line.items ≡ script_fault_text fault ++ 10 ∷ []) }
+{
+    let mut line = Vec::new(alloc);
+    put_fault(&mut line, fault)?;
+    Ok(line)
+}
+
+/// The command `replay`, with the log if it is asked for.
+#[derive(Drop)]
+struct ReplayCommand {
+    log: bool,
+}
+
+impl Command for ReplayCommand {
+    ghost gives = { λ command. ReplayGives command.log };
+
+    fn output(&self, alloc: Global, text: Vec<u8>) -> Result<Output, NoMemory> {
+        replay_output(alloc, text, self.log)
+    }
+}
+
+/// The script that a text spells, or its first fault. The text is given back.
+pub fn read_text(alloc: Global, text: Vec<u8>) -> Result<Script, ScriptFault>
+    ensures script { IfOk result (λ script. ParsesScript text.items script) }
+    ensures fault { IfErr result (λ fault. TellsFirstFault text.items fault) }
+{
+    read_script(alloc, text.as_slice())
+}
+
+/// What is printed for a script, with the exit status.
+fn replay_output(alloc: Global, text: Vec<u8>, log: bool) -> Result<Output, NoMemory>
+    ensures { IfOk result (λ output. ReplayGives log text.items (bytes_of output) (status_of output)) }
+{
+    match read_text(alloc, text) {
+        Ok(script) => Ok(Output::Done(print_replay(alloc, script, log)?)),
+        Err(ScriptFault::NoMemory) => Err(NoMemory),
+        Err(fault) => Ok(Output::Refused(fault_line(alloc, fault)?)),
+    }
+}
+
+/// Reads a script from the reader to its end, replays it, and writes the log, if it is asked for, and
+/// what the collectors have, or the fault's line. Gives the exit status: 0 done, 1 the script is
+/// refused, 3 memory was refused, 4 a read or a write failed, or the script is longer than 2^28 bytes.
+pub fn replay_to<R: Source, W: Sink>(alloc: Global, reader: &mut R, writer: &mut W, log: bool) -> u8
+    requires sound_reader { R.failed reader.old ≡ false }
+    requires sound_writer { W.failed writer.old ≡ false }
+    ensures { IsCommandRun (ReplayGives log)
+        (R.remaining reader.old) (R.remaining reader.new) (W.contents writer.old) (W.contents writer.new)
+        (R.count reader.old) (R.count reader.new) (R.failed reader.new) (W.failed writer.new) result }
+{
+    run_command(&ReplayCommand { log }, alloc, reader, writer)
+}

@@ -1,0 +1,7 @@
+//! The command `replay`: a script in, the printing of its world out.
+#![tactic(auto)]
+
+mod command;
+pub mod laws;
+
+pub use command::{fault_line, read_text, replay_to};

@@ -1,0 +1,35 @@
+use Rattle.std.proofs.Common.{refl, sym, subst, ◌≤◌, ◌∙◌}
+use Rattle.trace_model.specs.Steps.{steps}
+use Rattle.link_marks.specs.Seats.{PhaseIsPrivate}
+use Rattle.nested_writer.specs.Stack.{opened}
+use Rattle.ring_frames.specs.Value.{phase_of}
+use Rattle.ring_frames.specs.Phases.{told}
+use Rattle.ring_shared.specs.Value.{WriterValue}
+use Rattle.ring_shared.specs.Calls.{IsWriter}
+use Rattle.ring_shared.proofs.Privately.{step_leads, seen_call}
+use Rattle.ring_steps.specs.Ends.{passed_in}
+use Rattle.ring_shared.proofs.Standing.{phase_shown}
+use Rattle.ring_shared.proofs.Bounds.{opened_now}
+use Rattle.ring_shared.proofs.Nearing.{nearer_quietly, quiet_late}
+use Rattle.ring_shared.proofs.writer.Writer.begin_again.Goals as goal
+
+pub note-requires : goal.note-requires
+note-requires c = record {
+  due = step_leads _ (subst IsWriter (sym c.self.view_is) c.requires.writer)
+      (subst (λ (x : WriterValue). PhaseIsPrivate (phase_of x.frames.phase) (opened x.frames.stack)) (sym c.self.view_is) c.requires.private);
+}
+
+pub returns-clause-makes : goal.returns-clause-makes
+returns-clause-makes c =
+    let own = subst (λ (x : WriterValue). PhaseIsPrivate (phase_of x.frames.phase) (opened x.frames.stack)) (sym c.self.view_is) c.requires.private in
+    let made = c.begin_again.ensures.late own in
+    seen_call _ _ (λ _. steps) (told c.begin_again.result) _ c.self.view_is c.requires.writer c.note.ensures.shape c.note.ensures.table c.note.ensures.noted refl made
+
+pub returns-clause-nearer : goal.returns-clause-nearer
+returns-clause-nearer c =
+    let x : WriterValue = c.args.self.now in
+    let m = returns-clause-makes c in
+    let (noted, is, late) = c.requires.passed in
+    nearer_quietly x _ m.shape_is (subst (λ (y : WriterValue). y.passed ≤ passed_in c.note.new.self) c.self.view_is c.note.ensures.knows) _
+    (phase_of x.frames.phase) m (phase_shown x c.requires.writer (phase_of x.frames.phase) c.requires.top refl)
+    (quiet_late x.part.opened (phase_of x.frames.phase) noted is (λ now. late (now ∙ sym (opened_now x c.requires.writer))))

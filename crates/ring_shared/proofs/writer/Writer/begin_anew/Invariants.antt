@@ -1,7 +1,0 @@
-use Rattle.trace_model.specs.Steps.{steps}
-use Rattle.ring_steps.specs.Ends.{writing_in}
-use Rattle.ring_shared.proofs.Behind.{behind}
-use Rattle.ring_shared.proofs.writer.Writer.begin_anew.Given as goal
-
-abbrev pub ghosts-note : goal.ghosts-note
-ghosts-note a = record { now = behind a.self.now.shape (writing_in a.self.now) steps }

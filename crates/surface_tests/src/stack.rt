@@ -1,0 +1,82 @@
+//! The stack of a ring's nested writers, by itself.
+use nested_writer::{Allot, Ended, WriteFault, WriterStack};
+use page_image::{Body, Page, Place};
+use std::process::Abort;
+use std::test::Fail;
+use trace_model::{FillNo, RecordNo};
+
+/// A place of a payload of four bytes, that of the first record of a page.
+const FRONT: Allot = Allot::Fits(Place { start: 4, len: 4 });
+
+/// The place of a payload that fills a page of 32 bytes.
+const WHOLE: Allot = Allot::Fits(Place { start: 4, len: 28 });
+
+/// Compares a page with its fill, the number of its first record and its data.
+fn compare(rt: &impl Abort, page: &Page, fill: u64, first: u64, data: &[u8]) {
+    assert!(rt; page.fill() == FillNo(fill) && page.first() == RecordNo(first));
+    assert!(rt; page.data() == data);
+}
+
+#[test]
+fn a_record_is_written_and_its_page_closed(rt: HostRuntime) -> Result<(), Fail> {
+    let mut stack = WriterStack::new(rt.alloc(), 2, 32)?;
+    stack.begin(100, 4)?;
+    assert!(rt; stack.allot() == Ok(FRONT));
+    stack.top_mut()?.copy_from_slice(&[1, 2, 3, 4]);
+    assert!(rt; stack.end() == Ok(Ended::Full));
+    stack.pop_bottom();
+    stack.begin_close()?;
+    assert!(rt; stack.allot() == Ok(Allot::NeedsPage));
+    stack.add_page(Body::new(rt.alloc(), 32)?);
+    let _close = stack.allot()?;
+    assert!(rt; stack.end() == Ok(Ended::Full));
+    let front = stack.drop_front();
+    compare(&rt, &front, 0, 0, b"\x01\0\0\0\x01\x02\x03\x04");
+    stack.pop_bottom();
+    let tail = stack.into_tail();
+    compare(&rt, &tail, 1, 1, b"");
+    Ok(())
+}
+
+/// A tail that is asked to be closed is closed by the frame at the bottom.
+#[test]
+fn a_tail_is_closed_if_it_is_asked_for(rt: HostRuntime) -> Result<(), Fail> {
+    let mut stack = WriterStack::new(rt.alloc(), 2, 32)?;
+    stack.begin(1, 28)?;
+    assert!(rt; stack.allot() == Ok(WHOLE));
+    assert!(rt; stack.end() == Ok(Ended::Full));
+    assert!(rt; stack.ask_close());
+    stack.add_page(Body::new(rt.alloc(), 32)?);
+    let front = stack.drop_front();
+    assert!(rt; front.count() == 1);
+    stack.pop_bottom();
+    let tail = stack.into_tail();
+    assert!(rt; tail.count() == 0);
+    Ok(())
+}
+
+#[test]
+fn what_cannot_be_begun_is_refused(rt: HostRuntime) -> Result<(), Fail> {
+    let mut stack = WriterStack::new(rt.alloc(), 2, 32)?;
+    assert!(rt; stack.begin(2, 29) == Err(WriteFault::TooLong));
+    assert!(rt; stack.begin(1 << 59, 28) == Err(WriteFault::LateMoment));
+    assert!(rt; stack.top_mut().err() == Some(WriteFault::NoFrame));
+    assert!(rt; stack.end() == Err(WriteFault::NoFrame));
+    Ok(())
+}
+
+/// The last fill that links can tell is never left.
+#[test]
+fn no_fill_is_begun_after_the_last(rt: HostRuntime) -> Result<(), Fail> {
+    let mut stack = WriterStack::new_at(rt.alloc(), 2, 32, (1 << 48) - 3)?;
+    stack.begin(1, 28)?;
+    assert!(rt; stack.allot() == Ok(WHOLE));
+    assert!(rt; stack.end() == Ok(Ended::Full));
+    stack.pop_bottom();
+    stack.begin(2, 28)?;
+    assert!(rt; stack.allot() == Err(WriteFault::Worn));
+    stack.pop_bottom();
+    let tail = stack.into_tail();
+    assert!(rt; tail.count() == 1);
+    Ok(())
+}

@@ -1,5 +1,0 @@
-use Rattle.world_model.proofs.RunDeeds.{run_tells, lost_in_full}
-use Rattle.world_model.proofs.laws.worlds.runs_have_deeds.Goals as goal
-
-pub returns : goal.returns
-returns c = record { told = run_tells; full = lost_in_full }
