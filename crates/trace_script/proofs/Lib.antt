@@ -6,3 +6,4 @@ pub mod KeptLemmas
 pub mod OrderLemmas
 pub mod UsualLemmas
 pub mod ScriptLemmas
+pub mod ShortLineLemmas

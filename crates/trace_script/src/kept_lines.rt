@@ -1,5 +1,5 @@
-//! The commands of a script as they are kept: 24 bytes a command, while its numbers fit 32 bits.
-ghost use Rattle.std.specs.Prelude.{◌≡◌, IfSome};
+//! The commands of a script as they are kept: 16 bytes a command, while its numbers are small.
+ghost use Rattle.std.specs.Prelude.{◌≡◌, ◌+◌, ◌<◌, ◌^◌, ℕ, IfSome};
 ghost use Rattle.trace_script.specs.ShortLines.{widened};
 
 use crate::kept::KeptLine;
@@ -7,58 +7,308 @@ use crate::order::Order;
 use std::alloc::Global;
 use std::marker::Model;
 use std::mem::size_of;
-use trace_model::NoMemory;
+use trace_model::{CpuId, FillNo, Moment, NoMemory};
 
-/// A command as it is kept, while its numbers fit 32 bits: 24 bytes, without its payload.
+/// A command as it is kept, while its numbers are small: 16 bytes, without its payload. Each has its CPU; by how much the
+/// number of its line is above its index among the commands; and where its payload ends among the bytes of all payloads.
 #[derive(Clone, Copy, Debug)]
-pub struct ShortLine {
-    /// The number of its line among all lines of the text, from 1.
-    pub number: u32,
-    /// Where its payload ends among the bytes of all payloads.
-    pub end: u32,
-    pub order: Order,
+pub enum ShortLine {
+    Begin {
+        cpu: u8,
+        above: u16,
+        end: u32,
+        moment: Moment,
+    },
+    Step {
+        cpu: u8,
+        above: u16,
+        end: u32,
+        count: u64,
+    },
+    Finish {
+        cpu: u8,
+        above: u16,
+        end: u32,
+    },
+    Write {
+        cpu: u8,
+        above: u16,
+        end: u32,
+        moment: Moment,
+    },
+    Close {
+        cpu: u8,
+        above: u16,
+        end: u32,
+    },
+    StepReader {
+        cpu: u8,
+        above: u16,
+        end: u32,
+        count: u64,
+    },
+    Take {
+        cpu: u8,
+        above: u16,
+        end: u32,
+    },
+    Wish {
+        cpu: u8,
+        above: u16,
+        end: u32,
+    },
+    Deliver {
+        cpu: u8,
+        above: u16,
+        end: u32,
+        collector: u16,
+        fill: u32,
+    },
 }
 
-// This is the memory of each line of a long script.
-const _: () = prove!(size_of::<ShortLine>() == 24);
+// A script of many lines takes this much for each.
+const _: () = prove!(size_of::<ShortLine>() == 16);
+
+/// A CPU whose number is in one byte.
+#[inline(always)]
+fn wide_cpu(cpu: u8) -> CpuId
+    ensures { result ≡ record { 0 = cpu } }
+{
+    CpuId(u32::from(cpu))
+}
+
+/// A command of these parts.
+#[inline(always)]
+fn kept(index: usize, above: u16, end: u32, order: Order) -> KeptLine
+    requires { index < 2 ^ 63 }
+    ensures { result ≡ record { number = index + above; end = end; order = order } }
+{
+    KeptLine {
+        number: index as u64 + u64::from(above),
+        end: end as usize,
+        order,
+    }
+}
 
 impl ShortLine {
-    ghost use Rattle.std.specs.Prelude.{◌≡◌};
+    ghost use Rattle.std.specs.Prelude.{◌≡◌, ◌<◌, ◌^◌};
     ghost use Rattle.trace_script.specs.ShortLines.{widened};
 
-    /// The command with numbers of 64 bits.
-    fn widened(self) -> KeptLine
-        ensures { result ≡ widened self }
+    /// The command at this index, with numbers of 64 bits.
+    #[inline(always)]
+    fn widened(self, index: usize) -> KeptLine
+        requires { index < 2 ^ 63 }
+        ensures { result ≡ widened index self }
     {
-        KeptLine {
-            number: u64::from(self.number),
-            end: self.end as usize,
-            order: self.order,
+        match self {
+            ShortLine::Begin {
+                cpu,
+                above,
+                end,
+                moment,
+            } => kept(
+                index,
+                above,
+                end,
+                Order::Begin {
+                    cpu: wide_cpu(cpu),
+                    moment,
+                },
+            ),
+            ShortLine::Step {
+                cpu,
+                above,
+                end,
+                count,
+            } => kept(
+                index,
+                above,
+                end,
+                Order::Step {
+                    cpu: wide_cpu(cpu),
+                    count,
+                },
+            ),
+            ShortLine::Finish { cpu, above, end } => kept(
+                index,
+                above,
+                end,
+                Order::Finish { cpu: wide_cpu(cpu) },
+            ),
+            ShortLine::Write {
+                cpu,
+                above,
+                end,
+                moment,
+            } => kept(
+                index,
+                above,
+                end,
+                Order::Write {
+                    cpu: wide_cpu(cpu),
+                    moment,
+                },
+            ),
+            ShortLine::Close { cpu, above, end } => kept(
+                index,
+                above,
+                end,
+                Order::Close { cpu: wide_cpu(cpu) },
+            ),
+            ShortLine::StepReader {
+                cpu,
+                above,
+                end,
+                count,
+            } => kept(
+                index,
+                above,
+                end,
+                Order::StepReader {
+                    cpu: wide_cpu(cpu),
+                    count,
+                },
+            ),
+            ShortLine::Take { cpu, above, end } => kept(
+                index,
+                above,
+                end,
+                Order::Take { cpu: wide_cpu(cpu) },
+            ),
+            ShortLine::Wish { cpu, above, end } => kept(
+                index,
+                above,
+                end,
+                Order::Wish { cpu: wide_cpu(cpu) },
+            ),
+            ShortLine::Deliver {
+                cpu,
+                above,
+                end,
+                collector,
+                fill,
+            } => kept(
+                index,
+                above,
+                end,
+                Order::Deliver {
+                    collector,
+                    cpu: wide_cpu(cpu),
+                    fill: FillNo(u64::from(fill)),
+                },
+            ),
         }
     }
 }
 
-/// The command with numbers of 32 bits, if they fit.
+/// The number of a CPU, if it fits one byte.
 #[inline(always)]
-fn shortened(line: KeptLine) -> Option<ShortLine>
-    ensures { IfSome result (λ short. widened short ≡ line) }
+fn short_cpu(cpu: CpuId) -> Option<u8>
+    ensures { IfSome result (λ short. short ≡ cpu.0) }
 {
-    if line.number > u64::from(u32::MAX) || line.end > u32::MAX as usize {
+    if cpu.0 > u32::from(u8::MAX) {
         return None;
     }
-    Some(ShortLine {
-        number: line.number as u32,
-        end: line.end as u32,
-        order: line.order,
-    })
+    Some(cpu.0 as u8)
 }
 
-/// The commands of a script, in the order of their lines. From line to line these numbers only rise, so that a text of
-/// less than 2^32 bytes has short ones alone.
+/// The number of a fill, if it fits 32 bits.
+#[inline(always)]
+fn short_fill(fill: FillNo) -> Option<u32>
+    ensures { IfSome result (λ short. short ≡ fill.0) }
+{
+    if fill.0 > u64::from(u32::MAX) {
+        return None;
+    }
+    Some(fill.0 as u32)
+}
+
+/// The command of this order, if its numbers fit.
+#[inline(always)]
+fn short_of(order: Order, above: u16, end: u32) -> Option<ShortLine>
+    ensures { IfSome result (λ short. (index : ℕ)
+        → widened index short ≡ record { number = index + above; end = end; order = order }) }
+{
+    match order {
+        Order::Begin { cpu, moment } => Some(ShortLine::Begin {
+            cpu: short_cpu(cpu)?,
+            above,
+            end,
+            moment,
+        }),
+        Order::Step { cpu, count } => Some(ShortLine::Step {
+            cpu: short_cpu(cpu)?,
+            above,
+            end,
+            count,
+        }),
+        Order::Finish { cpu } => Some(ShortLine::Finish {
+            cpu: short_cpu(cpu)?,
+            above,
+            end,
+        }),
+        Order::Write { cpu, moment } => Some(ShortLine::Write {
+            cpu: short_cpu(cpu)?,
+            above,
+            end,
+            moment,
+        }),
+        Order::Close { cpu } => Some(ShortLine::Close {
+            cpu: short_cpu(cpu)?,
+            above,
+            end,
+        }),
+        Order::StepReader { cpu, count } => Some(ShortLine::StepReader {
+            cpu: short_cpu(cpu)?,
+            above,
+            end,
+            count,
+        }),
+        Order::Take { cpu } => Some(ShortLine::Take {
+            cpu: short_cpu(cpu)?,
+            above,
+            end,
+        }),
+        Order::Wish { cpu } => Some(ShortLine::Wish {
+            cpu: short_cpu(cpu)?,
+            above,
+            end,
+        }),
+        Order::Deliver {
+            collector,
+            cpu,
+            fill,
+        } => Some(ShortLine::Deliver {
+            cpu: short_cpu(cpu)?,
+            above,
+            end,
+            collector,
+            fill: short_fill(fill)?,
+        }),
+    }
+}
+
+/// The command in 16 bytes, if its numbers fit.
+#[inline(always)]
+fn shortened(index: usize, line: KeptLine) -> Option<ShortLine>
+    ensures { IfSome result (λ short. widened index short ≡ line) }
+{
+    let index = index as u64;
+    if line.number < index || line.number - index > u64::from(u16::MAX) {
+        return None;
+    }
+    if line.end > u32::MAX as usize {
+        return None;
+    }
+    short_of(line.order, (line.number - index) as u16, line.end as u32)
+}
+
+/// The commands of a script, in the order of their lines. All are short ones in a text of less than 2^32 bytes that has
+/// fewer than 65,530 lines without a command, and whose deliveries are of fills below 2^32.
 #[derive(Debug, Drop)]
 pub struct KeptLines {
     short: Vec<ShortLine>,
-    /// The first command that doesn't fit 32 bits, and all after it.
+    /// The first command whose numbers don't fit a short one, and all after it.
     long: Vec<KeptLine>,
 }
 
@@ -93,7 +343,7 @@ impl KeptLines {
         ensures refused { OnErr result (self.new ≡ self.old) }
     {
         if self.long.is_empty() {
-            if let Some(short) = shortened(line) {
+            if let Some(short) = shortened(self.short.len(), line) {
                 self.short.push(short)?;
                 return Ok(());
             }
@@ -115,7 +365,7 @@ impl KeptLines {
         ensures { slice_get self.now index ≡ Some result }
     {
         if index < self.short.len() {
-            return self.short[index].widened();
+            return self.short[index].widened(index);
         }
         self.long[index - self.short.len()]
     }

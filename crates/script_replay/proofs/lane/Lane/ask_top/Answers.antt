@@ -1,90 +1,38 @@
-use Rattle.std.proofs.Common.{◌≡◌, ℕ, ◌-◌, ◌≤◌, List, ◌++◌, length, replicate, sym, ap, ◌∙◌, subst, arith, Bor}
+use Rattle.std.proofs.Common.{◌≡◌, ℕ, ◌+◌, ◌-◌, ◌≤◌, List, ◌++◌, length, replicate, sym, ap, ◌∙◌, subst, arith, Bor}
 use Rattle.std.specs.Prelude.{true, false}
 use Rattle.trace_model.specs.Steps.{ends}
+use Rattle.world_model.specs.Lanes.{Lane}
+use Rattle.nested_writer.specs.declared.frame.Slot.{Slot}
 use Rattle.nested_writer.specs.Stack.{Stack}
+use Rattle.nested_writer.specs.Calls.{IsTopSlot}
 use Rattle.nested_writer.specs.Lending.{IsLent}
 use Rattle.ring_frames.specs.Answers.{top_bytes}
+use Rattle.ring_core.specs.Lending.{FitsFrame}
 use Rattle.ring_core.specs.Steps.{Makes}
 use Rattle.script_replay.specs.Value.{LaneValue, lane_of}
-use Rattle.script_replay.specs.Lanes.{IsLane}
+use Rattle.script_replay.specs.Lanes.{IsLane, IsLaneOf}
+use Rattle.script_replay.specs.declared.lane.Lane.TheInside.{Inside}
 use Rattle.script_replay.specs.Frames.{AsksTop}
-use Rattle.script_replay.proofs.FrameTops.{HasTopPayload, has_top_payload, has_room, last_of, is_first, top_has_place, asked_step, asked_end}
+use Rattle.script_replay.proofs.FrameTops.{HasTopPayload, IsFirst, has_top_payload, has_room, last_of, is_first, top_has_place, asked_step, asked_end}
 use Rattle.script_replay.proofs.lane.Lane.ask_top.Goals as goal
 
--- the frame on top has no slot
-pub returns-in_default-clause-step : goal.returns-in_default-clause-step
-returns-in_default-clause-step c =
-    let v : LaneValue = lane_of c.self.inside in
-    subst (λ (x : LaneValue). AsksTop x c.step.result c.step.new.self) c.self.view_is
-    (asked_step v c.step.result c.step.new.self
-    (λ slot top. let no : false ≡ true = c.in_default.ensures.held slot.place (top_has_place v.core.stack.frames slot top) in absurd (let e = no in cc)) c.step.ensures.step)
+-- ---- the payload of the frame on top, whose record has this slot
 
-pub overflow_sub-len : goal.overflow_sub-len
-overflow_sub-len c =
-    let v : LaneValue = lane_of c.self.inside in
-    let lent : IsLent v.core.stack c.in-Ok.slot.now = c.in-Ok.ensures.lent in
-    let (cpu, (n, size, start, lane, now)) = c.requires in
-    let is : IsLane n size start cpu v lane =
-    subst (λ (x : LaneValue). IsLane n size start cpu x lane) (sym c.self.view_is) now in
-    let h : HasTopPayload v lane lent.slot =
-    has_top_payload n size start cpu v lane lent.slot is lent.on_top (c.in-Ok.ensures.fits lent.slot lent.on_top) in
-    let f : Bor (List ℕ) → List ℕ = λ b. b.now in
-    let items : List (Bor (List ℕ)) = c.self.inside.payloads.items in
-    let last = last_of f items c.len.result h.payload h.rest h.payloads_are (c.len.ensures ∙ c.self.inside.payloads.ok.0) in
-    omega (arith, last, c.len.ensures, c.self.inside.payloads.ok.0)
+bytes : Bor (List ℕ) → List ℕ
+bytes payload = payload.now
 
-pub index-payload-requires : goal.index-payload-requires
-index-payload-requires c =
-    let v : LaneValue = lane_of c.self.inside in
-    let lent : IsLent v.core.stack c.in-Ok.slot.now = c.in-Ok.ensures.lent in
-    let (cpu, (n, size, start, lane, now)) = c.requires in
-    let is : IsLane n size start cpu v lane =
-    subst (λ (x : LaneValue). IsLane n size start cpu x lane) (sym c.self.view_is) now in
-    let h : HasTopPayload v lane lent.slot =
-    has_top_payload n size start cpu v lane lent.slot is lent.on_top (c.in-Ok.ensures.fits lent.slot lent.on_top) in
-    let f : Bor (List ℕ) → List ℕ = λ b. b.now in
-    let items : List (Bor (List ℕ)) = c.self.inside.payloads.items in
-    let last = last_of f items c.len.result h.payload h.rest h.payloads_are (c.len.ensures ∙ c.self.inside.payloads.ok.0) in
-    omega (arith, last, c.len.ensures, c.self.inside.payloads.ok.0)
+module _ (inside : Inside) (seen : LaneValue) (seen_is : lane_of inside ≡ seen) (of : (cpu : ℕ) × IsLaneOf cpu seen)
+    (slot : Slot) (top : IsTopSlot inside.core.stack.frames slot) (fits : FitsFrame inside.core slot) where
+  held : (lane : Lane) × HasTopPayload (lane_of inside) lane slot
+  held =
+      let (cpu, (n, size, start, lane, now)) = of in
+      (lane, has_top_payload n size start cpu (lane_of inside) lane slot
+      (subst (λ (x : LaneValue). IsLane n size start cpu x lane) (sym seen_is) now) top fits)
 
-pub put_padded-requires : goal.put_padded-requires
-put_padded-requires c =
-    let v : LaneValue = lane_of c.self.inside in
-    let lent : IsLent v.core.stack c.in-Ok.slot.now = c.in-Ok.ensures.lent in
-    let (cpu, (n, size, start, lane, now)) = c.requires in
-    let is : IsLane n size start cpu v lane =
-    subst (λ (x : LaneValue). IsLane n size start cpu x lane) (sym c.self.view_is) now in
-    let h : HasTopPayload v lane lent.slot =
-    has_top_payload n size start cpu v lane lent.slot is lent.on_top (c.in-Ok.ensures.fits lent.slot lent.on_top) in
-    let f : Bor (List ℕ) → List ℕ = λ b. b.now in
-    let items : List (Bor (List ℕ)) = c.self.inside.payloads.items in
-    let last = last_of f items c.len.result h.payload h.rest h.payloads_are (c.len.ensures ∙ c.self.inside.payloads.ok.0) in
-    let payload : List ℕ = c.index-payload.result.now.now in
-    let place : c.in-Ok.slot.now.place.len ≡ lent.slot.place.len = λ i. (lent.place_is i).len in
-    subst (λ (k : ℕ). length payload ≤ k) (sym (c.deref_mut.ensures.len ∙ place))
-    (has_room v lane lent.slot payload h (is_first f items (c.len.result - 1) c.index-payload.result.now last c.index-payload.ensures))
+  -- so many payloads are kept in front of the last one
+  last : (kept : ℕ) → kept ≡ length inside.payloads.items → kept - 1 + 1 ≡ length inside.payloads.items
+  last kept same =
+      last_of bytes inside.payloads.items kept held.1.payload held.1.rest held.1.payloads_are same
 
-pub returns-clause-step : goal.returns-clause-step
-returns-clause-step c =
-    let v : LaneValue = lane_of c.self.inside in
-    let lent : IsLent v.core.stack c.in-Ok.slot.now = c.in-Ok.ensures.lent in
-    let (cpu, (n, size, start, lane, now)) = c.requires in
-    let is : IsLane n size start cpu v lane =
-    subst (λ (x : LaneValue). IsLane n size start cpu x lane) (sym c.self.view_is) now in
-    let h : HasTopPayload v lane lent.slot =
-    has_top_payload n size start cpu v lane lent.slot is lent.on_top (c.in-Ok.ensures.fits lent.slot lent.on_top) in
-    let f : Bor (List ℕ) → List ℕ = λ b. b.now in
-    let items : List (Bor (List ℕ)) = c.self.inside.payloads.items in
-    let last = last_of f items c.len.result h.payload h.rest h.payloads_are (c.len.ensures ∙ c.self.inside.payloads.ok.0) in
-    let payload : List ℕ = c.index-payload.result.now.now in
-    let part : List ℕ = c.put_padded.new.slot in
-    let place : c.in-Ok.slot.now.place.len ≡ lent.slot.place.len = λ i. (lent.place_is i).len in
-    subst (λ (x : LaneValue). AsksTop x c.step-2.result c.step-2.new.self) c.self.view_is
-    (asked_end v lent.slot payload part c.step-2.result c.step-2.new.self lent.on_top
-    (c.in-Ok.ensures.fits lent.slot lent.on_top)
-    (c.in-Ok.ensures.stays lent.slot lent.on_top)
-    (ap (λ (l : List ℕ). length l) (sym c.in-Ok.ensures.payload) ∙ lent.long ∙ place)
-    (λ bytes fills. ap (λ (t : Stack). top_bytes t v.core.stack.frames) (sym (lent.in_slot bytes)) ∙ c.in-Ok.ensures.written bytes (fills ∙ sym place ∙ sym lent.long))
-    (is_first f items (c.len.result - 1) c.index-payload.result.now last c.index-payload.ensures)
-    (c.put_padded.ensures ∙ ap (λ (k : ℕ). payload ++ replicate (k - length payload) 0) (c.deref_mut.ensures.len ∙ place))
-    (subst (λ (t : Stack). Makes (record v.core { stack = t }) (ends (top_bytes t t.frames)) c.step-2.result c.step-2.new.self) (lent.in_slot part) c.step-2.ensures.step))
+  room : (payload : List ℕ) → IsFirst payload (lane_of inside).payloads → length payload ≤ slot.place.len
+  room payload first = has_room (lane_of inside) held.0 slot payload held.1 first
