@@ -29,7 +29,7 @@ returns-in-Ok-Full-clause-step c = λ n size start s reached now.
 pub uncover_phase-requires : goal.uncover_phase-requires
 uncover_phase-requires c =
     let v : FramesValue = frames_in c.self.inside in
-    let (n, size, start, s, are) = subst AreSomeFrames (sym c.self.view_is) c.requires.frames_in in
+    let (n, size, start, s, are) = subst AreSomeFrames (sym c.self.view_is) c.requires.shown in
     record { below = some_below v.stack.frames v.below are.below_are (c.in-Ok-Pending.ensures.pending.0 (ap Ok c.in-Ok-Pending.field-0-is)).1 }
 
 pub returns-in-Ok-Pending-clause-step : goal.returns-in-Ok-Pending-clause-step

@@ -24,7 +24,7 @@ pub end_close-requires-clause-stack : goal.end_close-requires-clause-stack
 unfolding Stands
 end_close-requires-clause-stack c =
     let v : FramesValue = frames_in c.self.inside in
-    let (n, size, start, s, k) = subst AreSomeFrames (sym c.self.view_is) c.requires.frames_in in
+    let (n, size, start, s, k) = subst AreSomeFrames (sym c.self.view_is) c.requires.shown in
     let (noted, top, ne) = subst HasPassed (sym c.self.view_is) c.requires.close in
     let (fits, through) = top_fits n size start v s noted _ c.allot.new.self k top ne c.in-Ok.ensures.answered c.in-Ok.ensures.after in
     (start, s.history, acted_none start s.history v.stack c.allot.new.self through.1 k.stack_is)
@@ -41,7 +41,7 @@ returns-clause-without c =
 pub unreachable-requires : goal.unreachable-requires
 unreachable-requires c =
     let v : FramesValue = frames_in c.self.inside in
-    let (n, size, start, s, k) = subst AreSomeFrames (sym c.self.view_is) c.requires.frames_in in
+    let (n, size, start, s, k) = subst AreSomeFrames (sym c.self.view_is) c.requires.shown in
     let (noted, top, ne) = subst HasPassed (sym c.self.view_is) c.requires.close in
     let (fits, through) = top_fits n size start v s noted _ c.allot.new.self k top ne c.in-Err.ensures.answered c.in-Err.ensures.after in
     absurd (not_both c.in-Err.field-0 (Fits fits.0) fits.1)
@@ -52,7 +52,7 @@ unreachable-requires c =
 pub returns-clause-payloads : goal.returns-clause-payloads
 returns-clause-payloads c =
     let v : FramesValue = frames_in c.self.inside in
-    let (n, size, start, s, k) = subst AreSomeFrames (sym c.self.view_is) c.requires.frames_in in
+    let (n, size, start, s, k) = subst AreSomeFrames (sym c.self.view_is) c.requires.shown in
     let (noted, top, ne) = subst HasPassed (sym c.self.view_is) c.requires.close in
     let (fits, through) = top_fits n size start v s noted _ c.allot.new.self k top ne c.in-Ok.ensures.answered c.in-Ok.ensures.after in
     subst (λ (x : FramesValue). KeepsPayloads x.stack c.end_close.new.self.stack) c.self.view_is

@@ -21,7 +21,7 @@ use Rattle.ring_frames.proofs.frames.Frames.top_mut.Goals as goal
 pub returns : goal.returns
 returns c =
     let v : FramesValue = frames_in c.self.inside in
-    let (n, size, start, s, are) = subst AreSomeFrames (sym c.self.view_is) c.requires.frames_in in
+    let (n, size, start, s, are) = subst AreSomeFrames (sym c.self.view_is) c.requires.shown in
     let lends = c.top_mut.ensures in (
       rw (← c.self.view_is) refl,
       record {
