@@ -28,8 +28,8 @@ use Rattle.ring_steps.specs.contracts.ghost_part.ghost_part_of.Key.{name as key}
 use Rattle.ring_steps.proofs.ghost_part.ghost_part_of.Statement.{statement}
 use Rattle.ring_steps.proofs.ghost_part.ghost_part_of.Code as code
 
-pub memo_of_spec : {M : Type 1} → statement M
-memo_of_spec 𝓤 𝓛 𝓜 𝓡 wired J G LJ LG g d _ =
+pub ghost_part_of_spec : {M : Type 1} → statement M
+ghost_part_of_spec 𝓤 𝓛 𝓜 𝓡 wired J G LJ LG g d _ =
     let 𝓣 = tables 𝓤 𝓛.H 𝓜 𝓡 𝓡.env in let En = ended J G g d in
     let inst = bounded (a_type ∷ a_type ∷ []) (J, (G, tt)) (dcons d dnil) in let fn = inst_fn inst code.function in let c = clauses J G g d 𝓛 𝓜.mem 𝓡.returns in
     let arg = RefOf (0 ∷ []) tt (plain (λ _. param 1 G)) (λ _. tt) in let hs : Stays En.signature.params En.kept = (stay_dropped arg yes, tt) in
