@@ -215,7 +215,7 @@ module _ (v : WriterValue) (w : IsWriter v) (moment : ℕ) (payload : List ℕ) 
 
     stands_so : Wished bottom [] call.answer call.next.frames → result ≡ Going → (next : Frame) × (after.frames ≡ next ∷ []) × IsLeaving next.kind next.state
     stands_so (wishes_on next a top kind state) e = (next, ap (λ (x : Writing). x.frames) (sym call.after_is) ∙ top, subst (λ (s : Rattle.trace_model.specs.Frames.FrameState). IsLeaving next.kind s) (sym state) (subst (λ (k : Rattle.trace_model.specs.Frames.Kind). IsLeaving k left) (sym kind) tt))
-    stands_so (wished_gone a top) e = absurd (let tells = subst (λ (x : Answer). Rattle.ring_frames.specs.Answers.Tells size x call.answer) e call.tells in let both : model.going ≡ model.gone = sym tells ∙ a in cc)
+    stands_so (wished_gone a top) e = absurd (let tells = subst (λ (x : Answer). Rattle.ring_frames.specs.Answers.IsAnswerOf size x call.answer) e call.tells in let both : model.going ≡ model.gone = sym tells ∙ a in cc)
 
     -- it goes on
     pub stands_still : result ≡ Going → (next : Frame) × (others : List Frame) × (after.frames ≡ next ∷ others) × IsLeaving next.kind next.state
