@@ -8,8 +8,16 @@
 #![tactic(auto)]
 
 #[cfg(test)]
+mod cores;
+#[cfg(test)]
+mod ends;
+#[cfg(test)]
 mod pages;
 #[cfg(test)]
 mod parcels;
 #[cfg(test)]
+mod scripts;
+#[cfg(test)]
 mod stack;
+#[cfg(test)]
+mod steps;

@@ -8,6 +8,9 @@ use trace_model::{FillNo, RecordNo};
 /// A place of a payload of four bytes, that of the first record of a page.
 const FRONT: Allot = Allot::Fits(Place { start: 4, len: 4 });
 
+/// The place of the record behind it.
+const SECOND: Allot = Allot::Fits(Place { start: 12, len: 4 });
+
 /// The place of a payload that fills a page of 32 bytes.
 const WHOLE: Allot = Allot::Fits(Place { start: 4, len: 28 });
 
@@ -35,6 +38,39 @@ fn a_record_is_written_and_its_page_closed(rt: HostRuntime) -> Result<(), Fail> 
     stack.pop_bottom();
     let tail = stack.into_tail();
     compare(&rt, &tail, 1, 1, b"");
+    Ok(())
+}
+
+#[test]
+fn a_nested_record_is_pending(rt: HostRuntime) -> Result<(), Fail> {
+    let mut stack = WriterStack::new(rt.alloc(), 2, 32)?;
+    stack.begin(10, 4)?;
+    assert!(rt; stack.allot() == Ok(FRONT));
+    stack.begin(20, 4)?;
+    assert!(rt; stack.allot() == Ok(SECOND));
+    stack.top_mut()?.copy_from_slice(b"bbbb");
+    assert!(rt; stack.end() == Ok(Ended::Pending));
+    stack.top_mut()?.copy_from_slice(b"aaaa");
+    assert!(rt; stack.end() == Ok(Ended::Full));
+    stack.pop_bottom();
+    let tail = stack.into_tail();
+    compare(&rt, &tail, 0, 0, b"\x01\0\0\0aaaa\x41\x01\0\0bbbb");
+    Ok(())
+}
+
+#[test]
+fn a_third_page_is_refused_while_two_are_open(rt: HostRuntime) -> Result<(), Fail> {
+    let mut stack = WriterStack::new(rt.alloc(), 2, 32)?;
+    stack.begin(1, 28)?;
+    assert!(rt; stack.allot() == Ok(WHOLE));
+    stack.begin(2, 28)?;
+    assert!(rt; stack.allot() == Ok(Allot::NeedsPage));
+    stack.add_page(Body::new(rt.alloc(), 32)?);
+    assert!(rt; stack.allot() == Ok(WHOLE));
+    assert!(rt; stack.end() == Ok(Ended::Pending));
+    stack.begin(3, 28)?;
+    assert!(rt; stack.allot() == Err(WriteFault::Crowded));
+    assert!(rt; stack.end() == Ok(Ended::Full));
     Ok(())
 }
 

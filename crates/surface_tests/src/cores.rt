@@ -1,0 +1,92 @@
+//! The ring as a value.
+ghost use Rattle.std.specs.Prelude.{◌≡◌, length};
+ghost use Rattle.ring_core.specs.Steps.{IsReachedCore};
+
+use nested_writer::{Ended, WriteFault};
+use page_image::Body;
+use ring_core::{Answer, Core, Event};
+use std::process::Abort;
+use std::test::Fail;
+use trace_model::{FillNo, RecordNo};
+
+/// Steps of the frame on top until one answers anything but that it goes on.
+fn finish(core: &mut Core) -> Answer
+    requires ring { IsReachedCore core.old }
+    ensures ring { IsReachedCore core.new }
+    ensures size { core.new.stack.size ≡ core.old.stack.size }
+{
+    for made in 0..30 {
+        let _made = made;
+        match core.step(Event::Step) {
+            Answer::Going => {}
+            answer => return answer,
+        }
+    }
+    Answer::Going
+}
+
+/// Steps of the reader until one answers anything but that it looks on.
+fn take(core: &mut Core, body: Body) -> Answer
+    requires ring { IsReachedCore core.old }
+    requires size { length body ≡ core.old.stack.size }
+    ensures ring { IsReachedCore core.new }
+    ensures size { core.new.stack.size ≡ core.old.stack.size }
+{
+    let mut body = body;
+    for made in 0..12 {
+        let _made = made;
+        match core.step(Event::Read(body)) {
+            Answer::Looking(back) => body = back,
+            answer => return answer,
+        }
+    }
+    Answer::Looking(body)
+}
+
+#[test]
+fn a_record_is_written_by_its_steps(rt: HostRuntime) -> Result<(), Fail> {
+    let mut core = Core::new(rt.alloc(), 2, 32)?;
+    let push = Event::Push {
+        moment: 100,
+        len: 4,
+    };
+    assert!(rt; matches!(core.step(push), Answer::Pushed));
+    assert!(rt; matches!(core.step(Event::Step), Answer::Reserved(RecordNo(0))));
+    core.top_mut()?.fill(7);
+    assert!(rt; matches!(core.step(Event::End), Answer::Ended(Ended::Full)));
+    assert!(rt; matches!(core.step(Event::Step), Answer::Gone));
+    assert!(rt; core.depth() == 0);
+    assert!(rt; core.top_mut().err() == Some(WriteFault::NoFrame));
+    Ok(())
+}
+
+#[test]
+fn a_page_that_is_wished_for_is_taken(rt: HostRuntime) -> Result<(), Fail> {
+    let mut core = Core::new_at(rt.alloc(), 2, 32, 5)?;
+    assert!(rt; core.size() == 32);
+    assert!(rt; matches!(core.step(Event::Wish), Answer::Wished(FillNo(5))));
+    let push = Event::Push { moment: 1, len: 4 };
+    let _pushed = core.step(push);
+    let _reserved = core.step(Event::Step);
+    let _ended = core.step(Event::End);
+    assert!(rt; matches!(finish(&mut core), Answer::Gone));
+    let Answer::Taken(page, 0) = take(&mut core, Body::new(rt.alloc(), 32)?) else {
+        return Err(Fail::new("a page that was wished for isn't taken"));
+    };
+    assert!(rt; page.data() == b"\x01\0\0\0\0\0\0\0".as_slice() && page.fill() == FillNo(5));
+    Ok(())
+}
+
+#[test]
+fn a_page_is_closed(rt: HostRuntime) -> Result<(), Fail> {
+    let mut core = Core::new(rt.alloc(), 2, 32)?;
+    assert!(rt; matches!(core.step(Event::PushClose), Answer::Pushed));
+    assert!(rt; matches!(finish(&mut core), Answer::Gone));
+    assert!(rt;
+        matches!(
+            take(&mut core, Body::new(rt.alloc(), 32)?),
+            Answer::Empty(0, _)
+        )
+    );
+    Ok(())
+}

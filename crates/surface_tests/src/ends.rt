@@ -1,0 +1,188 @@
+//! The two ends of a running ring, in one thread.
+ghost use Rattle.std.specs.Prelude.{◌≡◌, length};
+ghost use Rattle.ring_shared.specs.Value.{SameWriter};
+ghost use Rattle.ring_shared.specs.Calls.{IsWriter};
+ghost use Rattle.ring_shared.specs.Takes.{IsReader, SameRing};
+
+use nested_writer::{Ended, WriteFault};
+use page_image::Body;
+use page_numbers::Parcel;
+use ring_shared::{Answer, Reader, SettleFault, Settled, Take, Writer, ring, ring_at, settle};
+use std::process::Abort;
+use std::test::Fail;
+use trace_model::{CpuId, FillNo, RecordNo};
+
+/// A record whose payload is so many bytes of this value fills a page of 32 bytes.
+const WHOLE: usize = 28;
+
+/// Writes the payload of the frame on top, all of it.
+fn fill_top(writer: &mut Writer, byte: u8) -> Result<(), WriteFault>
+    requires writer { IsWriter writer.old }
+    ensures writer { IsWriter writer.new }
+    ensures ring { SameWriter writer.old writer.new }
+{
+    writer.top_mut()?.fill(byte);
+    Ok(())
+}
+
+/// Writes a record that fills a page.
+fn write(writer: &mut Writer, moment: u64, byte: u8) -> Result<(), WriteFault>
+    requires writer { IsWriter writer.old }
+    ensures writer { IsWriter writer.new }
+    ensures ring { SameWriter writer.old writer.new }
+{
+    let _pushed = writer.begin(moment, WHOLE);
+    let _reserved = writer.finish_top();
+    fill_top(writer, byte)?;
+    let _ended = writer.end();
+    let _gone = writer.finish_top();
+    Ok(())
+}
+
+/// Writes a record at each moment below this one.
+fn write_all(writer: &mut Writer, moments: u8) -> Result<(), WriteFault>
+    requires writer { IsWriter writer.old }
+    ensures writer { IsWriter writer.new }
+    ensures ring { SameWriter writer.old writer.new }
+{
+    for moment in 0..moments {
+        write(writer, moment.into(), moment)?;
+    }
+    Ok(())
+}
+
+/// Takes pages as long as there are any: their number.
+fn take_all(reader: &mut Reader, body: Body) -> u64
+    requires reader { IsReader reader.old }
+    requires size { length body ≡ reader.old.shape.size }
+    ensures reader { IsReader reader.new }
+    ensures ring { SameRing reader.old reader.new }
+{
+    let mut body = body;
+    for taken in 0..64 {
+        match reader.take(body) {
+            Take::Page(page, _) => body = reader.give_back(page),
+            Take::Empty(..) | Take::Moving(..) => return taken,
+        }
+    }
+    64
+}
+
+#[test]
+fn a_record_is_written_by_its_steps(rt: HostRuntime) -> Result<(), Fail> {
+    let (mut writer, _reader): (Writer, Reader) = ring(rt.alloc(), 2, 32)?;
+    assert!(rt; matches!(writer.begin(100, 4), Answer::Pushed));
+    assert!(rt; matches!(writer.step(), Answer::Reserved(RecordNo(0))));
+    writer.top_mut()?.fill(7);
+    assert!(rt; matches!(writer.end(), Answer::Ended(Ended::Full)));
+    assert!(rt; matches!(writer.step(), Answer::Gone));
+    assert!(rt; writer.depth() == 0 && writer.done() == 0);
+    Ok(())
+}
+
+#[test]
+fn a_payload_of_its_length_is_copied(rt: HostRuntime) -> Result<(), Fail> {
+    let (mut writer, _reader) = ring(rt.alloc(), 2, 32)?;
+    let Answer::Pushed = writer.begin(100, 4) else {
+        return Err(Fail::new("no frame is pushed"));
+    };
+    let Answer::Reserved(_) = writer.finish_top() else {
+        return Err(Fail::new("no record is reserved"));
+    };
+    writer.top_mut()?.copy_from_slice(&[1, 2, 3, 4]);
+    Ok(())
+}
+
+#[test]
+fn what_cannot_be_written_is_refused(rt: HostRuntime) -> Result<(), Fail> {
+    let (mut writer, _reader) = ring(rt.alloc(), 2, 32)?;
+    assert!(rt; matches!(writer.begin(100, 29), Answer::Refused(WriteFault::TooLong)));
+    assert!(rt; matches!(writer.step(), Answer::Refused(WriteFault::NoFrame)));
+    assert!(rt; writer.top_mut().err() == Some(WriteFault::NoFrame));
+    Ok(())
+}
+
+#[test]
+fn a_closed_page_is_taken(rt: HostRuntime) -> Result<(), Fail> {
+    let (mut writer, mut reader) = ring(rt.alloc(), 2, 32)?;
+    write(&mut writer, 1, b'c')?;
+    let Take::Empty(0, body) = reader.take(Body::new(rt.alloc(), 32)?) else {
+        return Err(Fail::new("a page that isn't closed is taken"));
+    };
+    assert!(rt; reader.empty_at() == Some(0));
+    assert!(rt; matches!(writer.begin_close(), Answer::Pushed));
+    assert!(rt; matches!(writer.finish_top(), Answer::Gone));
+    let Take::Page(page, 0) = reader.take(body) else {
+        return Err(Fail::new("a page that is closed isn't taken"));
+    };
+    assert!(rt; page.data() == b"\x07\0\0\0cccccccccccccccccccccccccccc".as_slice());
+    let body = reader.give_back(page);
+    assert!(rt; matches!(reader.take(body), Take::Empty(1, _)));
+    Ok(())
+}
+
+#[test]
+fn a_page_that_is_wished_for_is_a_parcel(rt: HostRuntime) -> Result<(), Fail> {
+    let (mut writer, mut reader) = ring_at(rt.alloc(), 2, 32, 5)?;
+    assert!(rt; reader.wish() == FillNo(5));
+    write(&mut writer, 1, 7)?;
+    let Take::Page(page, missed) = reader.take(Body::new(rt.alloc(), 32)?) else {
+        return Err(Fail::new("a page that was wished for isn't taken"));
+    };
+    let parcel = Parcel::of(rt.alloc(), CpuId(0), page, missed)?;
+    assert!(rt; parcel.fill() == FillNo(5) && parcel.count() == 1);
+    Ok(())
+}
+
+#[test]
+fn an_overwritten_page_is_missed(rt: HostRuntime) -> Result<(), Fail> {
+    let (mut writer, mut reader) = ring(rt.alloc(), 2, 32)?;
+    write_all(&mut writer, 3)?;
+    let Take::Page(page, 1) = reader.take(Body::new(rt.alloc(), 32)?) else {
+        return Err(Fail::new("no page is taken that follows one missed number"));
+    };
+    assert!(rt; page.fill() == FillNo(1) && page.first() == RecordNo(1));
+    Ok(())
+}
+
+#[test]
+fn what_is_unread_is_settled(rt: HostRuntime) -> Result<(), Fail> {
+    let (mut writer, mut reader) = ring(rt.alloc(), 2, 32)?;
+    write_all(&mut writer, 3)?;
+    assert!(rt; take_all(&mut reader, Body::new(rt.alloc(), 32)?) == 1);
+    if writer.depth() > 0 || reader.empty_at() != Some(writer.done()) {
+        return Err(Fail::new("the ends aren't at rest"));
+    }
+    let settled: Settled = match settle(rt.alloc(), writer, reader) {
+        Ok(settled) => settled,
+        Err(SettleFault::NoMemory(_, _)) => return Err(Fail::new("no memory")),
+    };
+    assert!(rt; settled.unread().map(|page| page.first()) == Some(RecordNo(2)));
+    Ok(())
+}
+
+#[test]
+fn a_nested_record_is_pending(rt: HostRuntime) -> Result<(), Fail> {
+    let (mut writer, _reader) = ring(rt.alloc(), 2, 32)?;
+    let _pushed = writer.begin(10, WHOLE);
+    let _reserved = writer.finish_top();
+    let _pushed = writer.begin(20, WHOLE);
+    let _reserved = writer.finish_top();
+    fill_top(&mut writer, 2)?;
+    assert!(rt; matches!(writer.end(), Answer::Ended(Ended::Pending)));
+    fill_top(&mut writer, 1)?;
+    assert!(rt; matches!(writer.end(), Answer::Ended(Ended::Full)));
+    Ok(())
+}
+
+#[test]
+fn a_page_more_than_the_ring_has_is_refused(rt: HostRuntime) -> Result<(), Fail> {
+    let (mut writer, _reader) = ring(rt.alloc(), 2, 32)?;
+    let _pushed = writer.begin(1, WHOLE);
+    let _reserved = writer.finish_top();
+    let _pushed = writer.begin(2, WHOLE);
+    let _reserved = writer.finish_top();
+    assert!(rt; matches!(writer.begin(3, WHOLE), Answer::Pushed));
+    assert!(rt; matches!(writer.finish_top(), Answer::Refused(WriteFault::Crowded)));
+    Ok(())
+}
