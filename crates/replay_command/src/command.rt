@@ -59,13 +59,8 @@ fn print_replay(alloc: Global, script: Script, log: bool) -> Result<Vec<u8>, NoM
     Ok(text)
 }
 
-<<<<<<< HEAD:crates/trace_cli/src/commands.rt
-/// The line that states a script's fault.
-pub(crate) fn fault_line(alloc: Global, fault: ScriptFault) -> Result<Vec<u8>, NoMemory>
-=======
 /// The line that states a script's fault.
 pub fn fault_line(alloc: Global, fault: ScriptFault) -> Result<Vec<u8>, NoMemory>
->>>>>>> 737574cf937407fa5a7c321508ad2dca2630833f:crates/replay_command/src/command.rt
     ensures { IfOk result (λ line. line.items ≡ script_fault_text fault ++ 10 ∷ []) }
 {
     let mut line = Vec::new(alloc);
