@@ -29,13 +29,14 @@
 //! abbrev pub invariant-loop-moment : goal.invariant-loop-moment
 //! invariant-loop-moment l = Stands l.stack
 //! ```
-#![tactic(auto, unfolding(crate::specs::IsStack::Stands))]
+#![tactic(auto)]
 
 mod fault;
 pub mod frame;
 pub mod laws;
 mod older;
 pub mod payload;
+#[tactic(auto, unfolding(crate::specs::IsStack::Stands))]
 pub mod stack;
 
 pub use fault::WriteFault;

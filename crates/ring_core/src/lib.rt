@@ -5,8 +5,8 @@
 //! the reader is a list of events.
 //!
 //! Code without loops names no fact of the ring: `new` gives what `step` asks for, and `step` gives it again. A loop
-//! names what it keeps, which is `IsReachedCore`, and the size of a page's data if it hands in the bodies of pages. So of the
-//! steps of the frame on top until one of them answers:
+//! names what it keeps, which is `IsReachedCore`, and the size of a page's data if it passes the bodies of pages. So of
+//! the steps of the frame on top until one of them answers:
 //!
 //! ```text
 //! ghost use Rattle.std.specs.Prelude.{◌≡◌};

@@ -3,9 +3,10 @@
 //! What a frame does in private (to be pushed, to reserve, to end, or to begin again after another one has begun a
 //! fill) touches no word of the ring. So it is the same over a ring as a value and over words that threads share. The
 //! types that say how far the reader has got are here for the same reason.
-#![tactic(auto, unfolding(nested_writer::specs::IsStack::Stands))]
+#![tactic(auto)]
 
 pub mod answer;
+#[tactic(auto, unfolding(nested_writer::specs::IsStack::Stands))]
 pub mod frames;
 pub mod laws;
 pub mod phase;

@@ -1,10 +1,11 @@
 //! Only tests: a program over the library as a user writes it, who knows the public calls and their clauses and nothing
-//! else. Each call is made by its exact signature, and what a call requires follows from the clauses of those before it:
-//! no proof is written here, but the invariants of loops.
+//! else. Each call is made by its exact signature, and what a call requires follows from the clauses of those before
+//! it: no proof is written here, but the invariants of loops.
 //!
 //! Each kind of row is here once, and short: a record, a nested one, a close, an overwritten page, a wish, a crowded
-//! ring, a take and a settled ring. All rows of the two rings are in the text of `ring_rows`. The calls of `trace_cli`
-//! are those of a program, which no other crate calls.
+//! ring, a take and a settled ring. All rows of the two rings are in the text of `ring_rows`. Two kinds of calls aren't
+//! made here: the commands of the program, and the writer's steps of `ring_steps`, for whose proof a caller picks a part
+//! of the model.
 #![tactic(auto)]
 
 #[cfg(test)]

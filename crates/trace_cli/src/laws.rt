@@ -1,4 +1,5 @@
-//! That nothing but an end's fault or a thread's makes the exit status 4: the contract of a function with an empty body.
+//! That nothing but an end's fault or a thread's makes the exit status 4: the contract of a function with an empty
+//! body.
 ghost use Rattle.std.specs.Prelude.{◌<◌, ◌≤◌, ℕ, Bool, false, List, Option};
 ghost use Rattle.std.specs.Io.KnownBytes.{Appends};
 ghost use Rattle.command_io.specs.CommandRun.{IsCommandRun};
