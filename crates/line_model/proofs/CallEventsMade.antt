@@ -2,13 +2,13 @@
 use Rattle.std.proofs.Common.{◌≡◌, ◌≢◌, ℕ, ◌+◌, ◌-◌, ◌<◌, ◌⊎◌, true, List, [], ◌∷◌, length, Some, None, refl, sym, ap, ◌∙◌, subst, inl, inr, arith}
 use Rattle.std.specs.Prelude.{IsTrue}
 use Rattle.trace_model.specs.Words.{padded}
-use Rattle.trace_model.specs.History.{Action, is_settled}
+use Rattle.trace_model.specs.History.{HistoryEvent, is_settled}
 use Rattle.trace_model.specs.Packing.{tail_of, FitsBehind, next_reservation}
-use Rattle.trace_model.specs.Window.{Window, actions_of, IsWindow, WindowEvent, opened_one, released_one, took_one, lost_one}
+use Rattle.trace_model.specs.Window.{Window, history_events_of, IsWindow, WindowEvent, opened_one, released_one, took_one, lost_one}
 use Rattle.trace_model.specs.Frames.{FrameState, waiting, reserved, left, number_of, Frame, pushed_onto, pushed_frames}
 use Rattle.trace_model.specs.Ring.{Core}
-use Rattle.trace_model.specs.Steps.{Event, pushes, pushes_close, steps, ends, reads, wishes, Answer, Exchange, after_leave, Step, push_step, push_refused, close_step, close_refused, frame_step, frame_lacks, end_step, end_lacks, end_early, read_step, wish_step}
-use Rattle.trace_model.proofs.NextAction.{settled_at_rest}
+use Rattle.trace_model.specs.Steps.{Event, pushes, pushes_close, steps, ends, reads, wishes, Answer, Exchange, after_leave, Step, push_step, push_refused, close_step, close_refused, frame_step, frame_lacks, end_step, end_lacks, end_early, read_step, store_wish_step}
+use Rattle.trace_model.proofs.NextEvent.{settled_at_rest}
 use Rattle.link_marks.specs.RingKept.{IsRingKept}
 use Rattle.link_marks.specs.WindowLaws.{MovesWindow, WindowStays}
 use Rattle.link_marks.proofs.HistorySteps.{step_owed}
@@ -66,7 +66,7 @@ module _ (n size : ℕ) (c : Core) (frame : Frame) (below : List Frame) (number 
       absurd (let none : None ≡ Some number = sym early
       ∙ ap (λ (x : Frame). number_of x.state) (ap (first_of frame) same) ∙ ap number_of at in cc)
   ends_make (read_step e made) = absurd (subst IsEnds e tt)
-  ends_make (wish_step e a is) = absurd (subst IsEnds e tt)
+  ends_make (store_wish_step e a is) = absurd (subst IsEnds e tt)
 
 -- ---- a fill is begun only if a page is released
 
@@ -151,7 +151,7 @@ module _ (n size start : ℕ) (c : Core) (x : Exchange) (after : Core) (r : IsRi
             (sym path) does.run;
         goes = does.goes;
         agrees = does.agrees;
-        first = subst (λ (xs : List OpenFrame). ReservesFirst size p xs (actions_of does.events))
+        first = subst (λ (xs : List OpenFrame). ReservesFirst size p xs (history_events_of does.events))
             (sym last.open_none) tt;
         on = λ e. ap (λ (xs : List OpenFrame). let q : LineState = record does.behind { frames = xs } in q)
             (does.on (let t = ap (λ (fs : List Frame). length fs) top in omega arith));
@@ -194,10 +194,10 @@ module _ (n size start : ℕ) (c : Core) (x : Exchange) (after : Core) (r : IsRi
           goes = does.goes;
           agrees = subst (λ (ps : List (List ℕ)). Agrees n does.behind (payloads_left after.frames ps)
               (writer_of after)) (sym is.payloads_are) does.agrees;
-          first = subst (λ (xs : List OpenFrame). ReservesFirst size p xs (actions_of does.events)) (sym is.open_is)
+          first = subst (λ (xs : List OpenFrame). ReservesFirst size p xs (history_events_of does.events)) (sym is.open_is)
               (λ fresh res wants fits. does.first (is.fresh fresh).0 (is.fresh fresh).1 res
               (sym (ap next_reservation history_is) ∙ wants)
-              (subst (λ (h : List Action). FitsBehind size (tail_of h) res) history_is fits));
+              (subst (λ (h : List HistoryEvent). FitsBehind size (tail_of h) res) history_is fits));
           on = λ e. ap (λ (xs : List OpenFrame). let q : LineState = record does.behind { frames = xs } in q)
               (does.on (let t = ap (λ (fs : List Frame). length fs) on_top in omega arith));
           few = λ is_record. does.few (subst IsRecordOnTop on_top is_record);

@@ -1,10 +1,10 @@
 -- The calls for a frame, joined, are a part of the lines' events.
 use Rattle.std.proofs.Common.{◌≡◌, ◌≢◌, ℕ, suc, ◌+◌, ◌-◌, ◌<◌, ◌≤◌, List, [], ◌∷◌, ◌++◌, length, sym, ap, ◌∙◌, subst, arith, length-append}
-use Rattle.trace_model.specs.History.{Action}
-use Rattle.trace_model.specs.Window.{RingEvent, acts, closes, takes, loses, actions_of, released_one, took_one, lost_one, window_after}
+use Rattle.trace_model.specs.History.{HistoryEvent}
+use Rattle.trace_model.specs.Window.{RingEvent, acts, closes, takes, loses, history_events_of, released_one, took_one, lost_one, window_after}
 use Rattle.trace_model.specs.Frames.{for_record, for_close, Frame}
 use Rattle.trace_model.specs.Steps.{Exchange}
-use Rattle.link_marks.proofs.WindowRuns.{actions-append}
+use Rattle.link_marks.proofs.WindowRuns.{history_events-append}
 use Rattle.world_model.specs.Lanes.{event_on_top, payloads_left}
 use Rattle.world_model.proofs.FramesMove.{Moves, stays, changes, pops, PushesNone, step_moves}
 use Rattle.world_model.proofs.LanePayloads.{pushes_none}
@@ -30,12 +30,12 @@ top_joined n size depth p between after (takes ∷ xs) ys (may, one) two =
 top_joined n size depth p between after (loses ∷ xs) ys (may, one) two =
     (may, top_joined n size depth (state_moved p (window_after p.window lost_one)) between after xs ys one two)
 
-reserves_more : (size : ℕ) (p : LineState) (xs : List OpenFrame) (actions more : List Action)
-    → ReservesFirst size p xs actions
-    → ReservesFirst size p xs (actions ++ more)
-reserves_more size p [] actions more first = tt
-reserves_more size p (top ∷ below) actions more first = λ fresh r wants fits. let (others, is) =
-    first fresh r wants fits in (others ++ more, ap (λ (l : List Action). l ++ more) is)
+reserves_more : (size : ℕ) (p : LineState) (xs : List OpenFrame) (history_events more : List HistoryEvent)
+    → ReservesFirst size p xs history_events
+    → ReservesFirst size p xs (history_events ++ more)
+reserves_more size p [] history_events more first = tt
+reserves_more size p (top ∷ below) history_events more first = λ fresh r wants fits. let (others, is) =
+    first fresh r wants fits in (others ++ more, ap (λ (l : List HistoryEvent). l ++ more) is)
 
 -- the events of calls, with the state that they reach
 record CallsMake (n size depth count : ℕ) (frames : List Frame) (p : LineState) (lefts : List (List ℕ)) (t : Writer)
@@ -46,8 +46,8 @@ record CallsMake (n size depth count : ℕ) (frames : List Frame) (p : LineState
   run : TopRun n size depth (stepped p) events reached
   goes : MayGo reached behind
   agrees : Agrees n behind lefts t
-  first : ReservesFirst size p p.frames (actions_of events)
-  few : AreForRecords frames → length (actions_of events) ≤ count
+  first : ReservesFirst size p p.frames (history_events_of events)
+  few : AreForRecords frames → length (history_events_of events) ≤ count
 
 has_some : (frames : List Frame) (depth : ℕ) → length frames ≡ suc depth → frames ≢ []
 has_some frames depth e none = let z = ap (λ (fs : List Frame). length fs) none in omega arith
@@ -135,13 +135,13 @@ module _ (n size start depth : ℕ) where
             (subst (λ (q : LineState). TopRun n size depth q more.events more.reached) from more.run);
         goes = more.goes;
         agrees = more.agrees;
-        first = subst (ReservesFirst size p p.frames) (sym (actions-append m.events more.events))
-            (reserves_more size p p.frames (actions_of m.events) (actions_of more.events) m.first);
+        first = subst (ReservesFirst size p p.frames) (sym (history_events-append m.events more.events))
+            (reserves_more size p p.frames (history_events_of m.events) (history_events_of more.events) m.first);
         few = λ are.
             let one = m.few (record_on_top s.frames depth some are) in
             let others = more.few (call_keeps n size start s x u payloads e call are) in
-            let long = ap (λ (l : List Action). length l) (actions-append m.events more.events) in
-            omega (arith, length-append (actions_of m.events) (actions_of more.events));
+            let long = ap (λ (l : List HistoryEvent). length l) (history_events-append m.events more.events) in
+            omega (arith, length-append (history_events_of m.events) (history_events_of more.events));
       }
 
   finishes : (s : Writer) (payloads : List (List ℕ)) (t : Writer) (lefts : List (List ℕ)) (p : LineState) (count : ℕ)

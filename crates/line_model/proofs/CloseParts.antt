@@ -1,11 +1,11 @@
 -- A `c` line as a part of the lines' events.
 use Rattle.std.proofs.Common.{◌≡◌, ℕ, ◌≤◌, ◌<◌, ◌⊎◌, false, List, [], ◌∷◌, ◌++◌, length, refl, sym, ap, ◌∙◌, subst, inl, inr, arith}
 use Rattle.trace_model.specs.declared.limits.TheConstants.{MAX_FRAMES}
-use Rattle.trace_model.specs.History.{Action, push_close}
+use Rattle.trace_model.specs.History.{HistoryEvent, push_close}
 use Rattle.trace_model.specs.Window.{RingEvent, acts}
 use Rattle.trace_model.specs.Frames.{for_close, waiting, idle, Refusal}
 use Rattle.trace_model.specs.Ring.{Core}
-use Rattle.trace_model.specs.Steps.{Event, pushes, pushes_close, steps, ends, reads, wishes, Answer, pushed, refused, Step, push_step, push_refused, close_step, close_refused, frame_step, frame_lacks, end_step, end_lacks, end_early, read_step, wish_step}
+use Rattle.trace_model.specs.Steps.{Event, pushes, pushes_close, steps, ends, reads, wishes, Answer, pushed, refused, Step, push_step, push_refused, close_step, close_refused, frame_step, frame_lacks, end_step, end_lacks, end_early, read_step, store_wish_step}
 use Rattle.script_model.specs.Script.{close}
 use Rattle.line_model.specs.Lines.{LineState, frame_count, writes, writes_none, LinePart}
 use Rattle.line_model.specs.WriterCalls.{Writer, writer_of, IsWriterCall, TopCalls}
@@ -47,7 +47,7 @@ closing n size c answer after (end_step paid frame below num m l e top state k s
 closing n size c answer after (end_lacks paid e none a is) = absurd (subst IsPushesClose e tt)
 closing n size c answer after (end_early paid frame below e top early a is) = absurd (subst IsPushesClose e tt)
 closing n size c answer after (read_step e made) = absurd (subst IsPushesClose e tt)
-closing n size c answer after (wish_step e a is) = absurd (subst IsPushesClose e tt)
+closing n size c answer after (store_wish_step e a is) = absurd (subst IsPushesClose e tt)
 
 pub closing_of : (n size start : ℕ) (answer : Answer) (s u : Writer)
     → IsWriterCall n size start s record { event = pushes_close; answer = answer } u
@@ -82,7 +82,7 @@ closes_make n size start cpu answer s u payloads calls t lefts p agrees call =
           finishing = p.finishing;
         } in
         let made : Agrees n q ([] ∷ payloads) (closed_with s) = record {
-          history = ap (λ (h : List Action). h ++ push_close ∷ []) agrees.history;
+          history = ap (λ (h : List HistoryEvent). h ++ push_close ∷ []) agrees.history;
           done = agrees.done;
           opened = agrees.opened;
           window = agrees.window;

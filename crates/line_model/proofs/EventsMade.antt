@@ -3,9 +3,9 @@ use Rattle.std.proofs.Common.{◌≡◌, ◌≢◌, ℕ, suc, ◌+◌, ◌-◌, 
 use Rattle.std.specs.Prelude.{if◌then◌else◌, IsTrue}
 use mathlib.Core.Logic.{dite}
 use native.Mathlib.Decide.{ℕ_discrete}
-use Rattle.trace_model.specs.History.{Action, open_fill, reserve, leave, wished, Reservation, is_settled}
+use Rattle.trace_model.specs.History.{HistoryEvent, open_fill, reserve, leave, wished, Reservation, is_settled}
 use Rattle.trace_model.specs.Packing.{tail_of, FitsBehind, next_reservation}
-use Rattle.trace_model.specs.Window.{Window, RingEvent, acts, closes, takes, actions_of, IsWindow}
+use Rattle.trace_model.specs.Window.{Window, RingEvent, acts, closes, takes, history_events_of, IsWindow}
 use Rattle.trace_model.specs.Frames.{for_close, waiting, reserved, left, Phase, idle, Frame}
 use Rattle.trace_model.specs.Ring.{Core}
 use Rattle.trace_model.specs.Steps.{frames_after_leave, with_new_tail}
@@ -54,7 +54,7 @@ gone_payloads [] e = absurd (omega arith)
 gone_payloads (payload ∷ []) e = refl
 gone_payloads (payload ∷ next ∷ others) e = absurd (omega arith)
 
--- an action that is no leave changes nothing of a finishing frame
+-- a history event that is no leave changes nothing of a finishing frame
 finishing_fill : (top : OpenFrame) (rest : List OpenFrame) (l : Bool) → finishing_after (top ∷ rest) l open_fill ≡ l
 finishing_fill top [] l = refl
 finishing_fill top (next ∷ rest) l = refl
@@ -63,14 +63,14 @@ finishing_reserve : (top : OpenFrame) (rest : List OpenFrame) (l : Bool) → fin
 finishing_reserve top [] l = refl
 finishing_reserve top (next ∷ rest) l = refl
 
-few_free : {xs : List Action} {a : Action} → xs ≡ a ∷ [] → length xs ≤ 1
-few_free e = let long = ap (λ (l : List Action). length l) e in omega arith
+few_free : {xs : List HistoryEvent} {a : HistoryEvent} → xs ≡ a ∷ [] → length xs ≤ 1
+few_free e = let long = ap (λ (l : List HistoryEvent). length l) e in omega arith
 
--- if its record fits, these actions begin with its reservation
-abbrev pub FirstIs : ℕ → Core → Frame → List Action → Type 0
-FirstIs size c frame actions = frame.state ≡ waiting → frame.phase ≡ idle → (r : Reservation)
-    → next_reservation c.history ≡ Some r → FitsBehind size (tail_of c.history) r → (others : List Action)
-    × (actions ≡ reserve ∷ others)
+-- if its record fits, these history events begin with its reservation
+abbrev pub FirstIs : ℕ → Core → Frame → List HistoryEvent → Type 0
+FirstIs size c frame history_events = frame.state ≡ waiting → frame.phase ≡ idle → (r : Reservation)
+    → next_reservation c.history ≡ Some r → FitsBehind size (tail_of c.history) r → (others : List HistoryEvent)
+    × (history_events ≡ reserve ∷ others)
 
 -- events from a state to one that agrees with the writer
 pub record Does (n size depth : ℕ) (c : Core) (frame : Frame) (payloads : List (List ℕ)) (p : LineState)
@@ -81,16 +81,16 @@ pub record Does (n size depth : ℕ) (c : Core) (frame : Frame) (payloads : List
   pub run : TopRun n size depth p events reached
   pub goes : MayGo reached behind
   pub agrees : Agrees n behind (payloads_left t.frames payloads) t
-  pub first : FirstIs size c frame (actions_of events)
+  pub first : FirstIs size c frame (history_events_of events)
   pub on : length t.frames ≡ suc depth → with_top_stepped behind.frames ≡ behind.frames
-  pub few : frame.kind ≢ for_close → length (actions_of events) ≤ 1
+  pub few : frame.kind ≢ for_close → length (history_events_of events) ≤ 1
 
 module _ (n size depth : ℕ) (c : Core) (frame : Frame) (below : List Frame) (deep : depth ≡ length below) (head : ℕ)
     (w : IsWindow n record { head = head; done = c.done; opened = c.opened }) where
   abbrev counts : ℕ → ℕ → ℕ → Window
   counts h d o = record { head = h; done = d; opened = o }
 
-  abbrev line_state : List Action → Window → List OpenFrame → Bool → LineState
+  abbrev line_state : List HistoryEvent → Window → List OpenFrame → Bool → LineState
   line_state history v xs l = record { history = history; window = v; frames = xs; finishing = l }
 
   abbrev To : List (List ℕ) → LineState → Writer → Type 0
@@ -104,9 +104,9 @@ module _ (n size depth : ℕ) (c : Core) (frame : Frame) (below : List Frame) (d
     front : (events : List RingEvent) (reached : LineState)
         → TopRun n size depth (p h) events reached
         → TopRun n size depth (p head) (d events) reached
-    same : (events : List RingEvent) → actions_of (d events) ≡ actions_of events
+    same : (events : List RingEvent) → history_events_of (d events) ≡ history_events_of events
 
-  free_now : (history : List Action) (xs : List OpenFrame) (l : Bool)
+  free_now : (history : List HistoryEvent) (xs : List OpenFrame) (l : Bool)
       → c.opened < c.done + n
       → (h : ℕ) × (d : List RingEvent → List RingEvent) × Free h d (λ k. line_state history (counts k c.done c.opened) xs l)
   free_now history xs l room = dite (ℕ_discrete c.opened (head + n))
@@ -147,12 +147,12 @@ module _ (n size depth : ℕ) (c : Core) (frame : Frame) (below : List Frame) (d
           (let e = ap (λ (fs : List Frame). length fs) alone in omega arith)) ∙ one;
     }
 
-    lone_counts : (history : List Action) (v : Window) → frame_count (line_state history v [] true) ≡ suc depth
+    lone_counts : (history : List HistoryEvent) (v : Window) → frame_count (line_state history v [] true) ≡ suc depth
     lone_counts history v = let e = ap (λ (fs : List Frame). length fs) alone in let it : 1 ≡ suc depth = omega arith in
         it
 
-    first_not : (actions : List Action) → FirstIs size c frame actions
-    first_not actions waits at r is fits = absurd (let both : left ≡ waiting = sym gone ∙ waits in cc)
+    first_not : (history_events : List HistoryEvent) → FirstIs size c frame history_events
+    first_not history_events waits at r is fits = absurd (let both : left ≡ waiting = sym gone ∙ waits in cc)
 
     pub last_makes : (after : Core)
         → IsTrue (is_settled c.history)
@@ -192,7 +192,7 @@ module _ (n size depth : ℕ) (c : Core) (frame : Frame) (below : List Frame) (d
             };
             frames = last_open phase;
           };
-          first = first_not (actions_of (d (acts open_fill ∷ [])));
+          first = first_not (history_events_of (d (acts open_fill ∷ [])));
           on = λ e. refl;
           few = λ is_record. few_free (f.same (acts open_fill ∷ []));
         }
@@ -265,7 +265,7 @@ module _ (n size depth : ℕ) (c : Core) (frame : Frame) (below : List Frame) (d
     many : (f : Frame) → length payloads ≡ length (f ∷ below)
     many f = ap suc (count_payloads below others rest l more)
 
-    top_counts : (history : List Action) (v : Window)
+    top_counts : (history : List HistoryEvent) (v : Window)
         → frame_count (line_state history v (record { payload = top.payload; stepped = true } ∷ rest) l) ≡ suc depth
     top_counts history v = let e = count_frames below others rest l more in
         let it : suc (length rest) + (if l then 1 else 0) ≡ suc depth = omega arith in it
@@ -289,7 +289,7 @@ module _ (n size depth : ℕ) (c : Core) (frame : Frame) (below : List Frame) (d
           more,
         )
 
-    fill_state : (history : List Action) (h : ℕ)
+    fill_state : (history : List HistoryEvent) (h : ℕ)
         → state_after
         (line_state history (counts h c.done c.opened) (record { payload = top.payload; stepped = true } ∷ rest) l)
         open_fill ≡ line_state (history ++ open_fill ∷ []) (counts h c.done (c.opened + 1))
@@ -339,7 +339,7 @@ module _ (n size depth : ℕ) (c : Core) (frame : Frame) (below : List Frame) (d
         below_finishing (y ∷ ys) st = refl
 
     -- it leaves, after this history, with this window
-    leave_run : (history : List Action) (v : Window) (payload : Option (List ℕ))
+    leave_run : (history : List HistoryEvent) (v : Window) (payload : Option (List ℕ))
         → MayLeaveTop n size (line_state history v (record { payload = top.payload; stepped = true } ∷ rest) l) payload
         (record { payload = top.payload; stepped = true } ∷ rest)
         → TopRun n size depth (line_state history v (record { payload = top.payload; stepped = true } ∷ rest) l)
@@ -352,8 +352,8 @@ module _ (n size depth : ℕ) (c : Core) (frame : Frame) (below : List Frame) (d
     from = line_state c.history (counts head c.done c.opened)
         (record { payload = top.payload; stepped = true } ∷ rest) l
 
-    unfit : DoesntFit size c frame → (actions : List Action) → FirstIs size c frame actions
-    unfit fit actions waits at r is fits = absurd (fit waits at r is fits)
+    unfit : DoesntFit size c frame → (history_events : List HistoryEvent) → FirstIs size c frame history_events
+    unfit fit history_events waits at r is fits = absurd (fit waits at r is fits)
 
     -- after its leave it is on the stack only as the bottom one
     rest_stepped : (d : Core) (under : List Frame)
@@ -438,7 +438,7 @@ module _ (n size depth : ℕ) (c : Core) (frame : Frame) (below : List Frame) (d
             };
             frames = top_open (record frame { phase = phase }) held;
           };
-          first = unfit fit (actions_of (d (acts open_fill ∷ [])));
+          first = unfit fit (history_events_of (d (acts open_fill ∷ [])));
           on = λ e. refl;
           few = λ is_record. few_free (f.same (acts open_fill ∷ []));
         }
@@ -503,7 +503,7 @@ module _ (n size depth : ℕ) (c : Core) (frame : Frame) (below : List Frame) (d
             };
             frames = below_open (with_new_tail c page) None below refl more;
           };
-          first = unfit fit (actions_of (d (acts open_fill ∷ acts (leave None) ∷ [])));
+          first = unfit fit (history_events_of (d (acts open_fill ∷ acts (leave None) ∷ [])));
           on = rest_stepped (with_new_tail c page) below refl rest more;
           few = λ is_record. absurd (is_record closes_page);
         }

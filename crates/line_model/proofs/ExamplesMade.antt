@@ -7,7 +7,7 @@ use Rattle.trace_model.specs.Words.{padded}
 use Rattle.script_model.specs.Script.{write}
 use Rattle.line_model.proofs.WrittenLines.{whole_lines_commit}
 use Rattle.line_model.proofs.WriterHistories.{none_formed}
-use Rattle.trace_model.specs.History.{Action, push, reserve, leave}
+use Rattle.trace_model.specs.History.{HistoryEvent, push, reserve, leave}
 use Rattle.trace_model.specs.Window.{acts, first_window}
 use Rattle.line_model.specs.Lines.{LineState, first_state, IsRefusedPush, IsPush, MayGo, stays_on, goes, TopPart, begins, begins_none, writes}
 use Rattle.line_model.specs.LineExamples.{OneWrite, RefusedBegin, BeginAndSteps, NestedFrames, DroppedWrite, RecordsOfThree}
@@ -15,7 +15,7 @@ use Rattle.line_model.specs.LineExamples.{OneWrite, RefusedBegin, BeginAndSteps,
 abbrev four : List ℕ
 four = 1 ∷ 2 ∷ 3 ∷ 4 ∷ []
 
-abbrev made : List Action
+abbrev made : List HistoryEvent
 made = push 7 4 ∷ reserve ∷ leave (Some four) ∷ []
 
 -- after the push; after the leave; and at rest

@@ -1,29 +1,29 @@
 -- Each fill but the last has a record, so there are few fills.
 use Rattle.std.proofs.Common.{◌≡◌, ◌≢◌, ℕ, ◌+◌, ◌≤◌, ◌⊎◌, List, [], ◌∷◌, ◌++◌, length, get_or, map, Option, Some, None, refl, sym, ap, ◌∙◌, subst, inl, inr, arith, append_assoc, append-nil, length-append}
 use Rattle.std.proofs.lemmas.List.{length-map}
-use Rattle.trace_model.specs.History.{Action, push, push_close, open_fill, reserve, leave, wished, Reservation, PushedFrame, record_frame, close_frame, after_action, writer_after, reserved_records}
+use Rattle.trace_model.specs.History.{HistoryEvent, push, push_close, open_fill, reserve, leave, wished, Reservation, PushedFrame, record_frame, close_frame, after_event, writer_after, reserved_records}
 use Rattle.trace_model.specs.Packing.{opens_of, cut_from, tail_of}
 use Rattle.trace_model.specs.Fitting.{tail_at}
-use Rattle.trace_model.specs.Window.{Window, RingEvent, acts, closes, takes, loses, actions_of, window_event_of, released_one, took_one, lost_one, window_after, window_behind, WindowRunFrom}
+use Rattle.trace_model.specs.Window.{Window, RingEvent, acts, closes, takes, loses, history_events_of, window_event_of, released_one, took_one, lost_one, window_after, window_behind, WindowRunFrom}
 use Rattle.trace_model.proofs.FillCuts.{opens_of-push, opens_of-push_close, opens_of-reserve, opens_of-leave, opens_of-wished}
 use Rattle.trace_model.proofs.NextRecords.{records_snoc}
 use Rattle.trace_model.proofs.PackedHistories.{plain, plain-finished, cut-plain, plain_nil, tail_is}
 use Rattle.link_marks.proofs.FrameEnds.{opened_tail}
 use Rattle.line_model.specs.WrittenRecords.{FillsAreFew}
 
-pub record IsFew (start : ℕ) (h : List Action) (opened : ℕ) : Type 0 where
+pub record IsFew (start : ℕ) (h : List HistoryEvent) (opened : ℕ) : Type 0 where
   pub all : opened ≤ start + length (reserved_records h) + 1
   pub held : tail_of h ≢ [] → opened ≤ start + length (reserved_records h)
 
--- ---- one action
+-- ---- one history event
 
-same_tail : (h : List Action) (a : Action)
+same_tail : (h : List HistoryEvent) (a : HistoryEvent)
     → opens_of (h ++ a ∷ []) ≡ opens_of h
     → reserved_records (h ++ a ∷ []) ≡ reserved_records h
     → tail_of (h ++ a ∷ []) ≡ tail_of h
 same_tail h a opens records = tail_is (h ++ a ∷ []) ∙ (λ i. tail_at (opens i) (records i)) ∙ sym (tail_is h)
 
-few_same : (start : ℕ) (h : List Action) (a : Action) (opened : ℕ)
+few_same : (start : ℕ) (h : List HistoryEvent) (a : HistoryEvent) (opened : ℕ)
     → opens_of (h ++ a ∷ []) ≡ opens_of h
     → reserved_records (h ++ a ∷ []) ≡ reserved_records h
     → IsFew start h opened
@@ -36,12 +36,12 @@ few_same start h a opened opens records few =
     }
 
 plain_left : (stack : List PushedFrame) (xs : List Reservation) (payload : Option (List ℕ))
-    → map plain (after_action stack xs (leave payload)).records ≡ map plain xs
+    → map plain (after_event stack xs (leave payload)).records ≡ map plain xs
 plain_left [] xs payload = refl
 plain_left (record_frame moment len number ∷ stack) xs payload = plain-finished number payload xs
 plain_left (close_frame ∷ stack) xs payload = refl
 
-few_leave : (start : ℕ) (h : List Action) (payload : Option (List ℕ)) (opened : ℕ)
+few_leave : (start : ℕ) (h : List HistoryEvent) (payload : Option (List ℕ)) (opened : ℕ)
     → IsFew start h opened
     → IsFew start (h ++ leave payload ∷ []) opened
 few_leave start h payload opened few =
@@ -72,21 +72,21 @@ few_leave start h payload opened few =
 -- a reservation adds one record, or none
 
 grown : (stack : List PushedFrame) (xs : List Reservation)
-    → (((after_action stack xs reserve).records ≡ xs)
-    ⊎ ((r : Reservation) × ((after_action stack xs reserve).records ≡ xs ++ r ∷ [])))
+    → (((after_event stack xs reserve).records ≡ xs)
+    ⊎ ((r : Reservation) × ((after_event stack xs reserve).records ≡ xs ++ r ∷ [])))
 grown [] xs = inl refl
 grown (record_frame moment len None ∷ stack) xs = inr (_, refl)
 grown (record_frame moment len (Some number) ∷ stack) xs = inl refl
 grown (close_frame ∷ stack) xs = inl refl
 
-few_reserve : (start : ℕ) (h : List Action) (opened : ℕ)
+few_reserve : (start : ℕ) (h : List HistoryEvent) (opened : ℕ)
     → IsFew start h opened
     → IsFew start (h ++ reserve ∷ []) opened
 few_reserve start h opened few = by_records (grown (writer_after h).stack (writer_after h).records)
   where
-    by_records : ((after_action (writer_after h).stack (writer_after h).records reserve).records ≡ reserved_records h)
+    by_records : ((after_event (writer_after h).stack (writer_after h).records reserve).records ≡ reserved_records h)
         ⊎ ((r : Reservation)
-        × ((after_action (writer_after h).stack (writer_after h).records reserve).records ≡ reserved_records
+        × ((after_event (writer_after h).stack (writer_after h).records reserve).records ≡ reserved_records
         h ++ r ∷ []))
         → IsFew start (h ++ reserve ∷ []) opened
     by_records (inl same) = few_same start h reserve opened (opens_of-reserve h) (records_snoc h reserve ∙ same) few
@@ -96,7 +96,7 @@ few_reserve start h opened few = by_records (grown (writer_after h).stack (write
         let most = few.all in
         record { all = omega arith; held = λ some. omega arith }
 
-pub few_act : (start : ℕ) (h : List Action) (w : Window) (a : Action)
+pub few_act : (start : ℕ) (h : List HistoryEvent) (w : Window) (a : HistoryEvent)
     → (a ≡ open_fill → tail_of h ≢ [])
     → IsFew start h w.opened
     → IsFew start (h ++ a ∷ []) (window_behind w (window_event_of a)).opened
@@ -115,22 +115,22 @@ few_act start h w wished begins few =
 
 -- ---- events
 
-pub few_run : (n start : ℕ) (h : List Action) (w after : Window) (events : List RingEvent)
+pub few_run : (n start : ℕ) (h : List HistoryEvent) (w after : Window) (events : List RingEvent)
     → WindowRunFrom n h w events after
-    → ((front behind : List Action) → h ++ actions_of events ≡ front ++ open_fill ∷ behind → tail_of front ≢ [])
+    → ((front behind : List HistoryEvent) → h ++ history_events_of events ≡ front ++ open_fill ∷ behind → tail_of front ≢ [])
     → IsFew start h w.opened
-    → IsFew start (h ++ actions_of events) after.opened
+    → IsFew start (h ++ history_events_of events) after.opened
 few_run n start h w after [] run begins few =
-    subst (λ (l : List Action). IsFew start l after.opened) (sym (append-nil h))
+    subst (λ (l : List HistoryEvent). IsFew start l after.opened) (sym (append-nil h))
     (subst (λ (v : Window). IsFew start h v.opened) run few)
 few_run n start h w after (acts a ∷ events) run begins few =
-    let one : h ++ a ∷ actions_of events ≡ (h ++ a ∷ []) ++ actions_of events =
-    sym (append_assoc h (a ∷ []) (actions_of events)) in
-    subst (λ (l : List Action). IsFew start l after.opened) (sym one)
+    let one : h ++ a ∷ history_events_of events ≡ (h ++ a ∷ []) ++ history_events_of events =
+    sym (append_assoc h (a ∷ []) (history_events_of events)) in
+    subst (λ (l : List HistoryEvent). IsFew start l after.opened) (sym one)
     (few_run n start (h ++ a ∷ []) (window_behind w (window_event_of a)) after events run.1
     (λ front behind e. begins front behind (one ∙ e))
     (few_act start h w a
-    (λ opens. begins h (actions_of events) (ap (λ (b : Action). h ++ b ∷ actions_of events) opens)) few))
+    (λ opens. begins h (history_events_of events) (ap (λ (b : HistoryEvent). h ++ b ∷ history_events_of events) opens)) few))
 few_run n start h w after (closes ∷ events) run begins few =
     few_run n start h (window_after w released_one) after events run.1 begins record { all = few.all; held = few.held }
 few_run n start h w after (takes ∷ events) run begins few =

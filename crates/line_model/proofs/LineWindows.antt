@@ -1,15 +1,15 @@
--- What the lines of a writer do is a run of the window, from the start, and its actions are the history.
+-- What the lines of a writer do is a run of the window, from the start, and its history events are the history.
 use Rattle.std.proofs.Common.{◌≡◌, ℕ, zero, suc, List, [], ◌∷◌, ◌++◌, sym, ap, ◌∙◌, subst, refl, append_assoc, append-nil}
-use Rattle.trace_model.specs.History.{Action, push_close}
-use Rattle.trace_model.specs.Window.{Window, RingEvent, acts, closes, takes, loses, actions_of, released_one, took_one, lost_one, window_after, WindowRunFrom, WindowRun}
+use Rattle.trace_model.specs.History.{HistoryEvent, push_close}
+use Rattle.trace_model.specs.Window.{Window, RingEvent, acts, closes, takes, loses, history_events_of, released_one, took_one, lost_one, window_after, WindowRunFrom, WindowRun}
 use Rattle.script_model.specs.Script.{Command, begin_frame, step_frame, finish_frame, write, close, step_reader, take_page, wish, deliver}
-use Rattle.link_marks.proofs.WindowRuns.{actions-append, run-append}
+use Rattle.link_marks.proofs.WindowRuns.{history_events-append, run-append}
 use Rattle.line_model.specs.Lines.{LineState, first_state, state_after, state_moved, IsQuiet, IsPush, TopRun, MayGo, stays_on, goes, TopPart, BeginPart, begins, begins_none, WholePart, writes, writes_none, LinePart, LineParts, FinishParts, IsMadeByLines}
 
 -- events that lead from one state to another, as the window and the history say
 pub record Leads (n : ℕ) (before : LineState) (events : List RingEvent) (after : LineState) : Type 0 where
   pub window : WindowRunFrom n before.history before.window events after.window
-  pub history : after.history ≡ before.history ++ actions_of events
+  pub history : after.history ≡ before.history ++ history_events_of events
 
 leads_none : (n : ℕ) (p : LineState) → Leads n p [] p
 leads_none n p = record { window = refl; history = sym (append-nil p.history) }
@@ -20,11 +20,11 @@ pub leads_joined : (n : ℕ) (before between after : LineState) (xs ys : List Ri
     → Leads n before (xs ++ ys) after
 leads_joined n before between after xs ys one two = record {
   window = run-append n before.history before.window between.window after.window xs ys one.window
-      (subst (λ (l : List Action). WindowRunFrom n l between.window ys after.window) one.history two.window);
+      (subst (λ (l : List HistoryEvent). WindowRunFrom n l between.window ys after.window) one.history two.window);
   history = two.history
-      ∙ ap (λ (l : List Action). l ++ actions_of ys) one.history
-      ∙ append_assoc before.history (actions_of xs) (actions_of ys)
-      ∙ ap (λ (l : List Action). before.history ++ l) (sym (actions-append xs ys));
+      ∙ ap (λ (l : List HistoryEvent). l ++ history_events_of ys) one.history
+      ∙ append_assoc before.history (history_events_of xs) (history_events_of ys)
+      ∙ ap (λ (l : List HistoryEvent). before.history ++ l) (sym (history_events-append xs ys));
 }
 
 leads_quiet : (n : ℕ) (before after : LineState) (events : List RingEvent)
@@ -34,16 +34,16 @@ leads_quiet n before after events q = record {
   window = q.window;
   history = ap (λ (p : LineState). p.history) q.after_is
       ∙ sym (append-nil before.history)
-      ∙ ap (λ (l : List Action). before.history ++ l) (sym q.acts_none);
+      ∙ ap (λ (l : List HistoryEvent). before.history ++ l) (sym q.acts_none);
 }
 
-pub leads_push : (n : ℕ) (a : Action) (payload : List ℕ) (before after : LineState) (events : List RingEvent)
+pub leads_push : (n : ℕ) (a : HistoryEvent) (payload : List ℕ) (before after : LineState) (events : List RingEvent)
     → IsPush n a payload before events after
     → Leads n before events after
 leads_push n a payload before after events q = record {
   window = q.window;
   history = ap (λ (p : LineState). p.history) q.after_is
-      ∙ ap (λ (l : List Action). before.history ++ l) (sym q.acts_one);
+      ∙ ap (λ (l : List HistoryEvent). before.history ++ l) (sym q.acts_one);
 }
 
 leads_top : (n size depth : ℕ) (before after : LineState) (events : List RingEvent)
@@ -53,7 +53,7 @@ leads_top n size depth before after [] run = subst (λ (p : LineState). Leads n 
 leads_top n size depth before after (acts a ∷ events) (count, of_top, may, run) =
     let rest = leads_top n size depth (state_after before a) after events run in record {
       window = (may, rest.window);
-      history = rest.history ∙ append_assoc before.history (a ∷ []) (actions_of events);
+      history = rest.history ∙ append_assoc before.history (a ∷ []) (history_events_of events);
     }
 leads_top n size depth before after (closes ∷ events) (may, run) =
     let moved : LineState = state_moved before (window_after before.window released_one) in
@@ -97,7 +97,7 @@ leads_begin n size moment payload before after events (begins may push_is) =
 leads_begin n size moment payload before after events (begins_none why quiet) =
     leads_quiet n before after events quiet
 
-leads_whole : (n size : ℕ) (a : Action) (payload : List ℕ) (Refused : Type 0) (before after : LineState)
+leads_whole : (n size : ℕ) (a : HistoryEvent) (payload : List ℕ) (Refused : Type 0) (before after : LineState)
     (events : List RingEvent)
     → WholePart n size a payload Refused before events after
     → Leads n before events after
@@ -149,10 +149,10 @@ leads_rest n size (suc count) before after events (front, behind, between, cut, 
     (leads_part n size before between front part.top)
     (leads_rest n size count between after behind parts))
 
--- the events of all lines are one run of the window, whose actions are the history
-pub lines_run : (n size start : ℕ) (lines : List Command) (h : List Action)
+-- the events of all lines are one run of the window, whose history events are the history
+pub lines_run : (n size start : ℕ) (lines : List Command) (h : List HistoryEvent)
     → IsMadeByLines n size start lines h
-    → (events : List RingEvent) × (w : Window) × WindowRun n start events w × (actions_of events ≡ h)
+    → (events : List RingEvent) × (w : Window) × WindowRun n start events w × (history_events_of events ≡ h)
 lines_run n size start lines h is =
     let by_lines = leads_lines n size lines (first_state start) is.behind is.by_lines is.parts in
     let by_rest = leads_rest n size is.count is.behind is.last is.by_rest is.rest in

@@ -2,7 +2,7 @@
 use Rattle.std.proofs.Common.{◌≡◌, ℕ, List, [], ◌∷◌, refl, sym, subst}
 use Rattle.trace_model.specs.Frames.{Kind, for_record, for_close, FrameState, waiting, reserved, left, Phase, idle, looking, claiming, looking_next, marking, clearing, opening, releasing, wishing, Frame, Refusal, too_deep, too_long, late_moment, crowded, worn, no_frame, not_reserved}
 use Rattle.trace_model.specs.Ring.{ReaderPhase, loading_link, loading_done, storing_link, swapping, Core}
-use Rattle.trace_model.specs.Steps.{Event, Answer, pushed, going, reserved_as, pending, full, gone, refused, reading, empty, moving, swapped, wished_for, leave_answer, begin_answer, end_answer, PushRefused, all_stand, has_no_room, comes_late, BeginsAgain, IdleStep, reserves, finds_nothing, is_crowded, is_worn, notes, look_late, sees_free, sees_header, sees_update, claim_late, claims, claim_fails, next_late, sees_normal, sees_other, mark_late, marks, mark_fails, clears, open_late, opens, releases, releases_last, grants, closes_more, goes_away, FrameStep, loads_header, loads_update, loads_owed, loads_passed, finds_none, finds_closed, swaps, swap_fails, ReadStep, Step, push_step, push_refused, close_step, close_refused, frame_step, frame_lacks, end_step, end_lacks, end_early, read_step, wish_step}
+use Rattle.trace_model.specs.Steps.{Event, Answer, pushed, going, reserved_as, pending, full, gone, refused, reading, empty, moving, swapped, wished_for, leave_answer, begin_answer, end_answer, PushRefused, all_stand, has_no_room, comes_late, BeginsAgain, IdleStep, reserves, finds_nothing, is_crowded, is_worn, notes, load_link_late, sees_free, sees_header, sees_update, claim_late, claims, claim_fails, load_next_late, sees_normal, sees_other, mark_late, marks, mark_fails, clears, open_late, opens, releases, releases_last, grants, closes_more, goes_away, FrameStep, loads_header, loads_update, loads_owed, loads_passed, finds_none, finds_closed, swaps, swap_fails, ReadStep, Step, push_step, push_refused, close_step, close_refused, frame_step, frame_lacks, end_step, end_lacks, end_early, read_step, store_wish_step}
 use Rattle.link_marks.specs.AnswerLaws.{IsInNeed}
 use Rattle.line_model.specs.SingleFrames.{RefusedFramesNeedPages}
 
@@ -68,14 +68,14 @@ module _ (n size : ℕ) (c : Core) where
 
     frame_due : (phase : Phase) → frame.phase ≡ phase → FrameStep n size c frame below phase answer after → Due answer
     frame_due idle rests step = idle_due frame.state refl rests step
-    frame_due (looking noted) at (look_late step) = again noted step
+    frame_due (looking noted) at (load_link_late step) = again noted step
     frame_due (looking noted) at (sees_free page now known a is) = due answer _ a tt
     frame_due (looking noted) at (sees_header page lost now sum known a is) = due answer _ a tt
     frame_due (looking noted) at (sees_update page lost now sum known a is) = due answer _ a tt
     frame_due (claiming noted page) at (claim_late step) = again noted step
     frame_due (claiming noted page) at (claims lost now sum known a is) = due answer _ a tt
     frame_due (claiming noted page) at (claim_fails now other a is) = due answer _ a tt
-    frame_due (looking_next role noted page) at (next_late helps step) = again noted step
+    frame_due (looking_next role noted page) at (load_next_late helps step) = again noted step
     frame_due (looking_next role noted page) at (sees_normal lost next on sum known a is) = due answer _ a tt
     frame_due (looking_next role noted page) at (sees_other lost on sum other a is) = due answer _ a tt
     frame_due (marking role noted page next) at (mark_late helps step) = again noted step
@@ -120,7 +120,7 @@ module _ (n size : ℕ) (c : Core) where
   step_due event answer after (end_lacks payload e nothing a is) = due answer _ a tt
   step_due event answer after (end_early payload frame below e top nothing a is) = due answer _ a tt
   step_due event answer after (read_step e step) = read_due c.reader.phase answer after step
-  step_due event answer after (wish_step e a is) = due answer _ a tt
+  step_due event answer after (store_wish_step e a is) = due answer _ a tt
 
 pub refused_frames_need_pages : RefusedFramesNeedPages
 refused_frames_need_pages n size c event answer after step = (

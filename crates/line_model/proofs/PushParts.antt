@@ -1,11 +1,11 @@
 -- A push, and a whole `w` line, as parts of the lines' events.
 use Rattle.std.proofs.Common.{◌≡◌, ℕ, ◌≤◌, ◌<◌, ◌⊎◌, false, List, [], ◌∷◌, ◌++◌, length, refl, sym, ap, ◌∙◌, subst, inl, inr, arith}
 use Rattle.trace_model.specs.declared.limits.TheConstants.{MAX_FRAMES, MOMENT_LIMIT}
-use Rattle.trace_model.specs.History.{Action, push}
+use Rattle.trace_model.specs.History.{HistoryEvent, push}
 use Rattle.trace_model.specs.Window.{RingEvent, acts}
 use Rattle.trace_model.specs.Frames.{for_record, waiting, idle, Refusal}
 use Rattle.trace_model.specs.Ring.{Core}
-use Rattle.trace_model.specs.Steps.{Event, pushes, pushes_close, steps, ends, reads, wishes, Answer, pushed, refused, IsTooLong, PushRefused, all_stand, has_no_room, comes_late, Step, push_step, push_refused, close_step, close_refused, frame_step, frame_lacks, end_step, end_lacks, end_early, read_step, wish_step}
+use Rattle.trace_model.specs.Steps.{Event, pushes, pushes_close, steps, ends, reads, wishes, Answer, pushed, refused, IsTooLong, PushRefused, all_stand, has_no_room, comes_late, Step, push_step, push_refused, close_step, close_refused, frame_step, frame_lacks, end_step, end_lacks, end_early, read_step, store_wish_step}
 use Rattle.script_model.specs.Script.{begin_frame, write}
 use Rattle.line_model.specs.Lines.{LineState, frame_count, IsRefusedPush, IsQuiet, IsPush, begins, begins_none, writes, writes_none, LinePart}
 use Rattle.line_model.specs.WriterCalls.{Writer, writer_of, IsWriterCall}
@@ -92,7 +92,7 @@ module _ (n size : ℕ) (c : Core) (moment len : ℕ) (answer : Answer) (after :
   pushing (end_lacks paid e none a is) = absurd (subst IsPushes e tt)
   pushing (end_early paid frame below e top early a is) = absurd (subst IsPushes e tt)
   pushing (read_step e made) = absurd (subst IsPushes e tt)
-  pushing (wish_step e a is) = absurd (subst IsPushes e tt)
+  pushing (store_wish_step e a is) = absurd (subst IsPushes e tt)
 
 pub pushing_of : (n size start moment len : ℕ) (answer : Answer) (s u : Writer)
     → IsWriterCall n size start s record { event = pushes moment len; answer = answer } u
@@ -129,7 +129,7 @@ module _ (n size : ℕ) (payloads : List (List ℕ)) (s : Writer) (p : LineState
 
   pushed_agrees : Agrees n pushed_state (payload ∷ payloads) (writer_with s moment (length payload))
   pushed_agrees = record {
-    history = ap (λ (h : List Action). h ++ push moment (length payload) ∷ []) agrees.history;
+    history = ap (λ (h : List HistoryEvent). h ++ push moment (length payload) ∷ []) agrees.history;
     done = agrees.done;
     opened = agrees.opened;
     window = agrees.window;

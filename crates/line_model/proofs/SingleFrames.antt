@@ -1,7 +1,7 @@
 -- The calls for a frame that is alone are served.
 use Rattle.std.proofs.Common.{◌≡◌, ◌≢◌, ℕ, ◌+◌, ◌≤◌, ◌⊎◌, List, [], ◌∷◌, length, refl, sym, ap, ◌∙◌, subst, inl, inr, arith}
 use Rattle.trace_model.specs.Words.{padded}
-use Rattle.trace_model.specs.History.{Action, push, push_close, open_fill, Reservation, reserved_records}
+use Rattle.trace_model.specs.History.{HistoryEvent, push, push_close, open_fill, Reservation, reserved_records}
 use Rattle.trace_model.specs.Packing.{tail_of, IsPacked}
 use Rattle.trace_model.specs.Frames.{Kind, for_record, for_close, FrameState, waiting, reserved, left, idle, Frame, crowded, worn}
 use Rattle.trace_model.specs.Ring.{Core}
@@ -62,10 +62,10 @@ module _ (n size start records : ℕ) (c : Core) (x : Exchange) (after : Core) (
   few : tail_of c.history ≢ [] → c.opened ≤ start + length (reserved_records c.history)
   few some =
       let (events, run) = run_told n size start c reached in
-      let packed = subst (λ (l : List Action). IsPacked l size) (sym run.actions) (runs_packed n size start c kept) in
+      let packed = subst (λ (l : List HistoryEvent). IsPacked l size) (sym run.history_events) (runs_packed n size start c kept) in
       let (all, held) = fills_are_few n size start events _ run.window packed in
-      subst (λ (l : List Action). c.opened ≤ start + length (reserved_records l)) run.actions
-      (held (λ none. some (ap tail_of (sym run.actions) ∙ none)))
+      subst (λ (l : List HistoryEvent). c.opened ≤ start + length (reserved_records l)) run.history_events
+      (held (λ none. some (ap tail_of (sym run.history_events) ∙ none)))
 
   needy : x.answer ≡ refused crowded ⊎ x.answer ≡ refused worn → IsInNeed n size c
   needy (inl e) = (refused_frames_need_pages n size c x.event x.answer after step).0 e

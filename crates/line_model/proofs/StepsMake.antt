@@ -5,8 +5,8 @@ use Rattle.trace_model.specs.History.{open_fill, Reservation, close_frame, write
 use Rattle.trace_model.specs.Packing.{tail_of, FitsBehind, next_reservation}
 use Rattle.trace_model.specs.Frames.{Kind, for_record, for_close, FrameState, waiting, reserved, left, owner, helper, Phase, idle, looking, claiming, looking_next, marking, clearing, opening, releasing, wishing, Frame, pushed_frames}
 use Rattle.trace_model.specs.Ring.{Core}
-use Rattle.trace_model.specs.Steps.{steps, Answer, NeedsPage, new_reservation, closing_phase, after_next, after_begin, with_new_tail, BeginsAgain, IdleStep, reserves, finds_nothing, is_crowded, is_worn, notes, FrameStep, look_late, sees_free, sees_header, sees_update, claim_late, claims, claim_fails, next_late, sees_normal, sees_other, mark_late, marks, mark_fails, clears, open_late, opens, releases, releases_last, grants, closes_more, goes_away, Step}
-use Rattle.trace_model.proofs.NextAction.{opened_stack}
+use Rattle.trace_model.specs.Steps.{steps, Answer, NeedsPage, new_reservation, closing_phase, after_next, after_begin, with_new_tail, BeginsAgain, IdleStep, reserves, finds_nothing, is_crowded, is_worn, notes, FrameStep, load_link_late, sees_free, sees_header, sees_update, claim_late, claims, claim_fails, load_next_late, sees_normal, sees_other, mark_late, marks, mark_fails, clears, open_late, opens, releases, releases_last, grants, closes_more, goes_away, Step}
+use Rattle.trace_model.proofs.NextEvent.{opened_stack}
 use Rattle.trace_model.proofs.PackedHistories.{wanted_record, wanted_close}
 use Rattle.link_marks.specs.RingKept.{IsRingKept}
 use Rattle.link_marks.proofs.StackSteps.{top_agrees, releasing_left, wishing_left}
@@ -154,7 +154,7 @@ module _ (n size start : ℕ) (c : Core) (below : List Frame) (answer : Answer) 
       → FrameStep n size c (framed kind state phase) below phase answer after
       → Made kind state phase
   made_in kind state idle active top rl wl step = idle_made kind state active top step
-  made_in kind state (looking noted) active top rl wl (look_late step) =
+  made_in kind state (looking noted) active top rl wl (load_link_late step) =
       late kind state (looking noted) noted active (λ e. cc) top step
   made_in kind state (looking noted) active top rl wl (sees_free page x at a is) =
       on kind state (looking noted) (opening noted page) _ active (λ e. cc) is refl
@@ -168,7 +168,7 @@ module _ (n size start : ℕ) (c : Core) (below : List Frame) (answer : Answer) 
       on kind state (claiming noted page) (looking_next owner noted page) _ active (λ e. cc) is refl
   made_in kind state (claiming noted page) active top rl wl (claim_fails x none a is) =
       on kind state (claiming noted page) (looking noted) _ active (λ e. cc) is refl
-  made_in kind state (looking_next role noted page) active top rl wl (next_late helps step) =
+  made_in kind state (looking_next role noted page) active top rl wl (load_next_late helps step) =
       late kind state (looking_next role noted page) noted active (λ e. cc) top step
   made_in kind state (looking_next role noted page) active top rl wl (sees_normal lost next go sum at a is) =
       on kind state (looking_next role noted page) (marking role noted page next) _ active (λ e. cc) is refl

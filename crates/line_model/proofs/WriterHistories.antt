@@ -1,7 +1,7 @@
 -- The histories that writers make are well-formed, so whole lines commit their records.
 use Rattle.std.proofs.Common.{◌≡◌, ℕ, zero, suc, ◌≤◌, ◌<◌, List, [], ◌∷◌, ◌++◌, length, sym, ap, subst, arith}
 use Rattle.std.specs.Prelude.{slice_index_or}
-use Rattle.trace_model.specs.History.{Action, open_fill, reserve}
+use Rattle.trace_model.specs.History.{HistoryEvent, open_fill, reserve}
 use Rattle.trace_model.specs.Packing.{fill_len}
 use Rattle.trace_model.specs.Steps.{Exchange}
 use Rattle.script_model.specs.Script.{Command, begin_frame, step_frame, finish_frame, write, close, step_reader, take_page, wish, deliver}
@@ -17,9 +17,9 @@ use Rattle.line_model.proofs.WrittenLines.{whole_lines_have_committed}
 
 -- ---- no history
 
-none_at : (front behind : List Action) (a : Action) → [] ≡ front ++ a ∷ behind → ⊥
-none_at [] behind a e = let z = ap (λ (l : List Action). length l) e in omega arith
-none_at (b ∷ front) behind a e = let z = ap (λ (l : List Action). length l) e in omega arith
+none_at : (front behind : List HistoryEvent) (a : HistoryEvent) → [] ≡ front ++ a ∷ behind → ⊥
+none_at [] behind a e = let z = ap (λ (l : List HistoryEvent). length l) e in omega arith
+none_at (b ∷ front) behind a e = let z = ap (λ (l : List HistoryEvent). length l) e in omega arith
 
 pub none_formed : (size : ℕ) → IsWellFormed size []
 none_formed size = (

@@ -6,16 +6,16 @@ use Rattle.std.proofs.lemmas.List.{map-append}
 use Rattle.trace_model.specs.declared.limits.TheConstants.{MIN_PAGES, MOMENT_LIMIT, LINK_FILLS}
 use Rattle.trace_model.specs.Record.{Record}
 use Rattle.trace_model.specs.Words.{padded, slot_len, encoded_len}
-use Rattle.trace_model.specs.History.{Action, push, push_close, open_fill, Reservation, record_frame, close_frame, WriterState, after_action, writer_after, reserved_records, last_moment, as_record, committed_records, IsHistory}
+use Rattle.trace_model.specs.History.{HistoryEvent, push, push_close, open_fill, Reservation, record_frame, close_frame, WriterState, after_event, writer_after, reserved_records, last_moment, as_record, committed_records, IsHistory}
 use Rattle.trace_model.specs.Packing.{tail_of, IsPacked}
-use Rattle.trace_model.specs.Window.{Window, RingEvent, acts, closes, takes, loses, actions_of, window_event_of, took_one, lost_one, window_after, window_behind, WindowRunFrom}
+use Rattle.trace_model.specs.Window.{Window, RingEvent, acts, closes, takes, loses, history_events_of, window_event_of, took_one, lost_one, window_after, window_behind, WindowRunFrom}
 use Rattle.trace_model.specs.Steps.{IsTooLong}
 use Rattle.script_model.specs.Script.{Command, begin_frame, step_frame, finish_frame, write, close, step_reader, take_page, wish, deliver}
-use Rattle.trace_model.proofs.NextAction.{writer_snoc, settled_at_rest}
+use Rattle.trace_model.proofs.NextEvent.{writer_snoc, settled_at_rest}
 use Rattle.trace_model.proofs.HistoryPrefixes.{none_stands}
 use Rattle.trace_model.proofs.Committed.{whole_front}
 use Rattle.trace_model.proofs.Lengths.{length-padded, padded_whole, slot_len-slot_len}
-use Rattle.link_marks.proofs.WindowRuns.{actions-append}
+use Rattle.link_marks.proofs.WindowRuns.{history_events-append}
 use Rattle.line_model.specs.Lines.{LineState, OpenFrame, first_state, frame_count, with_top_stepped, IsQuiet, MayGo, stays_on, goes, TopRun, FinishPart, writes, writes_none, LinePart, LineParts, FinishParts}
 use Rattle.line_model.specs.WrittenRecords.{is_recorded, record_of, records_of_line, records_of_lines, WritesOrCloses, AllWriteOrClose, IsAtRest, LinesFromRestCommit, WholeLinesCommit, WholeLinesHaveCommitted}
 use Rattle.line_model.proofs.LineWindows.{Leads, leads_line, leads_lines, leads_rest}
@@ -45,39 +45,39 @@ unrecorded size moment len (inr late) =
 -- ---- the window at rest
 
 -- no fill is closed until one more is begun
-quiet_window : (n : ℕ) (h : List Action) (w after : Window) (events : List RingEvent)
+quiet_window : (n : ℕ) (h : List HistoryEvent) (w after : Window) (events : List RingEvent)
     → WindowRunFrom n h w events after
-    → actions_of events ≡ []
+    → history_events_of events ≡ []
     → w.done + 1 ≡ w.opened
     → (after.done ≡ w.done) × (after.opened ≡ w.opened)
 quiet_window n h w after [] run none rest =
     (ap (λ (v : Window). v.done) (sym run), ap (λ (v : Window). v.opened) (sym run))
 quiet_window n h w after (acts a ∷ events) run none rest =
-    absurd (let z = ap (λ (l : List Action). length l) none in omega arith)
+    absurd (let z = ap (λ (l : List HistoryEvent). length l) none in omega arith)
 quiet_window n h w after (closes ∷ events) run none rest = absurd (let low = run.0.0 in omega arith)
 quiet_window n h w after (takes ∷ events) run none rest =
     quiet_window n h (window_after w took_one) after events run.1 none rest
 quiet_window n h w after (loses ∷ events) run none rest =
     quiet_window n h (window_after w lost_one) after events run.1 none rest
 
-abbrev first_of : Action → List Action → Action
+abbrev first_of : HistoryEvent → List HistoryEvent → HistoryEvent
 first_of other [] = other
-first_of other (a ∷ actions) = a
+first_of other (a ∷ history_events) = a
 
-abbrev others_of : List Action → List Action
+abbrev others_of : List HistoryEvent → List HistoryEvent
 others_of [] = []
-others_of (a ∷ actions) = actions
+others_of (a ∷ history_events) = history_events
 
-push_window : (n : ℕ) (h : List Action) (w after : Window) (events : List RingEvent) (a : Action)
+push_window : (n : ℕ) (h : List HistoryEvent) (w after : Window) (events : List RingEvent) (a : HistoryEvent)
     → WindowRunFrom n h w events after
-    → actions_of events ≡ a ∷ []
+    → history_events_of events ≡ a ∷ []
     → window_event_of a ≡ None
     → w.done + 1 ≡ w.opened
     → (after.done ≡ w.done) × (after.opened ≡ w.opened)
-push_window n h w after [] a run one none rest = absurd (let z = ap (λ (l : List Action). length l) one in omega arith)
+push_window n h w after [] a run one none rest = absurd (let z = ap (λ (l : List HistoryEvent). length l) one in omega arith)
 push_window n h w after (acts b ∷ events) a run one none rest =
     let same : window_behind w (window_event_of b) ≡ w =
-    ap (λ (c : Action). window_behind w (window_event_of c)) (ap (first_of a) one) ∙ ap (window_behind w) none in
+    ap (λ (c : HistoryEvent). window_behind w (window_event_of c)) (ap (first_of a) one) ∙ ap (window_behind w) none in
     let (done, opened) =
     quiet_window n (h ++ b ∷ []) (window_behind w (window_event_of b)) after events run.1 (ap others_of one)
     (subst (λ (v : Window). v.done + 1 ≡ v.opened) (sym same) rest) in
@@ -90,7 +90,7 @@ push_window n h w after (loses ∷ events) a run one none rest =
 
 -- ---- a line
 
-module _ (n size start : ℕ) (two : MIN_PAGES ≤ n) (rs : List Reservation) (more : List Action) where
+module _ (n size start : ℕ) (two : MIN_PAGES ≤ n) (rs : List Reservation) (more : List HistoryEvent) where
   abbrev Resting : List Reservation → LineState → Type 0
   Resting records q = Reached n size start (IsResting records) more q
 
@@ -161,7 +161,7 @@ module _ (n size start : ℕ) (two : MIN_PAGES ≤ n) (rs : List Reservation) (m
     -- a line that is refused
     stays_resting : (q : LineState) (events : List RingEvent)
         → IsQuiet n p events q
-        → IsAllowed size p.history (actions_of events ++ more)
+        → IsAllowed size p.history (history_events_of events ++ more)
         → Resting rs q
     stays_resting q events quiet allowed =
         let (done, opened) =
@@ -175,11 +175,11 @@ module _ (n size start : ℕ) (two : MIN_PAGES ≤ n) (rs : List Reservation) (m
             writer = rest.writer;
           };
           few = subst (IsFew start p.history) (sym opened) few;
-          allowed = subst (λ (l : List Action). IsAllowed size p.history (l ++ more)) quiet.acts_none allowed;
+          allowed = subst (λ (l : List HistoryEvent). IsAllowed size p.history (l ++ more)) quiet.acts_none allowed;
         }
 
     -- the state after a push, whose frame is making its first step
-    abbrev begun : Action → List ℕ → Window → LineState
+    abbrev begun : HistoryEvent → List ℕ → Window → LineState
     begun a payload w =
         record {
           history = p.history ++ a ∷ [];
@@ -194,10 +194,10 @@ module _ (n size start : ℕ) (two : MIN_PAGES ≤ n) (rs : List Reservation) (m
     begun_frames payload =
         ap (λ (l : List OpenFrame). with_top_stepped (record { payload = payload; stepped = false } ∷ l)) rest.frames
 
-    begun_writer : (a : Action) → writer_after (p.history ++ a ∷ []) ≡ after_action [] rs a
-    begun_writer a = writer_snoc p.history a ∙ ap (λ (v : WriterState). after_action v.stack v.records a) rest.writer
+    begun_writer : (a : HistoryEvent) → writer_after (p.history ++ a ∷ []) ≡ after_event [] rs a
+    begun_writer a = writer_snoc p.history a ∙ ap (λ (v : WriterState). after_event v.stack v.records a) rest.writer
 
-    begun_few : (a : Action)
+    begun_few : (a : HistoryEvent)
         → (a ≡ open_fill → ⊥)
         → window_event_of a ≡ None
         → (w : Window)
@@ -209,24 +209,24 @@ module _ (n size start : ℕ) (two : MIN_PAGES ≤ n) (rs : List Reservation) (m
         ap (λ (v : Window). v.opened) (ap (window_behind p.window) none) ∙ sym same in
         subst (IsFew start (p.history ++ a ∷ [])) opened next
 
-    begun_allowed : (a : Action) (front behind events : List RingEvent)
+    begun_allowed : (a : HistoryEvent) (front behind events : List RingEvent)
         → events ≡ front ++ behind
-        → actions_of front ≡ a ∷ []
-        → IsAllowed size p.history (actions_of events ++ more)
-        → IsAllowed size (p.history ++ a ∷ []) (actions_of behind ++ more)
+        → history_events_of front ≡ a ∷ []
+        → IsAllowed size p.history (history_events_of events ++ more)
+        → IsAllowed size (p.history ++ a ∷ []) (history_events_of behind ++ more)
     begun_allowed a front behind events cut one allowed =
-        let same : p.history ++ (actions_of events ++ more) ≡ (p.history ++ a ∷ []) ++ (actions_of behind ++ more) =
-        ap (λ (l : List RingEvent). p.history ++ (actions_of l ++ more)) cut
-        ∙ ap (λ (l : List Action). p.history ++ (l ++ more))
-        (actions-append front behind ∙ ap (λ (l : List Action). l ++ actions_of behind) one)
-        ∙ sym (append_assoc p.history (a ∷ []) (actions_of behind ++ more)) in
+        let same : p.history ++ (history_events_of events ++ more) ≡ (p.history ++ a ∷ []) ++ (history_events_of behind ++ more) =
+        ap (λ (l : List RingEvent). p.history ++ (history_events_of l ++ more)) cut
+        ∙ ap (λ (l : List HistoryEvent). p.history ++ (l ++ more))
+        (history_events-append front behind ∙ ap (λ (l : List HistoryEvent). l ++ history_events_of behind) one)
+        ∙ sym (append_assoc p.history (a ∷ []) (history_events_of behind ++ more)) in
         record {
           history = subst IsHistory same allowed.history;
-          packed = subst (λ (l : List Action). IsPacked l size) same allowed.packed;
+          packed = subst (λ (l : List HistoryEvent). IsPacked l size) same allowed.packed;
         }
 
     -- its frame is popped, so none is left
-    none_after : (a : Action) (payload : List ℕ) (between q : LineState)
+    none_after : (a : HistoryEvent) (payload : List ℕ) (between q : LineState)
         → between
         ≡ record {
           history = p.history ++ a ∷ [];
@@ -243,14 +243,14 @@ module _ (n size start : ℕ) (two : MIN_PAGES ≤ n) (rs : List Reservation) (m
 
     write_line : (moment : ℕ) (payload : List ℕ) (cpu : ℕ) (q : LineState) (events : List RingEvent)
         → LinePart n size (write cpu moment payload) p events q
-        → IsAllowed size p.history (actions_of events ++ more)
+        → IsAllowed size p.history (history_events_of events ++ more)
         → WritesTo moment payload q
     write_line moment payload cpu q events (writes_none (inl many) quiet) allowed =
         absurd (let none = resting_counts rs p rest in omega arith)
     write_line moment payload cpu q events (writes_none (inr unfit) quiet) allowed =
         inr (inl (unrecorded size moment (length payload) unfit), stays_resting q events quiet allowed)
     write_line moment payload cpu q events (writes front behind between may cut is_push finish) allowed =
-        let a : Action = push moment (length payload) in
+        let a : HistoryEvent = push moment (length payload) in
         let (done, opened) =
         push_window n p.history p.window between.window front a is_push.window is_push.acts_one refl rest.closed in
         let short : IsTooLong size (length payload) → ⊥ = (λ long. may (inr (inl long))) in
@@ -274,7 +274,7 @@ module _ (n size start : ℕ) (two : MIN_PAGES ≤ n) (rs : List Reservation) (m
 
     close_line : (cpu : ℕ) (q : LineState) (events : List RingEvent)
         → LinePart n size (close cpu) p events q
-        → IsAllowed size p.history (actions_of events ++ more)
+        → IsAllowed size p.history (history_events_of events ++ more)
         → Resting rs q
     close_line cpu q events (writes_none many quiet) allowed =
         absurd (let none = resting_counts rs p rest in omega arith)
@@ -298,7 +298,7 @@ module _ (n size start : ℕ) (two : MIN_PAGES ≤ n) (rs : List Reservation) (m
     -- a part as of `f` does nothing
     finish_rest : (q : LineState) (events : List RingEvent)
         → FinishPart n size p events q
-        → IsAllowed size p.history (actions_of events ++ more)
+        → IsAllowed size p.history (history_events_of events ++ more)
         → Resting rs q
     finish_rest q events finish allowed =
         let same : record p { frames = with_top_stepped p.frames } ≡ p =
@@ -333,40 +333,40 @@ more_written moment payload rs = map-append as_record rs (written moment payload
     ∙ ap (λ (bytes : List ℕ). map as_record
     rs ++ record (record_of (last_moment rs) moment payload) { bytes = bytes } ∷ []) (padded_twice payload)
 
-rest_commits : (h : List Action) (rs : List Reservation)
+rest_commits : (h : List HistoryEvent) (rs : List Reservation)
     → writer_after h ≡ rest_with rs
     → committed_records h ≡ map as_record rs
 rest_commits h rs e =
-    ap (λ (g : List Action). map as_record (reserved_records g))
+    ap (λ (g : List HistoryEvent). map as_record (reserved_records g))
     (whole_front (length h) h (omega arith) (settled_at_rest h (ap (λ (w : WriterState). w.stack) e)))
     ∙ ap (λ (w : WriterState). map as_record w.records) e
 
 -- ---- lines
 
-record Written (n size start : ℕ) (q : LineState) (more : List Action) (records : List Record) : Type 0 where
+record Written (n size start : ℕ) (q : LineState) (more : List HistoryEvent) (records : List Record) : Type 0 where
   reserved : List Reservation
   rests : Reached n size start (IsResting reserved) more q
   records_are : map as_record reserved ≡ records
 
 module _ (n size start : ℕ) (two : MIN_PAGES ≤ n) where
-  cut_allowed : (p between : LineState) (front behind events : List RingEvent) (more : List Action)
+  cut_allowed : (p between : LineState) (front behind events : List RingEvent) (more : List HistoryEvent)
       → events ≡ front ++ behind
-      → IsAllowed size p.history (actions_of events ++ more)
-      → IsAllowed size p.history (actions_of front ++ (actions_of behind ++ more))
+      → IsAllowed size p.history (history_events_of events ++ more)
+      → IsAllowed size p.history (history_events_of front ++ (history_events_of behind ++ more))
   cut_allowed p between front behind events more cut allowed =
-      let same : actions_of events ++ more ≡ actions_of front ++ (actions_of behind ++ more) =
-      ap (λ (l : List RingEvent). actions_of l ++ more) cut
-      ∙ ap (λ (l : List Action). l ++ more) (actions-append front behind)
-      ∙ append_assoc (actions_of front) (actions_of behind) more in
+      let same : history_events_of events ++ more ≡ history_events_of front ++ (history_events_of behind ++ more) =
+      ap (λ (l : List RingEvent). history_events_of l ++ more) cut
+      ∙ ap (λ (l : List HistoryEvent). l ++ more) (history_events-append front behind)
+      ∙ append_assoc (history_events_of front) (history_events_of behind) more in
       subst (IsAllowed size p.history) same allowed
 
   lines_written : (lines : List Command) (p q : LineState) (events : List RingEvent) (rs : List Reservation)
-      (more : List Action)
+      (more : List HistoryEvent)
       → AllWriteOrClose lines
       → start + length rs + length lines + n ≤ LINK_FILLS
       → IsResting rs p
       → IsFew start p.history p.window.opened
-      → IsAllowed size p.history (actions_of events ++ more)
+      → IsAllowed size p.history (history_events_of events ++ more)
       → LineParts n size lines p events q
       → Written n size start q more (map as_record rs ++ records_of_lines size (last_moment rs) lines)
   lines_written [] p q events rs more whole room rest few allowed (none, same) =
@@ -375,21 +375,21 @@ module _ (n size start : ℕ) (two : MIN_PAGES ≤ n) where
         rests = record {
           keeps = rest;
           few = few;
-          allowed = subst (λ (l : List RingEvent). IsAllowed size p.history (actions_of l ++ more)) none allowed;
+          allowed = subst (λ (l : List RingEvent). IsAllowed size p.history (history_events_of l ++ more)) none allowed;
         };
         records_are = sym (append-nil (map as_record rs));
       }
   lines_written (write cpu moment payload ∷ lines) p q events rs more whole room rest few allowed
       (front, behind, between, cut, part, parts) =
       by_line (λ next low r. lines_written lines between q behind next more whole.1 low r.keeps r.few r.allowed parts)
-      (write_line n size start two rs (actions_of behind ++ more) p rest few moment payload cpu between front part
+      (write_line n size start two rs (history_events_of behind ++ more) p rest few moment payload cpu between front part
       (cut_allowed p between front behind events more cut allowed))
     where
       by_line : ((next : List Reservation)
           → start + length next + length lines + n ≤ LINK_FILLS
-          → Reached n size start (IsResting next) (actions_of behind ++ more) between
+          → Reached n size start (IsResting next) (history_events_of behind ++ more) between
           → Written n size start q more (map as_record next ++ records_of_lines size (last_moment next) lines))
-          → WritesTo n size start two rs (actions_of behind ++ more) moment payload between
+          → WritesTo n size start two rs (history_events_of behind ++ more) moment payload between
           → Written n size start q more
           (map as_record rs ++ records_of_lines size (last_moment rs) (write cpu moment payload ∷ lines))
       by_line on (inl (is, r)) =
@@ -420,7 +420,7 @@ module _ (n size start : ℕ) (two : MIN_PAGES ≤ n) where
       by_line on (inr (inr worn, r)) = absurd (omega arith)
   lines_written (close cpu ∷ lines) p q events rs more whole room rest few allowed
       (front, behind, between, cut, part, parts) =
-      let r = close_line n size start two rs (actions_of behind ++ more) p rest few cpu between front part
+      let r = close_line n size start two rs (history_events_of behind ++ more) p rest few cpu between front part
       (cut_allowed p between front behind events more cut allowed) in
       let w = lines_written lines between q behind rs more whole.1 (omega arith) r.keeps r.few r.allowed parts in
       record { reserved = w.reserved; rests = w.rests; records_are = w.records_are }
@@ -434,31 +434,31 @@ module _ (n size start : ℕ) (two : MIN_PAGES ≤ n) where
   lines_written (deliver collector cpu fill ∷ lines) p q events rs more whole room rest few allowed parts =
       absurd whole.0
 
-  rest_written : (count : ℕ) (p q : LineState) (events : List RingEvent) (rs : List Reservation) (more : List Action)
+  rest_written : (count : ℕ) (p q : LineState) (events : List RingEvent) (rs : List Reservation) (more : List HistoryEvent)
       → IsResting rs p
       → IsFew start p.history p.window.opened
-      → IsAllowed size p.history (actions_of events ++ more)
+      → IsAllowed size p.history (history_events_of events ++ more)
       → FinishParts n size count p events q
       → Reached n size start (IsResting rs) more q
   rest_written zero p q events rs more rest few allowed (none, same) =
       subst (Reached n size start (IsResting rs) more) same record {
         keeps = rest;
         few = few;
-        allowed = subst (λ (l : List RingEvent). IsAllowed size p.history (actions_of l ++ more)) none allowed;
+        allowed = subst (λ (l : List RingEvent). IsAllowed size p.history (history_events_of l ++ more)) none allowed;
       }
   rest_written (suc count) p q events rs more rest few allowed (front, behind, between, cut, part, parts) =
-      let r = finish_rest n size start two rs (actions_of behind ++ more) p rest few between front part
+      let r = finish_rest n size start two rs (history_events_of behind ++ more) p rest few between front part
       (cut_allowed p between front behind events more cut allowed) in
       rest_written count between q behind rs more r.keeps r.few r.allowed parts
 
 pub whole_lines_have_committed : WholeLinesHaveCommitted
 whole_lines_have_committed n size start lines h two whole room is_history packed made =
     let leads = leads_lines n size lines (first_state start) made.after made.events made.parts in
-    let same : h ≡ actions_of made.events ++ [] =
-    made.history_is ∙ leads.history ∙ sym (append-nil (actions_of made.events)) in
-    let allowed : IsAllowed size [] (actions_of made.events ++ []) = record {
+    let same : h ≡ history_events_of made.events ++ [] =
+    made.history_is ∙ leads.history ∙ sym (append-nil (history_events_of made.events)) in
+    let allowed : IsAllowed size [] (history_events_of made.events ++ []) = record {
       history = subst IsHistory same is_history;
-      packed = subst (λ (l : List Action). IsPacked l size) same packed;
+      packed = subst (λ (l : List HistoryEvent). IsPacked l size) same packed;
     } in
     let w =
     lines_written n size start two lines (first_state start) made.after made.events [] [] whole (omega arith)
@@ -471,7 +471,7 @@ whole_lines_have_committed n size start lines h two whole room is_history packed
 -- parts as of `f` commit no more
 rest_commits_none : (n size start : ℕ) (two : MIN_PAGES ≤ n) (count : ℕ) (p q : LineState) (events : List RingEvent)
     (records : List Record)
-    → Written n size start p (actions_of events ++ []) records
+    → Written n size start p (history_events_of events ++ []) records
     → FinishParts n size count p events q
     → committed_records q.history ≡ records
 rest_commits_none n size start two count p q events records w parts =
@@ -483,17 +483,17 @@ pub whole_lines_commit : WholeLinesCommit
 whole_lines_commit n size start lines h two whole room is_history packed made =
     let by_lines = leads_lines n size lines (first_state start) made.behind made.by_lines made.parts in
     let by_rest = leads_rest n size made.count made.behind made.last made.by_rest made.rest in
-    let same : h ≡ actions_of made.by_lines ++ (actions_of made.by_rest ++ []) =
-    made.history_is ∙ by_rest.history ∙ ap (λ (l : List Action). l ++ actions_of made.by_rest) by_lines.history
-    ∙ ap (λ (l : List Action). actions_of made.by_lines ++ l) (sym (append-nil (actions_of made.by_rest))) in
-    let allowed : IsAllowed size [] (actions_of made.by_lines ++ (actions_of made.by_rest ++ [])) = record {
+    let same : h ≡ history_events_of made.by_lines ++ (history_events_of made.by_rest ++ []) =
+    made.history_is ∙ by_rest.history ∙ ap (λ (l : List HistoryEvent). l ++ history_events_of made.by_rest) by_lines.history
+    ∙ ap (λ (l : List HistoryEvent). history_events_of made.by_lines ++ l) (sym (append-nil (history_events_of made.by_rest))) in
+    let allowed : IsAllowed size [] (history_events_of made.by_lines ++ (history_events_of made.by_rest ++ [])) = record {
       history = subst IsHistory same is_history;
-      packed = subst (λ (l : List Action). IsPacked l size) same packed;
+      packed = subst (λ (l : List HistoryEvent). IsPacked l size) same packed;
     } in
     ap committed_records made.history_is
     ∙ rest_commits_none n size start two made.count made.behind made.last made.by_rest (records_of_lines size 0 lines)
     (lines_written n size start two lines (first_state start) made.behind made.by_lines []
-    (actions_of made.by_rest ++ []) whole (omega arith)
+    (history_events_of made.by_rest ++ []) whole (omega arith)
     record { frames = refl; not_finishing = refl; closed = refl; writer = refl } (few_start start) allowed made.parts)
     made.rest
 
@@ -514,13 +514,13 @@ module _ (n size start : ℕ) (two : MIN_PAGES ≤ n) (p q : LineState) (more : 
         (λ i. record { stack = none i; records = reserved });
   }
 
-  allowed_here : IsAllowed size p.history (actions_of more ++ [])
+  allowed_here : IsAllowed size p.history (history_events_of more ++ [])
   allowed_here =
-      let same : q.history ≡ p.history ++ (actions_of more ++ []) = leads.history
-      ∙ ap (λ (l : List Action). p.history ++ l) (sym (append-nil (actions_of more))) in
+      let same : q.history ≡ p.history ++ (history_events_of more ++ []) = leads.history
+      ∙ ap (λ (l : List HistoryEvent). p.history ++ l) (sym (append-nil (history_events_of more))) in
       record {
         history = subst IsHistory same is_history;
-        packed = subst (λ (l : List Action). IsPacked l size) same packed;
+        packed = subst (λ (l : List HistoryEvent). IsPacked l size) same packed;
       }
 
   at_rest : (rs : List Reservation) → Reached n size start (IsResting rs) [] q → IsAtRest q
@@ -582,11 +582,11 @@ pub lines_from_rest_commit : LinesFromRestCommit
 lines_from_rest_commit n size start lines line p q events more two whole parts rest part is_history packed =
     let before = leads_lines n size lines (first_state start) p events parts in
     let leads = leads_line n size line p q more part in
-    let begins : (front behind : List Action) → actions_of events ≡ front ++ open_fill ∷ behind → tail_of front ≢ [] =
-    (λ front behind e. packed.begins front (behind ++ actions_of more)
-    (leads.history ∙ ap (λ (l : List Action). l ++ actions_of more) (before.history ∙ e)
-    ∙ append_assoc front (open_fill ∷ behind) (actions_of more))) in
+    let begins : (front behind : List HistoryEvent) → history_events_of events ≡ front ++ open_fill ∷ behind → tail_of front ≢ [] =
+    (λ front behind e. packed.begins front (behind ++ history_events_of more)
+    (leads.history ∙ ap (λ (l : List HistoryEvent). l ++ history_events_of more) (before.history ∙ e)
+    ∙ append_assoc front (open_fill ∷ behind) (history_events_of more))) in
     let few = few_run n start [] (first_state start).window p.window events before.window begins (few_start start) in
     line_commits n size start two p q more rest
-    (subst (λ (l : List Action). IsFew start l p.window.opened) (sym before.history) few) leads is_history packed
+    (subst (λ (l : List HistoryEvent). IsFew start l p.window.opened) (sym before.history) few) leads is_history packed
     line whole part

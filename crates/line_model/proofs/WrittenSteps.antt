@@ -3,11 +3,11 @@ use Rattle.std.proofs.Common.{◌≡◌, ◌≢◌, ℕ, suc, ◌+◌, ◌≤◌
 use Rattle.std.specs.Prelude.{nat_le, if◌then◌else◌}
 use Rattle.trace_model.specs.declared.limits.TheConstants.{MIN_PAGES, LINK_FILLS}
 use Rattle.trace_model.specs.Words.{padded, encoded_len}
-use Rattle.trace_model.specs.History.{Action, push, push_close, open_fill, reserve, leave, wished, Reservation, PushedFrame, record_frame, close_frame, WriterState, reservation_for, records_with_payload, after_action, writer_after, reserved_records, MayAct, IsHistory}
+use Rattle.trace_model.specs.History.{HistoryEvent, push, push_close, open_fill, reserve, leave, wished, Reservation, PushedFrame, record_frame, close_frame, WriterState, reservation_for, records_with_payload, after_event, writer_after, reserved_records, MayAct, IsHistory}
 use Rattle.trace_model.specs.Packing.{tail_of, FitsBehind, next_reservation, IsPacked}
-use Rattle.trace_model.specs.Window.{Window, RingEvent, acts, closes, takes, loses, actions_of, released_one, took_one, lost_one, MayMove, window_after}
+use Rattle.trace_model.specs.Window.{Window, RingEvent, acts, closes, takes, loses, history_events_of, released_one, took_one, lost_one, MayMove, window_after}
 use Rattle.trace_model.specs.Steps.{IsTooLong}
-use Rattle.trace_model.proofs.NextAction.{writer_snoc}
+use Rattle.trace_model.proofs.NextEvent.{writer_snoc}
 use Rattle.trace_model.proofs.HistoryPrefixes.{none_stands}
 use Rattle.trace_model.proofs.PackedHistories.{wanted_record}
 use Rattle.trace_model.proofs.Lengths.{slot_len-slot_len}
@@ -16,24 +16,24 @@ use Rattle.line_model.specs.Lines.{LineState, OpenFrame, frame_count, IsOfTop, M
 use Rattle.line_model.proofs.FewFills.{IsFew, few_act}
 
 -- the history goes on with this rest, keeps the discipline of the stack, and is packed
-pub record IsAllowed (size : ℕ) (h rest : List Action) : Type 0 where
+pub record IsAllowed (size : ℕ) (h rest : List HistoryEvent) : Type 0 where
   pub history : IsHistory (h ++ rest)
   pub packed : IsPacked (h ++ rest) size
 
-allowed_next : (size : ℕ) (h rest : List Action) (a : Action)
+allowed_next : (size : ℕ) (h rest : List HistoryEvent) (a : HistoryEvent)
     → IsAllowed size h (a ∷ rest)
     → IsAllowed size (h ++ a ∷ []) rest
 allowed_next size h rest a allowed = record {
   history = subst IsHistory (sym (append_assoc h (a ∷ []) rest)) allowed.history;
-  packed = subst (λ (l : List Action). IsPacked l size) (sym (append_assoc h (a ∷ []) rest)) allowed.packed;
+  packed = subst (λ (l : List HistoryEvent). IsPacked l size) (sym (append_assoc h (a ∷ []) rest)) allowed.packed;
 }
 
 -- no frame is open, and these records are reserved
 abbrev pub rest_with : List Reservation → WriterState
 rest_with records = record { stack = []; records = records }
 
--- what is known of an action of the top frame
-record Facts (n size start depth : ℕ) (p : LineState) (a : Action) : Type 0 where
+-- what is known of a history event of the top frame
+record Facts (n size start depth : ℕ) (p : LineState) (a : HistoryEvent) : Type 0 where
   counted : frame_count p ≡ suc depth
   of_top : IsOfTop n size p a
   may : MayAct (writer_after p.history).stack a
@@ -45,7 +45,7 @@ record Facts (n size start depth : ℕ) (p : LineState) (a : Action) : Type 0 wh
       → ⊥
   few : IsFew start p.history p.window.opened
 
-facts : (n size start depth : ℕ) (p : LineState) (a : Action) (rest : List Action)
+facts : (n size start depth : ℕ) (p : LineState) (a : HistoryEvent) (rest : List HistoryEvent)
     → frame_count p ≡ suc depth
     → IsOfTop n size p a
     → IsAllowed size p.history (a ∷ rest)
@@ -55,36 +55,36 @@ facts n size start depth p a rest counted of_top allowed few = record {
   counted = counted;
   of_top = of_top;
   may = allowed.history p.history rest a refl;
-  begins = λ opens. allowed.packed.begins p.history rest (ap (λ (b : Action). p.history ++ b ∷ rest) opens);
-  needed = λ opens r. allowed.packed.needed p.history rest r (ap (λ (b : Action). p.history ++ b ∷ rest) opens);
+  begins = λ opens. allowed.packed.begins p.history rest (ap (λ (b : HistoryEvent). p.history ++ b ∷ rest) opens);
+  needed = λ opens r. allowed.packed.needed p.history rest r (ap (λ (b : HistoryEvent). p.history ++ b ∷ rest) opens);
   few = few;
 }
 
 -- ---- events of the top frame keep what each of them keeps
 
-pub record Reached (n size start : ℕ) (P : LineState → Type 0) (more : List Action) (q : LineState) : Type 0 where
+pub record Reached (n size start : ℕ) (P : LineState → Type 0) (more : List HistoryEvent) (q : LineState) : Type 0 where
   pub keeps : P q
   pub few : IsFew start q.history q.window.opened
   pub allowed : IsAllowed size q.history more
 
 module _ (n size start depth : ℕ) (P : LineState → Type 0)
-    (act : (p : LineState) (a : Action) → Facts n size start depth p a → P p → P (state_after p a))
+    (act : (p : LineState) (a : HistoryEvent) → Facts n size start depth p a → P p → P (state_after p a))
     (closed : (p : LineState) → MayMove n p.history p.window released_one → P p
     → P (state_moved p (window_after p.window released_one)))
     (took : (p : LineState) → P p → P (state_moved p (window_after p.window took_one)))
     (lost : (p : LineState) → P p → P (state_moved p (window_after p.window lost_one))) where
-  run_keeps : (p q : LineState) (events : List RingEvent) (more : List Action)
+  run_keeps : (p q : LineState) (events : List RingEvent) (more : List HistoryEvent)
       → TopRun n size depth p events q
-      → IsAllowed size p.history (actions_of events ++ more)
+      → IsAllowed size p.history (history_events_of events ++ more)
       → IsFew start p.history p.window.opened
       → P p
       → Reached n size start P more q
   run_keeps p q [] more run allowed few keeps =
       subst (Reached n size start P more) run record { keeps = keeps; few = few; allowed = allowed }
   run_keeps p q (acts a ∷ events) more (counted, of_top, may, run) allowed few keeps =
-      let here = facts n size start depth p a (actions_of events ++ more) counted of_top allowed few in
+      let here = facts n size start depth p a (history_events_of events ++ more) counted of_top allowed few in
       run_keeps (state_after p a) q events more run
-      (allowed_next size p.history (actions_of events ++ more) a allowed)
+      (allowed_next size p.history (history_events_of events ++ more) a allowed)
       (few_act start p.history p.window a here.begins few)
       (act p a here keeps)
   run_keeps p q (closes ∷ events) more (may, run) allowed few keeps =
@@ -104,17 +104,17 @@ pub record IsLeft (records : List Reservation) (p : LineState) : Type 0 where
   pub finishing : p.finishing ≡ true
   pub writer : writer_after p.history ≡ rest_with records
 
--- what an action makes of the writer
-acts_to : (h : List Action) (a : Action) (w : WriterState)
+-- what a history event makes of the writer
+acts_to : (h : List HistoryEvent) (a : HistoryEvent) (w : WriterState)
     → writer_after h ≡ w
-    → writer_after (h ++ a ∷ []) ≡ after_action w.stack w.records a
-acts_to h a w e = writer_snoc h a ∙ ap (λ (v : WriterState). after_action v.stack v.records a) e
+    → writer_after (h ++ a ∷ []) ≡ after_event w.stack w.records a
+acts_to h a w e = writer_snoc h a ∙ ap (λ (v : WriterState). after_event v.stack v.records a) e
 
 module _ (n size start depth : ℕ) (records : List Reservation) (p : LineState) where
-  left_on : (a : Action)
+  left_on : (a : HistoryEvent)
       → IsLeft records p
       → open_after [] a ≡ []
-      → after_action [] records a ≡ rest_with records
+      → after_event [] records a ≡ rest_with records
       → IsLeft records (state_after p a)
   left_on a left same writer = record {
     frames = ap (λ (xs : List OpenFrame). open_after xs a) left.frames ∙ same;
@@ -122,7 +122,7 @@ module _ (n size start depth : ℕ) (records : List Reservation) (p : LineState)
     writer = acts_to p.history a (rest_with records) left.writer ∙ writer;
   }
 
-  left_acts : (a : Action) → Facts n size start depth p a → IsLeft records p → IsLeft records (state_after p a)
+  left_acts : (a : HistoryEvent) → Facts n size start depth p a → IsLeft records p → IsLeft records (state_after p a)
   left_acts (push moment len) f left = absurd f.of_top
   left_acts push_close f left = absurd f.of_top
   left_acts open_fill f left = left_on open_fill left refl refl
@@ -158,12 +158,12 @@ module _ (n size start depth : ℕ) (payload : List ℕ) (frame : PushedFrame) (
   none_closed may = let z = ap (λ (l : List PushedFrame). length l) (sym open_stack ∙ none_stands p.history may.1) in
       omega arith
 
-  -- after this action it is still open
-  open_on : (a : Action) (next : PushedFrame) (more : List Reservation)
+  -- after this history event it is still open
+  open_on : (a : HistoryEvent) (next : PushedFrame) (more : List Reservation)
       → open_after
       (record { payload = payload; stepped = true } ∷ []) a ≡ record { payload = payload; stepped = true } ∷ []
       → finishing_after (record { payload = payload; stepped = true } ∷ []) p.finishing a ≡ p.finishing
-      → after_action (frame ∷ []) records a ≡ record { stack = next ∷ []; records = more }
+      → after_event (frame ∷ []) records a ≡ record { stack = next ∷ []; records = more }
       → IsOpen payload next more (state_after p a)
   open_on a next more same kept writer = record {
     frames = ap (λ (xs : List OpenFrame). open_after xs a) o.frames ∙ same;
@@ -173,7 +173,7 @@ module _ (n size start depth : ℕ) (payload : List ℕ) (frame : PushedFrame) (
 
   -- it leaves
   open_leaves : (paid : Option (List ℕ)) (more : List Reservation)
-      → after_action (frame ∷ []) records (leave paid) ≡ rest_with more
+      → after_event (frame ∷ []) records (leave paid) ≡ rest_with more
       → IsLeft more (state_after p (leave paid))
   open_leaves paid more writer = record {
     frames = ap (λ (xs : List OpenFrame). open_after xs (leave paid)) o.frames;
@@ -181,7 +181,7 @@ module _ (n size start depth : ℕ) (payload : List ℕ) (frame : PushedFrame) (
     writer = acts_to p.history (leave paid) (record { stack = frame ∷ []; records = records }) o.writer ∙ writer;
   }
 
-  may_act : (a : Action) → Facts n size start depth p a → MayAct (frame ∷ []) a
+  may_act : (a : HistoryEvent) → Facts n size start depth p a → MayAct (frame ∷ []) a
   may_act a f = subst (λ (l : List PushedFrame). MayAct l a) open_stack f.may
 
   no_wish : Facts n size start depth p wished → ⊥
@@ -269,7 +269,7 @@ module _ (n size start depth moment : ℕ) (payload : List ℕ) (rs : List Reser
     no_payload bytes o f = let e = may_act n size start depth payload waiting_frame rs p o (leave (Some bytes)) f in
         absurd (let both : Some bytes ≡ None = e in cc)
 
-    writing_acts : (a : Action) → Facts n size start depth p a → IsWriting p → IsWriting (state_after p a)
+    writing_acts : (a : HistoryEvent) → Facts n size start depth p a → IsWriting p → IsWriting (state_after p a)
     writing_acts (push m len) f w = absurd f.of_top
     writing_acts push_close f w = absurd f.of_top
     writing_acts open_fill f (waits o tall) =
@@ -345,9 +345,9 @@ module _ (n size start depth moment : ℕ) (payload : List ℕ) (rs : List Reser
     writing_moved head (has_left l) = has_left (left_moved _ p _ l)
     writing_moved head (was_refused l worn) = was_refused (left_moved _ p _ l) worn
 
-  pub writing_run : (p q : LineState) (events : List RingEvent) (more : List Action)
+  pub writing_run : (p q : LineState) (events : List RingEvent) (more : List HistoryEvent)
       → TopRun n size depth p events q
-      → IsAllowed size p.history (actions_of events ++ more)
+      → IsAllowed size p.history (history_events_of events ++ more)
       → IsFew start p.history p.window.opened
       → IsWriting p
       → Reached n size start IsWriting more q
@@ -362,7 +362,7 @@ module _ (n size start depth : ℕ) (rs : List Reservation) where
     closing_left : IsLeft rs p → IsClosing p
 
   module _ (p : LineState) where
-    closing_acts : (a : Action) → Facts n size start depth p a → IsClosing p → IsClosing (state_after p a)
+    closing_acts : (a : HistoryEvent) → Facts n size start depth p a → IsClosing p → IsClosing (state_after p a)
     closing_acts (push m len) f c = absurd f.of_top
     closing_acts push_close f c = absurd f.of_top
     closing_acts open_fill f (closing_open o) =
@@ -386,9 +386,9 @@ module _ (n size start depth : ℕ) (rs : List Reservation) where
     closing_moved w (closing_open o) = closing_open (open_moved [] close_frame rs p w o)
     closing_moved w (closing_left l) = closing_left (left_moved rs p w l)
 
-  pub closing_run : (p q : LineState) (events : List RingEvent) (more : List Action)
+  pub closing_run : (p q : LineState) (events : List RingEvent) (more : List HistoryEvent)
       → TopRun n size depth p events q
-      → IsAllowed size p.history (actions_of events ++ more)
+      → IsAllowed size p.history (history_events_of events ++ more)
       → IsFew start p.history p.window.opened
       → IsClosing p
       → Reached n size start IsClosing more q
@@ -408,9 +408,9 @@ pub resting_counts : (rs : List Reservation) (p : LineState) → IsResting rs p 
 resting_counts rs p r = λ i. length (r.frames i) + (if r.not_finishing i then 1 else 0)
 
 module _ (n size start depth : ℕ) (rs : List Reservation) where
-  pub resting_run : (p q : LineState) (events : List RingEvent) (more : List Action)
+  pub resting_run : (p q : LineState) (events : List RingEvent) (more : List HistoryEvent)
       → TopRun n size depth p events q
-      → IsAllowed size p.history (actions_of events ++ more)
+      → IsAllowed size p.history (history_events_of events ++ more)
       → IsFew start p.history p.window.opened
       → IsResting rs p
       → Reached n size start (IsResting rs) more q

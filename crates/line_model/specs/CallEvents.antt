@@ -7,7 +7,7 @@ use Rattle.trace_model.specs.declared.limits.TheConstants.{LINK_FILLS}
 use Rattle.trace_model.specs.Frames.{for_close, waiting, reserved, left, Phase, idle, Frame}
 use Rattle.trace_model.specs.Ring.{Core}
 use Rattle.trace_model.specs.Steps.{frames_after_leave, with_new_tail, Exchange}
-use Rattle.trace_model.specs.Window.{RingEvent, IsWindow, actions_of}
+use Rattle.trace_model.specs.Window.{RingEvent, IsWindow, history_events_of}
 use Rattle.world_model.specs.Lanes.{event_on_top, payloads_left}
 use Rattle.line_model.specs.Lines.{LineState, OpenFrame, with_top_stepped, TopRun, MayGo, ReservesFirst}
 use Rattle.line_model.specs.WriterCalls.{Writer, writer_of, IsWriterCall}
@@ -144,7 +144,7 @@ IsRecordOnTop (frame ∷ below) = frame.kind ≢ for_close
 
 -- One call for the top frame makes events of it, from a state that agrees with the writer to one that does again. If
 -- it is the frame's first step and its record fits, the record is reserved. For a record frame there is at most one
--- action.
+-- history event.
 pub record MakesEvents (n size : ℕ) (s t : Writer) (payloads : List (List ℕ)) (p : LineState) : Type 0 where
   pub events : List RingEvent
   pub reached : LineState
@@ -152,9 +152,9 @@ pub record MakesEvents (n size : ℕ) (s t : Writer) (payloads : List (List ℕ)
   pub run : TopRun n size (length s.frames - 1) (stepped p) events reached
   pub goes : MayGo reached behind
   pub agrees : Agrees n behind (payloads_left t.frames payloads) t
-  pub first : ReservesFirst size p p.frames (actions_of events)
+  pub first : ReservesFirst size p p.frames (history_events_of events)
   pub on : length t.frames ≡ length s.frames → stepped behind ≡ behind
-  pub few : IsRecordOnTop s.frames → length (actions_of events) ≤ 1
+  pub few : IsRecordOnTop s.frames → length (history_events_of events) ≤ 1
 
 abbrev pub CallsMakeEvents : Type 0
 CallsMakeEvents = (n size start : ℕ) (s : Writer) (x : Exchange) (t : Writer) (payloads : List (List ℕ))

@@ -3,9 +3,9 @@
 use Rattle.std.specs.Prelude.{◌≡◌, ◌≢◌, ℕ, zero, suc, ◌+◌, ◌-◌, ◌≤◌, ◌⊎◌, ⊤, Bool, true, false, nat_eq, if◌then◌else◌, List, [], ◌∷◌, ◌++◌, length, drop, Option, Some, None}
 use Rattle.trace_model.specs.declared.limits.TheConstants.{MAX_FRAMES, MOMENT_LIMIT, LINK_FILLS}
 use Rattle.trace_model.specs.Words.{padded}
-use Rattle.trace_model.specs.History.{Action, push, push_close, open_fill, reserve, leave, wished, Reservation}
+use Rattle.trace_model.specs.History.{HistoryEvent, push, push_close, open_fill, reserve, leave, wished, Reservation}
 use Rattle.trace_model.specs.Packing.{tail_of, FitsBehind, next_reservation}
-use Rattle.trace_model.specs.Window.{Window, first_window, RingEvent, acts, closes, takes, loses, actions_of, window_event_of, released_one, took_one, lost_one, MayMove, MayPass, window_after, window_behind, WindowRunFrom, IsCrowded}
+use Rattle.trace_model.specs.Window.{Window, first_window, RingEvent, acts, closes, takes, loses, history_events_of, window_event_of, released_one, took_one, lost_one, MayMove, MayPass, window_after, window_behind, WindowRunFrom, IsCrowded}
 use Rattle.trace_model.specs.Steps.{IsTooLong}
 use Rattle.script_model.specs.Script.{Command, begin_frame, step_frame, finish_frame, write, close, step_reader, take_page, wish, deliver}
 
@@ -20,7 +20,7 @@ pub record OpenFrame : Type 0 where
 -- The history and the counts of fills so far; the open frames, the top one first; and whether the bottom frame of the
 -- stack is finishing: it has left, and closes fills or looks for the reader's wish.
 pub record LineState : Type 0 where
-  pub history : List Action
+  pub history : List HistoryEvent
   pub window : Window
   pub frames : List OpenFrame
   pub finishing : Bool
@@ -44,20 +44,20 @@ IsRefusedPush size p moment len = (MAX_FRAMES ≤ frame_count p) ⊎ (IsTooLong 
 abbrev pub IsRefusedClose : LineState → Type 0
 IsRefusedClose p = MAX_FRAMES ≤ frame_count p
 
--- Events without an action of the frames: fills may be closed, taken and lost.
+-- Events without a history event of the frames: fills may be closed, taken and lost.
 pub record IsQuiet (n : ℕ) (before : LineState) (events : List RingEvent) (after : LineState) : Type 0 where
-  pub acts_none : actions_of events ≡ []
+  pub acts_none : history_events_of events ≡ []
   pub window : WindowRunFrom n before.history before.window events after.window
   pub after_is : after ≡ record before { window = after.window }
 
 -- One push, among such events. Its frame is the top one, and has made no step.
-pub record IsPush (n : ℕ) (action : Action) (payload : List ℕ) (before : LineState) (events : List RingEvent)
-    (after : LineState)
+pub record IsPush (n : ℕ) (history_event : HistoryEvent) (payload : List ℕ) (before : LineState)
+    (events : List RingEvent) (after : LineState)
     : Type 0 where
-  pub acts_one : actions_of events ≡ action ∷ []
+  pub acts_one : history_events_of events ≡ history_event ∷ []
   pub window : WindowRunFrom n before.history before.window events after.window
   pub after_is : after ≡ record {
-    history = before.history ++ action ∷ [];
+    history = before.history ++ history_event ∷ [];
     window = after.window;
     frames = record { payload = payload; stepped = false } ∷ before.frames;
     finishing = before.finishing;
@@ -78,7 +78,7 @@ MayLeaveTop n size p None (top ∷ below) = (r : Reservation)
 
 -- The top frame begins a fill, reserves, or leaves; one that is finishing may find the wish. It pushes no frame. The
 -- discipline of the stack (IsHistory) and the packing (IsPacked) are separate conditions.
-abbrev pub IsOfTop : ℕ → ℕ → LineState → Action → Type 0
+abbrev pub IsOfTop : ℕ → ℕ → LineState → HistoryEvent → Type 0
 IsOfTop n size p (push moment len) = ⊥
 IsOfTop n size p push_close = ⊥
 IsOfTop n size p open_fill = ⊤
@@ -86,8 +86,8 @@ IsOfTop n size p reserve = p.frames ≢ []
 IsOfTop n size p (leave payload) = MayLeaveTop n size p payload p.frames
 IsOfTop n size p wished = p.frames ≡ []
 
--- the open frames after an action of the top one
-abbrev pub open_after : List OpenFrame → Action → List OpenFrame
+-- the open frames after a history event of the top one
+abbrev pub open_after : List OpenFrame → HistoryEvent → List OpenFrame
 open_after frames (push moment len) = frames
 open_after frames push_close = frames
 open_after frames open_fill = frames
@@ -96,7 +96,7 @@ open_after frames (leave payload) = drop 1 frames
 open_after frames wished = frames
 
 -- the bottom frame is finishing once it has left
-abbrev pub finishing_after : List OpenFrame → Bool → Action → Bool
+abbrev pub finishing_after : List OpenFrame → Bool → HistoryEvent → Bool
 finishing_after [] finishing a = finishing
 finishing_after (top ∷ []) finishing (push moment len) = finishing
 finishing_after (top ∷ []) finishing push_close = finishing
@@ -106,7 +106,7 @@ finishing_after (top ∷ []) finishing (leave payload) = true
 finishing_after (top ∷ []) finishing wished = finishing
 finishing_after (top ∷ next ∷ below) finishing a = finishing
 
-abbrev pub state_after : LineState → Action → LineState
+abbrev pub state_after : LineState → HistoryEvent → LineState
 state_after p a = record {
   history = p.history ++ a ∷ [];
   window = window_behind p.window (window_event_of a);
@@ -114,12 +114,12 @@ state_after p a = record {
   finishing = finishing_after p.frames p.finishing a;
 }
 
--- the same with this window, after an event that is no action
+-- the same with this window, after an event that is no history event
 abbrev pub state_moved : LineState → Window → LineState
 state_moved p w = record p { window = w }
 
--- Events whose actions are all of the frame that has depth frames below it. It acts only while it is on the stack. A
--- bottom frame remains there after its leave, so what it does for the reader's wish is among them.
+-- Events whose history events are all of the frame that has depth frames below it. It acts only while it is on the
+-- stack. A bottom frame remains there after its leave, so what it does for the reader's wish is among them.
 abbrev pub TopRun : (n size depth : ℕ) → LineState → List RingEvent → LineState → Type 0
 TopRun n size depth before [] after = before ≡ after
 TopRun n size depth before (acts a ∷ events) after =
@@ -138,13 +138,13 @@ TopRun n size depth before (loses ∷ events) after =
     × TopRun n size depth (state_moved before (window_after before.window lost_one)) events after
 
 -- A frame that has made no step yet reserves first, if its record then fits.
-abbrev pub ReservesFirst : ℕ → LineState → List OpenFrame → List Action → Type 0
-ReservesFirst size p [] actions = ⊤
-ReservesFirst size p (top ∷ below) actions = top.stepped ≡ false
+abbrev pub ReservesFirst : ℕ → LineState → List OpenFrame → List HistoryEvent → Type 0
+ReservesFirst size p [] history_events = ⊤
+ReservesFirst size p (top ∷ below) history_events = top.stepped ≡ false
     → (r : Reservation)
     → next_reservation p.history ≡ Some r
     → FitsBehind size (tail_of p.history) r
-    → (others : List Action) × (actions ≡ reserve ∷ others)
+    → (others : List HistoryEvent) × (history_events ≡ reserve ∷ others)
 
 -- the top frame has made a step
 abbrev pub with_top_stepped : List OpenFrame → List OpenFrame
@@ -160,10 +160,10 @@ pub data MayGo (before after : LineState) : Type 0 where
       → after ≡ record before { finishing = false }
       → MayGo before after
 
--- What the top frame does: its actions, any number of them, and then it may be popped. If there is no frame, there is
--- no action.
+-- What the top frame does: its history events, any number of them, and then it may be popped. If there is no frame,
+-- there is no history event.
 pub record TopPart (n size : ℕ) (before : LineState) (events : List RingEvent) (after : LineState) : Type 0 where
-  pub first : ReservesFirst size before before.frames (actions_of events)
+  pub first : ReservesFirst size before before.frames (history_events_of events)
   pub reached : LineState
   pub run : TopRun n size (frame_count before - 1)
       (record before { frames = with_top_stepped before.frames }) events reached
@@ -171,18 +171,19 @@ pub record TopPart (n size : ℕ) (before : LineState) (events : List RingEvent)
 
 -- ---- lines
 
--- `s K`: at most K actions of the top frame
+-- `s K`: at most K history events of the top frame
 pub record StepsPart (n size count : ℕ) (before : LineState) (events : List RingEvent) (after : LineState)
     : Type 0 where
   pub top : TopPart n size before events after
-  pub few : length (actions_of events) ≤ count
+  pub few : length (history_events_of events) ≤ count
 
--- `f`: actions of the top frame until it is popped, which a bottom frame is when all fills but the tail are closed
+-- `f`: history events of the top frame until it is popped, which a bottom frame is when all fills but the tail are
+-- closed
 pub record FinishPart (n size : ℕ) (before : LineState) (events : List RingEvent) (after : LineState) : Type 0 where
   pub top : TopPart n size before events after
   pub is_gone : frame_count after ≤ frame_count before - 1
 
--- `b`: its push, with the length of its payload; or no action, if it is refused
+-- `b`: its push, with the length of its payload; or no history event, if it is refused
 pub data BeginPart (n size moment : ℕ) (payload : List ℕ) (before : LineState) (events : List RingEvent)
     (after : LineState)
     : Type 0 where
@@ -194,22 +195,22 @@ pub data BeginPart (n size moment : ℕ) (payload : List ℕ) (before : LineStat
       → IsQuiet n before events after
       → BeginPart n size moment payload before events after
 
--- `w` and `c`: a push and then as `f`; or no action, if it is refused
-pub data WholePart (n size : ℕ) (action : Action) (payload : List ℕ) (Refused : Type 0)
+-- `w` and `c`: a push and then as `f`; or no history event, if it is refused
+pub data WholePart (n size : ℕ) (history_event : HistoryEvent) (payload : List ℕ) (Refused : Type 0)
     (before : LineState) (events : List RingEvent) (after : LineState)
     : Type 0 where
   writes : (front behind : List RingEvent) (between : LineState)
       → (Refused → ⊥)
       → events ≡ front ++ behind
-      → IsPush n action payload before front between
+      → IsPush n history_event payload before front between
       → FinishPart n size between behind after
-      → WholePart n size action payload Refused before events after
+      → WholePart n size history_event payload Refused before events after
   writes_none :
       Refused
       → IsQuiet n before events after
-      → WholePart n size action payload Refused before events after
+      → WholePart n size history_event payload Refused before events after
 
--- The part of one line. A line of the reader or of a collector has no action of the writer.
+-- The part of one line. A line of the reader or of a collector has no history event of the writer.
 abbrev pub LinePart : (n size : ℕ) → Command → LineState → List RingEvent → LineState → Type 0
 LinePart n size (begin_frame cpu moment payload) before events after =
     BeginPart n size moment payload before events after
@@ -263,7 +264,7 @@ writer_lines cpu (line ∷ lines) =
 
 -- The lines of one CPU's writer have made this history so far, in a ring of n pages of this size whose first fill has
 -- the number start: among some events of the window it is one part for each line. Frames may still be open.
-pub record IsBegunByLines (n size start : ℕ) (lines : List Command) (history : List Action) : Type 0 where
+pub record IsBegunByLines (n size start : ℕ) (lines : List Command) (history : List HistoryEvent) : Type 0 where
   pub events : List RingEvent
   pub after : LineState
   pub parts : LineParts n size lines (first_state start) events after
@@ -271,7 +272,7 @@ pub record IsBegunByLines (n size start : ℕ) (lines : List Command) (history :
 
 -- The lines of one CPU's writer make this history: one part for each line, and then parts as of `f` until the stack is
 -- empty.
-pub record IsMadeByLines (n size start : ℕ) (lines : List Command) (history : List Action) : Type 0 where
+pub record IsMadeByLines (n size start : ℕ) (lines : List Command) (history : List HistoryEvent) : Type 0 where
   pub by_lines : List RingEvent
   pub behind : LineState
   pub parts : LineParts n size lines (first_state start) by_lines behind

@@ -1,7 +1,7 @@
 -- The calls of a writer for its lines, whatever the reader does between them.
 -- docs/FORMATS.md, "Writer frames".
 use Rattle.std.specs.Prelude.{◌≡◌, ℕ, zero, suc, ◌+◌, ◌≤◌, List, [], ◌∷◌, length}
-use Rattle.trace_model.specs.History.{Action}
+use Rattle.trace_model.specs.History.{HistoryEvent}
 use Rattle.trace_model.specs.Frames.{Frame, Refusal}
 use Rattle.trace_model.specs.Ring.{Core}
 use Rattle.trace_model.specs.Steps.{Event, pushes, pushes_close, pushed, refused, Step, Exchange}
@@ -13,7 +13,7 @@ use Rattle.world_model.specs.Lanes.{event_on_top, payloads_left}
 -- counts of closed and begun fills.
 pub record Writer : Type 0 where
   pub frames : List Frame
-  pub history : List Action
+  pub history : List HistoryEvent
   pub done : ℕ
   pub opened : ℕ
 

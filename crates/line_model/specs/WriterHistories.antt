@@ -1,14 +1,14 @@
 -- The histories that writers make by the calls of their lines, as statements.
 use Rattle.std.specs.Prelude.{◌≡◌, ℕ, ◌+◌, ◌≤◌, List, [], length}
 use Rattle.trace_model.specs.declared.limits.TheConstants.{MIN_PAGES, LINK_FILLS}
-use Rattle.trace_model.specs.History.{Action, IsHistory, committed_records}
+use Rattle.trace_model.specs.History.{HistoryEvent, IsHistory, committed_records}
 use Rattle.trace_model.specs.Packing.{IsPacked}
 use Rattle.script_model.specs.Script.{Command}
 use Rattle.line_model.specs.WriterCalls.{Writer, first_writer, LinesCalls, RestCalls}
 use Rattle.line_model.specs.WrittenRecords.{AllWriteOrClose, records_of_lines}
 
 -- the history keeps the discipline of the stack, and is packed in pages of this size
-abbrev pub IsWellFormed : ℕ → List Action → Type 0
+abbrev pub IsWellFormed : ℕ → List HistoryEvent → Type 0
 IsWellFormed size history = IsHistory history × IsPacked history size
 
 -- From a new ring, the calls of lines, and those that finish the frames which are left, make such a history.

@@ -3,9 +3,9 @@ use Rattle.std.specs.Prelude.{◌≡◌, ◌≢◌, ℕ, max, ◌+◌, ◌≤◌
 use Rattle.trace_model.specs.declared.limits.TheConstants.{MIN_PAGES, MOMENT_LIMIT, LINK_FILLS}
 use Rattle.trace_model.specs.Record.{Record}
 use Rattle.trace_model.specs.Words.{padded, encoded_len}
-use Rattle.trace_model.specs.History.{Action, IsHistory, is_settled, reserved_records, committed_records, last_moment}
+use Rattle.trace_model.specs.History.{HistoryEvent, IsHistory, is_settled, reserved_records, committed_records, last_moment}
 use Rattle.trace_model.specs.Packing.{tail_of, IsPacked}
-use Rattle.trace_model.specs.Window.{Window, RingEvent, actions_of, WindowRun}
+use Rattle.trace_model.specs.Window.{Window, RingEvent, history_events_of, WindowRun}
 use Rattle.script_model.specs.Script.{Command, begin_frame, step_frame, finish_frame, write, close, step_reader, take_page, wish, deliver}
 use Rattle.line_model.specs.Lines.{LineState, first_state, LinePart, LineParts, IsBegunByLines, IsMadeByLines}
 
@@ -72,9 +72,10 @@ AllWriteOrClose (line ∷ lines) = WritesOrCloses line × AllWriteOrClose lines
 abbrev pub FillsAreFew : Type 0
 FillsAreFew = (n size start : ℕ) (events : List RingEvent) (w : Window)
     → WindowRun n start events w
-    → IsPacked (actions_of events) size
-    → (w.opened ≤ start + length (reserved_records (actions_of events)) + 1)
-    × (tail_of (actions_of events) ≢ [] → w.opened ≤ start + length (reserved_records (actions_of events)))
+    → IsPacked (history_events_of events) size
+    → (w.opened ≤ start + length (reserved_records (history_events_of events)) + 1)
+    × (tail_of (history_events_of events) ≢ []
+        → w.opened ≤ start + length (reserved_records (history_events_of events)))
 
 -- No frame is on the stack, each push has its leave, and all fills but the tail are closed.
 pub record IsAtRest (p : LineState) : Type 0 where
@@ -104,7 +105,7 @@ LinesFromRestCommit = (n size start : ℕ) (lines : List Command) (line : Comman
 -- Of a CPU that has only `w` and `c` lines, at most as many as there are numbers left for fills, the committed records
 -- are exactly those of its `w` lines that are neither too long nor too late, in order, moments raised.
 abbrev pub WholeLinesCommit : Type 0
-WholeLinesCommit = (n size start : ℕ) (lines : List Command) (history : List Action)
+WholeLinesCommit = (n size start : ℕ) (lines : List Command) (history : List HistoryEvent)
     → MIN_PAGES ≤ n
     → AllWriteOrClose lines
     → start + length lines + n ≤ LINK_FILLS
@@ -115,7 +116,7 @@ WholeLinesCommit = (n size start : ℕ) (lines : List Command) (history : List A
 
 -- The same of the lines so far: a `w` or `c` line leaves no frame open.
 abbrev pub WholeLinesHaveCommitted : Type 0
-WholeLinesHaveCommitted = (n size start : ℕ) (lines : List Command) (history : List Action)
+WholeLinesHaveCommitted = (n size start : ℕ) (lines : List Command) (history : List HistoryEvent)
     → MIN_PAGES ≤ n
     → AllWriteOrClose lines
     → start + length lines + n ≤ LINK_FILLS

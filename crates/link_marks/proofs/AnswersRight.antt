@@ -6,7 +6,7 @@ use Rattle.trace_model.specs.declared.limits.TheConstants.{LINK_FILLS}
 use Rattle.trace_model.specs.Frames.{Kind, for_record, for_close, FrameState, waiting, reserved, left, Phase, idle, looking, claiming, looking_next, marking, clearing, opening, releasing, wishing, Frame, Refusal, too_deep, too_long, late_moment, crowded, worn, no_frame, not_reserved}
 use Rattle.trace_model.specs.Links.{Link, normal_link, update_link}
 use Rattle.trace_model.specs.Ring.{link_into, page_at, ReaderPhase, loading_link, loading_done, storing_link, swapping, Taken, Core}
-use Rattle.trace_model.specs.Steps.{Event, Answer, pushed, going, reserved_as, pending, full, gone, refused, reading, empty, moving, swapped, wished_for, leave_answer, begin_answer, BeginsAgain, reserves, finds_nothing, is_crowded, is_worn, notes, look_late, sees_free, sees_header, sees_update, claim_late, claims, claim_fails, next_late, sees_normal, sees_other, mark_late, marks, mark_fails, clears, open_late, opens, releases, releases_last, grants, closes_more, goes_away, IdleStep, FrameStep, PushRefused, all_stand, has_no_room, comes_late, end_answer, Step, push_step, push_refused, close_step, close_refused, frame_step, frame_lacks, end_step, end_lacks, end_early, read_step, wish_step, loads_header, loads_update, loads_owed, loads_passed, finds_none, finds_closed, swaps, swap_fails, ReadStep}
+use Rattle.trace_model.specs.Steps.{Event, Answer, pushed, going, reserved_as, pending, full, gone, refused, reading, empty, moving, swapped, wished_for, leave_answer, begin_answer, BeginsAgain, reserves, finds_nothing, is_crowded, is_worn, notes, load_link_late, sees_free, sees_header, sees_update, claim_late, claims, claim_fails, load_next_late, sees_normal, sees_other, mark_late, marks, mark_fails, clears, open_late, opens, releases, releases_last, grants, closes_more, goes_away, IdleStep, FrameStep, PushRefused, all_stand, has_no_room, comes_late, end_answer, Step, push_step, push_refused, close_step, close_refused, frame_step, frame_lacks, end_step, end_lacks, end_early, read_step, store_wish_step, loads_header, loads_update, loads_owed, loads_passed, finds_none, finds_closed, swaps, swap_fails, ReadStep}
 use Rattle.link_marks.specs.KeptLinks.{Stands, LinkKept, is_normal, is_header, is_update, ReaderKept}
 use Rattle.link_marks.specs.RingKept.{IsRingKept}
 use Rattle.link_marks.specs.AnswerLaws.{ArePassed, IsInTheWay}
@@ -72,14 +72,14 @@ module _ (n size : ℕ) (c : Core) (none : ℕ → Type 0) (way : ℕ → Type 0
 
   frame_true : (frame : Frame) (below : List Frame) (phase : Phase) (answer : Answer) (after : Core) → FrameStep n size c frame below phase answer after → IsTrueOf answer
   frame_true frame below idle answer after step = idle_true frame below frame.state answer after step
-  frame_true frame below (looking noted) answer after (look_late step) = again frame below noted answer after step
+  frame_true frame below (looking noted) answer after (load_link_late step) = again frame below noted answer after step
   frame_true frame below (looking noted) answer after (sees_free page now at a is) = says answer going a tt
   frame_true frame below (looking noted) answer after (sees_header page lost now sum at a is) = says answer going a tt
   frame_true frame below (looking noted) answer after (sees_update page lost now sum at a is) = says answer going a tt
   frame_true frame below (claiming noted page) answer after (claim_late step) = again frame below noted answer after step
   frame_true frame below (claiming noted page) answer after (claims lost now sum at a is) = says answer going a tt
   frame_true frame below (claiming noted page) answer after (claim_fails now other a is) = says answer going a tt
-  frame_true frame below (looking_next role noted page) answer after (next_late helps step) = again frame below noted answer after step
+  frame_true frame below (looking_next role noted page) answer after (load_next_late helps step) = again frame below noted answer after step
   frame_true frame below (looking_next role noted page) answer after (sees_normal lost next goes_on sum at a is) = says answer going a tt
   frame_true frame below (looking_next role noted page) answer after (sees_other lost goes_on sum other a is) = says answer going a tt
   frame_true frame below (marking role noted page next) answer after (mark_late helps step) = again frame below noted answer after step
@@ -114,7 +114,7 @@ module _ (n size : ℕ) (c : Core) (none : ℕ → Type 0) (way : ℕ → Type 0
   step_true event answer after reads (end_lacks payload e nothing a is) = says answer (refused no_frame) a tt
   step_true event answer after reads (end_early payload frame below e top nothing a is) = says answer (refused not_reserved) a tt
   step_true event answer after reads (read_step e step) = reads step
-  step_true event answer after reads (wish_step e a is) = says answer (wished_for c.reader.seen) a tt
+  step_true event answer after reads (store_wish_step e a is) = says answer (wished_for c.reader.seen) a tt
 
 -- ---- of the reader
 

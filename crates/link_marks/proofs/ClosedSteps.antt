@@ -1,11 +1,11 @@
 -- Each step keeps the records of the closed fills committed.
 use Rattle.std.proofs.Common.{◌≡◌, ℕ, ◌+◌, ◌-◌, ◌<◌, ◌≤◌, true, List, [], ◌∷◌, ◌++◌, length, Some, None, refl, sym, ap, subst, arith, length-append}
-use Rattle.trace_model.specs.History.{Action, push, push_close, open_fill, reserve, leave, wished, reserved_records, is_settled}
+use Rattle.trace_model.specs.History.{HistoryEvent, push, push_close, open_fill, reserve, leave, wished, reserved_records, is_settled}
 use Rattle.trace_model.specs.Packing.{opens_of}
 use Rattle.trace_model.specs.Frames.{Kind, for_record, for_close, FrameState, waiting, reserved, left, Phase, idle, looking, claiming, looking_next, marking, clearing, opening, releasing, wishing, Frame}
 use Rattle.trace_model.specs.Ring.{ReaderPhase, loading_link, loading_done, storing_link, swapping, Core}
-use Rattle.trace_model.specs.Steps.{Event, Answer, with_new_tail, after_begin, BeginsAgain, IdleStep, ReserveStep, reserves, finds_nothing, is_crowded, is_worn, notes, look_late, sees_free, sees_header, sees_update, claim_late, claims, claim_fails, next_late, sees_normal, sees_other, mark_late, marks, mark_fails, clears, open_late, opens, releases, releases_last, grants, closes_more, goes_away, FrameStep, Step, push_step, push_refused, close_step, close_refused, frame_step, frame_lacks, end_step, end_lacks, end_early, read_step, wish_step, loads_header, loads_update, loads_owed, loads_passed, finds_none, finds_closed, swaps, swap_fails, ReadStep}
-use Rattle.trace_model.proofs.NextAction.{settled_at_rest}
+use Rattle.trace_model.specs.Steps.{Event, Answer, with_new_tail, after_begin, BeginsAgain, IdleStep, ReserveStep, reserves, finds_nothing, is_crowded, is_worn, notes, load_link_late, sees_free, sees_header, sees_update, claim_late, claims, claim_fails, load_next_late, sees_normal, sees_other, mark_late, marks, mark_fails, clears, open_late, opens, releases, releases_last, grants, closes_more, goes_away, FrameStep, Step, push_step, push_refused, close_step, close_refused, frame_step, frame_lacks, end_step, end_lacks, end_early, read_step, store_wish_step, loads_header, loads_update, loads_owed, loads_passed, finds_none, finds_closed, swaps, swap_fails, ReadStep}
+use Rattle.trace_model.proofs.NextEvent.{settled_at_rest}
 use Rattle.trace_model.proofs.FillCuts.{opens_of-open_fill}
 use Rattle.trace_model.proofs.FillFirsts.{first_below}
 use Rattle.trace_model.proofs.Committed.{committed_len-settled, first_more}
@@ -19,7 +19,7 @@ module _ (n start : ℕ) (c : Core) (k : LinksKept n c) (t : ContentsKept n star
   counted : c.done - start ≤ length (opens_of c.history)
   counted = let a = t.begun in let b = k.done_lt in omega arith
 
-  closed_more : (a : Action) → ClosedAt start (c.history ++ a ∷ []) c.done
+  closed_more : (a : HistoryEvent) → ClosedAt start (c.history ++ a ∷ []) c.done
   closed_more a = first_more c.history a (c.done - start) counted z
 
   closed_begun : (kind : Kind) (state : FrameState) (frame : Frame) (below : List Frame) → ClosedKept start (after_begin kind state c frame below)
@@ -59,14 +59,14 @@ module _ (n size start : ℕ) (c : Core) (frame : Frame) (below : List Frame) (k
 
   closed_frame : (phase : Phase) (answer : Answer) (after : Core) → frame.phase ≡ phase → FrameStep n size c frame below phase answer after → ClosedKept start after
   closed_frame idle answer after same step = closed_idle frame.state answer after step
-  closed_frame (looking noted) answer after same (look_late step) = again n start c k t z frame below noted answer after step
+  closed_frame (looking noted) answer after same (load_link_late step) = again n start c k t z frame below noted answer after step
   closed_frame (looking noted) answer after same (sees_free page now at a is) = subst (ClosedKept start) (sym is) z
   closed_frame (looking noted) answer after same (sees_header page lost now sum at a is) = subst (ClosedKept start) (sym is) z
   closed_frame (looking noted) answer after same (sees_update page lost now sum at a is) = subst (ClosedKept start) (sym is) z
   closed_frame (claiming noted page) answer after same (claim_late step) = again n start c k t z frame below noted answer after step
   closed_frame (claiming noted page) answer after same (claims lost now sum at a is) = subst (ClosedKept start) (sym is) z
   closed_frame (claiming noted page) answer after same (claim_fails now other a is) = subst (ClosedKept start) (sym is) z
-  closed_frame (looking_next role noted page) answer after same (next_late helps step) = again n start c k t z frame below noted answer after step
+  closed_frame (looking_next role noted page) answer after same (load_next_late helps step) = again n start c k t z frame below noted answer after step
   closed_frame (looking_next role noted page) answer after same (sees_normal lost next goes_on sum at a is) = subst (ClosedKept start) (sym is) z
   closed_frame (looking_next role noted page) answer after same (sees_other lost goes_on sum other a is) = subst (ClosedKept start) (sym is) z
   closed_frame (marking role noted page next) answer after same (mark_late helps step) = again n start c k t z frame below noted answer after step
@@ -105,4 +105,4 @@ closed_step n size start c event answer after k s h t z (end_step payload frame 
 closed_step n size start c event answer after k s h t z (end_lacks payload e none a is) = subst (ClosedKept start) (sym is) z
 closed_step n size start c event answer after k s h t z (end_early payload frame below e top none a is) = subst (ClosedKept start) (sym is) z
 closed_step n size start c event answer after k s h t z (read_step e step) = closed_read n start c c.reader.phase answer after z step
-closed_step n size start c event answer after k s h t z (wish_step e a is) = subst (ClosedKept start) (sym is) z
+closed_step n size start c event answer after k s h t z (store_wish_step e a is) = subst (ClosedKept start) (sym is) z

@@ -1,11 +1,11 @@
 -- Each step keeps the fills in their pages.
 use Rattle.std.proofs.Common.{◌≡◌, ◌≢◌, ℕ, ◌+◌, ◌-◌, ◌≤◌, List, [], ◌∷◌, ◌++◌, get_or, length, map, set, Option, Some, None, refl, sym, ap, ◌∙◌, subst, arith}
-use Rattle.trace_model.specs.History.{Action, push, push_close, open_fill, reserve, leave, wished, Reservation, writer_after, reserved_records, records_with_payload}
+use Rattle.trace_model.specs.History.{HistoryEvent, push, push_close, open_fill, reserve, leave, wished, Reservation, writer_after, reserved_records, records_with_payload}
 use Rattle.trace_model.specs.Packing.{opens_of}
 use Rattle.trace_model.specs.Frames.{Kind, for_record, for_close, FrameState, waiting, reserved, left, Phase, idle, looking, claiming, looking_next, marking, clearing, opening, releasing, wishing, Frame, pushed_onto, pushed_frames}
 use Rattle.trace_model.specs.Ring.{PageRecords, ReaderPhase, loading_link, loading_done, storing_link, swapping, Core, page_at, AreApart}
-use Rattle.trace_model.specs.Steps.{Event, Answer, tail_page, after_leave, held_with_payload, own_number, with_new_tail, after_begin, BeginsAgain, IdleStep, ReserveStep, reserves, finds_nothing, is_crowded, is_worn, notes, look_late, sees_free, sees_header, sees_update, claim_late, claims, claim_fails, next_late, sees_normal, sees_other, mark_late, marks, mark_fails, clears, OpenStep, open_late, opens, releases, releases_last, grants, closes_more, goes_away, FrameStep, Step, push_step, push_refused, close_step, close_refused, frame_step, frame_lacks, end_step, end_lacks, end_early, read_step, wish_step, LoadStep, loads_header, loads_update, loads_owed, loads_passed, LoadDoneStep, finds_none, finds_closed, SwapStep, swaps, swap_fails, ReadStep, after_swap}
-use Rattle.trace_model.proofs.NextAction.{opened_stack}
+use Rattle.trace_model.specs.Steps.{Event, Answer, tail_page, after_leave, held_with_payload, own_number, with_new_tail, after_begin, BeginsAgain, IdleStep, ReserveStep, reserves, finds_nothing, is_crowded, is_worn, notes, load_link_late, sees_free, sees_header, sees_update, claim_late, claims, claim_fails, load_next_late, sees_normal, sees_other, mark_late, marks, mark_fails, clears, OpenFillStep, open_late, opens, releases, releases_last, grants, closes_more, goes_away, FrameStep, Step, push_step, push_refused, close_step, close_refused, frame_step, frame_lacks, end_step, end_lacks, end_early, read_step, store_wish_step, LoadHeadStep, loads_header, loads_update, loads_owed, loads_passed, LoadDoneStep, finds_none, finds_closed, SwapHeadStep, swaps, swap_fails, ReadStep, after_swap}
+use Rattle.trace_model.proofs.NextEvent.{opened_stack}
 use Rattle.trace_model.proofs.NextRecords.{records_snoc, records_reserved, records_left_by}
 use Rattle.trace_model.proofs.FillCuts.{opens_of-push, opens_of-push_close, opens_of-reserve, opens_of-leave, opens_of-wished, opens_of-open_fill}
 use Rattle.link_marks.specs.KeptLinks.{PhaseKept, LinksKept}
@@ -68,7 +68,7 @@ module _ (n size start : ℕ) (c : Core) (frame : Frame) (below : List Frame) (k
   contents_idle (reserved number) answer after same step = subst (ContentsKept n start) (sym step.1) t
   contents_idle left answer after same step = absurd step
 
-  contents_open : (noted page : ℕ) (answer : Answer) (after : Core) → frame.phase ≡ opening noted page → OpenStep n c frame below noted page answer after → ContentsKept n start after
+  contents_open : (noted page : ℕ) (answer : Answer) (after : Core) → frame.phase ≡ opening noted page → OpenFillStep n c frame below noted page answer after → ContentsKept n start after
   contents_open noted page answer after same (open_late step) = contents_again noted answer after step
   contents_open noted page answer after same (opens now a is) =
       let (open_yet, inside, page_is) = (subst (PhaseKept n c.links c.order c.head c.done c.opened) same (top_kept n c frame below k top)).passed noted page refl in
@@ -90,7 +90,7 @@ module _ (n size start : ℕ) (c : Core) (frame : Frame) (below : List Frame) (k
 
   contents_frame : (phase : Phase) (answer : Answer) (after : Core) → frame.phase ≡ phase → FrameStep n size c frame below phase answer after → ContentsKept n start after
   contents_frame idle answer after same step = contents_idle frame.state answer after refl step
-  contents_frame (looking noted) answer after same (look_late step) = contents_again noted answer after step
+  contents_frame (looking noted) answer after same (load_link_late step) = contents_again noted answer after step
   contents_frame (looking noted) answer after same (sees_free page now at a is) = subst (ContentsKept n start) (sym is) t
   contents_frame (looking noted) answer after same (sees_header page lost now sum at a is) = subst (ContentsKept n start) (sym is) t
   contents_frame (looking noted) answer after same (sees_update page lost now sum at a is) = subst (ContentsKept n start) (sym is) t
@@ -98,7 +98,7 @@ module _ (n size start : ℕ) (c : Core) (frame : Frame) (below : List Frame) (k
   contents_frame (claiming noted page) answer after same (claims lost now sum at a is) = subst (ContentsKept n start) (sym is)
       (pages_later n start c.order c.spare c.held (opens_of c.history) (reserved_records c.history) c.head c.opened some_page k.apart t (c.head + 1) (omega arith))
   contents_frame (claiming noted page) answer after same (claim_fails now other a is) = subst (ContentsKept n start) (sym is) t
-  contents_frame (looking_next role noted page) answer after same (next_late helps step) = contents_again noted answer after step
+  contents_frame (looking_next role noted page) answer after same (load_next_late helps step) = contents_again noted answer after step
   contents_frame (looking_next role noted page) answer after same (sees_normal lost next goes_on sum at a is) = subst (ContentsKept n start) (sym is) t
   contents_frame (looking_next role noted page) answer after same (sees_other lost goes_on sum other a is) = subst (ContentsKept n start) (sym is) t
   contents_frame (marking role noted page next) answer after same (mark_late helps step) = contents_again noted answer after step
@@ -113,7 +113,7 @@ module _ (n size start : ℕ) (c : Core) (frame : Frame) (below : List Frame) (k
   contents_frame wishing answer after same (goes_away alone none last a is) = subst (ContentsKept n start) (sym is) t
 
 module _ (n start : ℕ) (c : Core) (k : LinksKept n c) (t : ContentsKept n start c) where
-  contents_load : (answer : Answer) (after : Core) → LoadStep n c answer after → ContentsKept n start after
+  contents_load : (answer : Answer) (after : Core) → LoadHeadStep n c answer after → ContentsKept n start after
   contents_load answer after (loads_header page fill at a is) = subst (ContentsKept n start) (sym is) t
   contents_load answer after (loads_update page lost at a is) = subst (ContentsKept n start) (sym is) t
   contents_load answer after (loads_owed page at a is) = subst (ContentsKept n start) (sym is) t
@@ -123,7 +123,7 @@ module _ (n start : ℕ) (c : Core) (k : LinksKept n c) (t : ContentsKept n star
   contents_load_done page fill answer after (finds_none le a is) = subst (ContentsKept n start) (sym is) t
   contents_load_done page fill answer after (finds_closed below a is) = subst (ContentsKept n start) (sym is) t
 
-  contents_swap : (page fill : ℕ) (answer : Answer) (after : Core) → SwapStep n c page fill answer after → ContentsKept n start after
+  contents_swap : (page fill : ℕ) (answer : Answer) (after : Core) → SwapHeadStep n c page fill answer after → ContentsKept n start after
   contents_swap page fill answer after (swaps at a is) =
       let (g, low_g, high_g, same, link) = fill_at n c k fill in
       let told = header_tells n c.links c.order c.head c.frames g page fill link (same ∙ at) in
@@ -138,11 +138,11 @@ module _ (n start : ℕ) (c : Core) (k : LinksKept n c) (t : ContentsKept n star
   contents_read (storing_link page fill) answer after step = subst (ContentsKept n start) (sym step.after_is) t
   contents_read (swapping page fill) answer after step = contents_swap page fill answer after step
 
-contents_pushed : (n start : ℕ) (c after : Core) (frames : List Frame) (action : Action) → ContentsKept n start c → opens_of (c.history ++ action ∷ []) ≡ opens_of c.history → reserved_records (c.history ++ action ∷ []) ≡ reserved_records c.history
-    → after ≡ record c { frames = frames; history = c.history ++ action ∷ [] }
+contents_pushed : (n start : ℕ) (c after : Core) (frames : List Frame) (history_event : HistoryEvent) → ContentsKept n start c → opens_of (c.history ++ history_event ∷ []) ≡ opens_of c.history → reserved_records (c.history ++ history_event ∷ []) ≡ reserved_records c.history
+    → after ≡ record c { frames = frames; history = c.history ++ history_event ∷ [] }
     → ContentsKept n start after
-contents_pushed n start c after frames action t cuts records is = subst (ContentsKept n start) (sym is)
-    (same_pages n start c.order c.held (opens_of c.history) (opens_of (c.history ++ action ∷ [])) (reserved_records c.history) (reserved_records (c.history ++ action ∷ [])) c.head c.opened cuts records t)
+contents_pushed n start c after frames history_event t cuts records is = subst (ContentsKept n start) (sym is)
+    (same_pages n start c.order c.held (opens_of c.history) (opens_of (c.history ++ history_event ∷ [])) (reserved_records c.history) (reserved_records (c.history ++ history_event ∷ [])) c.head c.opened cuts records t)
 
 pub contents_step : (n size start : ℕ) (c : Core) (event : Event) (answer : Answer) (after : Core) → LinksKept n c → StackKept c → HistoryKept n start c → ContentsKept n start c → OpenPagesKept n c → Step n size c event answer after → ContentsKept n start after
 contents_step n size start c event answer after k s h t o (push_step moment len e few fits early a is) = contents_pushed n start c after _ (push moment len) t (opens_of-push c.history moment len) (records_snoc c.history (push moment len)) is
@@ -155,4 +155,4 @@ contents_step n size start c event answer after k s h t o (end_step payload fram
 contents_step n size start c event answer after k s h t o (end_lacks payload e none a is) = subst (ContentsKept n start) (sym is) t
 contents_step n size start c event answer after k s h t o (end_early payload frame below e top none a is) = subst (ContentsKept n start) (sym is) t
 contents_step n size start c event answer after k s h t o (read_step e step) = contents_read n start c k t c.reader.phase answer after step
-contents_step n size start c event answer after k s h t o (wish_step e a is) = subst (ContentsKept n start) (sym is) t
+contents_step n size start c event answer after k s h t o (store_wish_step e a is) = subst (ContentsKept n start) (sym is) t

@@ -4,7 +4,7 @@ use Rattle.trace_model.specs.History.{is_settled}
 use Rattle.trace_model.specs.Frames.{Kind, for_record, for_close, FrameState, waiting, reserved, left, Role, Phase, idle, looking, claiming, looking_next, marking, clearing, opening, releasing, wishing, Frame}
 use Rattle.trace_model.specs.Ring.{ReaderPhase, loading_link, loading_done, storing_link, swapping, Core, window_of}
 use Rattle.trace_model.specs.Window.{Window, WindowEvent, opened_one, released_one, took_one, lost_one, WindowStep}
-use Rattle.trace_model.specs.Steps.{Event, Answer, with_new_tail, after_begin, taken_fill, BeginsAgain, ReserveStep, reserves, finds_nothing, is_crowded, is_worn, notes, LookStep, look_late, sees_free, sees_header, sees_update, ClaimStep, claim_late, claims, claim_fails, NextStep, next_late, sees_normal, sees_other, MarkStep, mark_late, marks, mark_fails, ClearStep, clears, OpenStep, open_late, opens, ReleaseStep, releases, releases_last, WishStep, grants, closes_more, goes_away, IdleStep, FrameStep, loads_header, loads_update, loads_owed, loads_passed, finds_none, finds_closed, swaps, swap_fails, ReadStep, Step, push_step, push_refused, close_step, close_refused, frame_step, frame_lacks, end_step, end_lacks, end_early, read_step, wish_step}
+use Rattle.trace_model.specs.Steps.{Event, Answer, with_new_tail, after_begin, taken_fill, BeginsAgain, ReserveStep, reserves, finds_nothing, is_crowded, is_worn, notes, LoadLinkStep, load_link_late, sees_free, sees_header, sees_update, ClaimHeadStep, claim_late, claims, claim_fails, LoadNextStep, load_next_late, sees_normal, sees_other, MarkHeadStep, mark_late, marks, mark_fails, ClearUpdateStep, clears, OpenFillStep, open_late, opens, ReleaseFillStep, releases, releases_last, LoadWishStep, grants, closes_more, goes_away, IdleStep, FrameStep, loads_header, loads_update, loads_owed, loads_passed, finds_none, finds_closed, swaps, swap_fails, ReadStep, Step, push_step, push_refused, close_step, close_refused, frame_step, frame_lacks, end_step, end_lacks, end_early, read_step, store_wish_step}
 use Rattle.link_marks.specs.KeptLinks.{LinksKept}
 use Rattle.link_marks.specs.WindowLaws.{HeadIsTaken, HeadIsLost, LossesNeedAFullRing, ClosesNeedNoFrame}
 use Rattle.link_marks.proofs.LinkFills.{header_tells, header_inside, fill_at}
@@ -38,61 +38,61 @@ module _ (n size : ℕ) (c : Core) (frame : Frame) (below : List Frame) (answer 
   reserve_moves (is_worn needs room last a is) = stays _ refl is
   reserve_moves (notes needs room small a is) = stays _ refl is
 
-  look_moves : (noted : ℕ) → LookStep n c frame below noted answer after → HeadMoves n c answer after
-  look_moves noted (look_late step) = stays_again noted step
-  look_moves noted (sees_free page now at a is) = stays _ refl is
-  look_moves noted (sees_header page lost now sum at a is) = stays _ refl is
-  look_moves noted (sees_update page lost now sum at a is) = stays _ refl is
+  load_link_moves : (noted : ℕ) → LoadLinkStep n c frame below noted answer after → HeadMoves n c answer after
+  load_link_moves noted (load_link_late step) = stays_again noted step
+  load_link_moves noted (sees_free page now at a is) = stays _ refl is
+  load_link_moves noted (sees_header page lost now sum at a is) = stays _ refl is
+  load_link_moves noted (sees_update page lost now sum at a is) = stays _ refl is
 
-  claim_moves : (noted page : ℕ) → ClaimStep n c frame below noted page answer after → HeadMoves n c answer after
-  claim_moves noted page (claim_late step) = stays_again noted step
-  claim_moves noted page (claims lost now sum at a is) =
+  claim_head_moves : (noted page : ℕ) → ClaimHeadStep n c frame below noted page answer after → HeadMoves n c answer after
+  claim_head_moves noted page (claim_late step) = stays_again noted step
+  claim_head_moves noted page (claims lost now sum at a is) =
       let unread = k.head_le in let behind = k.done_lt in let within = k.opened_le in
       let (here, page_is, head_at) = header_inside n c k noted page lost (omega arith) (omega arith) sum at in
       inr (inr ((omega arith), ap (λ (s : Core). s.head) is, ap (λ (s : Core). s.reader) is))
-  claim_moves noted page (claim_fails now other a is) = stays _ refl is
+  claim_head_moves noted page (claim_fails now other a is) = stays _ refl is
 
-  next_moves : (role : Role) (noted page : ℕ) → NextStep n c frame below role noted page answer after → HeadMoves n c answer after
-  next_moves role noted page (next_late helps step) = stays_again noted step
-  next_moves role noted page (sees_normal lost next on sum at a is) = stays _ refl is
-  next_moves role noted page (sees_other lost on sum other a is) = stays _ refl is
+  load_next_moves : (role : Role) (noted page : ℕ) → LoadNextStep n c frame below role noted page answer after → HeadMoves n c answer after
+  load_next_moves role noted page (load_next_late helps step) = stays_again noted step
+  load_next_moves role noted page (sees_normal lost next on sum at a is) = stays _ refl is
+  load_next_moves role noted page (sees_other lost on sum other a is) = stays _ refl is
 
-  mark_moves : (role : Role) (noted page next : ℕ) → MarkStep n c frame below role noted page next answer after → HeadMoves n c answer after
-  mark_moves role noted page next (mark_late helps step) = stays_again noted step
-  mark_moves role noted page next (marks lost on sum at a is) = stays _ refl is
-  mark_moves role noted page next (mark_fails lost on sum other a is) = stays _ refl is
+  mark_head_moves : (role : Role) (noted page next : ℕ) → MarkHeadStep n c frame below role noted page next answer after → HeadMoves n c answer after
+  mark_head_moves role noted page next (mark_late helps step) = stays_again noted step
+  mark_head_moves role noted page next (marks lost on sum at a is) = stays _ refl is
+  mark_head_moves role noted page next (mark_fails lost on sum other a is) = stays _ refl is
 
-  clear_moves : (noted page : ℕ) → ClearStep n c frame below noted page answer after → HeadMoves n c answer after
-  clear_moves noted page (clears lost sum at a is) = stays _ refl is
+  clear_update_moves : (noted page : ℕ) → ClearUpdateStep n c frame below noted page answer after → HeadMoves n c answer after
+  clear_update_moves noted page (clears lost sum at a is) = stays _ refl is
 
-  open_moves : (noted page : ℕ) → OpenStep n c frame below noted page answer after → HeadMoves n c answer after
-  open_moves noted page (open_late step) = stays_again noted step
-  open_moves noted page (opens now a is) = inl (ap (λ (s : Core). s.head) is ∙ after_begin_head frame.kind frame.state (with_new_tail c page) frame below)
+  open_fill_moves : (noted page : ℕ) → OpenFillStep n c frame below noted page answer after → HeadMoves n c answer after
+  open_fill_moves noted page (open_late step) = stays_again noted step
+  open_fill_moves noted page (opens now a is) = inl (ap (λ (s : Core). s.head) is ∙ after_begin_head frame.kind frame.state (with_new_tail c page) frame below)
 
-  release_moves : ReleaseStep c frame below answer after → HeadMoves n c answer after
-  release_moves (releases alone more a is) = stays _ refl is
-  release_moves (releases_last alone last a is) = stays _ refl is
+  release_fill_moves : ReleaseFillStep c frame below answer after → HeadMoves n c answer after
+  release_fill_moves (releases alone more a is) = stays _ refl is
+  release_fill_moves (releases_last alone last a is) = stays _ refl is
 
   idle_moves : (state : FrameState) → IdleStep n size c frame below state answer after → HeadMoves n c answer after
   idle_moves waiting step = reserve_moves step
   idle_moves (reserved number) step = stays c refl step.1
   idle_moves left step = absurd step
 
-  wish_moves : WishStep n c frame below answer after → HeadMoves n c answer after
-  wish_moves (grants alone granted a is) = stays _ refl is
-  wish_moves (closes_more alone denied more a is) = stays _ refl is
-  wish_moves (goes_away alone denied last a is) = stays _ refl is
+  load_wish_moves : LoadWishStep n c frame below answer after → HeadMoves n c answer after
+  load_wish_moves (grants alone granted a is) = stays _ refl is
+  load_wish_moves (closes_more alone denied more a is) = stays _ refl is
+  load_wish_moves (goes_away alone denied last a is) = stays _ refl is
 
   frame_moves : (phase : Phase) → FrameStep n size c frame below phase answer after → HeadMoves n c answer after
   frame_moves idle step = idle_moves frame.state step
-  frame_moves (looking noted) step = look_moves noted step
-  frame_moves (claiming noted page) step = claim_moves noted page step
-  frame_moves (looking_next role noted page) step = next_moves role noted page step
-  frame_moves (marking role noted page next) step = mark_moves role noted page next step
-  frame_moves (clearing noted page) step = clear_moves noted page step
-  frame_moves (opening noted page) step = open_moves noted page step
-  frame_moves releasing step = release_moves step
-  frame_moves wishing step = wish_moves step
+  frame_moves (looking noted) step = load_link_moves noted step
+  frame_moves (claiming noted page) step = claim_head_moves noted page step
+  frame_moves (looking_next role noted page) step = load_next_moves role noted page step
+  frame_moves (marking role noted page next) step = mark_head_moves role noted page next step
+  frame_moves (clearing noted page) step = clear_update_moves noted page step
+  frame_moves (opening noted page) step = open_fill_moves noted page step
+  frame_moves releasing step = release_fill_moves step
+  frame_moves wishing step = load_wish_moves step
 
 module _ (n : ℕ) (c : Core) (answer : Answer) (after : Core) (k : LinksKept n c) where
   rests : (next : Core) → next.head ≡ c.head → after ≡ next → HeadMoves n c answer after
@@ -123,7 +123,7 @@ moves n size c event answer after k (end_step payload frame below number moment 
 moves n size c event answer after k (end_lacks payload e none a is) = rests n c answer after k _ refl is
 moves n size c event answer after k (end_early payload frame below e top none a is) = rests n c answer after k _ refl is
 moves n size c event answer after k (read_step e step) = read_moves n c answer after k c.reader.phase step
-moves n size c event answer after k (wish_step e a is) = rests n c answer after k _ refl is
+moves n size c event answer after k (store_wish_step e a is) = rests n c answer after k _ refl is
 
 pub losses_need_a_full_ring : LossesNeedAFullRing
 losses_need_a_full_ring n size start c event answer after r step = moves n size c event answer after r.links step

@@ -2,7 +2,7 @@
 use Rattle.std.proofs.Common.{◌≡◌, ℕ, ◌+◌, ◌⊎◌, List, [], ◌∷◌, ◌++◌, map, Option, Some, None, refl, sym, ◌∙◌, subst, inl, inr, ⊎_elim, arith}
 use Rattle.std.specs.Prelude.{◌==◌}
 use Rattle.std.proofs.lemmas.Bool.{cond_both, eqb-false}
-use Rattle.trace_model.specs.History.{Action, leave}
+use Rattle.trace_model.specs.History.{HistoryEvent, leave}
 use Rattle.trace_model.specs.Links.{Link}
 use Rattle.trace_model.specs.Frames.{Kind, for_record, for_close, FrameState, waiting, reserved, left, Phase, idle, releasing, wishing, Frame, owned_update}
 use Rattle.trace_model.specs.Ring.{PageRecords, Core}
@@ -16,7 +16,7 @@ link_stays n links order head frames frames' f stays (is_header e here) = is_hea
 link_stays n links order head frames frames' f stays (is_update lost sum e st) = is_update lost sum e (stays f st)
 
 -- other frames, which own the same UPDATEs
-pub restacked : (n : ℕ) (c : Core) (frames : List Frame) (held : List PageRecords) (history : List Action) → LinksKept n c → FramesKept n c.links c.order c.head c.done c.opened frames → MoversDiffer frames
+pub restacked : (n : ℕ) (c : Core) (frames : List Frame) (held : List PageRecords) (history : List HistoryEvent) → LinksKept n c → FramesKept n c.links c.order c.head c.done c.opened frames → MoversDiffer frames
     → ((f : ℕ) → Stands c.frames f → Stands frames f)
     → LinksKept n (record c { frames = frames; held = held; history = history })
 restacked n c frames held history k kept differ stays = record {
@@ -54,14 +54,14 @@ module _ (n : ℕ) (c : Core) (frame : Frame) (below : List Frame) (k : LinksKep
   stands_top f st = subst (λ (fs : List Frame). Stands fs f) top st
 
   -- the frame on top goes on, with the UPDATE that it had
-  pub rephased : (next : Frame) (held : List PageRecords) (history : List Action) → PhaseKept n c.links c.order c.head c.done c.opened next.phase → owned_update next.phase ≡ owned_update frame.phase
+  pub rephased : (next : Frame) (held : List PageRecords) (history : List HistoryEvent) → PhaseKept n c.links c.order c.head c.done c.opened next.phase → owned_update next.phase ≡ owned_update frame.phase
       → LinksKept n (record c { frames = next ∷ below; held = held; history = history })
   rephased next held history facts same = restacked n c (next ∷ below) held history k (facts, below_kept)
       ((λ f at st. top_alone f (sym same ∙ at) st), below_differ)
       (λ f st. ⊎_elim (λ at. inl (same ∙ at)) (λ b. inr b) (stands_top f st))
 
   -- the frame on top owns no UPDATE, and is gone
-  pub popped : (held : List PageRecords) (history : List Action) → owned_update frame.phase ≡ None → LinksKept n (record c { frames = below; held = held; history = history })
+  pub popped : (held : List PageRecords) (history : List HistoryEvent) → owned_update frame.phase ≡ None → LinksKept n (record c { frames = below; held = held; history = history })
   popped held history none = restacked n c below held history k below_kept below_differ (λ f st. ⊎_elim (λ at. absurd (none_some (sym none ∙ at))) (λ b. b) (stands_top f st))
 
 -- what a frame that has left knows, if it closes fills or looks for a wish

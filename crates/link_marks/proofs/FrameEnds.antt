@@ -4,13 +4,13 @@ use Rattle.std.specs.Prelude.{if◌then◌else◌, ◌==◌}
 use Rattle.std.proofs.lemmas.Bool.{cond_both, eq-eqb, eqb-true, ne_eqb}
 use mathlib.Core.Logic.{dite}
 use native.Mathlib.Decide.{ℕ_discrete}
-use Rattle.trace_model.specs.History.{Action, open_fill, Reservation, reserved_records, reservation_for}
+use Rattle.trace_model.specs.History.{HistoryEvent, open_fill, Reservation, reserved_records, reservation_for}
 use Rattle.trace_model.specs.Packing.{cut_from, opens_of, tail_of, FitsBehind, is_wished}
 use Rattle.trace_model.specs.Fitting.{tail_at, NeedsFill}
 use Rattle.trace_model.specs.Links.{Mark, normal, header, update, Link, header_link}
 use Rattle.trace_model.specs.Frames.{Kind, for_record, for_close, FrameState, waiting, reserved, left, number_of, Role, owner, helper, Phase, idle, looking, claiming, looking_next, marking, clearing, opening, releasing, wishing, Frame, pushed_frames}
 use Rattle.trace_model.specs.Ring.{link_into, Core}
-use Rattle.trace_model.specs.Steps.{pushes, pushes_close, steps, ends, reads, wishes, Answer, NeedsPage, closing_phase, in_phase, after_leave, after_next, with_link, with_new_tail, after_begin, BeginsAgain, IdleStep, ReserveStep, reserves, finds_nothing, is_crowded, is_worn, notes, LookStep, look_late, sees_free, sees_header, sees_update, ClaimStep, claim_late, claims, claim_fails, NextStep, next_late, sees_normal, sees_other, MarkStep, mark_late, marks, mark_fails, ClearStep, clears, OpenStep, open_late, opens, ReleaseStep, releases, releases_last, WishStep, grants, closes_more, goes_away, FrameStep, push_step, push_refused, close_step, close_refused, frame_step, frame_lacks, end_step, end_lacks, end_early, read_step, wish_step}
+use Rattle.trace_model.specs.Steps.{pushes, pushes_close, steps, ends, reads, wishes, Answer, NeedsPage, closing_phase, in_phase, after_leave, after_next, with_link, with_new_tail, after_begin, BeginsAgain, IdleStep, ReserveStep, reserves, finds_nothing, is_crowded, is_worn, notes, LoadLinkStep, load_link_late, sees_free, sees_header, sees_update, ClaimHeadStep, claim_late, claims, claim_fails, LoadNextStep, load_next_late, sees_normal, sees_other, MarkHeadStep, mark_late, marks, mark_fails, ClearUpdateStep, clears, OpenFillStep, open_late, opens, ReleaseFillStep, releases, releases_last, LoadWishStep, grants, closes_more, goes_away, FrameStep, push_step, push_refused, close_step, close_refused, frame_step, frame_lacks, end_step, end_lacks, end_early, read_step, store_wish_step}
 use Rattle.trace_model.proofs.NextRecords.{records_snoc}
 use Rattle.trace_model.proofs.FillCuts.{opens_of-open_fill, opened_last}
 use Rattle.trace_model.proofs.PackedHistories.{tail_is, fit_open}
@@ -58,7 +58,7 @@ tail_held (r ∷ records) holds = refl
 closing_le : (n : ℕ) (c : Core) (state : FrameState) → phase_rank n c state (closing_phase c) ≤ wish_rank c + 1
 closing_le n c state = cond_both ((c.done + 1) == c.opened) wishing releasing (λ (p : Phase). phase_rank n c state p ≤ wish_rank c + 1) (λ _. omega arith) (λ _. omega arith)
 
-pub opened_tail : (h : List Action) → tail_of (h ++ open_fill ∷ []) ≡ []
+pub opened_tail : (h : List HistoryEvent) → tail_of (h ++ open_fill ∷ []) ≡ []
 opened_tail h =
     let cuts : List ℕ = opens_of h in
     let xs : List Reservation = reserved_records h in
@@ -206,35 +206,35 @@ module _ (n size start : ℕ) (c : Core) (frame : Frame) (below : List Frame) (r
       let fresh = late_now c.opened c.opened refl in
       goes after idle (looking c.opened) same (omega arith) is
 
-  look_lowers : (noted : ℕ) (answer : Answer) (after : Core) → frame.phase ≡ looking noted → length after.frames ≡ length c.frames → LookStep n c frame below noted answer after → frame_rank n after < frame_rank n c
-  look_lowers noted answer after same stays (look_late step) = again noted answer after (looking noted) same (omega arith) stays step
-  look_lowers noted answer after same stays (sees_free page now at a is) = goes after (looking noted) (opening noted page) same (omega arith) is
-  look_lowers noted answer after same stays (sees_header page lost now sum at a is) = let nine = claim_of (link_into n c.links noted) page lost at in goes after (looking noted) (claiming noted page) same (omega arith) is
-  look_lowers noted answer after same stays (sees_update page lost now sum at a is) = goes after (looking noted) (looking_next helper noted page) same (omega arith) is
+  load_link_lowers : (noted : ℕ) (answer : Answer) (after : Core) → frame.phase ≡ looking noted → length after.frames ≡ length c.frames → LoadLinkStep n c frame below noted answer after → frame_rank n after < frame_rank n c
+  load_link_lowers noted answer after same stays (load_link_late step) = again noted answer after (looking noted) same (omega arith) stays step
+  load_link_lowers noted answer after same stays (sees_free page now at a is) = goes after (looking noted) (opening noted page) same (omega arith) is
+  load_link_lowers noted answer after same stays (sees_header page lost now sum at a is) = let nine = claim_of (link_into n c.links noted) page lost at in goes after (looking noted) (claiming noted page) same (omega arith) is
+  load_link_lowers noted answer after same stays (sees_update page lost now sum at a is) = goes after (looking noted) (looking_next helper noted page) same (omega arith) is
 
-  claim_lowers : (noted page : ℕ) (answer : Answer) (after : Core) → frame.phase ≡ claiming noted page → length after.frames ≡ length c.frames → ClaimStep n c frame below noted page answer after → frame_rank n after < frame_rank n c
-  claim_lowers noted page answer after same stays (claim_late step) = let nine = claim_ge (link_into n c.links noted).mark ((link_into n c.links noted).page == page) in again noted answer after (claiming noted page) same (omega arith) stays step
-  claim_lowers noted page answer after same stays (claims lost now sum at a is) =
+  claim_head_lowers : (noted page : ℕ) (answer : Answer) (after : Core) → frame.phase ≡ claiming noted page → length after.frames ≡ length c.frames → ClaimHeadStep n c frame below noted page answer after → frame_rank n after < frame_rank n c
+  claim_head_lowers noted page answer after same stays (claim_late step) = let nine = claim_ge (link_into n c.links noted).mark ((link_into n c.links noted).page == page) in again noted answer after (claiming noted page) same (omega arith) stays step
+  claim_head_lowers noted page answer after same stays (claims lost now sum at a is) =
       let nine = claim_of (link_into n c.links noted) page lost at in
       subst (λ (a : Core). frame_rank n a < frame_rank n c) (sym is)
       (subst (λ (m : ℕ). 3 * (c.opened - c.done) + (state_rank frame.state + late_rank noted c.opened + 8) < m) (sym (old (claiming noted page) same)) (omega arith))
-  claim_lowers noted page answer after same stays (claim_fails now other a is) =
+  claim_head_lowers noted page answer after same stays (claim_fails now other a is) =
       let unread = k.head_le in let behind = k.done_lt in let within = k.opened_le in
       let eleven = claim_other (link_into n c.links noted) page (λ at is. let (lost, sum, it) = claimable n c k noted page (omega arith) (omega arith) at is in other lost sum it) in
       goes after (claiming noted page) (looking noted) same (omega arith) is
 
-  next_lowers : (role : Role) (noted page : ℕ) (answer : Answer) (after : Core) → frame.phase ≡ looking_next role noted page → length after.frames ≡ length c.frames → NextStep n c frame below role noted page answer after → frame_rank n after < frame_rank n c
-  next_lowers role noted page answer after same stays (next_late helps step) = again noted answer after (looking_next role noted page) same (omega arith) stays step
-  next_lowers role noted page answer after same stays (sees_normal lost next goes_on sum at a is) = goes after (looking_next role noted page) (marking role noted page next) same (omega arith) is
-  next_lowers role noted page answer after same stays (sees_other lost goes_on sum other a is) = goes after (looking_next role noted page) (after_next role noted page) same (next_less role 8 (omega arith)) is
+  load_next_lowers : (role : Role) (noted page : ℕ) (answer : Answer) (after : Core) → frame.phase ≡ looking_next role noted page → length after.frames ≡ length c.frames → LoadNextStep n c frame below role noted page answer after → frame_rank n after < frame_rank n c
+  load_next_lowers role noted page answer after same stays (load_next_late helps step) = again noted answer after (looking_next role noted page) same (omega arith) stays step
+  load_next_lowers role noted page answer after same stays (sees_normal lost next goes_on sum at a is) = goes after (looking_next role noted page) (marking role noted page next) same (omega arith) is
+  load_next_lowers role noted page answer after same stays (sees_other lost goes_on sum other a is) = goes after (looking_next role noted page) (after_next role noted page) same (next_less role 8 (omega arith)) is
     where
       next_less : (role : Role) (m : ℕ) → 6 < m → phase_rank n c frame.state (after_next role noted page) < state_rank frame.state + late_rank noted c.opened + m
       next_less owner m less = omega arith
       next_less helper m less = omega arith
 
-  mark_lowers : (role : Role) (noted page next : ℕ) (answer : Answer) (after : Core) → frame.phase ≡ marking role noted page next → length after.frames ≡ length c.frames → MarkStep n c frame below role noted page next answer after → frame_rank n after < frame_rank n c
-  mark_lowers role noted page next answer after same stays (mark_late helps step) = again noted answer after (marking role noted page next) same (omega arith) stays step
-  mark_lowers role noted page next answer after same stays (marks lost goes_on sum at a is) =
+  mark_head_lowers : (role : Role) (noted page next : ℕ) (answer : Answer) (after : Core) → frame.phase ≡ marking role noted page next → length after.frames ≡ length c.frames → MarkHeadStep n c frame below role noted page next answer after → frame_rank n after < frame_rank n c
+  mark_head_lowers role noted page next answer after same stays (mark_late helps step) = again noted answer after (marking role noted page next) same (omega arith) stays step
+  mark_head_lowers role noted page next answer after same stays (marks lost goes_on sum at a is) =
       subst (λ (a : Core). frame_rank n a < frame_rank n c) (sym is) (subst (λ (m : ℕ). frame_rank n (marked role) < m) (sym (old (marking role noted page next) same)) (less role))
     where
       marked : Role → Core
@@ -243,20 +243,20 @@ module _ (n size start : ℕ) (c : Core) (frame : Frame) (below : List Frame) (r
       less : (role : Role) → frame_rank n (marked role) < 3 * (c.opened - c.done) + (state_rank frame.state + late_rank noted c.opened + 7)
       less owner = omega arith
       less helper = omega arith
-  mark_lowers role noted page next answer after same stays (mark_fails lost goes_on sum other a is) = goes after (marking role noted page next) (after_next role noted page) same (less role) is
+  mark_head_lowers role noted page next answer after same stays (mark_fails lost goes_on sum other a is) = goes after (marking role noted page next) (after_next role noted page) same (less role) is
     where
       less : (role : Role) → phase_rank n c frame.state (after_next role noted page) < state_rank frame.state + late_rank noted c.opened + 7
       less owner = omega arith
       less helper = omega arith
 
-  clear_lowers : (noted page : ℕ) (answer : Answer) (after : Core) → frame.phase ≡ clearing noted page → length after.frames ≡ length c.frames → ClearStep n c frame below noted page answer after → frame_rank n after < frame_rank n c
-  clear_lowers noted page answer after same stays (clears lost sum at a is) =
+  clear_update_lowers : (noted page : ℕ) (answer : Answer) (after : Core) → frame.phase ≡ clearing noted page → length after.frames ≡ length c.frames → ClearUpdateStep n c frame below noted page answer after → frame_rank n after < frame_rank n c
+  clear_update_lowers noted page answer after same stays (clears lost sum at a is) =
       subst (λ (a : Core). frame_rank n a < frame_rank n c) (sym is)
       (subst (λ (m : ℕ). 3 * (c.opened - c.done) + (state_rank frame.state + late_rank noted c.opened + 5) < m) (sym (old (clearing noted page) same)) (omega arith))
 
-  open_lowers : (noted page : ℕ) (answer : Answer) (after : Core) → frame.phase ≡ opening noted page → length after.frames ≡ length c.frames → OpenStep n c frame below noted page answer after → frame_rank n after < frame_rank n c
-  open_lowers noted page answer after same stays (open_late step) = again noted answer after (opening noted page) same (omega arith) stays step
-  open_lowers noted page answer after same stays (opens now a is) =
+  open_fill_lowers : (noted page : ℕ) (answer : Answer) (after : Core) → frame.phase ≡ opening noted page → length after.frames ≡ length c.frames → OpenFillStep n c frame below noted page answer after → frame_rank n after < frame_rank n c
+  open_fill_lowers noted page answer after same stays (open_late step) = again noted answer after (opening noted page) same (omega arith) stays step
+  open_fill_lowers noted page answer after same stays (opens now a is) =
       let behind = k.done_lt in let seen_le = k.seen_le in let asks_le = k.wish_le in
       let grown : Core = with_new_tail c page in
       let begun : Core = after_begin frame.kind frame.state grown frame below in
@@ -268,23 +268,23 @@ module _ (n size start : ℕ) (c : Core) (frame : Frame) (below : List Frame) (r
       subst (λ (a : Core). frame_rank n a < frame_rank n c) (sym is)
       (subst (λ (m : ℕ). frame_rank n begun < m) (sym (old (opening noted page) same)) (omega arith))
 
-  release_lowers : (answer : Answer) (after : Core) → frame.phase ≡ releasing → ReleaseStep c frame below answer after → frame_rank n after < frame_rank n c
-  release_lowers answer after same (releases alone more a is) =
+  release_fill_lowers : (answer : Answer) (after : Core) → frame.phase ≡ releasing → ReleaseFillStep c frame below answer after → frame_rank n after < frame_rank n c
+  release_fill_lowers answer after same (releases alone more a is) =
       subst (λ (a : Core). frame_rank n a < frame_rank n c) (sym is)
       (subst (λ (fs : List Frame). 3 * (c.opened - (c.done + 1)) + top_rank n c fs < 3 * (c.opened - c.done) + top_rank n c fs) (sym top) (omega arith))
-  release_lowers answer after same (releases_last alone last a is) =
+  release_fill_lowers answer after same (releases_last alone last a is) =
       subst (λ (a : Core). frame_rank n a < frame_rank n c) (sym is)
       (subst (λ (m : ℕ). 3 * (c.opened - (c.done + 1)) + (wish_rank c + 1) < m) (sym (old releasing same)) (omega arith))
 
-  wish_lowers : (answer : Answer) (after : Core) → frame.phase ≡ wishing → length after.frames ≡ length c.frames → WishStep n c frame below answer after → frame_rank n after < frame_rank n c
-  wish_lowers answer after same stays (grants alone granted a is) =
+  load_wish_lowers : (answer : Answer) (after : Core) → frame.phase ≡ wishing → length after.frames ≡ length c.frames → LoadWishStep n c frame below answer after → frame_rank n after < frame_rank n c
+  load_wish_lowers answer after same stays (grants alone granted a is) =
       let asked = wish_now c granted.asks_tail in
       let gone = ap state_rank (wishing_left frame.kind frame.state (subst (MayBeIn frame.kind frame.state) same (top_agrees c frame below r.stack top).0)) in
       let fresh = late_now c.opened c.opened refl in
       subst (λ (a : Core). frame_rank n a < frame_rank n c) (sym is)
       (subst (λ (m : ℕ). 3 * (c.opened - c.done) + (state_rank frame.state + late_rank c.opened c.opened + 10) < m) (sym (old wishing same)) (omega arith))
-  wish_lowers answer after same stays (closes_more alone denied more a is) = goes after wishing releasing same (omega arith) is
-  wish_lowers answer after same stays (goes_away alone denied none_left a is) = absurd (let none : 0 ≡ suc (length below) = stands after (record c { frames = [] }) is stays in omega arith)
+  load_wish_lowers answer after same stays (closes_more alone denied more a is) = goes after wishing releasing same (omega arith) is
+  load_wish_lowers answer after same stays (goes_away alone denied none_left a is) = absurd (let none : 0 ≡ suc (length below) = stands after (record c { frames = [] }) is stays in omega arith)
 
   idle_lowers : (state : FrameState) (answer : Answer) (after : Core) → frame.phase ≡ idle → frame.state ≡ state → number_of state ≡ None → length after.frames ≡ length c.frames → IdleStep n size c frame below state answer after → frame_rank n after < frame_rank n c
   idle_lowers waiting answer after same at none stays step = reserve_lowers answer after same at stays step
@@ -293,14 +293,14 @@ module _ (n size start : ℕ) (c : Core) (frame : Frame) (below : List Frame) (r
 
   frame_lowers : (phase : Phase) (answer : Answer) (after : Core) → frame.phase ≡ phase → number_of frame.state ≡ None → length after.frames ≡ length c.frames → FrameStep n size c frame below phase answer after → frame_rank n after < frame_rank n c
   frame_lowers idle answer after same none stays step = idle_lowers frame.state answer after same refl none stays step
-  frame_lowers (looking noted) answer after same none stays step = look_lowers noted answer after same stays step
-  frame_lowers (claiming noted page) answer after same none stays step = claim_lowers noted page answer after same stays step
-  frame_lowers (looking_next role noted page) answer after same none stays step = next_lowers role noted page answer after same stays step
-  frame_lowers (marking role noted page next) answer after same none stays step = mark_lowers role noted page next answer after same stays step
-  frame_lowers (clearing noted page) answer after same none stays step = clear_lowers noted page answer after same stays step
-  frame_lowers (opening noted page) answer after same none stays step = open_lowers noted page answer after same stays step
-  frame_lowers releasing answer after same none stays step = release_lowers answer after same step
-  frame_lowers wishing answer after same none stays step = wish_lowers answer after same stays step
+  frame_lowers (looking noted) answer after same none stays step = load_link_lowers noted answer after same stays step
+  frame_lowers (claiming noted page) answer after same none stays step = claim_head_lowers noted page answer after same stays step
+  frame_lowers (looking_next role noted page) answer after same none stays step = load_next_lowers role noted page answer after same stays step
+  frame_lowers (marking role noted page next) answer after same none stays step = mark_head_lowers role noted page next answer after same stays step
+  frame_lowers (clearing noted page) answer after same none stays step = clear_update_lowers noted page answer after same stays step
+  frame_lowers (opening noted page) answer after same none stays step = open_fill_lowers noted page answer after same stays step
+  frame_lowers releasing answer after same none stays step = release_fill_lowers answer after same step
+  frame_lowers wishing answer after same none stays step = load_wish_lowers answer after same stays step
 
 pub steps_lower : StepsComeToAnEnd
 steps_lower n size start c frame below answer after r top none (frame_step f b e at step) stays =
@@ -318,7 +318,7 @@ steps_lower n size start c frame below answer after r top none (end_step payload
 steps_lower n size start c frame below answer after r top none (end_lacks payload e at a is) stays = absurd (let w : steps ≡ ends payload = e in cc)
 steps_lower n size start c frame below answer after r top none (end_early payload f b e at lacks a is) stays = absurd (let w : steps ≡ ends payload = e in cc)
 steps_lower n size start c frame below answer after r top none (read_step e step) stays = absurd (let w : steps ≡ reads = e in cc)
-steps_lower n size start c frame below answer after r top none (wish_step e a is) stays = absurd (let w : steps ≡ wishes = e in cc)
+steps_lower n size start c frame below answer after r top none (store_wish_step e a is) stays = absurd (let w : steps ≡ wishes = e in cc)
 
 pub ends_lower : EndsComeToAnEnd
 ends_lower n size start c frame below number payload answer after r top own (end_step p f b m moment len e at f_own kind fits a is) stays =
@@ -344,7 +344,7 @@ ends_lower n size start c frame below number payload answer after r top own (clo
 ends_lower n size start c frame below number payload answer after r top own (frame_step f b e at step) stays = absurd (let w : ends payload ≡ steps = e in cc)
 ends_lower n size start c frame below number payload answer after r top own (frame_lacks e at a is) stays = absurd (let w : ends payload ≡ steps = e in cc)
 ends_lower n size start c frame below number payload answer after r top own (read_step e step) stays = absurd (let w : ends payload ≡ reads = e in cc)
-ends_lower n size start c frame below number payload answer after r top own (wish_step e a is) stays = absurd (let w : ends payload ≡ wishes = e in cc)
+ends_lower n size start c frame below number payload answer after r top own (store_wish_step e a is) stays = absurd (let w : ends payload ≡ wishes = e in cc)
 
 -- ---- the limit
 

@@ -3,7 +3,7 @@ use Rattle.std.proofs.Common.{◌≡◌, ◌≢◌, ℕ, ◌⊎◌, List, [], �
 use Rattle.trace_model.specs.Frames.{Kind, for_record, for_close, FrameState, waiting, reserved, left, Refusal, crowded, worn, Role, owner, helper, Phase, idle, looking, claiming, looking_next, marking, clearing, opening, releasing, wishing, Frame}
 use Rattle.trace_model.specs.History.{reserved_records}
 use Rattle.trace_model.specs.Ring.{Core}
-use Rattle.trace_model.specs.Steps.{Answer, going, refused, leave_answer, frames_after_leave, after_next, begin_answer, after_begin, with_new_tail, BeginsAgain, IdleStep, reserves, finds_nothing, is_crowded, is_worn, notes, FrameStep, look_late, sees_free, sees_header, sees_update, claim_late, claims, claim_fails, next_late, sees_normal, sees_other, mark_late, marks, mark_fails, clears, open_late, opens, releases, releases_last, grants, closes_more, goes_away}
+use Rattle.trace_model.specs.Steps.{Answer, going, refused, leave_answer, frames_after_leave, after_next, begin_answer, after_begin, with_new_tail, BeginsAgain, IdleStep, reserves, finds_nothing, is_crowded, is_worn, notes, FrameStep, load_link_late, sees_free, sees_header, sees_update, claim_late, claims, claim_fails, load_next_late, sees_normal, sees_other, mark_late, marks, mark_fails, clears, open_late, opens, releases, releases_last, grants, closes_more, goes_away}
 use Rattle.link_marks.specs.FrameOutcomes.{IsReserving, IsLeaving, Reserving, reserves_on, has_reserved, is_refused, Leaving, leaves_on, is_gone, FramesReserve, FramesLeave}
 use Rattle.link_marks.proofs.StackSteps.{releasing_left, wishing_left, top_agrees}
 use Rattle.link_marks.proofs.TopSteps.{top_stepped}
@@ -60,14 +60,14 @@ module _ (frame : Frame) (below : List Frame) (is : IsReserving frame.kind frame
 
     reserving_in : (phase : Phase) → (phase ≡ releasing → frame.state ≡ left) → (phase ≡ wishing → frame.state ≡ left) → FrameStep n size c frame below phase answer after → Reserves answer after
     reserving_in idle r w step = reserving_idle frame.state refl step
-    reserving_in (looking noted) r w (look_late late) = reserving_late noted late
+    reserving_in (looking noted) r w (load_link_late late) = reserving_late noted late
     reserving_in (looking noted) r w (sees_free page x at a e) = goes (opening noted page) _ refl a e
     reserving_in (looking noted) r w (sees_header page lost x sum at a e) = goes (claiming noted page) _ refl a e
     reserving_in (looking noted) r w (sees_update page lost x sum at a e) = goes (looking_next helper noted page) _ refl a e
     reserving_in (claiming noted page) r w (claim_late late) = reserving_late noted late
     reserving_in (claiming noted page) r w (claims lost x sum at a e) = goes (looking_next owner noted page) _ refl a e
     reserving_in (claiming noted page) r w (claim_fails x none a e) = goes (looking noted) _ refl a e
-    reserving_in (looking_next role noted page) r w (next_late helps late) = reserving_late noted late
+    reserving_in (looking_next role noted page) r w (load_next_late helps late) = reserving_late noted late
     reserving_in (looking_next role noted page) r w (sees_normal lost next on sum at a e) = goes (marking role noted page next) _ refl a e
     reserving_in (looking_next role noted page) r w (sees_other lost on sum none a e) = reserving_next role noted page _ refl a e
     reserving_in (marking role noted page next) r w (mark_late helps late) = reserving_late noted late
@@ -116,14 +116,14 @@ module _ (frame : Frame) (below : List Frame) (is : IsLeaving frame.kind frame.s
 
     leaving_in : (phase : Phase) → frame.phase ≡ phase → c.frames ≡ frame ∷ below → FrameStep n size c frame below phase answer after → Leaves answer after
     leaving_in idle p top step = leaving_idle frame.state refl step
-    leaving_in (looking noted) p top (look_late late) = leaving_late noted late
+    leaving_in (looking noted) p top (load_link_late late) = leaving_late noted late
     leaving_in (looking noted) p top (sees_free page x at a e) = goes_on (opening noted page) _ refl a e
     leaving_in (looking noted) p top (sees_header page lost x sum at a e) = goes_on (claiming noted page) _ refl a e
     leaving_in (looking noted) p top (sees_update page lost x sum at a e) = goes_on (looking_next helper noted page) _ refl a e
     leaving_in (claiming noted page) p top (claim_late late) = leaving_late noted late
     leaving_in (claiming noted page) p top (claims lost x sum at a e) = goes_on (looking_next owner noted page) _ refl a e
     leaving_in (claiming noted page) p top (claim_fails x none a e) = goes_on (looking noted) _ refl a e
-    leaving_in (looking_next role noted page) p top (next_late helps late) = leaving_late noted late
+    leaving_in (looking_next role noted page) p top (load_next_late helps late) = leaving_late noted late
     leaving_in (looking_next role noted page) p top (sees_normal lost next on sum at a e) = goes_on (marking role noted page next) _ refl a e
     leaving_in (looking_next role noted page) p top (sees_other lost on sum none a e) = goes_on (after_next role noted page) _ refl a e
     leaving_in (marking role noted page next) p top (mark_late helps late) = leaving_late noted late

@@ -3,14 +3,14 @@
 use Rattle.std.proofs.Common.{◌≡◌, ◌≢◌, ℕ, suc, ◌+◌, ◌<◌, ◌≤◌, ◌⊎◌, List, [], ◌∷◌, ◌++◌, length, Option, Some, None, refl, sym, ap, ◌∙◌, subst, inl, inr, ⊎_elim, arith, append-nil}
 use mathlib.Core.Logic.{dite}
 use native.Mathlib.Decide.{ℕ_discrete}
-use Rattle.trace_model.specs.History.{Action, push, push_close, open_fill, reserve, leave, wished, PushedFrame, WriterState, after_action, writer_after, reserved_records, MayReserve, MayLeave, MayOpen, MayWish, MayAct}
+use Rattle.trace_model.specs.History.{HistoryEvent, push, push_close, open_fill, reserve, leave, wished, PushedFrame, WriterState, after_event, writer_after, reserved_records, MayReserve, MayLeave, MayOpen, MayWish, MayAct}
 use Rattle.trace_model.proofs.Allowed.{IsHistory-push}
-use Rattle.trace_model.proofs.NextAction.{writer_snoc, opened_stack, wished_stack, left_stack, reserved_stack, settled_at_rest}
+use Rattle.trace_model.proofs.NextEvent.{writer_snoc, opened_stack, wished_stack, left_stack, reserved_stack, settled_at_rest}
 use Rattle.trace_model.specs.Links.{Link, header_link}
 use Rattle.trace_model.specs.Frames.{Kind, for_record, for_close, FrameState, waiting, reserved, left, Role, owner, helper, Phase, idle, looking, claiming, looking_next, marking, clearing, opening, releasing, wishing, Frame, pushed_frame, pushed_onto, pushed_frames}
 use Rattle.trace_model.specs.Window.{WindowEvent, opened_one, released_one, took_one, lost_one}
 use Rattle.trace_model.specs.Ring.{Taken, Reader, ReaderPhase, loading_link, loading_done, storing_link, swapping, Core, window_of}
-use Rattle.trace_model.specs.Steps.{Event, Answer, with_link, with_action, in_phase, closing_phase, after_leave, frames_after_leave, with_new_tail, after_begin, after_next, BeginsAgain, ReserveStep, reserves, finds_nothing, is_crowded, is_worn, notes, LookStep, look_late, sees_free, sees_header, sees_update, ClaimStep, claim_late, claims, claim_fails, NextStep, next_late, sees_normal, sees_other, MarkStep, mark_late, marks, mark_fails, ClearStep, clears, OpenStep, open_late, opens, ReleaseStep, releases, releases_last, WishStep, grants, closes_more, goes_away, IdleStep, FrameStep, Step, push_step, push_refused, close_step, close_refused, frame_step, frame_lacks, end_step, end_lacks, end_early, read_step, wish_step, LoadStep, loads_header, loads_update, loads_owed, loads_passed, LoadDoneStep, finds_none, finds_closed, SwapStep, swaps, swap_fails, ReadStep, taken_fill}
+use Rattle.trace_model.specs.Steps.{Event, Answer, with_link, with_history_event, in_phase, closing_phase, after_leave, frames_after_leave, with_new_tail, after_begin, after_next, BeginsAgain, ReserveStep, reserves, finds_nothing, is_crowded, is_worn, notes, LoadLinkStep, load_link_late, sees_free, sees_header, sees_update, ClaimHeadStep, claim_late, claims, claim_fails, LoadNextStep, load_next_late, sees_normal, sees_other, MarkHeadStep, mark_late, marks, mark_fails, ClearUpdateStep, clears, OpenFillStep, open_late, opens, ReleaseFillStep, releases, releases_last, LoadWishStep, grants, closes_more, goes_away, IdleStep, FrameStep, Step, push_step, push_refused, close_step, close_refused, frame_step, frame_lacks, end_step, end_lacks, end_early, read_step, store_wish_step, LoadHeadStep, loads_header, loads_update, loads_owed, loads_passed, LoadDoneStep, finds_none, finds_closed, SwapHeadStep, swaps, swap_fails, ReadStep, taken_fill}
 use Rattle.trace_model.specs.Sublist.{IsPrefix}
 use Rattle.link_marks.specs.WindowLaws.{IsEventShown, MovesWindow}
 use Rattle.link_marks.specs.KeptLinks.{spot, passed_spot, PhaseKept, ReaderKept, LinksKept}
@@ -103,7 +103,7 @@ history_begun n start c page h may = record {
 }
 
 -- a wish is found
-history_wished : (n start : ℕ) (c : Core) → HistoryKept n start c → (writer_after c.history).stack ≡ [] → HistoryKept n start (with_action c wished)
+history_wished : (n start : ℕ) (c : Core) → HistoryKept n start c → (writer_after c.history).stack ≡ [] → HistoryKept n start (with_history_event c wished)
 history_wished n start c h none = record {
   allowed = IsHistory-push c.history wished h.allowed (subst MayWish (sym none) tt);
   stack = wished_stack c.history (pushed_frames c.frames) h.stack;
@@ -185,15 +185,15 @@ module _ (n size start : ℕ) (c : Core) (frame : Frame) (below : List Frame) (k
   idle_owed (reserved number) answer after same is step = subst (Owed n start c) (sym step.1) record { kept = h; window = inl (refl, refl) }
   idle_owed left answer after same is step = absurd step
 
-  look_owed : (noted : ℕ) (answer : Answer) (after : Core) → frame.phase ≡ looking noted → LookStep n c frame below noted answer after → Owed n start c after
-  look_owed noted answer after same (look_late step) = again noted answer after (looking noted) same (no_spot noted (looking noted) refl) step
-  look_owed noted answer after same (sees_free page now at a is) = goes after (looking noted) (opening noted page) same (λ p is_p. absurd (none_some is_p)) is
-  look_owed noted answer after same (sees_header page lost now sum at a is) = goes after (looking noted) (claiming noted page) same (λ p is_p. absurd (none_some is_p)) is
-  look_owed noted answer after same (sees_update page lost now sum at a is) = goes after (looking noted) (looking_next helper noted page) same (λ p is_p. absurd (none_some is_p)) is
+  load_link_owed : (noted : ℕ) (answer : Answer) (after : Core) → frame.phase ≡ looking noted → LoadLinkStep n c frame below noted answer after → Owed n start c after
+  load_link_owed noted answer after same (load_link_late step) = again noted answer after (looking noted) same (no_spot noted (looking noted) refl) step
+  load_link_owed noted answer after same (sees_free page now at a is) = goes after (looking noted) (opening noted page) same (λ p is_p. absurd (none_some is_p)) is
+  load_link_owed noted answer after same (sees_header page lost now sum at a is) = goes after (looking noted) (claiming noted page) same (λ p is_p. absurd (none_some is_p)) is
+  load_link_owed noted answer after same (sees_update page lost now sum at a is) = goes after (looking noted) (looking_next helper noted page) same (λ p is_p. absurd (none_some is_p)) is
 
-  claim_owed : (noted page : ℕ) (answer : Answer) (after : Core) → frame.phase ≡ claiming noted page → ClaimStep n c frame below noted page answer after → Owed n start c after
-  claim_owed noted page answer after same (claim_late step) = again noted answer after (claiming noted page) same (no_spot noted (claiming noted page) refl) step
-  claim_owed noted page answer after same (claims lost now sum at a is) =
+  claim_head_owed : (noted page : ℕ) (answer : Answer) (after : Core) → frame.phase ≡ claiming noted page → ClaimHeadStep n c frame below noted page answer after → Owed n start c after
+  claim_head_owed noted page answer after same (claim_late step) = again noted answer after (claiming noted page) same (no_spot noted (claiming noted page) refl) step
+  claim_head_owed noted page answer after same (claims lost now sum at a is) =
       let (open_yet, begun_yet, room, small) = (subst (PhaseKept n c.links c.order c.head c.done c.opened) same (top_kept n c frame below k top)).noted noted refl in
       let unread = k.head_le in let within = k.opened_le in
       let (here, page_is, head_at) = header_inside n c k noted page lost (omega arith) (omega arith) sum at in
@@ -208,19 +208,19 @@ module _ (n size start : ℕ) (c : Core) (frame : Frame) (below : List Frame) (k
         };
         window = inr (lost_one, record { step = record { may = (omega arith, omega arith); after_is = refl }; shown = (refl, refl) });
       }
-  claim_owed noted page answer after same (claim_fails now other a is) = goes after (claiming noted page) (looking noted) same (λ p is_p. absurd (none_some is_p)) is
+  claim_head_owed noted page answer after same (claim_fails now other a is) = goes after (claiming noted page) (looking noted) same (λ p is_p. absurd (none_some is_p)) is
 
   after_next_owed : (role : Role) (noted page : ℕ) (after : Core) (old : Phase) → frame.phase ≡ old → passed_spot old ≡ Some (spot noted page) → after ≡ in_phase c frame below (after_next role noted page) → Owed n start c after
   after_next_owed owner noted page after old same spot_is is = goes after old (clearing noted page) same (λ p at. (p, sym spot_is ∙ at)) is
   after_next_owed helper noted page after old same spot_is is = goes after old (opening noted page) same (λ p at. (p, sym spot_is ∙ at)) is
 
-  next_owed : (role : Role) (noted page : ℕ) (answer : Answer) (after : Core) → frame.phase ≡ looking_next role noted page → NextStep n c frame below role noted page answer after → Owed n start c after
-  next_owed role noted page answer after same (next_late helps step) = again noted answer after (looking_next role noted page) same (one_spot noted page) step
-  next_owed role noted page answer after same (sees_normal lost next goes_on sum at a is) = goes after (looking_next role noted page) (marking role noted page next) same (λ p at_p. (p, at_p)) is
-  next_owed role noted page answer after same (sees_other lost goes_on sum other a is) = after_next_owed role noted page after (looking_next role noted page) same refl is
+  load_next_owed : (role : Role) (noted page : ℕ) (answer : Answer) (after : Core) → frame.phase ≡ looking_next role noted page → LoadNextStep n c frame below role noted page answer after → Owed n start c after
+  load_next_owed role noted page answer after same (load_next_late helps step) = again noted answer after (looking_next role noted page) same (one_spot noted page) step
+  load_next_owed role noted page answer after same (sees_normal lost next goes_on sum at a is) = goes after (looking_next role noted page) (marking role noted page next) same (λ p at_p. (p, at_p)) is
+  load_next_owed role noted page answer after same (sees_other lost goes_on sum other a is) = after_next_owed role noted page after (looking_next role noted page) same refl is
 
-  clear_owed : (noted page : ℕ) (answer : Answer) (after : Core) → frame.phase ≡ clearing noted page → ClearStep n c frame below noted page answer after → Owed n start c after
-  clear_owed noted page answer after same (clears lost sum at a is) = subst (Owed n start c) (sym is) record {
+  clear_update_owed : (noted page : ℕ) (answer : Answer) (after : Core) → frame.phase ≡ clearing noted page → ClearUpdateStep n c frame below noted page answer after → Owed n start c after
+  clear_update_owed noted page answer after same (clears lost sum at a is) = subst (Owed n start c) (sym is) record {
     kept = let kept = history_goes n start c frame below h top (opening noted page) (λ p at_p. (p, sym (ap passed_spot same) ∙ at_p)) in record { allowed = kept.allowed; stack = kept.stack; lost = kept.lost };
     window = inl (refl, refl);
   }
@@ -234,23 +234,23 @@ module _ (n size start : ℕ) (c : Core) (frame : Frame) (below : List Frame) (k
   rest_wishing same = let a = top_agrees c frame below s top in let gone = wishing_left frame.kind frame.state (subst (MayBeIn frame.kind frame.state) same a.0) in
       stack_empty n start c frame below h top gone (a.1 gone)
 
-  release_owed : (answer : Answer) (after : Core) → frame.phase ≡ releasing → ReleaseStep c frame below answer after → Owed n start c after
-  release_owed answer after same (releases alone more a is) = subst (Owed n start c) (sym is) record {
+  release_fill_owed : (answer : Answer) (after : Core) → frame.phase ≡ releasing → ReleaseFillStep c frame below answer after → Owed n start c after
+  release_fill_owed answer after same (releases alone more a is) = subst (Owed n start c) (sym is) record {
     kept = record { allowed = h.allowed; stack = h.stack; lost = h.lost };
     window = inr (released_one, record { step = record { may = (omega arith, settled_at_rest c.history (rest_releasing same)); after_is = refl }; shown = (refl, refl) });
   }
-  release_owed answer after same (releases_last alone last a is) = subst (Owed n start c) (sym is) record {
+  release_fill_owed answer after same (releases_last alone last a is) = subst (Owed n start c) (sym is) record {
     kept = let kept = history_goes n start c frame below h top wishing (λ page at. absurd (none_some (sym (ap passed_spot same) ∙ at))) in record { allowed = kept.allowed; stack = kept.stack; lost = kept.lost };
     window = inr (released_one, record { step = record { may = (omega arith, settled_at_rest c.history (rest_releasing same)); after_is = refl }; shown = (refl, refl) });
   }
 
-  wish_owed : (answer : Answer) (after : Core) → frame.phase ≡ wishing → WishStep n c frame below answer after → Owed n start c after
-  wish_owed answer after same (grants alone granted a is) = subst (Owed n start c) (sym is) record {
-    kept = history_goes n start (with_action c wished) frame below (history_wished n start c h (rest_wishing same)) top (looking c.opened) (λ page at. absurd (none_some (sym (ap passed_spot same) ∙ at)));
+  load_wish_owed : (answer : Answer) (after : Core) → frame.phase ≡ wishing → LoadWishStep n c frame below answer after → Owed n start c after
+  load_wish_owed answer after same (grants alone granted a is) = subst (Owed n start c) (sym is) record {
+    kept = history_goes n start (with_history_event c wished) frame below (history_wished n start c h (rest_wishing same)) top (looking c.opened) (λ page at. absurd (none_some (sym (ap passed_spot same) ∙ at)));
     window = inl (refl, refl);
   }
-  wish_owed answer after same (closes_more alone not_granted more a is) = goes after wishing releasing same (λ page at. absurd (none_some at)) is
-  wish_owed answer after same (goes_away alone not_granted last a is) = subst (Owed n start c) (sym is) record {
+  load_wish_owed answer after same (closes_more alone not_granted more a is) = goes after wishing releasing same (λ page at. absurd (none_some at)) is
+  load_wish_owed answer after same (goes_away alone not_granted last a is) = subst (Owed n start c) (sym is) record {
     kept = record {
       allowed = h.allowed;
       stack = rest_wishing same;
@@ -270,12 +270,12 @@ module _ (n size start : ℕ) (c : Core) (frame : Frame) (below : List Frame) (k
   with_link_owed : (after : Core) (g : ℕ) (l : Link) → Owed n start c after → Owed n start c (record after { links = (with_link n c g l).links })
   with_link_owed after g l owed = record { kept = record { allowed = owed.kept.allowed; stack = owed.kept.stack; lost = owed.kept.lost }; window = ⊎_elim (λ stays. inl stays) (λ (what, h). inr (what, record { step = h.step; shown = links_with_shown after g l what h.shown })) owed.window }
 
-  mark_owed : (role : Role) (noted page next : ℕ) (answer : Answer) (after : Core) → frame.phase ≡ marking role noted page next → MarkStep n c frame below role noted page next answer after → Owed n start c after
-  mark_owed role noted page next answer after same (mark_late helps step) = again n size start c frame below k s h top noted answer after (marking role noted page next) same (one_spot n size start c frame below k s h top noted page) step
-  mark_owed role noted page next answer after same (marks lost goes_on sum at a is) = subst (Owed n start c) (sym is)
+  mark_head_owed : (role : Role) (noted page next : ℕ) (answer : Answer) (after : Core) → frame.phase ≡ marking role noted page next → MarkHeadStep n c frame below role noted page next answer after → Owed n start c after
+  mark_head_owed role noted page next answer after same (mark_late helps step) = again n size start c frame below k s h top noted answer after (marking role noted page next) same (one_spot n size start c frame below k s h top noted page) step
+  mark_head_owed role noted page next answer after same (marks lost goes_on sum at a is) = subst (Owed n start c) (sym is)
       (with_link_owed (in_phase c frame below (after_next role noted page)) (suc lost) (header_link next (suc lost))
       (after_next_owed n size start c frame below k s h top role noted page (in_phase c frame below (after_next role noted page)) (marking role noted page next) same refl refl))
-  mark_owed role noted page next answer after same (mark_fails lost goes_on sum other a is) = after_next_owed n size start c frame below k s h top role noted page after (marking role noted page next) same refl is
+  mark_head_owed role noted page next answer after same (mark_fails lost goes_on sum other a is) = after_next_owed n size start c frame below k s h top role noted page after (marking role noted page next) same refl is
 
   begun_window : (kind : Kind) (state : FrameState) (page : ℕ) → window_of (after_begin kind state (with_new_tail c page) frame below) ≡ record { head = c.head; done = c.done; opened = c.opened + 1 }
   begun_window (for_record moment len) waiting page = refl
@@ -305,9 +305,9 @@ module _ (n size start : ℕ) (c : Core) (frame : Frame) (below : List Frame) (k
       opens_idle : opening noted page ≢ idle
       opens_idle e = cc
 
-  open_owed : (noted page : ℕ) (answer : Answer) (after : Core) → frame.phase ≡ opening noted page → OpenStep n c frame below noted page answer after → Owed n start c after
-  open_owed noted page answer after same (open_late step) = again n size start c frame below k s h top noted answer after (opening noted page) same (one_spot n size start c frame below k s h top noted page) step
-  open_owed noted page answer after same (opens now a is) =
+  open_fill_owed : (noted page : ℕ) (answer : Answer) (after : Core) → frame.phase ≡ opening noted page → OpenFillStep n c frame below noted page answer after → Owed n start c after
+  open_fill_owed noted page answer after same (open_late step) = again n size start c frame below k s h top noted answer after (opening noted page) same (one_spot n size start c frame below k s h top noted page) step
+  open_fill_owed noted page answer after same (opens now a is) =
       let (open_yet, inside, page_is) = (subst (PhaseKept n c.links c.order c.head c.done c.opened) same (top_kept n c frame below k top)).passed noted page refl in
       subst (Owed n start c) (sym is) record {
         kept = history_again n start (with_new_tail c page) frame below (history_begun n start c page h (opens_for noted page same)) top frame.kind frame.state refl
@@ -317,14 +317,14 @@ module _ (n size start : ℕ) (c : Core) (frame : Frame) (below : List Frame) (k
 
 frame_owed : (n size start : ℕ) (c : Core) (frame : Frame) (below : List Frame) (phase : Phase) (answer : Answer) (after : Core) → LinksKept n c → StackKept c → HistoryKept n start c → c.frames ≡ frame ∷ below → frame.phase ≡ phase → FrameStep n size c frame below phase answer after → Owed n start c after
 frame_owed n size start c frame below idle answer after k s h top same step = idle_owed n size start c frame below k s h top frame.state answer after same refl step
-frame_owed n size start c frame below (looking noted) answer after k s h top same step = look_owed n size start c frame below k s h top noted answer after same step
-frame_owed n size start c frame below (claiming noted page) answer after k s h top same step = claim_owed n size start c frame below k s h top noted page answer after same step
-frame_owed n size start c frame below (looking_next role noted page) answer after k s h top same step = next_owed n size start c frame below k s h top role noted page answer after same step
-frame_owed n size start c frame below (marking role noted page next) answer after k s h top same step = mark_owed n size start c frame below k s h top role noted page next answer after same step
-frame_owed n size start c frame below (clearing noted page) answer after k s h top same step = clear_owed n size start c frame below k s h top noted page answer after same step
-frame_owed n size start c frame below (opening noted page) answer after k s h top same step = open_owed n size start c frame below k s h top noted page answer after same step
-frame_owed n size start c frame below releasing answer after k s h top same step = release_owed n size start c frame below k s h top answer after same step
-frame_owed n size start c frame below wishing answer after k s h top same step = wish_owed n size start c frame below k s h top answer after same step
+frame_owed n size start c frame below (looking noted) answer after k s h top same step = load_link_owed n size start c frame below k s h top noted answer after same step
+frame_owed n size start c frame below (claiming noted page) answer after k s h top same step = claim_head_owed n size start c frame below k s h top noted page answer after same step
+frame_owed n size start c frame below (looking_next role noted page) answer after k s h top same step = load_next_owed n size start c frame below k s h top role noted page answer after same step
+frame_owed n size start c frame below (marking role noted page next) answer after k s h top same step = mark_head_owed n size start c frame below k s h top role noted page next answer after same step
+frame_owed n size start c frame below (clearing noted page) answer after k s h top same step = clear_update_owed n size start c frame below k s h top noted page answer after same step
+frame_owed n size start c frame below (opening noted page) answer after k s h top same step = open_fill_owed n size start c frame below k s h top noted page answer after same step
+frame_owed n size start c frame below releasing answer after k s h top same step = release_fill_owed n size start c frame below k s h top answer after same step
+frame_owed n size start c frame below wishing answer after k s h top same step = load_wish_owed n size start c frame below k s h top answer after same step
 
 -- ---- the steps of the reader
 
@@ -336,18 +336,18 @@ module _ (n start : ℕ) (c : Core) (k : LinksKept n c) (h : HistoryKept n start
     window = inl (refl, same);
   }
 
-  load_owed : (answer : Answer) (after : Core) → LoadStep n c answer after → Owed n start c after
-  load_owed answer after (loads_header page fill at a is) = reader_owed after c.spare_link _ refl is
-  load_owed answer after (loads_update page lost at a is) = reader_owed after c.spare_link _ refl is
-  load_owed answer after (loads_owed page at a is) = reader_owed after c.spare_link _ refl is
-  load_owed answer after (loads_passed page fill least at more sum a is) = reader_owed after c.spare_link _ refl is
+  load_head_owed : (answer : Answer) (after : Core) → LoadHeadStep n c answer after → Owed n start c after
+  load_head_owed answer after (loads_header page fill at a is) = reader_owed after c.spare_link _ refl is
+  load_head_owed answer after (loads_update page lost at a is) = reader_owed after c.spare_link _ refl is
+  load_head_owed answer after (loads_owed page at a is) = reader_owed after c.spare_link _ refl is
+  load_head_owed answer after (loads_passed page fill least at more sum a is) = reader_owed after c.spare_link _ refl is
 
   load_done_owed : (page fill : ℕ) (answer : Answer) (after : Core) → LoadDoneStep c page fill answer after → Owed n start c after
   load_done_owed page fill answer after (finds_none le a is) = reader_owed after c.spare_link _ refl is
   load_done_owed page fill answer after (finds_closed below a is) = reader_owed after c.spare_link _ refl is
 
-  swap_owed : (page fill : ℕ) (answer : Answer) (after : Core) → fill < c.done → SwapStep n c page fill answer after → Owed n start c after
-  swap_owed page fill answer after closed (swaps at a is) =
+  swap_head_owed : (page fill : ℕ) (answer : Answer) (after : Core) → fill < c.done → SwapHeadStep n c page fill answer after → Owed n start c after
+  swap_head_owed page fill answer after closed (swaps at a is) =
       let (g, low_g, high_g, same, link) = fill_at n c k fill in
       let told = header_tells n c.links c.order c.head c.frames g page fill link (same ∙ at) in
       let here : fill ≡ c.head = told.0 ∙ told.1 in
@@ -362,23 +362,23 @@ module _ (n start : ℕ) (c : Core) (k : LinksKept n c) (h : HistoryKept n start
         };
         window = inr (took_one, record { step = record { may = omega arith; after_is = refl }; shown = (refl, t, here, refl) });
       }
-  swap_owed page fill answer after closed (swap_fails at a is) = reader_owed after c.spare_link _ refl is
+  swap_head_owed page fill answer after closed (swap_fails at a is) = reader_owed after c.spare_link _ refl is
 
   read_owed : (phase : ReaderPhase) (answer : Answer) (after : Core) → ReaderKept n c.links c.order c.spare_link c.head c.done c.reader.hint phase → ReadStep n c phase answer after → Owed n start c after
-  read_owed loading_link answer after facts step = load_owed answer after step
+  read_owed loading_link answer after facts step = load_head_owed answer after step
   read_owed (loading_done page fill) answer after facts step = load_done_owed page fill answer after step
   read_owed (storing_link page fill) answer after facts step = reader_owed after _ _ refl step.after_is
-  read_owed (swapping page fill) answer after facts step = swap_owed page fill answer after facts.1 step
+  read_owed (swapping page fill) answer after facts step = swap_head_owed page fill answer after facts.1 step
 
 -- ---- every step
 
-pushed_owed : (n start : ℕ) (c after : Core) (kind : Kind) (action : Action) → HistoryKept n start c → MayAct (writer_after c.history).stack action → ((after_action (writer_after c.history).stack (writer_after c.history).records action).stack ≡ pushed_frame kind waiting ∷ (writer_after c.history).stack)
-    → after ≡ record c { frames = record { kind = kind; state = waiting; phase = idle } ∷ c.frames; history = c.history ++ action ∷ [] }
+pushed_owed : (n start : ℕ) (c after : Core) (kind : Kind) (history_event : HistoryEvent) → HistoryKept n start c → MayAct (writer_after c.history).stack history_event → ((after_event (writer_after c.history).stack (writer_after c.history).records history_event).stack ≡ pushed_frame kind waiting ∷ (writer_after c.history).stack)
+    → after ≡ record c { frames = record { kind = kind; state = waiting; phase = idle } ∷ c.frames; history = c.history ++ history_event ∷ [] }
     → Owed n start c after
-pushed_owed n start c after kind action h may pushes is = subst (Owed n start c) (sym is) record {
+pushed_owed n start c after kind history_event h may pushes is = subst (Owed n start c) (sym is) record {
   kept = record {
-    allowed = IsHistory-push c.history action h.allowed may;
-    stack = ap (λ (w : WriterState). w.stack) (writer_snoc c.history action) ∙ pushes ∙ ap (λ (s : List PushedFrame). pushed_frame kind waiting ∷ s) h.stack;
+    allowed = IsHistory-push c.history history_event h.allowed may;
+    stack = ap (λ (w : WriterState). w.stack) (writer_snoc c.history history_event) ∙ pushes ∙ ap (λ (s : List PushedFrame). pushed_frame kind waiting ∷ s) h.stack;
     lost = λ f low high. why_stays n c.reader.taken c.reader.taken c.opened c.opened c.frames (record { kind = kind; state = waiting; phase = idle } ∷ c.frames) f (λ t. t) (omega arith) (λ p. inr (refl, inr p)) (h.lost f low high);
   };
   window = inl (refl, refl);
@@ -401,4 +401,4 @@ step_owed n size start c event answer after k s h (end_step payload frame below 
 step_owed n size start c event answer after k s h (end_lacks payload e none a is) = stays_owed n start c after h is
 step_owed n size start c event answer after k s h (end_early payload frame below e top none a is) = stays_owed n start c after h is
 step_owed n size start c event answer after k s h (read_step e step) = read_owed n start c k h c.reader.phase answer after k.reader step
-step_owed n size start c event answer after k s h (wish_step e a is) = subst (Owed n start c) (sym is) record { kept = record { allowed = h.allowed; stack = h.stack; lost = h.lost }; window = inl (refl, refl) }
+step_owed n size start c event answer after k s h (store_wish_step e a is) = subst (Owed n start c) (sym is) record { kept = record { allowed = h.allowed; stack = h.stack; lost = h.lost }; window = inl (refl, refl) }

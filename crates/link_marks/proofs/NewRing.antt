@@ -6,7 +6,7 @@ use Rattle.trace_model.specs.declared.limits.TheConstants.{LINK_FILLS}
 use Rattle.trace_model.specs.Links.{normal_link, header_link}
 use Rattle.trace_model.specs.Frames.{pushed_frames}
 use Rattle.trace_model.specs.Ring.{Core, IsStart, link_into, page_at, Reader, AreApart}
-use Rattle.trace_model.specs.History.{Action, writer_after, IsHistory}
+use Rattle.trace_model.specs.History.{HistoryEvent, writer_after, IsHistory}
 use Rattle.trace_model.proofs.Allowed.{IsHistory-none}
 use Rattle.link_marks.specs.KeptContents.{OpenPagesKept}
 use Rattle.link_marks.specs.KeptHistory.{HistoryKept}
@@ -62,6 +62,6 @@ module _ (n start : ℕ) (c : Core) (s : IsStart n start c) (some : 2 ≤ n) whe
 pub start_history : (n start : ℕ) (c : Core) → IsStart n start c → HistoryKept n start c
 start_history n start c s = record {
   allowed = subst IsHistory (sym s.history) IsHistory-none;
-  stack = ap (λ (h : List Action). (writer_after h).stack) s.history ∙ sym (ap pushed_frames s.frames);
+  stack = ap (λ (h : List HistoryEvent). (writer_after h).stack) s.history ∙ sym (ap pushed_frames s.frames);
   lost = λ f low high. let head = s.head in absurd (omega arith);
 }

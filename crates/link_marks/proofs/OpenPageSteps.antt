@@ -7,7 +7,7 @@ use mathlib.Core.Logic.{dite}
 use native.Mathlib.Decide.{ℕ_discrete}
 use Rattle.trace_model.specs.Frames.{Kind, for_record, for_close, FrameState, waiting, reserved, left, Phase, idle, looking, claiming, looking_next, marking, clearing, opening, releasing, wishing, Frame}
 use Rattle.trace_model.specs.Ring.{ReaderPhase, loading_link, loading_done, storing_link, swapping, Core, page_at}
-use Rattle.trace_model.specs.Steps.{Event, Answer, tail_page, with_new_tail, after_begin, BeginsAgain, IdleStep, ReserveStep, reserves, finds_nothing, is_crowded, is_worn, notes, look_late, sees_free, sees_header, sees_update, claim_late, claims, claim_fails, next_late, sees_normal, sees_other, mark_late, marks, mark_fails, clears, open_late, opens, releases, releases_last, grants, closes_more, goes_away, FrameStep, Step, push_step, push_refused, close_step, close_refused, frame_step, frame_lacks, end_step, end_lacks, end_early, read_step, wish_step, loads_header, loads_update, loads_owed, loads_passed, finds_none, finds_closed, swaps, swap_fails, ReadStep, after_swap}
+use Rattle.trace_model.specs.Steps.{Event, Answer, tail_page, with_new_tail, after_begin, BeginsAgain, IdleStep, ReserveStep, reserves, finds_nothing, is_crowded, is_worn, notes, load_link_late, sees_free, sees_header, sees_update, claim_late, claims, claim_fails, load_next_late, sees_normal, sees_other, mark_late, marks, mark_fails, clears, open_late, opens, releases, releases_last, grants, closes_more, goes_away, FrameStep, Step, push_step, push_refused, close_step, close_refused, frame_step, frame_lacks, end_step, end_lacks, end_early, read_step, store_wish_step, loads_header, loads_update, loads_owed, loads_passed, finds_none, finds_closed, swaps, swap_fails, ReadStep, after_swap}
 use Rattle.link_marks.specs.KeptLinks.{PhaseKept, ReaderKept, LinksKept}
 use Rattle.link_marks.specs.KeptContents.{OpenPagesAt, OpenPagesKept}
 use Rattle.link_marks.proofs.LinkFills.{header_tells, fill_at}
@@ -69,14 +69,14 @@ module _ (n size : ℕ) (c : Core) (frame : Frame) (below : List Frame) (k : Lin
 
   pages_frame : (phase : Phase) (answer : Answer) (after : Core) → frame.phase ≡ phase → FrameStep n size c frame below phase answer after → OpenPagesKept n after
   pages_frame idle answer after same step = pages_idle frame.state answer after step
-  pages_frame (looking noted) answer after same (look_late step) = pages_again noted answer after step
+  pages_frame (looking noted) answer after same (load_link_late step) = pages_again noted answer after step
   pages_frame (looking noted) answer after same (sees_free page now at a is) = subst (OpenPagesKept n) (sym is) o
   pages_frame (looking noted) answer after same (sees_header page lost now sum at a is) = subst (OpenPagesKept n) (sym is) o
   pages_frame (looking noted) answer after same (sees_update page lost now sum at a is) = subst (OpenPagesKept n) (sym is) o
   pages_frame (claiming noted page) answer after same (claim_late step) = pages_again noted answer after step
   pages_frame (claiming noted page) answer after same (claims lost now sum at a is) = subst (OpenPagesKept n) (sym is) o
   pages_frame (claiming noted page) answer after same (claim_fails now other a is) = subst (OpenPagesKept n) (sym is) o
-  pages_frame (looking_next role noted page) answer after same (next_late helps step) = pages_again noted answer after step
+  pages_frame (looking_next role noted page) answer after same (load_next_late helps step) = pages_again noted answer after step
   pages_frame (looking_next role noted page) answer after same (sees_normal lost next goes_on sum at a is) = subst (OpenPagesKept n) (sym is) o
   pages_frame (looking_next role noted page) answer after same (sees_other lost goes_on sum other a is) = subst (OpenPagesKept n) (sym is) o
   pages_frame (marking role noted page next) answer after same (mark_late helps step) = pages_again noted answer after step
@@ -122,4 +122,4 @@ open_pages_step n size c event answer after k o (end_step payload frame below nu
 open_pages_step n size c event answer after k o (end_lacks payload e none a is) = subst (OpenPagesKept n) (sym is) o
 open_pages_step n size c event answer after k o (end_early payload frame below e top none a is) = subst (OpenPagesKept n) (sym is) o
 open_pages_step n size c event answer after k o (read_step e step) = pages_read n c c.reader.phase answer after k k.reader o step
-open_pages_step n size c event answer after k o (wish_step e a is) = subst (OpenPagesKept n) (sym is) o
+open_pages_step n size c event answer after k o (store_wish_step e a is) = subst (OpenPagesKept n) (sym is) o

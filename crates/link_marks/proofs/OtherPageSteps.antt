@@ -8,12 +8,12 @@ use Rattle.std.proofs.Math.ListN.{get_or-append, get_or-map, get_or-eq_default}
 use Rattle.std.proofs.Math.Seq.{get_or-append_seam}
 use mathlib.Core.Logic.{dite}
 use native.Mathlib.Decide.{ℕ_discrete, dec_le}
-use Rattle.trace_model.specs.History.{Action, push, push_close, open_fill, reserve, leave, wished, Reservation, records_with_payload, reserved_records}
+use Rattle.trace_model.specs.History.{HistoryEvent, push, push_close, open_fill, reserve, leave, wished, Reservation, records_with_payload, reserved_records}
 use Rattle.trace_model.specs.Packing.{opens_of, cut_from}
 use Rattle.trace_model.specs.Frames.{Kind, for_record, for_close, FrameState, waiting, reserved, left, Phase, idle, looking, claiming, looking_next, marking, clearing, opening, releasing, wishing, Frame}
 use Rattle.trace_model.specs.Ring.{PageRecords, empty_page, ReaderPhase, loading_link, loading_done, storing_link, swapping, Core, IsStart}
-use Rattle.trace_model.specs.Steps.{Event, Answer, held_with_payload, own_number, with_new_tail, with_released, after_leave, after_begin, BeginsAgain, IdleStep, reserves, finds_nothing, is_crowded, is_worn, notes, look_late, sees_free, sees_header, sees_update, claim_late, claims, claim_fails, next_late, sees_normal, sees_other, mark_late, marks, mark_fails, clears, open_late, opens, releases, releases_last, grants, closes_more, goes_away, FrameStep, Step, push_step, push_refused, close_step, close_refused, frame_step, frame_lacks, end_step, end_lacks, end_early, read_step, wish_step, loads_header, loads_update, loads_owed, loads_passed, finds_none, finds_closed, swaps, swap_fails, ReadStep}
-use Rattle.trace_model.proofs.NextAction.{settled_at_rest}
+use Rattle.trace_model.specs.Steps.{Event, Answer, held_with_payload, own_number, with_new_tail, with_released, after_leave, after_begin, BeginsAgain, IdleStep, reserves, finds_nothing, is_crowded, is_worn, notes, load_link_late, sees_free, sees_header, sees_update, claim_late, claims, claim_fails, load_next_late, sees_normal, sees_other, mark_late, marks, mark_fails, clears, open_late, opens, releases, releases_last, grants, closes_more, goes_away, FrameStep, Step, push_step, push_refused, close_step, close_refused, frame_step, frame_lacks, end_step, end_lacks, end_early, read_step, store_wish_step, loads_header, loads_update, loads_owed, loads_passed, finds_none, finds_closed, swaps, swap_fails, ReadStep}
+use Rattle.trace_model.proofs.NextEvent.{settled_at_rest}
 use Rattle.trace_model.proofs.NextRecords.{length-records_with_payload}
 use Rattle.trace_model.proofs.FillFirsts.{first_below, fill_behind}
 use Rattle.trace_model.proofs.Committed.{committed_len, committed_len-settled, committed_len-more}
@@ -57,10 +57,10 @@ emptied_end held emptied page = dite (ℕ_discrete page emptied)
     (λ e. let none = ap end_of (ap (λ (p : ℕ). get_or (set held emptied empty_page) p empty_page) e ∙ emptied_at held emptied) in omega arith)
     (λ ne. let same = ap end_of (get_or-set_other held emptied page empty_page empty_page ne) in omega arith)
 
--- ---- one more action
+-- ---- one more history event
 
-module _ (history : List Action) (open_pages : List ℕ) (held : List PageRecords) (z : OtherPagesAt history open_pages held) where
-  others_more : (a : Action) → OtherPagesAt (history ++ a ∷ []) open_pages held
+module _ (history : List HistoryEvent) (open_pages : List ℕ) (held : List PageRecords) (z : OtherPagesAt history open_pages held) where
+  others_more : (a : HistoryEvent) → OtherPagesAt (history ++ a ∷ []) open_pages held
   others_more a page other = let was = z page other in let more = committed_len-more history a in omega arith
 
   others_ended : (number : Option ℕ) (payload : Option (List ℕ)) → OtherPagesAt history open_pages (map (held_with_payload number payload) held)
@@ -143,14 +143,14 @@ module _ (n size start : ℕ) (c : Core) (frame : Frame) (below : List Frame) (a
 
   others_frame : (phase : Phase) → frame.phase ≡ phase → FrameStep n size c frame below phase answer after → OtherPagesKept after
   others_frame idle same step = others_idle frame.state step
-  others_frame (looking noted) same (look_late step) = others_again noted step
+  others_frame (looking noted) same (load_link_late step) = others_again noted step
   others_frame (looking noted) same (sees_free page now at a is) = subst OtherPagesKept (sym is) z
   others_frame (looking noted) same (sees_header page lost now sum at a is) = subst OtherPagesKept (sym is) z
   others_frame (looking noted) same (sees_update page lost now sum at a is) = subst OtherPagesKept (sym is) z
   others_frame (claiming noted page) same (claim_late step) = others_again noted step
   others_frame (claiming noted page) same (claims lost now sum at a is) = subst OtherPagesKept (sym is) z
   others_frame (claiming noted page) same (claim_fails now other a is) = subst OtherPagesKept (sym is) z
-  others_frame (looking_next role noted page) same (next_late helps step) = others_again noted step
+  others_frame (looking_next role noted page) same (load_next_late helps step) = others_again noted step
   others_frame (looking_next role noted page) same (sees_normal lost next goes_on sum at a is) = subst OtherPagesKept (sym is) z
   others_frame (looking_next role noted page) same (sees_other lost goes_on sum other a is) = subst OtherPagesKept (sym is) z
   others_frame (marking role noted page next) same (mark_late helps step) = others_again noted step
@@ -191,7 +191,7 @@ other_pages_step n size start c event answer after k s h t o z (end_step payload
 other_pages_step n size start c event answer after k s h t o z (end_lacks payload e none a is) = subst OtherPagesKept (sym is) z
 other_pages_step n size start c event answer after k s h t o z (end_early payload frame below e top none a is) = subst OtherPagesKept (sym is) z
 other_pages_step n size start c event answer after k s h t o z (read_step e step) = others_read n c c.reader.phase answer after z step
-other_pages_step n size start c event answer after k s h t o z (wish_step e a is) = subst OtherPagesKept (sym is) z
+other_pages_step n size start c event answer after k s h t o z (store_wish_step e a is) = subst OtherPagesKept (sym is) z
 
 -- the pages of a new ring are empty
 pub other_pages_start : (n start : ℕ) (c : Core) → IsStart n start c → OtherPagesKept c

@@ -7,13 +7,13 @@ use Rattle.std.proofs.lemmas.Option.{same_Some}
 use mathlib.Core.Logic.{dite}
 use native.Mathlib.Decide.{dec_le}
 use Rattle.trace_model.specs.Words.{encoded_len}
-use Rattle.trace_model.specs.History.{Action, push, push_close, open_fill, reserve, leave, wished, Reservation, PushedFrame, writer_after, reserved_records, reservation_for}
+use Rattle.trace_model.specs.History.{HistoryEvent, push, push_close, open_fill, reserve, leave, wished, Reservation, PushedFrame, writer_after, reserved_records, reservation_for}
 use Rattle.trace_model.specs.Packing.{opens_of, FitsBehind, is_wished}
 use Rattle.trace_model.specs.Fitting.{tail_at, IsFit, FitsPage, NeedsFill}
 use Rattle.trace_model.specs.Frames.{Kind, for_record, for_close, FrameState, waiting, reserved, left, Role, owner, helper, Phase, idle, looking, claiming, looking_next, marking, clearing, opening, releasing, wishing, Frame, pushed_onto, pushed_frames, noted_fill}
 use Rattle.trace_model.specs.Ring.{ReaderPhase, loading_link, loading_done, storing_link, swapping, Core, IsStart}
-use Rattle.trace_model.specs.Steps.{Event, Answer, IsTooLong, NeedsPage, closing_phase, in_phase, after_leave, after_next, frames_after_leave, own_number, with_new_tail, after_begin, BeginsAgain, IdleStep, ReserveStep, reserves, finds_nothing, is_crowded, is_worn, notes, look_late, sees_free, sees_header, sees_update, claim_late, claims, claim_fails, next_late, sees_normal, sees_other, mark_late, marks, mark_fails, clears, OpenStep, open_late, opens, releases, releases_last, grants, closes_more, goes_away, FrameStep, Step, push_step, push_refused, close_step, close_refused, frame_step, frame_lacks, end_step, end_lacks, end_early, read_step, wish_step, loads_header, loads_update, loads_owed, loads_passed, finds_none, finds_closed, swaps, swap_fails, ReadStep}
-use Rattle.trace_model.proofs.NextAction.{opened_stack}
+use Rattle.trace_model.specs.Steps.{Event, Answer, IsTooLong, NeedsPage, closing_phase, in_phase, after_leave, after_next, frames_after_leave, own_number, with_new_tail, after_begin, BeginsAgain, IdleStep, ReserveStep, reserves, finds_nothing, is_crowded, is_worn, notes, load_link_late, sees_free, sees_header, sees_update, claim_late, claims, claim_fails, load_next_late, sees_normal, sees_other, mark_late, marks, mark_fails, clears, OpenFillStep, open_late, opens, releases, releases_last, grants, closes_more, goes_away, FrameStep, Step, push_step, push_refused, close_step, close_refused, frame_step, frame_lacks, end_step, end_lacks, end_early, read_step, store_wish_step, loads_header, loads_update, loads_owed, loads_passed, finds_none, finds_closed, swaps, swap_fails, ReadStep}
+use Rattle.trace_model.proofs.NextEvent.{opened_stack}
 use Rattle.trace_model.proofs.NextRecords.{records_snoc, records_reserved, records_left_by}
 use Rattle.trace_model.proofs.FillCuts.{opens_of-push, opens_of-push_close, opens_of-reserve, opens_of-leave, opens_of-wished, opens_of-open_fill}
 use Rattle.trace_model.proofs.PackedHistories.{plain, plain-finished, tail_is, wanted_record, is_wished-push, is_wished-push_close, is_wished-reserve, is_wished-leave, is_wished-wished, room_none, refilled, room_reserved, room_opened, fit_none, fit_more, needs_alike, needs_reserved, fit_open}
@@ -58,8 +58,8 @@ reneeded size cuts cuts' xs xs' found found' opened frames a b f k = subst (λ (
     (subst (λ (w : Bool). FramesNeed size cuts xs' w opened frames) (sym f)
     (needs_same size cuts cuts xs xs' found found opened frames (λ kind state. needs_alike size cuts xs xs' found kind state b) k))
 
--- an action that begins no fill, reserves nothing and finds no wish
-acts_by : (size : ℕ) (h : List Action) (a : Action) (opened : ℕ) (frames frames' : List Frame) → opens_of (h ++ a ∷ []) ≡ opens_of h → map plain (reserved_records (h ++ a ∷ [])) ≡ map plain (reserved_records h) → is_wished (h ++ a ∷ []) ≡ is_wished h → IsFit size h a → PackedAt size h opened frames
+-- a history event that begins no fill, reserves nothing and finds no wish
+acts_by : (size : ℕ) (h : List HistoryEvent) (a : HistoryEvent) (opened : ℕ) (frames frames' : List Frame) → opens_of (h ++ a ∷ []) ≡ opens_of h → map plain (reserved_records (h ++ a ∷ [])) ≡ map plain (reserved_records h) → is_wished (h ++ a ∷ []) ≡ is_wished h → IsFit size h a → PackedAt size h opened frames
     → FramesNeed size (opens_of h) (reserved_records h) (is_wished h) opened frames'
     → PackedAt size (h ++ a ∷ []) opened frames'
 acts_by size h a opened frames frames' cuts records found allowed p needs = record {
@@ -119,7 +119,7 @@ module _ (n size start : ℕ) (c : Core) (frame : Frame) (below : List Frame) (k
 
   packs_reserve : (answer : Answer) (after : Core) → frame.state ≡ waiting → ReserveStep n size c frame below answer after → PackedKept size after
   packs_reserve answer after same (reserves moment len r kind r_is fits a is) =
-      let h0 : List Action = c.history in
+      let h0 : List HistoryEvent = c.history in
       let cuts : List ℕ = opens_of c.history in
       let xs : List Reservation = reserved_records c.history in
       let found : Bool = is_wished c.history in
@@ -144,10 +144,10 @@ module _ (n size start : ℕ) (c : Core) (frame : Frame) (below : List Frame) (k
   packs_idle (reserved number) answer after same step = subst (PackedKept size) (sym step.1) q
   packs_idle left answer after same step = absurd step
 
-  packs_open : (noted page : ℕ) (answer : Answer) (after : Core) → frame.phase ≡ opening noted page → OpenStep n c frame below noted page answer after → PackedKept size after
+  packs_open : (noted page : ℕ) (answer : Answer) (after : Core) → frame.phase ≡ opening noted page → OpenFillStep n c frame below noted page answer after → PackedKept size after
   packs_open noted page answer after same (open_late step) = packs_again noted answer after step
   packs_open noted page answer after same (opens now a is) =
-      let h0 : List Action = c.history in
+      let h0 : List HistoryEvent = c.history in
       let cuts : List ℕ = opens_of c.history in
       let xs : List Reservation = reserved_records c.history in
       let records : reserved_records (h0 ++ open_fill ∷ []) ≡ xs = records_snoc c.history open_fill in
@@ -166,7 +166,7 @@ module _ (n size start : ℕ) (c : Core) (frame : Frame) (below : List Frame) (k
   -- the reader's wish is found: the tail holds a record
   packs_wished : below ≡ [] → frame.state ≡ left → tail_at (opens_of c.history) (reserved_records c.history) ≢ [] → PackedKept size (record c { frames = record frame { phase = looking c.opened } ∷ below; history = c.history ++ wished ∷ [] })
   packs_wished alone gone holds =
-      let h0 : List Action = c.history in
+      let h0 : List HistoryEvent = c.history in
       let records : reserved_records (h0 ++ wished ∷ []) ≡ reserved_records h0 = records_snoc c.history wished in
       let tails : tail_at (opens_of (h0 ++ wished ∷ [])) (reserved_records (h0 ++ wished ∷ [])) ≡ tail_at (opens_of h0) (reserved_records h0) = λ i. tail_at (opens_of-wished c.history i) (records i) in
       let still : NeedsFill size (opens_of (h0 ++ wished ∷ [])) (reserved_records (h0 ++ wished ∷ [])) (is_wished (h0 ++ wished ∷ [])) frame.kind left =
@@ -185,14 +185,14 @@ module _ (n size start : ℕ) (c : Core) (frame : Frame) (below : List Frame) (k
 
   packs_frame : (phase : Phase) (answer : Answer) (after : Core) → frame.phase ≡ phase → FrameStep n size c frame below phase answer after → PackedKept size after
   packs_frame idle answer after same step = packs_idle frame.state answer after refl step
-  packs_frame (looking noted) answer after same (look_late step) = packs_again noted answer after step
+  packs_frame (looking noted) answer after same (load_link_late step) = packs_again noted answer after step
   packs_frame (looking noted) answer after same (sees_free page now at a is) = packs_notes after (looking noted) (opening noted page) same refl is
   packs_frame (looking noted) answer after same (sees_header page lost now sum at a is) = packs_notes after (looking noted) (claiming noted page) same refl is
   packs_frame (looking noted) answer after same (sees_update page lost now sum at a is) = packs_notes after (looking noted) (looking_next helper noted page) same refl is
   packs_frame (claiming noted page) answer after same (claim_late step) = packs_again noted answer after step
   packs_frame (claiming noted page) answer after same (claims lost now sum at a is) = subst (PackedKept size) (sym is) (packed_notes size c frame below (pushed_frames below) p (looking_next owner noted page) (sym (ap noted_fill same)))
   packs_frame (claiming noted page) answer after same (claim_fails now other a is) = packs_notes after (claiming noted page) (looking noted) same refl is
-  packs_frame (looking_next role noted page) answer after same (next_late helps step) = packs_again noted answer after step
+  packs_frame (looking_next role noted page) answer after same (load_next_late helps step) = packs_again noted answer after step
   packs_frame (looking_next role noted page) answer after same (sees_normal lost next goes_on sum at a is) = packs_notes after (looking_next role noted page) (marking role noted page next) same refl is
   packs_frame (looking_next role noted page) answer after same (sees_other lost goes_on sum other a is) = subst (PackedKept size) (sym is) (packs_after role noted page (looking_next role noted page) same refl)
   packs_frame (marking role noted page next) answer after same (mark_late helps step) = packs_again noted answer after step
@@ -225,7 +225,7 @@ fits_page size len fits = no_more (encoded_len len 0 true) (λ long. fits (inr l
     no_more : (k : ℕ) → (size < k → ⊥) → k ≤ size
     no_more k none = dite (dec_le k size) (λ yes. yes) (λ no. absurd (none (omega arith)))
 
-packs_pushed : (size : ℕ) (c after : Core) (kind : Kind) (a : Action) → PackedKept size c → FitsPage size kind → opens_of (c.history ++ a ∷ []) ≡ opens_of c.history → reserved_records (c.history ++ a ∷ []) ≡ reserved_records c.history → is_wished (c.history ++ a ∷ []) ≡ is_wished c.history → IsFit size c.history a
+packs_pushed : (size : ℕ) (c after : Core) (kind : Kind) (a : HistoryEvent) → PackedKept size c → FitsPage size kind → opens_of (c.history ++ a ∷ []) ≡ opens_of c.history → reserved_records (c.history ++ a ∷ []) ≡ reserved_records c.history → is_wished (c.history ++ a ∷ []) ≡ is_wished c.history → IsFit size c.history a
     → after ≡ record c { frames = record { kind = kind; state = waiting; phase = idle } ∷ c.frames; history = c.history ++ a ∷ [] }
     → PackedKept size after
 packs_pushed size c after kind a q fits cuts records found allowed is = subst (PackedKept size) (sym is)
@@ -242,7 +242,7 @@ packs_step n size start c event answer after k s h t q (end_step payload frame b
 packs_step n size start c event answer after k s h t q (end_lacks payload e none a is) = subst (PackedKept size) (sym is) q
 packs_step n size start c event answer after k s h t q (end_early payload frame below e top none a is) = subst (PackedKept size) (sym is) q
 packs_step n size start c event answer after k s h t q (read_step e step) = packs_read n size c c.reader.phase answer after q step
-packs_step n size start c event answer after k s h t q (wish_step e a is) = subst (PackedKept size) (sym is) q
+packs_step n size start c event answer after k s h t q (store_wish_step e a is) = subst (PackedKept size) (sym is) q
 
 -- ---- the start
 
@@ -250,4 +250,4 @@ nothing_packed : (size opened : ℕ) → PackedAt size [] opened []
 nothing_packed size opened = record { room = room_none size; fit = fit_none size; needs = tt }
 
 pub packed_start : (n size start : ℕ) (c : Core) → IsStart n start c → PackedKept size c
-packed_start n size start c s = subst (λ (frames : List Frame). PackedAt size c.history c.opened frames) (sym s.frames) (subst (λ (h : List Action). PackedAt size h c.opened []) (sym s.history) (nothing_packed size c.opened))
+packed_start n size start c s = subst (λ (frames : List Frame). PackedAt size c.history c.opened frames) (sym s.frames) (subst (λ (h : List HistoryEvent). PackedAt size h c.opened []) (sym s.history) (nothing_packed size c.opened))

@@ -1,4 +1,4 @@
--- The taken fills and the lost ones stay a partition of the records where an action more is done, and where the
+-- The taken fills and the lost ones stay a partition of the records where an event more is done, and where the
 -- head is lost or taken.
 use Rattle.std.proofs.Common.{◌≡◌, ℕ, suc, ◌+◌, ◌-◌, ◌<◌, ◌≤◌, ⊎_elim, List, [], ◌∷◌, ◌++◌, length, get_or, take, map, Some, sym, ap, ◌∙◌, subst, arith, length-append, length-take-le, append_assoc}
 use Rattle.std.proofs.lemmas.List.{map-append, length-map}
@@ -6,44 +6,44 @@ use Rattle.std.proofs.Math.ListN.{get_or-append}
 use Rattle.std.specs.List.{slice_get}
 use Rattle.std.proofs.lemmas.Option.{slice_get_within}
 use Rattle.trace_model.specs.Record.{Record}
-use Rattle.trace_model.specs.History.{Action, Reservation, PushedFrame, writer_after, reserved_records, as_record}
+use Rattle.trace_model.specs.History.{HistoryEvent, Reservation, PushedFrame, writer_after, reserved_records, as_record}
 use Rattle.trace_model.specs.Packing.{opens_of, cut_from, fills_of}
 use Rattle.trace_model.specs.Partition.{Piece, IsPartition, first_of}
 use Rattle.trace_model.specs.Ring.{PageRecords, Taken, first_of_fill, IsFillOf, AreFillsOf}
 use Rattle.trace_model.specs.Fitting.{IsRising}
 use Rattle.link_marks.specs.KeptPartition.{covered_total, piece_of, pieces_of, PartitionAt}
 use Rattle.trace_model.proofs.NextRecords.{records_snoc}
-use Rattle.trace_model.proofs.Committed.{Behind, committed_prefix, take_after_action, committed_len}
+use Rattle.trace_model.proofs.Committed.{Behind, committed_prefix, take_after_event, committed_len}
 use Rattle.trace_model.proofs.FillCuts.{length-cut_from, cut-stays, opens_at, opens_more}
 use Rattle.trace_model.proofs.FillFirsts.{first_below, first_rises, first_rises_to, fill_behind}
 use Rattle.link_marks.proofs.PartitionLemmas.{first_old, first_new, covered_total-snoc, get_snoc, partition_snoc, take_split, take_map}
 
--- what is committed stays so, with one action more
-frozen_yet : (h : List Action) (a : Action) (e : ℕ) → e ≤ committed_len h → take e (reserved_records (h ++ a ∷ [])) ≡ take e (reserved_records h)
+-- what is committed stays so, with one event more
+frozen_yet : (h : List HistoryEvent) (a : HistoryEvent) (e : ℕ) → e ≤ committed_len h → take e (reserved_records (h ++ a ∷ [])) ≡ take e (reserved_records h)
 frozen_yet h a e low = let k = committed_prefix h in
     ap (λ (l : List Reservation). take e l) (records_snoc h a)
-    ∙ take_after_action e (writer_after h).stack (writer_after h).records a (let within = k.within in omega arith) (fewer (committed_len h) e low (writer_after h).stack k.behind)
+    ∙ take_after_event e (writer_after h).stack (writer_after h).records a (let within = k.within in omega arith) (fewer (committed_len h) e low (writer_after h).stack k.behind)
   where
     fewer : (most least : ℕ) → least ≤ most → (stack : List PushedFrame) → Behind most stack → Behind least stack
     fewer most least le [] b = tt
     fewer most least le (f ∷ stack) b = ((λ k e. let low = b.0 k e in omega arith), fewer most least le stack b.1)
 
-pub frozen : (h : List Action) (a : Action) (e : ℕ) → e ≤ committed_len h → take e (map as_record (reserved_records (h ++ a ∷ []))) ≡ take e (map as_record (reserved_records h))
+pub frozen : (h : List HistoryEvent) (a : HistoryEvent) (e : ℕ) → e ≤ committed_len h → take e (map as_record (reserved_records (h ++ a ∷ []))) ≡ take e (map as_record (reserved_records h))
 frozen h a e low = take_map as_record e (reserved_records (h ++ a ∷ [])) ∙ ap (map as_record) (frozen_yet h a e low) ∙ sym (take_map as_record e (reserved_records h))
 
 -- the first number of a fill that is begun stays the same
-pub first_stays : (h : List Action) (a : Action) (i : ℕ) → i ≤ length (opens_of h) → get_or (0 ∷ opens_of (h ++ a ∷ [])) i 0 ≡ get_or (0 ∷ opens_of h) i 0
+pub first_stays : (h : List HistoryEvent) (a : HistoryEvent) (i : ℕ) → i ≤ length (opens_of h) → get_or (0 ∷ opens_of (h ++ a ∷ [])) i 0 ≡ get_or (0 ∷ opens_of h) i 0
 first_stays h a i low = ap (λ (l : List ℕ). get_or (0 ∷ l) i 0) (opens_more [] h a) ∙ get_or-append (0 ∷ opens_of h) (opens_at h a) 0 i (let l : i < suc (length (opens_of h)) = omega arith in l)
 
 -- a fill that is closed stays the same
-fill_stays : (h : List Action) (a : Action) (i : ℕ) → i < length (opens_of h) → IsRising 0 (opens_of h) (length (reserved_records h)) → get_or (0 ∷ opens_of h) (suc i) 0 ≤ committed_len h → get_or (fills_of (h ++ a ∷ [])) i [] ≡ get_or (fills_of h) i []
+fill_stays : (h : List HistoryEvent) (a : HistoryEvent) (i : ℕ) → i < length (opens_of h) → IsRising 0 (opens_of h) (length (reserved_records h)) → get_or (0 ∷ opens_of h) (suc i) 0 ≤ committed_len h → get_or (fills_of (h ++ a ∷ [])) i [] ≡ get_or (fills_of h) i []
 fill_stays h a i low r done = ap (λ (l : List ℕ). get_or (cut_from 0 l (reserved_records (h ++ a ∷ []))) i []) (opens_more [] h a)
     ∙ cut-stays 0 (opens_of h) (opens_at h a) (length (reserved_records h)) (reserved_records h) (reserved_records (h ++ a ∷ [])) i r low (frozen_yet h a (get_or (0 ∷ opens_of h) (suc i) 0) done)
 
-length-fills : (h : List Action) → length (fills_of h) ≡ suc (length (opens_of h))
+length-fills : (h : List HistoryEvent) → length (fills_of h) ≡ suc (length (opens_of h))
 length-fills h = length-cut_from 0 (opens_of h) (reserved_records h)
 
-taken_stays : (start : ℕ) (h : List Action) (a : Action) (t : Taken) → t.fill - start < length (opens_of h) → IsRising 0 (opens_of h) (length (reserved_records h)) → get_or (0 ∷ opens_of h) (suc (t.fill - start)) 0 ≤ committed_len h → IsFillOf start h t → IsFillOf start (h ++ a ∷ []) t
+taken_stays : (start : ℕ) (h : List HistoryEvent) (a : HistoryEvent) (t : Taken) → t.fill - start < length (opens_of h) → IsRising 0 (opens_of h) (length (reserved_records h)) → get_or (0 ∷ opens_of h) (suc (t.fill - start)) 0 ≤ committed_len h → IsFillOf start h t → IsFillOf start (h ++ a ∷ []) t
 taken_stays start h a t low r done f = record {
   from_start = f.from_start;
   begun = let count = length-fills (h ++ a ∷ []) in let more = ap (length {A = ℕ}) (opens_more [] h a) in let sum = length-append (opens_of h) (opens_at h a) in let from = f.from_start in omega arith;
@@ -52,8 +52,8 @@ taken_stays start h a t low r done f = record {
       f.held ∙ (λ i. record { first = first i; records = records i });
 }
 
--- an action more
-pub partition_more : (start : ℕ) (h : List Action) (a : Action) (head expected : ℕ) (taken : List Taken) → head - start ≤ length (opens_of h) → IsRising 0 (opens_of h) (length (reserved_records h)) → first_of_fill h start head ≤ committed_len h → PartitionAt start h head expected taken
+-- an event more
+pub partition_more : (start : ℕ) (h : List HistoryEvent) (a : HistoryEvent) (head expected : ℕ) (taken : List Taken) → head - start ≤ length (opens_of h) → IsRising 0 (opens_of h) (length (reserved_records h)) → first_of_fill h start head ≤ committed_len h → PartitionAt start h head expected taken
     → PartitionAt start (h ++ a ∷ []) head expected taken
 partition_more start h a head expected taken low r done p = record {
   expected_le = let le = p.expected_le in let e = first_stays h a (head - start) low in omega arith;
@@ -70,7 +70,7 @@ partition_more start h a head expected taken low r done p = record {
 }
 
 -- the head is lost
-pub partition_lost : (start : ℕ) (h : List Action) (head expected : ℕ) (taken : List Taken) → start ≤ head → head - start < length (opens_of h) → IsRising 0 (opens_of h) (length (reserved_records h)) → PartitionAt start h head expected taken → PartitionAt start h (head + 1) expected taken
+pub partition_lost : (start : ℕ) (h : List HistoryEvent) (head expected : ℕ) (taken : List Taken) → start ≤ head → head - start < length (opens_of h) → IsRising 0 (opens_of h) (length (reserved_records h)) → PartitionAt start h head expected taken → PartitionAt start h (head + 1) expected taken
 partition_lost start h head expected taken from low r p = record {
   expected_le = let le = p.expected_le in let more = first_rises 0 (opens_of h) (length (reserved_records h)) (head - start) low r in
       let e = ap (λ (i : ℕ). get_or (0 ∷ opens_of h) i 0) (let s : (head + 1) - start ≡ suc (head - start) = omega arith in s) in omega arith;
@@ -82,7 +82,7 @@ partition_lost start h head expected taken from low r p = record {
 }
 
 -- what was taken, and the head after it
-fills_taken : (start : ℕ) (h : List Action) (head : ℕ) (taken : List Taken) (t : Taken) → t.fill ≡ head → IsFillOf start h t → AreFillsOf start h taken → ((k : ℕ) (u : Taken) → slice_get taken k ≡ Some u → u.fill < head) → AreFillsOf start h (taken ++ t ∷ [])
+fills_taken : (start : ℕ) (h : List HistoryEvent) (head : ℕ) (taken : List Taken) (t : Taken) → t.fill ≡ head → IsFillOf start h t → AreFillsOf start h taken → ((k : ℕ) (u : Taken) → slice_get taken k ≡ Some u → u.fill < head) → AreFillsOf start h (taken ++ t ∷ [])
 fills_taken start h head taken t here f fs below = record {
   each = λ k u at. ⊎_elim (λ old. fs.each k u old) (λ (last, same). subst (IsFillOf start h) same f) (get_snoc taken t u k at);
   rising = λ j k a b less at_j at_k. ⊎_elim
@@ -112,7 +112,7 @@ partition_further xs fill before lost first next count pieces t len up split sam
     subst (λ (l : List Record). IsPartition l (pieces ++ piece_of t ∷ []) []) (records_taken xs fill t.held.records before lost first next count len up split same) (partition_snoc before pieces lost (piece_of t) partition missing)
 
 -- the head is taken, with its first number and its records
-pub partition_taken : (start : ℕ) (h : List Action) (head expected : ℕ) (taken : List Taken) → start ≤ head → head - start < length (opens_of h) → IsRising 0 (opens_of h) (length (reserved_records h)) → first_of_fill h start head ≤ length (reserved_records h)
+pub partition_taken : (start : ℕ) (h : List HistoryEvent) (head expected : ℕ) (taken : List Taken) → start ≤ head → head - start < length (opens_of h) → IsRising 0 (opens_of h) (length (reserved_records h)) → first_of_fill h start head ≤ length (reserved_records h)
     → (t : Taken) → t.fill ≡ head → t.held ≡ record { first = first_of_fill h start head; records = get_or (fills_of h) (head - start) [] } → t.skipped ≡ t.held.first - expected
     → PartitionAt start h head expected taken
     → PartitionAt start h (head + 1) (t.held.first + length t.held.records) (taken ++ t ∷ [])

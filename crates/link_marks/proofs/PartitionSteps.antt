@@ -1,11 +1,11 @@
 -- Each step keeps the taken fills and the lost ones a partition of the records.
 use Rattle.std.proofs.Common.{◌≡◌, ℕ, ◌+◌, ◌-◌, ◌≤◌, List, [], ◌∷◌, ◌++◌, length, get_or, Some, None, refl, sym, ap, ◌∙◌, subst, arith, length-append}
-use Rattle.trace_model.specs.History.{Action, push, push_close, open_fill, reserve, leave, wished, Reservation, reserved_records}
+use Rattle.trace_model.specs.History.{HistoryEvent, push, push_close, open_fill, reserve, leave, wished, Reservation, reserved_records}
 use Rattle.trace_model.specs.Packing.{opens_of}
 use Rattle.trace_model.specs.Fitting.{IsRising}
 use Rattle.trace_model.specs.Frames.{Kind, for_record, for_close, FrameState, waiting, reserved, left, Phase, idle, looking, claiming, looking_next, marking, clearing, opening, releasing, wishing, Frame}
 use Rattle.trace_model.specs.Ring.{ReaderPhase, loading_link, loading_done, storing_link, swapping, Core, page_at, first_of_fill}
-use Rattle.trace_model.specs.Steps.{Event, Answer, with_new_tail, after_begin, BeginsAgain, reserves, finds_nothing, is_crowded, is_worn, notes, look_late, sees_free, sees_header, sees_update, claim_late, claims, claim_fails, next_late, sees_normal, sees_other, mark_late, marks, mark_fails, clears, open_late, opens, releases, releases_last, grants, closes_more, goes_away, IdleStep, FrameStep, Step, push_step, push_refused, close_step, close_refused, frame_step, frame_lacks, end_step, end_lacks, end_early, read_step, wish_step, loads_header, loads_update, loads_owed, loads_passed, finds_none, finds_closed, swaps, swap_fails, ReadStep, taken_fill, contents_of}
+use Rattle.trace_model.specs.Steps.{Event, Answer, with_new_tail, after_begin, BeginsAgain, reserves, finds_nothing, is_crowded, is_worn, notes, load_link_late, sees_free, sees_header, sees_update, claim_late, claims, claim_fails, load_next_late, sees_normal, sees_other, mark_late, marks, mark_fails, clears, open_late, opens, releases, releases_last, grants, closes_more, goes_away, IdleStep, FrameStep, Step, push_step, push_refused, close_step, close_refused, frame_step, frame_lacks, end_step, end_lacks, end_early, read_step, store_wish_step, loads_header, loads_update, loads_owed, loads_passed, finds_none, finds_closed, swaps, swap_fails, ReadStep, taken_fill, contents_of}
 use Rattle.link_marks.specs.KeptLinks.{PhaseKept, ReaderKept, LinksKept}
 use Rattle.link_marks.specs.KeptHistory.{HistoryKept}
 use Rattle.link_marks.specs.KeptContents.{ContentsKept, ClosedKept}
@@ -32,7 +32,7 @@ module _ (n start : ℕ) (c : Core) (k : LinksKept n c) (t : ContentsKept n star
   pub settled : c.reader.expected ≤ committed_len c.history
   settled = let le = q.expected_le in let low = head_settled in omega arith
 
-  partition_acts : (a : Action) → PartitionAt start (c.history ++ a ∷ []) c.head c.reader.expected c.reader.taken
+  partition_acts : (a : HistoryEvent) → PartitionAt start (c.history ++ a ∷ []) c.head c.reader.expected c.reader.taken
   partition_acts a = partition_more start c.history a c.head c.reader.expected c.reader.taken counted t.rising head_settled q
 
   partition_begun : (kind : Kind) (state : FrameState) (frame : Frame) (below : List Frame) → PartitionKept start (after_begin kind state c frame below)
@@ -71,7 +71,7 @@ module _ (n size start : ℕ) (c : Core) (frame : Frame) (below : List Frame) (k
 
   partition_frame : (phase : Phase) (answer : Answer) (after : Core) → frame.phase ≡ phase → FrameStep n size c frame below phase answer after → PartitionKept start after
   partition_frame idle answer after same step = partition_idle frame.state answer after step
-  partition_frame (looking noted) answer after same (look_late step) = again n start c k t z q frame below noted answer after step
+  partition_frame (looking noted) answer after same (load_link_late step) = again n start c k t z q frame below noted answer after step
   partition_frame (looking noted) answer after same (sees_free page now at a is) = subst (PartitionKept start) (sym is) q
   partition_frame (looking noted) answer after same (sees_header page lost now sum at a is) = subst (PartitionKept start) (sym is) q
   partition_frame (looking noted) answer after same (sees_update page lost now sum at a is) = subst (PartitionKept start) (sym is) q
@@ -82,7 +82,7 @@ module _ (n size start : ℕ) (c : Core) (frame : Frame) (below : List Frame) (k
       let (here, page_is, head_at) = header_inside n c k noted page lost (omega arith) (omega arith) sum at in
       subst (PartitionKept start) (sym is) (partition_lost start c.history c.head c.reader.expected c.reader.taken from_start (omega arith) t.rising q)
   partition_frame (claiming noted page) answer after same (claim_fails now other a is) = subst (PartitionKept start) (sym is) q
-  partition_frame (looking_next role noted page) answer after same (next_late helps step) = again n start c k t z q frame below noted answer after step
+  partition_frame (looking_next role noted page) answer after same (load_next_late helps step) = again n start c k t z q frame below noted answer after step
   partition_frame (looking_next role noted page) answer after same (sees_normal lost next goes_on sum at a is) = subst (PartitionKept start) (sym is) q
   partition_frame (looking_next role noted page) answer after same (sees_other lost goes_on sum other a is) = subst (PartitionKept start) (sym is) q
   partition_frame (marking role noted page next) answer after same (mark_late helps step) = again n start c k t z q frame below noted answer after step
@@ -128,4 +128,4 @@ partition_step n size start c event answer after k h t z q (end_step payload fra
 partition_step n size start c event answer after k h t z q (end_lacks payload e none a is) = subst (PartitionKept start) (sym is) q
 partition_step n size start c event answer after k h t z q (end_early payload frame below e top none a is) = subst (PartitionKept start) (sym is) q
 partition_step n size start c event answer after k h t z q (read_step e step) = partition_read n start c c.reader.phase answer after k t k.reader q step
-partition_step n size start c event answer after k h t z q (wish_step e a is) = subst (PartitionKept start) (sym is) q
+partition_step n size start c event answer after k h t z q (store_wish_step e a is) = subst (PartitionKept start) (sym is) q

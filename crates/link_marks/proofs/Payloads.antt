@@ -10,7 +10,7 @@ use Rattle.trace_model.specs.History.{Reservation, PushedFrame, writer_after, re
 use Rattle.trace_model.specs.Packing.{opens_of, cut_from}
 use Rattle.trace_model.specs.Frames.{Kind, for_record, for_close, FrameState, waiting, reserved, left, number_of, Phase, Frame, pushed_onto, pushed_frames}
 use Rattle.trace_model.specs.Ring.{PageRecords, empty_page, Core, page_at}
-use Rattle.trace_model.specs.Steps.{Event, pushes, pushes_close, steps, ends, reads, wishes, push_step, push_refused, close_step, close_refused, frame_step, frame_lacks, end_step, end_lacks, end_early, read_step, wish_step, contents_of, held_with_payload, own_number}
+use Rattle.trace_model.specs.Steps.{Event, pushes, pushes_close, steps, ends, reads, wishes, push_step, push_refused, close_step, close_refused, frame_step, frame_lacks, end_step, end_lacks, end_early, read_step, store_wish_step, contents_of, held_with_payload, own_number}
 use Rattle.trace_model.proofs.FillOfNumber.{LiesIn, lies_in, get_in_fill, ends_before}
 use Rattle.trace_model.proofs.Committed.{committed_len}
 use Rattle.trace_model.proofs.OpenNumbers.{IsOpenAt, HasNumber, AreOpen, open_at, numbers_open, numbers_uncommitted}
@@ -218,4 +218,4 @@ ends_write_one_page n size start c payload answer after frame below number r top
 ends_write_one_page n size start c payload answer after frame below number r top is (end_early payload' frame' below' e top' none a after_is) ended =
     absurd (none_some (sym none ∙ ap (λ (f : Frame). number_of f.state) (sym (same_top frame frame' below below' (sym top ∙ top'))) ∙ ap number_of is))
 ends_write_one_page n size start c payload answer after frame below number r top is (read_step e step) ended = absurd (cc)
-ends_write_one_page n size start c payload answer after frame below number r top is (wish_step e a after_is) ended = absurd (cc)
+ends_write_one_page n size start c payload answer after frame below number r top is (store_wish_step e a after_is) ended = absurd (cc)

@@ -3,7 +3,7 @@ use Rattle.std.proofs.Common.{◌≡◌, ℕ, List, [], ◌∷◌, length, Optio
 use Rattle.trace_model.specs.History.{push, push_close, reserved_records}
 use Rattle.trace_model.specs.Frames.{Kind, for_record, for_close, FrameState, waiting, reserved, left, owner, helper, Phase, idle, looking, claiming, looking_next, marking, clearing, opening, releasing, wishing, Frame, Refusal}
 use Rattle.trace_model.specs.Ring.{Core}
-use Rattle.trace_model.specs.Steps.{Event, pushes, pushes_close, steps, ends, reads, wishes, Answer, with_action, with_frame, in_phase, in_reserved, with_reservation, NeedsPage, after_leave, after_begin, BeginsAgain, reserves, finds_nothing, is_crowded, is_worn, notes, look_late, sees_free, sees_header, sees_update, claim_late, claims, claim_fails, next_late, sees_normal, sees_other, mark_late, marks, mark_fails, open_late, opens, IdleStep, FrameStep, PushRefused, all_stand, has_no_room, comes_late, Step, push_step, push_refused, close_step, close_refused, frame_step, frame_lacks, end_step, end_lacks, end_early, read_step, wish_step}
+use Rattle.trace_model.specs.Steps.{Event, pushes, pushes_close, steps, ends, reads, wishes, Answer, with_history_event, with_frame, in_phase, in_reserved, with_reservation, NeedsPage, after_leave, after_begin, BeginsAgain, reserves, finds_nothing, is_crowded, is_worn, notes, load_link_late, sees_free, sees_header, sees_update, claim_late, claims, claim_fails, load_next_late, sees_normal, sees_other, mark_late, marks, mark_fails, open_late, opens, IdleStep, FrameStep, PushRefused, all_stand, has_no_room, comes_late, Step, push_step, push_refused, close_step, close_refused, frame_step, frame_lacks, end_step, end_lacks, end_early, read_step, store_wish_step}
 use Rattle.link_marks.specs.Seats.{WriterStays, PhaseIsPrivate, TopIsPrivate, IsPrivate}
 use Rattle.link_marks.proofs.StepFunction.{gives, step_of}
 use Rattle.link_marks.proofs.StepsDetermined.{step_is}
@@ -89,7 +89,7 @@ module _ (n size : ℕ) (c other : Core) where
 
     frame_same : (phase : Phase) → PhaseIsPrivate phase c.opened → FrameStep n size c frame below phase answer after → Made (FrameStep n size d frame below phase answer) after
     frame_same idle own step = idle_same frame.state step
-    frame_same (looking noted) own (look_late step) = let (next, again, same) = again_same noted step in (next, look_late again, same)
+    frame_same (looking noted) own (load_link_late step) = let (next, again, same) = again_same noted step in (next, load_link_late again, same)
     frame_same (looking noted) own (sees_free page now at a is) = absurd (own now)
     frame_same (looking noted) own (sees_header page lost now sum at a is) = absurd (own now)
     frame_same (looking noted) own (sees_update page lost now sum at a is) = absurd (own now)
@@ -97,7 +97,7 @@ module _ (n size : ℕ) (c other : Core) where
     frame_same (claiming noted page) own (claims lost now sum at a is) = absurd (own now)
     frame_same (claiming noted page) own (claim_fails now other a is) = absurd (own now)
     frame_same (looking_next owner noted page) own step = absurd own
-    frame_same (looking_next helper noted page) own (next_late helps step) = let (next, again, same) = again_same noted step in (next, next_late helps again, same)
+    frame_same (looking_next helper noted page) own (load_next_late helps step) = let (next, again, same) = again_same noted step in (next, load_next_late helps again, same)
     frame_same (looking_next helper noted page) own (sees_normal lost next on sum at a is) = absurd (own on)
     frame_same (looking_next helper noted page) own (sees_other lost on sum other a is) = absurd (own on)
     frame_same (marking owner noted page next) own step = absurd own
@@ -112,13 +112,13 @@ module _ (n size : ℕ) (c other : Core) where
 
   step_same : (event : Event) (answer : Answer) (after : Core) → IsPrivate c event → Step n size c event answer after → Made (Step n size d event answer) after
   step_same event answer after own (push_step moment len e few short early a is) = (
-    with_action (with_frame d (for_record moment len)) (push moment len),
+    with_history_event (with_frame d (for_record moment len)) (push moment len),
     push_step moment len e few short early a refl,
     same_there after _ _ is record { frames = refl; open_pages = refl; history = refl; done = refl; opened = refl },
   )
   step_same event answer after own (push_refused moment len why e refused a is) = (d, push_refused moment len why e (refused_same moment len why refused) a refl, same_there after _ _ is stays_same)
   step_same event answer after own (close_step e few a is) = (
-    with_action (with_frame d for_close) push_close,
+    with_history_event (with_frame d for_close) push_close,
     close_step e few a refl,
     same_there after _ _ is record { frames = refl; open_pages = refl; history = refl; done = refl; opened = refl },
   )
@@ -136,7 +136,7 @@ module _ (n size : ℕ) (c other : Core) where
   step_same event answer after own (end_lacks payload e none a is) = (d, end_lacks payload e none a refl, same_there after _ _ is stays_same)
   step_same event answer after own (end_early payload frame below e top none a is) = (d, end_early payload frame below e top none a refl, same_there after _ _ is stays_same)
   step_same event answer after own (read_step e step) = absurd (subst (IsPrivate c) e own)
-  step_same event answer after own (wish_step e a is) = absurd (subst (IsPrivate c) e own)
+  step_same event answer after own (store_wish_step e a is) = absurd (subst (IsPrivate c) e own)
 
   own_same : (event : Event) → IsPrivate c event → IsPrivate d event
   own_same (pushes moment len) own = tt

@@ -1,11 +1,11 @@
 -- The writer's private steps and a step of the reader lead to one state, whichever comes first.
 use Rattle.std.proofs.Common.{◌≡◌, ◌≢◌, ℕ, suc, ◌+◌, ◌-◌, ◌%◌, ◌<◌, List, [], ◌∷◌, ◌++◌, length, get_or, set, map, Option, refl, sym, ap, ◌∙◌, subst, arith}
 use Rattle.std.proofs.lemmas.List.{get_or-set_other, map-set, set_comm}
-use Rattle.trace_model.specs.History.{Action, Reservation}
+use Rattle.trace_model.specs.History.{HistoryEvent, Reservation}
 use Rattle.trace_model.specs.Links.{normal_link}
 use Rattle.trace_model.specs.Frames.{Frame}
 use Rattle.trace_model.specs.Ring.{PageRecords, empty_page, Taken, page_at, link_into, links_with, ReaderPhase, loading_link, loading_done, storing_link, swapping, Reader, Core}
-use Rattle.trace_model.specs.Steps.{Event, Answer, swapped, tail_page, held_with_payload, next_header, reader_after, after_swap, ReadStep, loads_header, loads_update, loads_owed, loads_passed, finds_none, finds_closed, swaps, swap_fails, Step, push_step, push_refused, close_step, close_refused, frame_step, frame_lacks, end_step, end_lacks, end_early, read_step, wish_step, Exchange}
+use Rattle.trace_model.specs.Steps.{Event, Answer, swapped, tail_page, held_with_payload, next_header, reader_after, after_swap, ReadStep, loads_header, loads_update, loads_owed, loads_passed, finds_none, finds_closed, swaps, swap_fails, Step, push_step, push_refused, close_step, close_refused, frame_step, frame_lacks, end_step, end_lacks, end_early, read_step, store_wish_step, Exchange}
 use Rattle.link_marks.specs.KeptLinks.{ReaderKept, LinksKept}
 use Rattle.link_marks.specs.KeptContents.{OpenPagesKept}
 use Rattle.link_marks.specs.RingKept.{IsRingKept}
@@ -28,7 +28,7 @@ record IsReading (n : ℕ) (c : Core) (Made : Core → Core → Type 0) (after :
   turned : List PageRecords → List PageRecords
   after_is : after ≡ read_state words turned c
   alike : TurnsAlike turned c
-  again : (frames : List Frame) (history : List Action) (held : List PageRecords) → HeadHolds n c held → Made (private_state c frames history held) (read_state words turned (private_state c frames history held))
+  again : (frames : List Frame) (history : List HistoryEvent) (held : List PageRecords) → HeadHolds n c held → Made (private_state c frames history held) (read_state words turned (private_state c frames history held))
 
 -- the words as they are, but the reader is another
 abbrev reader_words : Core → Reader → ReaderWords
@@ -43,7 +43,7 @@ module _ (n : ℕ) (c : Core) (answer : Answer) (after : Core) where
   ReadsOf phase from to = ReadStep n from phase answer to
 
   in_reader : (phase : ReaderPhase) (reader : Reader) → after ≡ read_state (reader_words c reader) (λ held. held) c
-      → ((frames : List Frame) (history : List Action) (held : List PageRecords) → ReadsOf phase (private_state c frames history held) (read_state (reader_words c reader) (λ h. h) (private_state c frames history held)))
+      → ((frames : List Frame) (history : List HistoryEvent) (held : List PageRecords) → ReadsOf phase (private_state c frames history held) (read_state (reader_words c reader) (λ h. h) (private_state c frames history held)))
       → IsReading n c (ReadsOf phase) after
   in_reader phase reader is again = record { words = reader_words c reader; turned = λ held. held; after_is = is; alike = stay_alike c; again = λ frames history held same. again frames history held }
 
@@ -105,7 +105,7 @@ module _ (n : ℕ) (c : Core) (answer : Answer) (after : Core) where
       }
     where
       -- the same page is taken
-      swap_again : IsHeadTaken n c page fill → (frames : List Frame) (history : List Action) (held : List PageRecords) → get_or held page empty_page ≡ get_or c.held page empty_page
+      swap_again : IsHeadTaken n c page fill → (frames : List Frame) (history : List HistoryEvent) (held : List PageRecords) → get_or held page empty_page ≡ get_or c.held page empty_page
           → ReadsOf (swapping page fill) (private_state c frames history held) (read_state (swap_words page fill) (swapped_pages page) (private_state c frames history held))
       swap_again head frames history held same =
           let taken : PageRecords → Taken = λ h. record { fill = fill; skipped = h.first - c.reader.expected; held = h } in
@@ -137,12 +137,12 @@ module _ (n size start : ℕ) (c : Core) (r : IsRingKept n size start c) where
     alike = m.alike;
     again = λ frames history held same. read_step e (m.again frames history held same);
   }
-  step_alike event answer after reads (wish_step e a is) = record {
+  step_alike event answer after reads (store_wish_step e a is) = record {
     words = record (reader_words c c.reader) { wish = c.reader.seen + 1 };
     turned = λ held. held;
     after_is = is;
     alike = stay_alike c;
-    again = λ frames history held same. wish_step e a refl;
+    again = λ frames history held same. store_wish_step e a refl;
   }
 
   abbrev Meets : Event → Answer → Core → Event → Answer → Core → Core → Type 0

@@ -2,24 +2,24 @@
 -- the same whatever those words and the reader's part are.
 use Rattle.std.proofs.Common.{◌≡◌, ℕ, List, [], ◌∷◌, ◌++◌, length, map, Option, Some, None, refl, sym, ap, ◌∙◌, subst}
 use Rattle.std.specs.Prelude.{slice_index_or, slice_set}
-use Rattle.trace_model.specs.History.{Action, push, push_close, Reservation, reserved_records}
+use Rattle.trace_model.specs.History.{HistoryEvent, push, push_close, Reservation, reserved_records}
 use Rattle.trace_model.specs.Links.{Link}
 use Rattle.trace_model.specs.Frames.{Kind, for_record, for_close, FrameState, waiting, reserved, left, owner, helper, Phase, idle, looking, claiming, looking_next, marking, clearing, opening, releasing, wishing, Frame, Refusal}
 use Rattle.trace_model.specs.Ring.{PageRecords, empty_page, Reader, Core}
-use Rattle.trace_model.specs.Steps.{Event, pushes, pushes_close, steps, ends, reads, wishes, Answer, with_action, with_frame, in_phase, in_reserved, with_reservation, tail_page, held_with_payload, own_number, closing_phase, NeedsPage, after_leave, after_begin, BeginsAgain, reserves, finds_nothing, is_crowded, is_worn, notes, look_late, sees_free, sees_header, sees_update, claim_late, claims, claim_fails, next_late, sees_normal, sees_other, mark_late, marks, mark_fails, open_late, opens, IdleStep, FrameStep, PushRefused, all_stand, has_no_room, comes_late, Step, push_step, push_refused, close_step, close_refused, frame_step, frame_lacks, end_step, end_lacks, end_early, read_step, wish_step}
+use Rattle.trace_model.specs.Steps.{Event, pushes, pushes_close, steps, ends, reads, wishes, Answer, with_history_event, with_frame, in_phase, in_reserved, with_reservation, tail_page, held_with_payload, own_number, closing_phase, NeedsPage, after_leave, after_begin, BeginsAgain, reserves, finds_nothing, is_crowded, is_worn, notes, load_link_late, sees_free, sees_header, sees_update, claim_late, claims, claim_fails, load_next_late, sees_normal, sees_other, mark_late, marks, mark_fails, open_late, opens, IdleStep, FrameStep, PushRefused, all_stand, has_no_room, comes_late, Step, push_step, push_refused, close_step, close_refused, frame_step, frame_lacks, end_step, end_lacks, end_early, read_step, store_wish_step}
 use Rattle.link_marks.specs.Seats.{PhaseIsPrivate, TopIsPrivate, IsPrivate, WordsStay}
 
 -- ---- what a private step makes of the state
 
 -- the state with other frames, another history and other contents of pages
-abbrev pub private_state : Core → List Frame → List Action → List PageRecords → Core
+abbrev pub private_state : Core → List Frame → List HistoryEvent → List PageRecords → Core
 private_state c frames history held = record c { frames = frames; history = history; held = held }
 
 -- The state after a private step: as it was; with a frame pushed; or the frame on top has reserved, goes on, or
 -- leaves.
 pub data PrivateResult (c after : Core) : Type 0 where
   stays : after ≡ c → PrivateResult c after
-  pushed_one : (kind : Kind) (action : Action) → after ≡ with_action (with_frame c kind) action → PrivateResult c after
+  pushed_one : (kind : Kind) (history_event : HistoryEvent) → after ≡ with_history_event (with_frame c kind) history_event → PrivateResult c after
   reserved_one : (frame : Frame) (below : List Frame) (r : Reservation) (number : ℕ) → after ≡ in_reserved (with_reservation c r) frame below number → PrivateResult c after
   goes_on : (frame : Frame) (below : List Frame) (phase : Phase) → after ≡ in_phase c frame below phase → PrivateResult c after
   leaves : (frame : Frame) (below : List Frame) (payload : Option (List ℕ)) → c.frames ≡ frame ∷ below → after ≡ after_leave c frame below payload → PrivateResult c after
@@ -45,7 +45,7 @@ module _ (n size : ℕ) (c : Core) (frame : Frame) (below : List Frame) (answer 
 
   frame_result : (phase : Phase) → PhaseIsPrivate phase c.opened → FrameStep n size c frame below phase answer after → PrivateResult c after
   frame_result idle own step = idle_result frame.state step
-  frame_result (looking noted) own (look_late step) = again_result noted step
+  frame_result (looking noted) own (load_link_late step) = again_result noted step
   frame_result (looking noted) own (sees_free page now at a is) = absurd (own now)
   frame_result (looking noted) own (sees_header page lost now sum at a is) = absurd (own now)
   frame_result (looking noted) own (sees_update page lost now sum at a is) = absurd (own now)
@@ -53,7 +53,7 @@ module _ (n size : ℕ) (c : Core) (frame : Frame) (below : List Frame) (answer 
   frame_result (claiming noted page) own (claims lost now sum at a is) = absurd (own now)
   frame_result (claiming noted page) own (claim_fails now other a is) = absurd (own now)
   frame_result (looking_next owner noted page) own step = absurd own
-  frame_result (looking_next helper noted page) own (next_late helps step) = again_result noted step
+  frame_result (looking_next helper noted page) own (load_next_late helps step) = again_result noted step
   frame_result (looking_next helper noted page) own (sees_normal lost next on sum at a is) = absurd (own on)
   frame_result (looking_next helper noted page) own (sees_other lost on sum other a is) = absurd (own on)
   frame_result (marking owner noted page next) own step = absurd own
@@ -78,7 +78,7 @@ private_result n size c event answer after own (end_step payload frame below num
 private_result n size c event answer after own (end_lacks payload e none a is) = stays is
 private_result n size c event answer after own (end_early payload frame below e top none a is) = stays is
 private_result n size c event answer after own (read_step e step) = absurd (subst (IsPrivate c) e own)
-private_result n size c event answer after own (wish_step e a is) = absurd (subst (IsPrivate c) e own)
+private_result n size c event answer after own (store_wish_step e a is) = absurd (subst (IsPrivate c) e own)
 
 -- frames, history and contents of pages alone are others
 abbrev pub IsPrivateOf : Core → Core → Type 0
@@ -86,7 +86,7 @@ IsPrivateOf c after = after ≡ private_state c after.frames after.history after
 
 pub changes_privately : (c after : Core) → PrivateResult c after → IsPrivateOf c after
 changes_privately c after (stays is) = subst (IsPrivateOf c) (sym is) refl
-changes_privately c after (pushed_one kind action is) = subst (IsPrivateOf c) (sym is) refl
+changes_privately c after (pushed_one kind history_event is) = subst (IsPrivateOf c) (sym is) refl
 changes_privately c after (reserved_one frame below r number is) = subst (IsPrivateOf c) (sym is) refl
 changes_privately c after (goes_on frame below phase is) = subst (IsPrivateOf c) (sym is) refl
 changes_privately c after (leaves frame below payload top is) = subst (IsPrivateOf c) (sym is) refl
@@ -174,7 +174,7 @@ module _ (n size : ℕ) (words : ReaderWords) (turned : List PageRecords → Lis
 
     frame_there : (phase : Phase) → PhaseIsPrivate phase c.opened → FrameStep n size c frame below phase answer after → FrameStep n size (there c) frame below phase answer (there after)
     frame_there idle own step = idle_there frame.state step
-    frame_there (looking noted) own (look_late step) = look_late (again_there noted step)
+    frame_there (looking noted) own (load_link_late step) = load_link_late (again_there noted step)
     frame_there (looking noted) own (sees_free page now at a is) = absurd (own now)
     frame_there (looking noted) own (sees_header page lost now sum at a is) = absurd (own now)
     frame_there (looking noted) own (sees_update page lost now sum at a is) = absurd (own now)
@@ -182,7 +182,7 @@ module _ (n size : ℕ) (words : ReaderWords) (turned : List PageRecords → Lis
     frame_there (claiming noted page) own (claims lost now sum at a is) = absurd (own now)
     frame_there (claiming noted page) own (claim_fails now other a is) = absurd (own now)
     frame_there (looking_next owner noted page) own step = absurd own
-    frame_there (looking_next helper noted page) own (next_late helps step) = next_late helps (again_there noted step)
+    frame_there (looking_next helper noted page) own (load_next_late helps step) = load_next_late helps (again_there noted step)
     frame_there (looking_next helper noted page) own (sees_normal lost next on sum at a is) = absurd (own on)
     frame_there (looking_next helper noted page) own (sees_other lost on sum other a is) = absurd (own on)
     frame_there (marking owner noted page next) own step = absurd own
@@ -208,7 +208,7 @@ module _ (n size : ℕ) (words : ReaderWords) (turned : List PageRecords → Lis
   private_step_there event answer after own (end_lacks payload e none a is) = end_lacks payload e none a (ap there is)
   private_step_there event answer after own (end_early payload frame below e top none a is) = end_early payload frame below e top none a (ap there is)
   private_step_there event answer after own (read_step e step) = absurd (subst (IsPrivate c) e own)
-  private_step_there event answer after own (wish_step e a is) = absurd (subst (IsPrivate c) e own)
+  private_step_there event answer after own (store_wish_step e a is) = absurd (subst (IsPrivate c) e own)
 
 pub private_read : (words : ReaderWords) (turned : List PageRecords → List PageRecords) (c : Core) (event : Event) → IsPrivate c event → IsPrivate (read_state words turned c) event
 private_read words turned c (pushes moment len) own = tt

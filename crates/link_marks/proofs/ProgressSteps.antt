@@ -7,7 +7,7 @@ use native.Mathlib.Decide.{ℕ_discrete}
 use Rattle.trace_model.specs.Links.{Link, normal_link, header_link, update_link}
 use Rattle.trace_model.specs.Frames.{Kind, for_record, for_close, FrameState, waiting, reserved, left, Role, owner, helper, Phase, idle, looking, claiming, looking_next, marking, clearing, opening, releasing, wishing, Frame}
 use Rattle.trace_model.specs.Ring.{ReaderPhase, loading_link, loading_done, storing_link, swapping, Core, IsStart, link_into, links_with, page_at}
-use Rattle.trace_model.specs.Steps.{Event, Answer, in_phase, closing_phase, after_leave, after_begin, with_new_tail, after_next, BeginsAgain, ReserveStep, reserves, finds_nothing, is_crowded, is_worn, notes, LookStep, look_late, sees_free, sees_header, sees_update, ClaimStep, claim_late, claims, claim_fails, NextStep, next_late, sees_normal, sees_other, MarkStep, mark_late, marks, mark_fails, ClearStep, clears, OpenStep, open_late, opens, ReleaseStep, releases, releases_last, WishStep, grants, closes_more, goes_away, IdleStep, FrameStep, LoadStep, loads_header, loads_update, loads_owed, loads_passed, LoadDoneStep, finds_none, finds_closed, SwapStep, swaps, swap_fails, ReadStep, Step, push_step, push_refused, close_step, close_refused, frame_step, frame_lacks, end_step, end_lacks, end_early, read_step, wish_step}
+use Rattle.trace_model.specs.Steps.{Event, Answer, in_phase, closing_phase, after_leave, after_begin, with_new_tail, after_next, BeginsAgain, ReserveStep, reserves, finds_nothing, is_crowded, is_worn, notes, LoadLinkStep, load_link_late, sees_free, sees_header, sees_update, ClaimHeadStep, claim_late, claims, claim_fails, LoadNextStep, load_next_late, sees_normal, sees_other, MarkHeadStep, mark_late, marks, mark_fails, ClearUpdateStep, clears, OpenFillStep, open_late, opens, ReleaseFillStep, releases, releases_last, LoadWishStep, grants, closes_more, goes_away, IdleStep, FrameStep, LoadHeadStep, loads_header, loads_update, loads_owed, loads_passed, LoadDoneStep, finds_none, finds_closed, SwapHeadStep, swaps, swap_fails, ReadStep, Step, push_step, push_refused, close_step, close_refused, frame_step, frame_lacks, end_step, end_lacks, end_early, read_step, store_wish_step}
 use Rattle.link_marks.specs.KeptLinks.{PhaseKept, LinkKept, is_normal, is_header, is_update, ReaderKept, LinksKept}
 use Rattle.link_marks.specs.KeptProgress.{IsMarked, PhaseAdvances, FramesAdvance, ProgressKept}
 use Rattle.link_marks.proofs.Positions.{link_here}
@@ -102,15 +102,15 @@ module _ (n size : ℕ) (c : Core) (frame : Frame) (below : List Frame) (k : Lin
   reserve_advances answer after (is_worn needs full last a is) = leaves after None is
   reserve_advances answer after (notes needs room small a is) = on after (looking c.opened) tt is
 
-  look_advances : (noted : ℕ) (answer : Answer) (after : Core) → LookStep n c frame below noted answer after → ProgressKept n after
-  look_advances noted answer after (look_late step) = again noted answer after step
-  look_advances noted answer after (sees_free page now at a is) = on after (opening noted page) (λ lost sum. free_marked n c noted page lost k now at sum) is
-  look_advances noted answer after (sees_header page lost now sum at a is) = on after (claiming noted page) tt is
-  look_advances noted answer after (sees_update page lost now sum at a is) = on after (looking_next helper noted page) (omega arith) is
+  load_link_advances : (noted : ℕ) (answer : Answer) (after : Core) → LoadLinkStep n c frame below noted answer after → ProgressKept n after
+  load_link_advances noted answer after (load_link_late step) = again noted answer after step
+  load_link_advances noted answer after (sees_free page now at a is) = on after (opening noted page) (λ lost sum. free_marked n c noted page lost k now at sum) is
+  load_link_advances noted answer after (sees_header page lost now sum at a is) = on after (claiming noted page) tt is
+  load_link_advances noted answer after (sees_update page lost now sum at a is) = on after (looking_next helper noted page) (omega arith) is
 
-  claim_advances : (noted page : ℕ) (answer : Answer) (after : Core) → ClaimStep n c frame below noted page answer after → ProgressKept n after
-  claim_advances noted page answer after (claim_late step) = again noted answer after step
-  claim_advances noted page answer after (claims lost now sum at a is) =
+  claim_head_advances : (noted page : ℕ) (answer : Answer) (after : Core) → ClaimHeadStep n c frame below noted page answer after → ProgressKept n after
+  claim_head_advances noted page answer after (claim_late step) = again noted answer after step
+  claim_head_advances noted page answer after (claims lost now sum at a is) =
       let some_pages = k.some_pages in let unread = k.head_le in let behind = k.done_lt in let within = k.opened_le in
       let (here, page_is, head_at) = header_inside n c k noted page lost (omega arith) (omega arith) sum at in
       subst (ProgressKept n) (sym is) record {
@@ -120,22 +120,22 @@ module _ (n size : ℕ) (c : Core) (frame : Frame) (below : List Frame) (k : Lin
           frames_advance n c.links c.head (c.head + 1) noted (update_link page lost) (omega arith) k.positions (omega arith) (λ seen u low e. normal_ne_update seen (suc u) page lost (sym e)) below (below_advances n size c frame below k r top),
         );
       }
-  claim_advances noted page answer after (claim_fails now other a is) = on after (looking noted) tt is
+  claim_head_advances noted page answer after (claim_fails now other a is) = on after (looking noted) tt is
 
   passes : (links : List Link) (role : Role) (noted page lost : ℕ) → lost + n ≡ noted → IsMarked n links c.head lost → PhaseAdvances n links c.head (after_next role noted page)
   passes links owner noted page lost sum set = tt
   passes links helper noted page lost sum set = λ u u_sum. subst (IsMarked n links c.head) (let e : lost ≡ u = omega arith in e) set
 
-  next_advances : (role : Role) (noted page : ℕ) (answer : Answer) (after : Core) → frame.phase ≡ looking_next role noted page → NextStep n c frame below role noted page answer after → ProgressKept n after
-  next_advances role noted page answer after same (next_late helps step) = again noted answer after step
-  next_advances role noted page answer after same (sees_normal lost next goes_on sum at a is) = on after (marking role noted page next) (omega arith) is
-  next_advances role noted page answer after same (sees_other lost goes_on sum other a is) =
+  load_next_advances : (role : Role) (noted page : ℕ) (answer : Answer) (after : Core) → frame.phase ≡ looking_next role noted page → LoadNextStep n c frame below role noted page answer after → ProgressKept n after
+  load_next_advances role noted page answer after same (load_next_late helps step) = again noted answer after step
+  load_next_advances role noted page answer after same (sees_normal lost next goes_on sum at a is) = on after (marking role noted page next) (omega arith) is
+  load_next_advances role noted page answer after same (sees_other lost goes_on sum other a is) =
       let passed = (kept_in n size c frame below k r top (looking_next role noted page) same).passed noted page refl in let inside = passed.1 in
       on after (after_next role noted page) (passes c.links role noted page lost sum (omega arith, other)) is
 
-  mark_advances : (role : Role) (noted page next : ℕ) (answer : Answer) (after : Core) → frame.phase ≡ marking role noted page next → MarkStep n c frame below role noted page next answer after → ProgressKept n after
-  mark_advances role noted page next answer after same (mark_late helps step) = again noted answer after step
-  mark_advances role noted page next answer after same (marks lost goes_on sum at a is) =
+  mark_head_advances : (role : Role) (noted page next : ℕ) (answer : Answer) (after : Core) → frame.phase ≡ marking role noted page next → MarkHeadStep n c frame below role noted page next answer after → ProgressKept n after
+  mark_head_advances role noted page next answer after same (mark_late helps step) = again noted answer after step
+  mark_head_advances role noted page next answer after same (marks lost goes_on sum at a is) =
       let some_pages = k.some_pages in
       let passed = (kept_in n size c frame below k r top (marking role noted page next) same).passed noted page refl in let inside = passed.1 in
       let new : Link = header_link next (suc lost) in
@@ -147,12 +147,12 @@ module _ (n size : ℕ) (c : Core) (frame : Frame) (below : List Frame) (k : Lin
           frames_advance n c.links c.head c.head (suc lost) new (omega arith) k.positions (omega arith) (λ seen u low e. normal_ne_header seen (suc u) next (suc lost) (sym e)) below (below_advances n size c frame below k r top),
         );
       }
-  mark_advances role noted page next answer after same (mark_fails lost goes_on sum other a is) =
+  mark_head_advances role noted page next answer after same (mark_fails lost goes_on sum other a is) =
       let waits = (kept_in n size c frame below k r top (marking role noted page next) same).marks noted next lost refl sum in
       on after (after_next role noted page) (passes c.links role noted page lost sum (waits.0, λ seen at. other (at ∙ ap (λ (p : ℕ). normal_link p (suc lost)) (sym (waits.1 seen at))))) is
 
-  clear_advances : (noted page : ℕ) (answer : Answer) (after : Core) → frame.phase ≡ clearing noted page → ClearStep n c frame below noted page answer after → ProgressKept n after
-  clear_advances noted page answer after same (clears lost sum at a is) =
+  clear_update_advances : (noted page : ℕ) (answer : Answer) (after : Core) → frame.phase ≡ clearing noted page → ClearUpdateStep n c frame below noted page answer after → ProgressKept n after
+  clear_update_advances noted page answer after same (clears lost sum at a is) =
       let some_pages = k.some_pages in let unread = k.head_le in
       let kept = kept_in n size c frame below k r top (clearing noted page) same in
       let open_yet = (kept.passed noted page refl).0 in
@@ -166,9 +166,9 @@ module _ (n size : ℕ) (c : Core) (frame : Frame) (below : List Frame) (k : Lin
         );
       }
 
-  open_advances : (noted page : ℕ) (answer : Answer) (after : Core) → frame.phase ≡ opening noted page → OpenStep n c frame below noted page answer after → ProgressKept n after
-  open_advances noted page answer after same (open_late step) = again noted answer after step
-  open_advances noted page answer after same (opens now a is) =
+  open_fill_advances : (noted page : ℕ) (answer : Answer) (after : Core) → frame.phase ≡ opening noted page → OpenFillStep n c frame below noted page answer after → ProgressKept n after
+  open_fill_advances noted page answer after same (open_late step) = again noted answer after step
+  open_fill_advances noted page answer after same (opens now a is) =
       subst (ProgressKept n) (sym is) (after_begin_advances n (with_new_tail c page) frame.kind frame.state frame below (λ seen at. more seen at (k.each c.head (omega arith) (let some_pages = k.some_pages in omega arith))) (below_advances n size c frame below k r top))
     where
       more : (seen : ℕ) → link_into n c.links c.head ≡ normal_link seen c.head → LinkKept n c.links c.order c.head c.frames c.head → c.opened + 1 < c.head + n
@@ -180,14 +180,14 @@ module _ (n size : ℕ) (c : Core) (frame : Frame) (below : List Frame) (k : Lin
       more seen at (is_header e here) = absurd (normal_ne_header seen c.head (page_at n c.order c.head) c.head (sym at ∙ e))
       more seen at (is_update lost sum e st) = absurd (normal_ne_update seen c.head (page_at n c.order c.head) lost (sym at ∙ e))
 
-  release_advances : (answer : Answer) (after : Core) → ReleaseStep c frame below answer after → ProgressKept n after
-  release_advances answer after (releases alone more a is) = subst (ProgressKept n) (sym is) record { room = r.room; advance = r.advance }
-  release_advances answer after (releases_last alone last a is) = subst (ProgressKept n) (sym is) record { room = r.room; advance = (tt, below_advances n size c frame below k r top) }
+  release_fill_advances : (answer : Answer) (after : Core) → ReleaseFillStep c frame below answer after → ProgressKept n after
+  release_fill_advances answer after (releases alone more a is) = subst (ProgressKept n) (sym is) record { room = r.room; advance = r.advance }
+  release_fill_advances answer after (releases_last alone last a is) = subst (ProgressKept n) (sym is) record { room = r.room; advance = (tt, below_advances n size c frame below k r top) }
 
-  wish_advances : (answer : Answer) (after : Core) → WishStep n c frame below answer after → ProgressKept n after
-  wish_advances answer after (grants alone granted a is) = subst (ProgressKept n) (sym is) record { room = r.room; advance = (tt, below_advances n size c frame below k r top) }
-  wish_advances answer after (closes_more alone denied more a is) = on after releasing tt is
-  wish_advances answer after (goes_away alone denied none_left a is) = subst (ProgressKept n) (sym is) record { room = r.room; advance = tt }
+  load_wish_advances : (answer : Answer) (after : Core) → LoadWishStep n c frame below answer after → ProgressKept n after
+  load_wish_advances answer after (grants alone granted a is) = subst (ProgressKept n) (sym is) record { room = r.room; advance = (tt, below_advances n size c frame below k r top) }
+  load_wish_advances answer after (closes_more alone denied more a is) = on after releasing tt is
+  load_wish_advances answer after (goes_away alone denied none_left a is) = subst (ProgressKept n) (sym is) record { room = r.room; advance = tt }
 
   idle_advances : (state : FrameState) (answer : Answer) (after : Core) → IdleStep n size c frame below state answer after → ProgressKept n after
   idle_advances waiting answer after step = reserve_advances answer after step
@@ -196,31 +196,31 @@ module _ (n size : ℕ) (c : Core) (frame : Frame) (below : List Frame) (k : Lin
 
   frame_advances : (phase : Phase) (answer : Answer) (after : Core) → frame.phase ≡ phase → FrameStep n size c frame below phase answer after → ProgressKept n after
   frame_advances idle answer after same step = idle_advances frame.state answer after step
-  frame_advances (looking noted) answer after same step = look_advances noted answer after step
-  frame_advances (claiming noted page) answer after same step = claim_advances noted page answer after step
-  frame_advances (looking_next role noted page) answer after same step = next_advances role noted page answer after same step
-  frame_advances (marking role noted page next) answer after same step = mark_advances role noted page next answer after same step
-  frame_advances (clearing noted page) answer after same step = clear_advances noted page answer after same step
-  frame_advances (opening noted page) answer after same step = open_advances noted page answer after same step
-  frame_advances releasing answer after same step = release_advances answer after step
-  frame_advances wishing answer after same step = wish_advances answer after step
+  frame_advances (looking noted) answer after same step = load_link_advances noted answer after step
+  frame_advances (claiming noted page) answer after same step = claim_head_advances noted page answer after step
+  frame_advances (looking_next role noted page) answer after same step = load_next_advances role noted page answer after same step
+  frame_advances (marking role noted page next) answer after same step = mark_head_advances role noted page next answer after same step
+  frame_advances (clearing noted page) answer after same step = clear_update_advances noted page answer after same step
+  frame_advances (opening noted page) answer after same step = open_fill_advances noted page answer after same step
+  frame_advances releasing answer after same step = release_fill_advances answer after step
+  frame_advances wishing answer after same step = load_wish_advances answer after step
 
 -- ---- the steps of the reader
 
 module _ (n : ℕ) (c : Core) (k : LinksKept n c) (r : ProgressKept n c) where
-  load_advances : (answer : Answer) (after : Core) → LoadStep n c answer after → ProgressKept n after
-  load_advances answer after (loads_header page fill l a is) = subst (ProgressKept n) (sym is) r
-  load_advances answer after (loads_update page lost l a is) = subst (ProgressKept n) (sym is) r
-  load_advances answer after (loads_owed page l a is) = subst (ProgressKept n) (sym is) r
-  load_advances answer after (loads_passed page fill least l more sum a is) = subst (ProgressKept n) (sym is) r
+  load_head_advances : (answer : Answer) (after : Core) → LoadHeadStep n c answer after → ProgressKept n after
+  load_head_advances answer after (loads_header page fill l a is) = subst (ProgressKept n) (sym is) r
+  load_head_advances answer after (loads_update page lost l a is) = subst (ProgressKept n) (sym is) r
+  load_head_advances answer after (loads_owed page l a is) = subst (ProgressKept n) (sym is) r
+  load_head_advances answer after (loads_passed page fill least l more sum a is) = subst (ProgressKept n) (sym is) r
 
   load_done_advances : (page fill : ℕ) (answer : Answer) (after : Core) → LoadDoneStep c page fill answer after → ProgressKept n after
   load_done_advances page fill answer after (finds_none le a is) = subst (ProgressKept n) (sym is) r
   load_done_advances page fill answer after (finds_closed closed a is) = subst (ProgressKept n) (sym is) r
 
-  swap_advances : (page fill : ℕ) (answer : Answer) (after : Core) → c.spare_link ≡ header_link (page_at n c.order (suc fill)) (suc fill) → SwapStep n c page fill answer after → ProgressKept n after
-  swap_advances page fill answer after ready (swap_fails l a is) = subst (ProgressKept n) (sym is) r
-  swap_advances page fill answer after ready (swaps l a is) =
+  swap_head_advances : (page fill : ℕ) (answer : Answer) (after : Core) → c.spare_link ≡ header_link (page_at n c.order (suc fill)) (suc fill) → SwapHeadStep n c page fill answer after → ProgressKept n after
+  swap_head_advances page fill answer after ready (swap_fails l a is) = subst (ProgressKept n) (sym is) r
+  swap_head_advances page fill answer after ready (swaps l a is) =
       let some_pages = k.some_pages in
       let (g, low, high, same, link) = fill_at n c k fill in
       let told = header_tells n c.links c.order c.head c.frames g page fill link (same ∙ l) in
@@ -236,10 +236,10 @@ module _ (n : ℕ) (c : Core) (k : LinksKept n c) (r : ProgressKept n c) where
       }
 
   read_advances : (phase : ReaderPhase) (answer : Answer) (after : Core) → ReaderKept n c.links c.order c.spare_link c.head c.done c.reader.hint phase → ReadStep n c phase answer after → ProgressKept n after
-  read_advances loading_link answer after facts step = load_advances answer after step
+  read_advances loading_link answer after facts step = load_head_advances answer after step
   read_advances (loading_done page fill) answer after facts step = load_done_advances page fill answer after step
   read_advances (storing_link page fill) answer after facts step = subst (ProgressKept n) (sym step.after_is) r
-  read_advances (swapping page fill) answer after facts step = swap_advances page fill answer after facts.2 step
+  read_advances (swapping page fill) answer after facts step = swap_head_advances page fill answer after facts.2 step
 
 -- ---- the whole
 
@@ -254,7 +254,7 @@ progress_step n size c event answer after k r (end_step payload frame below numb
 progress_step n size c event answer after k r (end_lacks payload e none a is) = subst (ProgressKept n) (sym is) r
 progress_step n size c event answer after k r (end_early payload frame below e top none a is) = subst (ProgressKept n) (sym is) r
 progress_step n size c event answer after k r (read_step e step) = read_advances n c k r c.reader.phase answer after k.reader step
-progress_step n size c event answer after k r (wish_step e a is) = subst (ProgressKept n) (sym is) r
+progress_step n size c event answer after k r (store_wish_step e a is) = subst (ProgressKept n) (sym is) r
 
 pub progress_start : (n start : ℕ) (c : Core) → IsStart n start c → ProgressKept n c
 progress_start n start c s = record {

@@ -6,7 +6,7 @@ use native.Mathlib.Decide.{ℕ_discrete}
 use Rattle.trace_model.specs.Links.{Link, normal_link, header_link, update_link}
 use Rattle.trace_model.specs.Frames.{Frame, Phase}
 use Rattle.trace_model.specs.Ring.{ReaderPhase, loading_link, loading_done, storing_link, swapping, Reader, Core, link_into, links_with, page_at, AreApart}
-use Rattle.trace_model.specs.Steps.{Answer, reader_at, reader_saw, with_wish, next_header, LoadStep, loads_header, loads_update, loads_owed, loads_passed, LoadDoneStep, finds_none, finds_closed, StoreStep, SwapStep, swaps, swap_fails, ReadStep, after_swap}
+use Rattle.trace_model.specs.Steps.{Answer, reader_at, reader_saw, with_wish, next_header, LoadHeadStep, loads_header, loads_update, loads_owed, loads_passed, LoadDoneStep, finds_none, finds_closed, StoreSpareLinkStep, SwapHeadStep, swaps, swap_fails, ReadStep, after_swap}
 use Rattle.link_marks.specs.KeptLinks.{PhaseKept, LinkKept, is_normal, is_header, is_update, HasSeen, ReaderKept, FitsRing, LinksKept}
 use Rattle.link_marks.proofs.Positions.{link_here, link_else, link_turn, page_turn, page_here, page_else}
 use Rattle.link_marks.proofs.FramePhases.{normal_ne_update, normal_ne_header, header_ne_update, relink_phase, map_frames}
@@ -55,16 +55,16 @@ wished_kept n c k = record {
   reader = k.reader;
 }
 
-pub load_kept : (n : ℕ) (c after : Core) (answer : Answer) → LinksKept n c → LoadStep n c answer after → LinksKept n after
-load_kept n c after answer k (loads_header page fill at a is) = let (g, low, high, same, link) = fill_at n c k c.reader.hint in
+pub load_head_kept : (n : ℕ) (c after : Core) (answer : Answer) → LinksKept n c → LoadHeadStep n c answer after → LinksKept n after
+load_head_kept n c after answer k (loads_header page fill at a is) = let (g, low, high, same, link) = fill_at n c k c.reader.hint in
     let told = header_tells n c.links c.order c.head c.frames g page fill link (same ∙ at) in let here = told.1 in let it = told.0 in
     subst (LinksKept n) (sym is) (at_phase n c (loading_done page fill) fill k (omega arith) record { fill_is = refl; stays = λ e. ap (link_into n c.links) told.0 ∙ same ∙ at })
-load_kept n c after answer k (loads_update page lost at a is) = let (g, low, high, same, link) = fill_at n c k c.reader.hint in
+load_head_kept n c after answer k (loads_update page lost at a is) = let (g, low, high, same, link) = fill_at n c k c.reader.hint in
     let told = update_tells n c.links c.order c.head c.frames g page lost link (same ∙ at) in
     let (u, sum, below, open_yet, there) = owned_by n c k g told.2 in let it = told.0 in
     subst (LinksKept n) (sym is) (at_phase n c loading_link (suc lost) k (omega arith) tt)
-load_kept n c after answer k (loads_owed page at a is) = subst (LinksKept n) (sym is) (at_phase n c loading_link c.reader.hint k k.hint_le tt)
-load_kept n c after answer k (loads_passed page fill least at more sum a is) = let (g, low, high, same, link) = fill_at n c k c.reader.hint in
+load_head_kept n c after answer k (loads_owed page at a is) = subst (LinksKept n) (sym is) (at_phase n c loading_link c.reader.hint k k.hint_le tt)
+load_head_kept n c after answer k (loads_passed page fill least at more sum a is) = let (g, low, high, same, link) = fill_at n c k c.reader.hint in
     let told = normal_tells n c.links c.order c.head c.frames g page fill link (same ∙ at) in let it = told.0 in
     subst (LinksKept n) (sym is) (at_phase n c loading_link least k (omega arith) tt)
 
@@ -81,8 +81,8 @@ next_fits : (n : ℕ) (c : Core) (fill : ℕ) → LinksKept n c → fill < c.don
 next_fits n c fill k closed = let some_pages = k.some_pages in let behind = k.done_lt in let fits = k.fits in
     (k.apart.each (suc fill % n) (mod-lt (suc fill) (omega arith)), omega arith)
 
-pub store_kept : (n : ℕ) (c after : Core) (page fill : ℕ) (answer : Answer) → LinksKept n c → HasSeen n c.links c.head c.reader.hint page fill × (fill < c.done) → StoreStep n c page fill answer after → LinksKept n after
-store_kept n c after page fill answer k facts step =
+pub store_spare_link_kept : (n : ℕ) (c after : Core) (page fill : ℕ) (answer : Answer) → LinksKept n c → HasSeen n c.links c.head c.reader.hint page fill × (fill < c.done) → StoreSpareLinkStep n c page fill answer after → LinksKept n after
+store_spare_link_kept n c after page fill answer k facts step =
     subst (LinksKept n) (sym step.after_is) (reader_kept n c (next_header n c fill) (record c.reader { phase = swapping page fill }) k k.hint_le k.seen_le (omega arith) (next_fits n c fill k facts.1) (facts.0, facts.1, refl))
 
 -- ---- the swap
@@ -213,20 +213,20 @@ module _ (n : ℕ) (c : Core) (page : ℕ) (k : LinksKept n c) (closed : c.head 
         reader = tt;
       }
 
-pub swap_kept : (n : ℕ) (c after : Core) (page fill : ℕ) (answer : Answer) → LinksKept n c → HasSeen n c.links c.head c.reader.hint page fill × (fill < c.done) × (c.spare_link ≡ header_link (page_at n c.order (suc fill)) (suc fill)) → SwapStep n c page fill answer after → LinksKept n after
-swap_kept n c after page fill answer k (seen, below, ready) (swaps at a is) =
+pub swap_head_kept : (n : ℕ) (c after : Core) (page fill : ℕ) (answer : Answer) → LinksKept n c → HasSeen n c.links c.head c.reader.hint page fill × (fill < c.done) × (c.spare_link ≡ header_link (page_at n c.order (suc fill)) (suc fill)) → SwapHeadStep n c page fill answer after → LinksKept n after
+swap_head_kept n c after page fill answer k (seen, below, ready) (swaps at a is) =
     let (g, low, high, same, link) = fill_at n c k fill in
     let told = header_tells n c.links c.order c.head c.frames g page fill link (same ∙ at) in
     let here : fill ≡ c.head = told.0 ∙ told.1 in
     subst (LinksKept n) (sym (is ∙ ap (after_swap n c page) here))
     (swaps_kept n c page k (omega arith) (ap (link_into n c.links) (sym here) ∙ at ∙ ap (header_link page) here) (ready ∙ ap (λ (f : ℕ). header_link (page_at n c.order (suc f)) (suc f)) here))
-swap_kept n c after page fill answer k (seen, below, ready) (swap_fails at a is) =
+swap_head_kept n c after page fill answer k (seen, below, ready) (swap_fails at a is) =
     let le = k.hint_le in let it = seen.fill_is in
     let passed : fill ≢ c.head = λ e. at (seen.stays e) in
     subst (LinksKept n) (sym is) (at_phase n c loading_link (suc fill) k (omega arith) tt)
 
 pub read_kept : (n : ℕ) (c after : Core) (phase : ReaderPhase) (answer : Answer) → LinksKept n c → ReaderKept n c.links c.order c.spare_link c.head c.done c.reader.hint phase → ReadStep n c phase answer after → LinksKept n after
-read_kept n c after loading_link answer k facts step = load_kept n c after answer k step
+read_kept n c after loading_link answer k facts step = load_head_kept n c after answer k step
 read_kept n c after (loading_done page fill) answer k facts step = load_done_kept n c after page fill answer k facts step
-read_kept n c after (storing_link page fill) answer k facts step = store_kept n c after page fill answer k facts step
-read_kept n c after (swapping page fill) answer k facts step = swap_kept n c after page fill answer k facts step
+read_kept n c after (storing_link page fill) answer k facts step = store_spare_link_kept n c after page fill answer k facts step
+read_kept n c after (swapping page fill) answer k facts step = swap_head_kept n c after page fill answer k facts step

@@ -4,7 +4,7 @@ use Rattle.trace_model.specs.declared.limits.TheConstants.{LINK_FILLS}
 use Rattle.trace_model.specs.Packing.{FitsBehind, tail_of}
 use Rattle.trace_model.specs.Frames.{FrameState, waiting, Phase, idle, Frame, crowded, worn}
 use Rattle.trace_model.specs.Ring.{Core}
-use Rattle.trace_model.specs.Steps.{Event, pushes, pushes_close, steps, ends, reads, wishes, Answer, refused, NeedsPage, ReserveStep, reserves, finds_nothing, is_crowded, is_worn, notes, IdleStep, FrameStep, Step, push_step, push_refused, close_step, close_refused, frame_step, frame_lacks, end_step, end_lacks, end_early, read_step, wish_step}
+use Rattle.trace_model.specs.Steps.{Event, pushes, pushes_close, steps, ends, reads, wishes, Answer, refused, NeedsPage, ReserveStep, reserves, finds_nothing, is_crowded, is_worn, notes, IdleStep, FrameStep, Step, push_step, push_refused, close_step, close_refused, frame_step, frame_lacks, end_step, end_lacks, end_early, read_step, store_wish_step}
 use Rattle.link_marks.specs.AnswerLaws.{IsInNeed}
 
 abbrev pub Due : ℕ → Core → Answer → Type 0
@@ -56,7 +56,7 @@ due_step n size c event answer after by need (end_step payload frame below numbe
 due_step n size c event answer after by need (end_lacks payload e none a is) = absurd (not_end payload (by ∙ e))
 due_step n size c event answer after by need (end_early payload frame below e top none a is) = absurd (not_end payload (by ∙ e))
 due_step n size c event answer after by need (read_step e step) = absurd (not_read (by ∙ e))
-due_step n size c event answer after by need (wish_step e a is) = absurd (not_wish (by ∙ e))
+due_step n size c event answer after by need (store_wish_step e a is) = absurd (not_wish (by ∙ e))
 
 pub refusals_due : (n size : ℕ) (c : Core) (answer : Answer) (after : Core) → Step n size c steps answer after → IsInNeed n size c → Due n c answer
 refusals_due n size c answer after step need = due_step n size c steps answer after refl need step

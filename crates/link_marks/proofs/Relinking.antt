@@ -6,7 +6,7 @@ use native.Mathlib.Decide.{ℕ_discrete}
 use Rattle.trace_model.specs.Links.{Link, normal_link, header_link, update_link}
 use Rattle.trace_model.specs.Frames.{Kind, for_record, for_close, FrameState, waiting, reserved, left, owner, Phase, idle, looking, claiming, looking_next, marking, clearing, opening, releasing, wishing, Frame, owned_update}
 use Rattle.trace_model.specs.Ring.{link_into, links_with, page_at, ReaderPhase, loading_link, loading_done, storing_link, swapping, Core}
-use Rattle.trace_model.specs.Steps.{Event, steps, reads, Answer, with_new_tail, after_begin, BeginsAgain, reserves, finds_nothing, is_crowded, is_worn, notes, look_late, sees_free, sees_header, sees_update, claim_late, claims, claim_fails, next_late, sees_normal, sees_other, mark_late, marks, mark_fails, clears, open_late, opens, releases, releases_last, grants, closes_more, goes_away, IdleStep, FrameStep, Step, push_step, push_refused, close_step, close_refused, frame_step, frame_lacks, end_step, end_lacks, end_early, read_step, wish_step, loads_header, loads_update, loads_owed, loads_passed, finds_none, finds_closed, swaps, swap_fails, ReadStep, Exchange, Run}
+use Rattle.trace_model.specs.Steps.{Event, steps, reads, Answer, with_new_tail, after_begin, BeginsAgain, reserves, finds_nothing, is_crowded, is_worn, notes, load_link_late, sees_free, sees_header, sees_update, claim_late, claims, claim_fails, load_next_late, sees_normal, sees_other, mark_late, marks, mark_fails, clears, open_late, opens, releases, releases_last, grants, closes_more, goes_away, IdleStep, FrameStep, Step, push_step, push_refused, close_step, close_refused, frame_step, frame_lacks, end_step, end_lacks, end_early, read_step, store_wish_step, loads_header, loads_update, loads_owed, loads_passed, finds_none, finds_closed, swaps, swap_fails, ReadStep, Exchange, Run}
 use Rattle.link_marks.specs.KeptLinks.{PhaseKept, LinkKept, is_normal, is_header, is_update, ReaderKept, LinksKept}
 use Rattle.link_marks.specs.RingKept.{IsRingKept}
 use Rattle.link_marks.specs.LinkLaws.{age_of, IsHeaderSet, IsClaimed, IsCleared}
@@ -68,7 +68,7 @@ module _ (n size : ℕ) (c : Core) (event : Event) (frame : Frame) (below : List
 
   relinks_frame : (phase : Phase) (answer : Answer) (after : Core) → frame.phase ≡ phase → FrameStep n size c frame below phase answer after → Relinks n c event after
   relinks_frame idle answer after same step = relinks_idle frame.state answer after step
-  relinks_frame (looking noted) answer after same (look_late step) = again n c event frame below noted answer after step
+  relinks_frame (looking noted) answer after same (load_link_late step) = again n c event frame below noted answer after step
   relinks_frame (looking noted) answer after same (sees_free page now at a is) = stays n c event after _ is refl
   relinks_frame (looking noted) answer after same (sees_header page lost now sum at a is) = stays n c event after _ is refl
   relinks_frame (looking noted) answer after same (sees_update page lost now sum at a is) = stays n c event after _ is refl
@@ -81,7 +81,7 @@ module _ (n size : ℕ) (c : Core) (event : Event) (frame : Frame) (below : List
       record { sum = sum; here = here; closed = omega arith; full = now; passed = ap (λ (x : Core). x.head) is; top = record frame { phase = looking_next owner noted page }; below = below; is_top = ap (λ (x : Core). x.frames) is; owns = refl }
       at (ap (λ (x : Core). x.links) is)
   relinks_frame (claiming noted page) answer after same (claim_fails now other a is) = stays n c event after _ is refl
-  relinks_frame (looking_next role noted page) answer after same (next_late helps step) = again n c event frame below noted answer after step
+  relinks_frame (looking_next role noted page) answer after same (load_next_late helps step) = again n c event frame below noted answer after step
   relinks_frame (looking_next role noted page) answer after same (sees_normal lost next goes_on sum at a is) = stays n c event after _ is refl
   relinks_frame (looking_next role noted page) answer after same (sees_other lost goes_on sum other a is) = stays n c event after _ is refl
   relinks_frame (marking role noted page next) answer after same (mark_late helps step) = again n c event frame below noted answer after step
@@ -130,7 +130,7 @@ relinks_step n size c event answer after k (end_step payload frame below number 
 relinks_step n size c event answer after k (end_lacks payload e none a is) = stays n c event after c is refl
 relinks_step n size c event answer after k (end_early payload frame below e top none a is) = stays n c event after c is refl
 relinks_step n size c event answer after k (read_step e step) = relinks_read n c event c.reader.phase answer after k e k.reader step
-relinks_step n size c event answer after k (wish_step e a is) = stays n c event after _ is refl
+relinks_step n size c event answer after k (store_wish_step e a is) = stays n c event after _ is refl
 
 -- ---- one position
 

@@ -3,7 +3,7 @@ use Rattle.std.proofs.Common.{◌≡◌, ℕ, zero, suc, ◌+◌, ◌-◌, ◌<�
 use Rattle.std.specs.List.{slice_get}
 use Rattle.std.proofs.lemmas.List.{take-append-drop, map-append}
 use Rattle.trace_model.specs.Record.{Record}
-use Rattle.trace_model.specs.History.{Action, Reservation, reserved_records, settled_prefix, as_record, committed_records}
+use Rattle.trace_model.specs.History.{HistoryEvent, Reservation, reserved_records, settled_prefix, as_record, committed_records}
 use Rattle.trace_model.specs.Packing.{opens_of, fills_of}
 use Rattle.trace_model.specs.Links.{Link}
 use Rattle.trace_model.specs.Frames.{Frame, owned_update}
@@ -204,11 +204,11 @@ ring_start n size start c may s = let some = may.some_pages in let fits = may.nu
   stack = stack_start n start c s;
   progress = progress_start n start c s;
   history = start_history n start c s;
-  contents = subst (λ (h : List Action). PagesKept n start c.order c.held (opens_of h) (reserved_records h) c.head c.opened) (sym s.history) (nothing_done n start c (omega arith) links.apart s);
+  contents = subst (λ (h : List HistoryEvent). PagesKept n start c.order c.held (opens_of h) (reserved_records h) c.head c.opened) (sym s.history) (nothing_done n start c (omega arith) links.apart s);
   open_pages = start_open_pages n start c s some;
   other_pages = other_pages_start n start c s;
   packed = packed_start n size start c s;
-  closed = subst (λ (h : List Action). first_of_fill h start c.done ≤ length (reserved_records (settled_prefix h))) (sym s.history)
+  closed = subst (λ (h : List HistoryEvent). first_of_fill h start c.done ≤ length (reserved_records (settled_prefix h))) (sym s.history)
       (subst (λ (i : ℕ). get_or (0 ∷ []) i 0 ≤ 0) (let e : 0 ≡ c.done - start = omega arith in e) (let z : 0 ≤ 0 = omega arith in z));
   partition = subst (λ (x : Reader). PartitionAt start c.history c.head x.expected x.taken) (sym s.reader) record { expected_le = omega arith; partition = refl; total = refl; firsts = λ k t at. absurd (none_some at); fills = record { each = λ k t at. absurd (none_some at); rising = λ j k a b less at_j at_k. absurd (none_some at_j) }; below = λ k t at. absurd (none_some at) };
 }

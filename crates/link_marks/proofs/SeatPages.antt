@@ -8,7 +8,7 @@ use Rattle.trace_model.specs.History.{Reservation, PushedFrame, records_with_pay
 use Rattle.trace_model.specs.Frames.{Kind, for_record, for_close, FrameState, waiting, reserved, left, Frame, pushed_onto, pushed_frames}
 use Rattle.trace_model.specs.Ring.{PageRecords, empty_page, page_at, link_into, ReaderPhase, loading_link, loading_done, storing_link, swapping, Core}
 use Rattle.trace_model.specs.Links.{header_link}
-use Rattle.trace_model.specs.Steps.{Event, Answer, tail_page, held_with_payload, own_number, ReadStep, loads_header, loads_update, loads_owed, loads_passed, finds_none, finds_closed, swaps, swap_fails, Step, push_step, push_refused, close_step, close_refused, frame_step, frame_lacks, end_step, end_lacks, end_early, read_step, wish_step}
+use Rattle.trace_model.specs.Steps.{Event, Answer, tail_page, held_with_payload, own_number, ReadStep, loads_header, loads_update, loads_owed, loads_passed, finds_none, finds_closed, swaps, swap_fails, Step, push_step, push_refused, close_step, close_refused, frame_step, frame_lacks, end_step, end_lacks, end_early, read_step, store_wish_step}
 use Rattle.trace_model.proofs.Committed.{committed_len, committed_prefix, Behind}
 use Rattle.link_marks.specs.KeptLinks.{ReaderKept, LinksKept}
 use Rattle.link_marks.specs.KeptContents.{OpenPagesKept}
@@ -73,7 +73,7 @@ reader_leaves_open_pages n size start c event answer after r reads (end_step pay
 reader_leaves_open_pages n size start c event answer after r reads (end_lacks payload e none a is) = absurd (subst IsOfReader e reads)
 reader_leaves_open_pages n size start c event answer after r reads (end_early payload frame below e top none a is) = absurd (subst IsOfReader e reads)
 reader_leaves_open_pages n size start c event answer after r reads (read_step e step) = read_pages n c r.links r.open_pages c.reader.phase answer after r.links.reader step
-reader_leaves_open_pages n size start c event answer after r reads (wish_step e a is) = subst (OpenPagesHold c) (sym is) (λ i low. refl)
+reader_leaves_open_pages n size start c event answer after r reads (store_wish_step e a is) = subst (OpenPagesHold c) (sym is) (λ i low. refl)
 
 -- ---- the other pages
 
@@ -105,7 +105,7 @@ module _ (n size start : ℕ) (c : Core) (r : IsRingKept n size start c) where
 
   pub result_pages : (after : Core) → PrivateResult c after → OtherPagesHold c after
   result_pages after (stays is) = subst (OtherPagesHold c) (sym is) (λ page other. refl)
-  result_pages after (pushed_one kind action is) = subst (OtherPagesHold c) (sym is) (λ page other. refl)
+  result_pages after (pushed_one kind history_event is) = subst (OtherPagesHold c) (sym is) (λ page other. refl)
   result_pages after (reserved_one frame below record_of number is) = let count = r.open_pages.count in let behind = r.links.done_lt in
       subst (OtherPagesHold c) (sym is) (λ page other. get_or-set_other c.held (tail_page c) page _ empty_page (λ e. other (length c.open_pages - 1) (omega arith) (sym e)))
   result_pages after (goes_on frame below phase is) = subst (OtherPagesHold c) (sym is) (λ page other. refl)

@@ -3,7 +3,7 @@
 use Rattle.std.proofs.Common.{◌≡◌, ℕ, List, [], ◌∷◌, Option, Some, None, refl, sym, ap, ◌∙◌, subst}
 use Rattle.trace_model.specs.Frames.{Kind, for_record, for_close, FrameState, waiting, reserved, left, Phase, idle, looking, claiming, looking_next, marking, clearing, opening, releasing, wishing, Frame, Refusal}
 use Rattle.trace_model.specs.Ring.{ReaderPhase, loading_link, loading_done, storing_link, swapping, Core}
-use Rattle.trace_model.specs.Steps.{Event, Answer, NeedsPage, with_new_tail, after_leave, after_begin, BeginsAgain, reserves, finds_nothing, is_crowded, is_worn, notes, look_late, sees_free, sees_header, sees_update, claim_late, claims, claim_fails, next_late, sees_normal, sees_other, mark_late, marks, mark_fails, clears, open_late, opens, releases, releases_last, IsGranted, grants, closes_more, goes_away, IdleStep, FrameStep, loads_header, loads_update, loads_owed, loads_passed, finds_none, finds_closed, swaps, swap_fails, ReadStep, PushRefused, all_stand, has_no_room, comes_late, Step, push_step, push_refused, close_step, close_refused, frame_step, frame_lacks, end_step, end_lacks, end_early, read_step, wish_step}
+use Rattle.trace_model.specs.Steps.{Event, Answer, NeedsPage, with_new_tail, after_leave, after_begin, BeginsAgain, reserves, finds_nothing, is_crowded, is_worn, notes, load_link_late, sees_free, sees_header, sees_update, claim_late, claims, claim_fails, load_next_late, sees_normal, sees_other, mark_late, marks, mark_fails, clears, open_late, opens, releases, releases_last, IsGranted, grants, closes_more, goes_away, IdleStep, FrameStep, loads_header, loads_update, loads_owed, loads_passed, finds_none, finds_closed, swaps, swap_fails, ReadStep, PushRefused, all_stand, has_no_room, comes_late, Step, push_step, push_refused, close_step, close_refused, frame_step, frame_lacks, end_step, end_lacks, end_early, read_step, store_wish_step}
 use Rattle.link_marks.specs.Seats.{IsOfReader, ReaderPart, seen_by, WriterPart, written_by, WriterStays, ReaderStays}
 
 -- ---- the writer reads nothing of the reader's part
@@ -52,14 +52,14 @@ module _ (n size : ℕ) (part : ReaderPart) where
 
     frame_seen : (phase : Phase) → FrameStep n size c frame below phase answer after → FrameStep n size (seen_by part c) frame below phase answer (seen_by part after)
     frame_seen idle step = idle_seen frame.state step
-    frame_seen (looking noted) (look_late step) = look_late (again_seen noted step)
+    frame_seen (looking noted) (load_link_late step) = load_link_late (again_seen noted step)
     frame_seen (looking noted) (sees_free page now at a is) = sees_free page now at a (ap (seen_by part) is)
     frame_seen (looking noted) (sees_header page lost now sum at a is) = sees_header page lost now sum at a (ap (seen_by part) is)
     frame_seen (looking noted) (sees_update page lost now sum at a is) = sees_update page lost now sum at a (ap (seen_by part) is)
     frame_seen (claiming noted page) (claim_late step) = claim_late (again_seen noted step)
     frame_seen (claiming noted page) (claims lost now sum at a is) = claims lost now sum at a (ap (seen_by part) is)
     frame_seen (claiming noted page) (claim_fails now other a is) = claim_fails now other a (ap (seen_by part) is)
-    frame_seen (looking_next role noted page) (next_late helps step) = next_late helps (again_seen noted step)
+    frame_seen (looking_next role noted page) (load_next_late helps step) = load_next_late helps (again_seen noted step)
     frame_seen (looking_next role noted page) (sees_normal lost next on sum at a is) = sees_normal lost next on sum at a (ap (seen_by part) is)
     frame_seen (looking_next role noted page) (sees_other lost on sum other a is) = sees_other lost on sum other a (ap (seen_by part) is)
     frame_seen (marking role noted page next) (mark_late helps step) = mark_late helps (again_seen noted step)
@@ -86,7 +86,7 @@ writer_reads_no_reader n size c event answer after part writes (end_step payload
 writer_reads_no_reader n size c event answer after part writes (end_lacks payload e none a is) = end_lacks payload e none a (ap (seen_by part) is)
 writer_reads_no_reader n size c event answer after part writes (end_early payload frame below e top none a is) = end_early payload frame below e top none a (ap (seen_by part) is)
 writer_reads_no_reader n size c event answer after part writes (read_step e step) = absurd (writes (subst IsOfReader (sym e) tt))
-writer_reads_no_reader n size c event answer after part writes (wish_step e a is) = absurd (writes (subst IsOfReader (sym e) tt))
+writer_reads_no_reader n size c event answer after part writes (store_wish_step e a is) = absurd (writes (subst IsOfReader (sym e) tt))
 
 -- ---- the writer leaves it
 
@@ -122,14 +122,14 @@ module _ (n size : ℕ) where
     frame_side : (phase : Phase) → FrameStep n size c frame below phase answer after → reader_side after ≡ reader_side c
     unfolding reader_side
     frame_side idle step = idle_side frame.state step
-    frame_side (looking noted) (look_late step) = again_side noted step
+    frame_side (looking noted) (load_link_late step) = again_side noted step
     frame_side (looking noted) (sees_free page now at a is) = ap reader_side is
     frame_side (looking noted) (sees_header page lost now sum at a is) = ap reader_side is
     frame_side (looking noted) (sees_update page lost now sum at a is) = ap reader_side is
     frame_side (claiming noted page) (claim_late step) = again_side noted step
     frame_side (claiming noted page) (claims lost now sum at a is) = ap reader_side is
     frame_side (claiming noted page) (claim_fails now other a is) = ap reader_side is
-    frame_side (looking_next role noted page) (next_late helps step) = again_side noted step
+    frame_side (looking_next role noted page) (load_next_late helps step) = again_side noted step
     frame_side (looking_next role noted page) (sees_normal lost next on sum at a is) = ap reader_side is
     frame_side (looking_next role noted page) (sees_other lost on sum other a is) = ap reader_side is
     frame_side (marking role noted page next) (mark_late helps step) = again_side noted step
@@ -156,7 +156,7 @@ module _ (n size : ℕ) where
   step_side c event answer after writes (end_lacks payload e none a is) = ap reader_side is
   step_side c event answer after writes (end_early payload frame below e top none a is) = ap reader_side is
   step_side c event answer after writes (read_step e step) = absurd (writes (subst IsOfReader (sym e) tt))
-  step_side c event answer after writes (wish_step e a is) = absurd (writes (subst IsOfReader (sym e) tt))
+  step_side c event answer after writes (store_wish_step e a is) = absurd (writes (subst IsOfReader (sym e) tt))
 
 pub writer_leaves_reader : (n size : ℕ) (c : Core) (event : Event) (answer : Answer) (after : Core) → (IsOfReader event → ⊥) → Step n size c event answer after → ReaderStays c after
 unfolding reader_side
@@ -195,7 +195,7 @@ reader_leaves_writer n size c event answer after reads (end_step payload frame b
 reader_leaves_writer n size c event answer after reads (end_lacks payload e none a is) = absurd (subst IsOfReader e reads)
 reader_leaves_writer n size c event answer after reads (end_early payload frame below e top none a is) = absurd (subst IsOfReader e reads)
 reader_leaves_writer n size c event answer after reads (read_step e step) = read_leaves n c c.reader.phase answer after step
-reader_leaves_writer n size c event answer after reads (wish_step e a is) = stays c _ after refl refl refl refl refl is
+reader_leaves_writer n size c event answer after reads (store_wish_step e a is) = stays c _ after refl refl refl refl refl is
 
 -- ---- and it reads nothing of that
 
@@ -222,4 +222,4 @@ reader_reads_no_writer n size c event answer after part reads (end_step payload 
 reader_reads_no_writer n size c event answer after part reads (end_lacks payload e none a is) = absurd (subst IsOfReader e reads)
 reader_reads_no_writer n size c event answer after part reads (end_early payload frame below e top none a is) = absurd (subst IsOfReader e reads)
 reader_reads_no_writer n size c event answer after part reads (read_step e step) = read_step e (read_beside n part c answer after c.reader.phase step)
-reader_reads_no_writer n size c event answer after part reads (wish_step e a is) = wish_step e a (ap (written_by part) is)
+reader_reads_no_writer n size c event answer after part reads (store_wish_step e a is) = store_wish_step e a (ap (written_by part) is)

@@ -6,7 +6,7 @@ use Rattle.trace_model.specs.declared.limits.TheConstants.{MAX_PAGES}
 use Rattle.trace_model.specs.Links.{Link, normal_link, header_link, update_link}
 use Rattle.trace_model.specs.Frames.{Kind, for_record, for_close, FrameState, waiting, reserved, left, Role, owner, helper, Phase, idle, looking, claiming, looking_next, marking, clearing, opening, releasing, wishing, Frame}
 use Rattle.trace_model.specs.Ring.{Core, link_into, page_at, links_with, ReaderPhase, loading_link, loading_done, storing_link, swapping}
-use Rattle.trace_model.specs.Steps.{Event, Answer, closing_phase, frames_after_leave, after_next, after_begin, with_new_tail, BeginsAgain, IdleStep, reserves, finds_nothing, is_crowded, is_worn, notes, FrameStep, look_late, sees_free, sees_header, sees_update, claim_late, claims, claim_fails, next_late, sees_normal, sees_other, mark_late, marks, mark_fails, clears, open_late, opens, releases, releases_last, grants, closes_more, goes_away, ReadStep, loads_header, loads_update, loads_owed, loads_passed, finds_none, finds_closed, swaps, swap_fails, Step, push_step, push_refused, close_step, close_refused, frame_step, frame_lacks, end_step, end_lacks, end_early, read_step, wish_step, Exchange, Run}
+use Rattle.trace_model.specs.Steps.{Event, Answer, closing_phase, frames_after_leave, after_next, after_begin, with_new_tail, BeginsAgain, IdleStep, reserves, finds_nothing, is_crowded, is_worn, notes, FrameStep, load_link_late, sees_free, sees_header, sees_update, claim_late, claims, claim_fails, load_next_late, sees_normal, sees_other, mark_late, marks, mark_fails, clears, open_late, opens, releases, releases_last, grants, closes_more, goes_away, ReadStep, loads_header, loads_update, loads_owed, loads_passed, finds_none, finds_closed, swaps, swap_fails, Step, push_step, push_refused, close_step, close_refused, frame_step, frame_lacks, end_step, end_lacks, end_early, read_step, store_wish_step, Exchange, Run}
 use Rattle.link_marks.specs.KeptLinks.{PhaseKept, FramesKept, LinkKept, is_normal, is_header, is_update, LinksKept}
 use Rattle.link_marks.specs.Reached.{IsReached}
 use Rattle.link_marks.specs.SeenLinks.{HasSeenLink, HaveSeenLinks, FramesHaveSeenLinks}
@@ -127,14 +127,14 @@ module _ (n : ℕ) (c : Core) (k : LinksKept n c) where
 
     frame_sees : (phase : Phase) → FrameStep n size c frame below phase answer after → FramesSee n after
     frame_sees idle step = idle_sees frame.state step
-    frame_sees (looking noted) (look_late late) = again_sees noted late
+    frame_sees (looking noted) (load_link_late late) = again_sees noted late
     frame_sees (looking noted) (sees_free page x at a is) = become n after _ is (tt, rest)
     frame_sees (looking noted) (sees_header page lost x sum at a is) = become n after _ is ((omega arith, page_seen noted _ at, (λ e. at ∙ ap (header_link page) (let same : lost ≡ c.head = omega arith in same))), rest)
     frame_sees (looking noted) (sees_update page lost x sum at a is) = become n after _ is (tt, rest)
     frame_sees (claiming noted page) (claim_late late) = again_sees noted late
     frame_sees (claiming noted page) (claims lost x sum at a is) = become n after _ is (tt, rest_moved _ (c.head + 1) (passes_head n c _ k))
     frame_sees (claiming noted page) (claim_fails x none a is) = become n after _ is (tt, rest)
-    frame_sees (looking_next role noted page) (next_late helps late) = again_sees noted late
+    frame_sees (looking_next role noted page) (load_next_late helps late) = again_sees noted late
     frame_sees (looking_next role noted page) (sees_normal lost next on sum at a is) = become n after _ is (page_seen (suc lost) _ at, rest)
     frame_sees (looking_next role noted page) (sees_other lost on sum none a is) = become n after _ is (passed_sees n c.links c.head role noted page, rest)
     frame_sees (marking role noted page next) (mark_late helps late) = again_sees noted late
@@ -175,7 +175,7 @@ module _ (n : ℕ) (c : Core) (k : LinksKept n c) where
   step_sees size event answer after all (end_lacks payload e none a is) = become n after c is all
   step_sees size event answer after all (end_early payload frame below e top none a is) = become n after c is all
   step_sees size event answer after all (read_step e step) = read_sees c.reader.phase answer after all step
-  step_sees size event answer after all (wish_step e a is) = become n after _ is all
+  step_sees size event answer after all (store_wish_step e a is) = become n after _ is all
 
 run_sees : (n size start : ℕ) (before after : Core) (exchanges : List Exchange) → IsReached n size start before → FramesSee n before → Run n size before exchanges after → FramesSee n after
 run_sees n size start before after [] reached all run = subst (FramesSee n) run all

@@ -5,7 +5,7 @@ use Rattle.std.proofs.lemmas.Bool.{cond_both}
 use Rattle.trace_model.specs.declared.limits.TheConstants.{MAX_FRAMES}
 use Rattle.trace_model.specs.Frames.{Kind, for_record, for_close, FrameState, waiting, reserved, left, Role, owner, helper, Phase, idle, looking, claiming, looking_next, marking, clearing, opening, releasing, wishing, Frame}
 use Rattle.trace_model.specs.Ring.{ReaderPhase, loading_link, loading_done, storing_link, swapping, Core, IsStart}
-use Rattle.trace_model.specs.Steps.{Event, Answer, closing_phase, after_leave, frames_after_leave, after_next, after_begin, BeginsAgain, reserves, finds_nothing, is_crowded, is_worn, notes, look_late, sees_free, sees_header, sees_update, claim_late, claims, claim_fails, next_late, sees_normal, sees_other, mark_late, marks, mark_fails, clears, open_late, opens, releases, releases_last, grants, closes_more, goes_away, IdleStep, FrameStep, loads_header, loads_update, loads_owed, loads_passed, finds_none, finds_closed, swaps, swap_fails, ReadStep, Step, push_step, push_refused, close_step, close_refused, frame_step, frame_lacks, end_step, end_lacks, end_early, read_step, wish_step}
+use Rattle.trace_model.specs.Steps.{Event, Answer, closing_phase, after_leave, frames_after_leave, after_next, after_begin, BeginsAgain, reserves, finds_nothing, is_crowded, is_worn, notes, load_link_late, sees_free, sees_header, sees_update, claim_late, claims, claim_fails, load_next_late, sees_normal, sees_other, mark_late, marks, mark_fails, clears, open_late, opens, releases, releases_last, grants, closes_more, goes_away, IdleStep, FrameStep, loads_header, loads_update, loads_owed, loads_passed, finds_none, finds_closed, swaps, swap_fails, ReadStep, Step, push_step, push_refused, close_step, close_refused, frame_step, frame_lacks, end_step, end_lacks, end_early, read_step, store_wish_step}
 use Rattle.link_marks.specs.KeptStack.{IsForRecord, MayBeIn, FramesAgree, StackAt, StackKept}
 use Rattle.link_marks.specs.RingKept.{IsRingKept}
 use Rattle.link_marks.proofs.FramePhases.{none_some}
@@ -101,14 +101,14 @@ module _ (n size : ℕ) (c : Core) (frame : Frame) (below : List Frame) (answer 
 
   stack_frame : (phase : Phase) → frame.phase ≡ phase → c.frames ≡ frame ∷ below → StackKept c → FrameStep n size c frame below phase answer after → StackKept after
   stack_frame idle at top q step = stack_idle frame.state refl q step
-  stack_frame (looking noted) at top q (look_late step) = stack_again noted step
+  stack_frame (looking noted) at top q (load_link_late step) = stack_again noted step
   stack_frame (looking noted) at top q (sees_free page now l a is) = stack_goes _ (opening noted page) refl (λ e. cc) (λ e. cc) (λ e. cc) (λ e. cc) is
   stack_frame (looking noted) at top q (sees_header page lost now sum l a is) = stack_goes _ (claiming noted page) refl (λ e. cc) (λ e. cc) (λ e. cc) (λ e. cc) is
   stack_frame (looking noted) at top q (sees_update page lost now sum l a is) = stack_goes _ (looking_next helper noted page) refl (λ e. cc) (λ e. cc) (λ e. cc) (λ e. cc) is
   stack_frame (claiming noted page) at top q (claim_late step) = stack_again noted step
   stack_frame (claiming noted page) at top q (claims lost now sum l a is) = stack_goes _ (looking_next owner noted page) refl (λ e. cc) (λ e. cc) (λ e. cc) (λ e. cc) is
   stack_frame (claiming noted page) at top q (claim_fails now other a is) = stack_goes _ (looking noted) refl (λ e. cc) (λ e. cc) (λ e. cc) (λ e. cc) is
-  stack_frame (looking_next role noted page) at top q (next_late helps step) = stack_again noted step
+  stack_frame (looking_next role noted page) at top q (load_next_late helps step) = stack_again noted step
   stack_frame (looking_next role noted page) at top q (sees_normal lost next on sum l a is) = stack_goes _ (marking role noted page next) refl (λ e. cc) (λ e. cc) (λ e. cc) (λ e. cc) is
   stack_frame (looking_next role noted page) at top q (sees_other lost on sum other a is) = stack_next _ role noted page refl (λ e. cc) is
   stack_frame (marking role noted page next) at top q (mark_late helps step) = stack_again noted step
@@ -161,7 +161,7 @@ stack_step n size c event answer after q (end_step payload frame below number mo
 stack_step n size c event answer after q (end_lacks payload e none a is) = subst StackKept (sym is) q
 stack_step n size c event answer after q (end_early payload frame below e top none a is) = subst StackKept (sym is) q
 stack_step n size c event answer after q (read_step e step) = stack_read n c c.reader.phase answer after q step
-stack_step n size c event answer after q (wish_step e a is) = subst StackKept (sym is) q
+stack_step n size c event answer after q (store_wish_step e a is) = subst StackKept (sym is) q
 
 pub stack_start : (n start : ℕ) (c : Core) → IsStart n start c → StackKept c
 stack_start n start c s = let done = s.done in let opened = s.opened in

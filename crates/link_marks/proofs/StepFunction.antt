@@ -7,7 +7,7 @@ use Rattle.trace_model.specs.Packing.{fill_len, tail_of}
 use Rattle.trace_model.specs.Links.{Mark, normal, header, update, Link, normal_link, header_link, update_link}
 use Rattle.trace_model.specs.Frames.{Kind, for_record, for_close, FrameState, waiting, reserved, left, Role, owner, helper, Phase, idle, looking, claiming, looking_next, marking, clearing, opening, releasing, wishing, Frame, too_deep, too_long, late_moment, crowded, worn, no_frame, not_reserved}
 use Rattle.trace_model.specs.Ring.{ReaderPhase, loading_link, loading_done, storing_link, swapping, Core, link_into}
-use Rattle.trace_model.specs.Steps.{Event, pushes, pushes_close, steps, ends, reads, wishes, Answer, pushed, going, reserved_as, gone, refused, reading, empty, moving, swapped, wished_for, with_action, in_phase, in_reserved, with_link, with_frame, new_reservation, with_reservation, with_released, with_head_claimed, with_wish, leave_answer, after_leave, after_begin, begin_answer, after_next, with_new_tail, reader_at, reader_saw, next_header, taken_fill, after_swap, end_answer}
+use Rattle.trace_model.specs.Steps.{Event, pushes, pushes_close, steps, ends, reads, wishes, Answer, pushed, going, reserved_as, gone, refused, reading, empty, moving, swapped, wished_for, with_history_event, in_phase, in_reserved, with_link, with_frame, new_reservation, with_reservation, with_released, with_head_claimed, with_wish, leave_answer, after_leave, after_begin, begin_answer, after_next, with_new_tail, reader_at, reader_saw, next_header, taken_fill, after_swap, end_answer}
 
 pub record Outcome : Type 0 where
   pub answer : Answer
@@ -60,53 +60,53 @@ abbrev pub reserve_of : ℕ → ℕ → Core → Frame → List Frame → Kind �
 reserve_of n size c frame below (for_record moment len) = if nat_le (record_len c moment len) size then reserves_in c frame below moment len else needs_page n c frame below
 reserve_of n size c frame below for_close = close_of n c frame below (tail_of c.history)
 
-abbrev pub look_at : ℕ → Core → Frame → List Frame → ℕ → Link → Mark → Option Outcome
-look_at n c frame below noted l normal = if l.fill == noted then goes_on c frame below (opening noted l.page) else None
-look_at n c frame below noted l header = if (l.fill + n) == noted then goes_on c frame below (claiming noted l.page) else None
-look_at n c frame below noted l update = if (l.fill + n) == noted then goes_on c frame below (looking_next helper noted l.page) else None
+abbrev pub load_link_at : ℕ → Core → Frame → List Frame → ℕ → Link → Mark → Option Outcome
+load_link_at n c frame below noted l normal = if l.fill == noted then goes_on c frame below (opening noted l.page) else None
+load_link_at n c frame below noted l header = if (l.fill + n) == noted then goes_on c frame below (claiming noted l.page) else None
+load_link_at n c frame below noted l update = if (l.fill + n) == noted then goes_on c frame below (looking_next helper noted l.page) else None
 
-abbrev pub look_of : ℕ → Core → Frame → List Frame → ℕ → Option Outcome
-look_of n c frame below noted =
-    if noted == c.opened then look_at n c frame below noted (link_into n c.links noted) (link_into n c.links noted).mark else again c frame below
+abbrev pub load_link_of : ℕ → Core → Frame → List Frame → ℕ → Option Outcome
+load_link_of n c frame below noted =
+    if noted == c.opened then load_link_at n c frame below noted (link_into n c.links noted) (link_into n c.links noted).mark else again c frame below
 
-abbrev pub claim_of : ℕ → Core → Frame → List Frame → (noted page : ℕ) → Option Outcome
-claim_of n c frame below noted page =
+abbrev pub claim_head_of : ℕ → Core → Frame → List Frame → (noted page : ℕ) → Option Outcome
+claim_head_of n c frame below noted page =
     if noted == c.opened then (if nat_le n noted then (if same_link (link_into n c.links noted) (header_link page (noted - n))
     then gives going (in_phase (with_head_claimed n c noted page (noted - n)) frame below (looking_next owner noted page))
     else goes_on c frame below (looking noted)) else goes_on c frame below (looking noted)) else again c frame below
 
-abbrev pub next_at : ℕ → Core → Frame → List Frame → Role → (noted page : ℕ) → Link → Option Outcome
-next_at n c frame below role noted page l =
+abbrev pub load_next_at : ℕ → Core → Frame → List Frame → Role → (noted page : ℕ) → Link → Option Outcome
+load_next_at n c frame below role noted page l =
     if nat_le n noted then (if same_link l (normal_link l.page (suc (noted - n))) then goes_on c frame below (marking role noted page l.page) else goes_on c frame below (after_next role noted page)) else None
 
-abbrev pub next_of : ℕ → Core → Frame → List Frame → Role → (noted page : ℕ) → Option Outcome
-next_of n c frame below owner noted page = next_at n c frame below owner noted page (link_into n c.links (suc (noted - n)))
-next_of n c frame below helper noted page = if noted == c.opened then next_at n c frame below helper noted page (link_into n c.links (suc (noted - n))) else again c frame below
+abbrev pub load_next_of : ℕ → Core → Frame → List Frame → Role → (noted page : ℕ) → Option Outcome
+load_next_of n c frame below owner noted page = load_next_at n c frame below owner noted page (link_into n c.links (suc (noted - n)))
+load_next_of n c frame below helper noted page = if noted == c.opened then load_next_at n c frame below helper noted page (link_into n c.links (suc (noted - n))) else again c frame below
 
-abbrev pub mark_at : ℕ → Core → Frame → List Frame → Role → (noted page next : ℕ) → Option Outcome
-mark_at n c frame below role noted page next =
+abbrev pub mark_head_at : ℕ → Core → Frame → List Frame → Role → (noted page next : ℕ) → Option Outcome
+mark_head_at n c frame below role noted page next =
     if nat_le n noted then (if same_link (link_into n c.links (suc (noted - n))) (normal_link next (suc (noted - n)))
     then gives going (in_phase (with_link n c (suc (noted - n)) (header_link next (suc (noted - n)))) frame below (after_next role noted page))
     else goes_on c frame below (after_next role noted page)) else None
 
-abbrev pub mark_of : ℕ → Core → Frame → List Frame → Role → (noted page next : ℕ) → Option Outcome
-mark_of n c frame below owner noted page next = mark_at n c frame below owner noted page next
-mark_of n c frame below helper noted page next = if noted == c.opened then mark_at n c frame below helper noted page next else again c frame below
+abbrev pub mark_head_of : ℕ → Core → Frame → List Frame → Role → (noted page next : ℕ) → Option Outcome
+mark_head_of n c frame below owner noted page next = mark_head_at n c frame below owner noted page next
+mark_head_of n c frame below helper noted page next = if noted == c.opened then mark_head_at n c frame below helper noted page next else again c frame below
 
-abbrev pub clear_of : ℕ → Core → Frame → List Frame → (noted page : ℕ) → Option Outcome
-clear_of n c frame below noted page =
+abbrev pub clear_update_of : ℕ → Core → Frame → List Frame → (noted page : ℕ) → Option Outcome
+clear_update_of n c frame below noted page =
     if nat_le n noted then (if same_link (link_into n c.links noted) (update_link page (noted - n))
     then gives going (in_phase (with_link n c noted (normal_link page noted)) frame below (opening noted page)) else None) else None
 
-abbrev pub open_of : Core → Frame → List Frame → (noted page : ℕ) → Option Outcome
-open_of c frame below noted page =
+abbrev pub open_fill_of : Core → Frame → List Frame → (noted page : ℕ) → Option Outcome
+open_fill_of c frame below noted page =
     if noted == c.opened then gives (begin_answer frame.kind frame.state below) (after_begin frame.kind frame.state (with_new_tail c page) frame below) else again c frame below
 
-abbrev pub release_of : Core → Frame → List Frame → Option Outcome
-release_of c frame [] =
+abbrev pub release_fill_of : Core → Frame → List Frame → Option Outcome
+release_fill_of c frame [] =
     if (c.done + 2) == c.opened then gives going (in_phase (with_released c) frame [] wishing)
     else (if nat_lt (c.done + 2) c.opened then gives going (with_released c) else None)
-release_of c frame (next ∷ below) = None
+release_fill_of c frame (next ∷ below) = None
 
 abbrev pub is_empty : List Reservation → Bool
 is_empty [] = true
@@ -115,12 +115,12 @@ is_empty (r ∷ records) = false
 abbrev pub is_granted : ℕ → Core → Bool
 is_granted n c = if c.wish == c.opened then (if is_empty (tail_of c.history) then false else nat_lt (c.opened + n) LINK_FILLS) else false
 
-abbrev pub wish_of : ℕ → Core → Frame → List Frame → Option Outcome
-wish_of n c frame [] =
-    if is_granted n c then gives going (in_phase (with_action c wished) frame [] (looking c.opened))
+abbrev pub load_wish_of : ℕ → Core → Frame → List Frame → Option Outcome
+load_wish_of n c frame [] =
+    if is_granted n c then gives going (in_phase (with_history_event c wished) frame [] (looking c.opened))
     else (if (c.done + 1) == c.opened then gives gone (record c { frames = [] })
     else (if nat_lt (c.done + 1) c.opened then goes_on c frame [] releasing else None))
-wish_of n c frame (next ∷ below) = None
+load_wish_of n c frame (next ∷ below) = None
 
 abbrev pub idle_of : ℕ → ℕ → Core → Frame → List Frame → FrameState → Option Outcome
 idle_of n size c frame below waiting = reserve_of n size c frame below frame.kind
@@ -129,26 +129,26 @@ idle_of n size c frame below left = None
 
 abbrev pub frame_of : ℕ → ℕ → Core → Frame → List Frame → Phase → Option Outcome
 frame_of n size c frame below idle = idle_of n size c frame below frame.state
-frame_of n size c frame below (looking noted) = look_of n c frame below noted
-frame_of n size c frame below (claiming noted page) = claim_of n c frame below noted page
-frame_of n size c frame below (looking_next role noted page) = next_of n c frame below role noted page
-frame_of n size c frame below (marking role noted page next) = mark_of n c frame below role noted page next
-frame_of n size c frame below (clearing noted page) = clear_of n c frame below noted page
-frame_of n size c frame below (opening noted page) = open_of c frame below noted page
-frame_of n size c frame below releasing = release_of c frame below
-frame_of n size c frame below wishing = wish_of n c frame below
+frame_of n size c frame below (looking noted) = load_link_of n c frame below noted
+frame_of n size c frame below (claiming noted page) = claim_head_of n c frame below noted page
+frame_of n size c frame below (looking_next role noted page) = load_next_of n c frame below role noted page
+frame_of n size c frame below (marking role noted page next) = mark_head_of n c frame below role noted page next
+frame_of n size c frame below (clearing noted page) = clear_update_of n c frame below noted page
+frame_of n size c frame below (opening noted page) = open_fill_of c frame below noted page
+frame_of n size c frame below releasing = release_fill_of c frame below
+frame_of n size c frame below wishing = load_wish_of n c frame below
 
 -- ---- the steps of the reader
 
-abbrev pub load_at : ℕ → Core → Link → Mark → Option Outcome
-load_at n c l header = gives reading (reader_at c (loading_done l.page l.fill) l.fill)
-load_at n c l update = gives (moving (suc l.fill)) (reader_at c loading_link (suc l.fill))
-load_at n c l normal =
+abbrev pub load_head_at : ℕ → Core → Link → Mark → Option Outcome
+load_head_at n c l header = gives reading (reader_at c (loading_done l.page l.fill) l.fill)
+load_head_at n c l update = gives (moving (suc l.fill)) (reader_at c loading_link (suc l.fill))
+load_head_at n c l normal =
     if l.fill == c.reader.hint then gives (moving c.reader.hint) (reader_at c loading_link c.reader.hint)
     else (if nat_lt c.reader.hint l.fill then (if nat_le n (suc l.fill) then gives reading (reader_at c loading_link (suc l.fill - n)) else None) else None)
 
 abbrev pub read_of : ℕ → Core → ReaderPhase → Option Outcome
-read_of n c loading_link = load_at n c (link_into n c.links c.reader.hint) (link_into n c.links c.reader.hint).mark
+read_of n c loading_link = load_head_at n c (link_into n c.links c.reader.hint) (link_into n c.links c.reader.hint).mark
 read_of n c (loading_done page fill) = if nat_le c.done fill then gives (empty c.done) (reader_saw c loading_link) else gives reading (reader_saw c (storing_link page fill))
 read_of n c (storing_link page fill) = gives reading (record (reader_at c (swapping page fill) c.reader.hint) { spare_link = next_header n c fill })
 read_of n c (swapping page fill) =
@@ -162,12 +162,12 @@ too_long_for size len = if nat_lt size len then true else nat_lt size (encoded_l
 abbrev pub push_of : ℕ → Core → (moment len : ℕ) → Option Outcome
 push_of size c moment len =
     if nat_lt (length c.frames) MAX_FRAMES then (if too_long_for size len then gives (refused too_long) c else (if nat_lt moment MOMENT_LIMIT
-    then gives pushed (with_action (with_frame c (for_record moment len)) (push moment len))
+    then gives pushed (with_history_event (with_frame c (for_record moment len)) (push moment len))
     else gives (refused late_moment) c)) else gives (refused too_deep) c
 
 abbrev pub close_push_of : Core → Option Outcome
 close_push_of c =
-    if nat_lt (length c.frames) MAX_FRAMES then gives pushed (with_action (with_frame c for_close) push_close) else gives (refused too_deep) c
+    if nat_lt (length c.frames) MAX_FRAMES then gives pushed (with_history_event (with_frame c for_close) push_close) else gives (refused too_deep) c
 
 abbrev pub steps_of : ℕ → ℕ → Core → List Frame → Option Outcome
 steps_of n size c [] = gives (refused no_frame) c

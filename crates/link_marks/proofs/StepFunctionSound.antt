@@ -8,8 +8,8 @@ use Rattle.trace_model.specs.Packing.{tail_of}
 use Rattle.trace_model.specs.Links.{Mark, normal, header, update, Link, normal_link, header_link, update_link}
 use Rattle.trace_model.specs.Frames.{Kind, for_record, for_close, FrameState, waiting, reserved, left, number_of, Role, owner, helper, Phase, idle, looking, claiming, looking_next, marking, clearing, opening, releasing, wishing, Frame, too_deep, too_long, late_moment}
 use Rattle.trace_model.specs.Ring.{ReaderPhase, loading_link, loading_done, storing_link, swapping, Core, link_into}
-use Rattle.trace_model.specs.Steps.{Event, pushes, pushes_close, steps, ends, reads, wishes, Answer, MayOpen, NeedsPage, BeginsAgain, ReserveStep, reserves, finds_nothing, is_crowded, is_worn, notes, LookStep, look_late, sees_free, sees_header, sees_update, ClaimStep, claim_late, claims, claim_fails, NextStep, next_late, sees_normal, sees_other, MarkStep, mark_late, marks, mark_fails, ClearStep, clears, OpenStep, open_late, opens, ReleaseStep, releases, releases_last, IsGranted, WishStep, grants, closes_more, goes_away, IdleStep, FrameStep, LoadStep, loads_header, loads_update, loads_owed, loads_passed, LoadDoneStep, finds_none, finds_closed, SwapStep, swaps, swap_fails, ReadStep, IsTooLong, all_stand, has_no_room, comes_late, Step, push_step, push_refused, close_step, close_refused, frame_step, frame_lacks, end_step, end_lacks, end_early, read_step, wish_step, Exchange, Run}
-use Rattle.link_marks.proofs.StepFunction.{Outcome, same_mark, same_link, again, needs_page, record_len, close_of, reserve_of, look_at, look_of, claim_of, next_at, next_of, mark_at, mark_of, clear_of, open_of, release_of, is_empty, is_granted, wish_of, idle_of, frame_of, load_at, read_of, too_long_for, push_of, close_push_of, steps_of, full_end, end_in, end_of, step_of, Ran, behind, run_of}
+use Rattle.trace_model.specs.Steps.{Event, pushes, pushes_close, steps, ends, reads, wishes, Answer, MayOpen, NeedsPage, BeginsAgain, ReserveStep, reserves, finds_nothing, is_crowded, is_worn, notes, LoadLinkStep, load_link_late, sees_free, sees_header, sees_update, ClaimHeadStep, claim_late, claims, claim_fails, LoadNextStep, load_next_late, sees_normal, sees_other, MarkHeadStep, mark_late, marks, mark_fails, ClearUpdateStep, clears, OpenFillStep, open_late, opens, ReleaseFillStep, releases, releases_last, IsGranted, LoadWishStep, grants, closes_more, goes_away, IdleStep, FrameStep, LoadHeadStep, loads_header, loads_update, loads_owed, loads_passed, LoadDoneStep, finds_none, finds_closed, SwapHeadStep, swaps, swap_fails, ReadStep, IsTooLong, all_stand, has_no_room, comes_late, Step, push_step, push_refused, close_step, close_refused, frame_step, frame_lacks, end_step, end_lacks, end_early, read_step, store_wish_step, Exchange, Run}
+use Rattle.link_marks.proofs.StepFunction.{Outcome, same_mark, same_link, again, needs_page, record_len, close_of, reserve_of, load_link_at, load_link_of, claim_head_of, load_next_at, load_next_of, mark_head_at, mark_head_of, clear_update_of, open_fill_of, release_fill_of, is_empty, is_granted, load_wish_of, idle_of, frame_of, load_head_at, read_of, too_long_for, push_of, close_push_of, steps_of, full_end, end_in, end_of, step_of, Ran, behind, run_of}
 
 -- what an outcome says, if there is one
 abbrev pub Sound : (Answer → Core → Type 0) → Option Outcome → Type 0
@@ -94,72 +94,72 @@ module _ (n size : ℕ) (c : Core) (frame : Frame) (below : List Frame) where
   again_is : (noted : ℕ) → noted ≢ c.opened → Sound (BeginsAgain c frame below noted) (again c frame below)
   again_is noted other = record { passed = other; answer_is = refl; after_is = refl }
 
-  look_at_sound : (noted : ℕ) (mark : Mark) → noted ≡ c.opened → (link_into n c.links noted).mark ≡ mark → Sound (LookStep n c frame below noted) (look_at n c frame below noted (link_into n c.links noted) mark)
-  look_at_sound noted normal now is = let l = link_into n c.links noted in by_if (LookStep n c frame below noted) (l.fill == noted) _ _
+  load_link_at_sound : (noted : ℕ) (mark : Mark) → noted ≡ c.opened → (link_into n c.links noted).mark ≡ mark → Sound (LoadLinkStep n c frame below noted) (load_link_at n c frame below noted (link_into n c.links noted) mark)
+  load_link_at_sound noted normal now is = let l = link_into n c.links noted in by_if (LoadLinkStep n c frame below noted) (l.fill == noted) _ _
       (λ e. sees_free l.page now (link_is l normal l.page noted is refl (eqb-true l.fill noted e)) refl refl) (λ e. tt)
-  look_at_sound noted header now is = let l = link_into n c.links noted in by_if (LookStep n c frame below noted) ((l.fill + n) == noted) _ _
+  load_link_at_sound noted header now is = let l = link_into n c.links noted in by_if (LoadLinkStep n c frame below noted) ((l.fill + n) == noted) _ _
       (λ e. sees_header l.page l.fill now (eqb-true (l.fill + n) noted e) (link_is l header l.page l.fill is refl refl) refl refl) (λ e. tt)
-  look_at_sound noted update now is = let l = link_into n c.links noted in by_if (LookStep n c frame below noted) ((l.fill + n) == noted) _ _
+  load_link_at_sound noted update now is = let l = link_into n c.links noted in by_if (LoadLinkStep n c frame below noted) ((l.fill + n) == noted) _ _
       (λ e. sees_update l.page l.fill now (eqb-true (l.fill + n) noted e) (link_is l update l.page l.fill is refl refl) refl refl) (λ e. tt)
 
-  look_sound : (noted : ℕ) → Sound (LookStep n c frame below noted) (look_of n c frame below noted)
-  look_sound noted = by_if (LookStep n c frame below noted) (noted == c.opened) _ _
-      (λ e. look_at_sound noted (link_into n c.links noted).mark (eqb-true noted c.opened e) refl)
-      (λ e. look_late (again_is noted (eqb-false noted c.opened e)))
+  load_link_sound : (noted : ℕ) → Sound (LoadLinkStep n c frame below noted) (load_link_of n c frame below noted)
+  load_link_sound noted = by_if (LoadLinkStep n c frame below noted) (noted == c.opened) _ _
+      (λ e. load_link_at_sound noted (link_into n c.links noted).mark (eqb-true noted c.opened e) refl)
+      (λ e. load_link_late (again_is noted (eqb-false noted c.opened e)))
 
-  claim_sound : (noted page : ℕ) → Sound (ClaimStep n c frame below noted page) (claim_of n c frame below noted page)
-  claim_sound noted page = let l = link_into n c.links noted in by_if (ClaimStep n c frame below noted page) (noted == c.opened) _ _
-      (λ e. by_if (ClaimStep n c frame below noted page) (nat_le n noted) _ _
-      (λ turn. let le = leb-true n noted turn in by_if (ClaimStep n c frame below noted page) (same_link l (header_link page (noted - n))) _ _
+  claim_head_sound : (noted page : ℕ) → Sound (ClaimHeadStep n c frame below noted page) (claim_head_of n c frame below noted page)
+  claim_head_sound noted page = let l = link_into n c.links noted in by_if (ClaimHeadStep n c frame below noted page) (noted == c.opened) _ _
+      (λ e. by_if (ClaimHeadStep n c frame below noted page) (nat_le n noted) _ _
+      (λ turn. let le = leb-true n noted turn in by_if (ClaimHeadStep n c frame below noted page) (same_link l (header_link page (noted - n))) _ _
       (λ at. claims (noted - n) (eqb-true noted c.opened e) (omega arith) (same_link_true l (header_link page (noted - n)) at) refl refl)
       (λ at. claim_fails (eqb-true noted c.opened e)
       (λ lost sum is. same_link_false l (header_link page (noted - n)) at (is ∙ ap (λ (f : ℕ). header_link page f) (let s : lost ≡ noted - n = omega arith in s))) refl refl))
       (λ first. let less = leb-false n noted first in claim_fails (eqb-true noted c.opened e) (λ lost sum is. omega arith) refl refl))
       (λ e. claim_late (again_is noted (eqb-false noted c.opened e)))
 
-  next_at_sound : (role : Role) (noted page : ℕ) → MayOpen role noted c.opened → Sound (NextStep n c frame below role noted page) (next_at n c frame below role noted page (link_into n c.links (suc (noted - n))))
-  next_at_sound role noted page on = let l = link_into n c.links (suc (noted - n)) in by_if (NextStep n c frame below role noted page) (nat_le n noted) _ _
-      (λ turn. let le = leb-true n noted turn in by_if (NextStep n c frame below role noted page) (same_link l (normal_link l.page (suc (noted - n)))) _ _
+  load_next_at_sound : (role : Role) (noted page : ℕ) → MayOpen role noted c.opened → Sound (LoadNextStep n c frame below role noted page) (load_next_at n c frame below role noted page (link_into n c.links (suc (noted - n))))
+  load_next_at_sound role noted page on = let l = link_into n c.links (suc (noted - n)) in by_if (LoadNextStep n c frame below role noted page) (nat_le n noted) _ _
+      (λ turn. let le = leb-true n noted turn in by_if (LoadNextStep n c frame below role noted page) (same_link l (normal_link l.page (suc (noted - n)))) _ _
       (λ at. sees_normal (noted - n) l.page on (omega arith) (same_link_true l (normal_link l.page (suc (noted - n))) at) refl refl)
       (λ at. sees_other (noted - n) on (omega arith) (λ next is. same_link_false l (normal_link l.page (suc (noted - n))) at (is ∙ ap (λ (p : ℕ). normal_link p (suc (noted - n))) (ap (λ (k : Link). k.page) (sym is)))) refl refl))
       (λ first. tt)
 
-  next_sound : (role : Role) (noted page : ℕ) → Sound (NextStep n c frame below role noted page) (next_of n c frame below role noted page)
-  next_sound owner noted page = next_at_sound owner noted page tt
-  next_sound helper noted page = by_if (NextStep n c frame below helper noted page) (noted == c.opened) _ _
-      (λ e. next_at_sound helper noted page (eqb-true noted c.opened e))
-      (λ e. next_late refl (again_is noted (eqb-false noted c.opened e)))
+  load_next_sound : (role : Role) (noted page : ℕ) → Sound (LoadNextStep n c frame below role noted page) (load_next_of n c frame below role noted page)
+  load_next_sound owner noted page = load_next_at_sound owner noted page tt
+  load_next_sound helper noted page = by_if (LoadNextStep n c frame below helper noted page) (noted == c.opened) _ _
+      (λ e. load_next_at_sound helper noted page (eqb-true noted c.opened e))
+      (λ e. load_next_late refl (again_is noted (eqb-false noted c.opened e)))
 
-  mark_at_sound : (role : Role) (noted page next : ℕ) → MayOpen role noted c.opened → Sound (MarkStep n c frame below role noted page next) (mark_at n c frame below role noted page next)
-  mark_at_sound role noted page next on = let l = link_into n c.links (suc (noted - n)) in by_if (MarkStep n c frame below role noted page next) (nat_le n noted) _ _
-      (λ turn. let le = leb-true n noted turn in by_if (MarkStep n c frame below role noted page next) (same_link l (normal_link next (suc (noted - n)))) _ _
+  mark_head_at_sound : (role : Role) (noted page next : ℕ) → MayOpen role noted c.opened → Sound (MarkHeadStep n c frame below role noted page next) (mark_head_at n c frame below role noted page next)
+  mark_head_at_sound role noted page next on = let l = link_into n c.links (suc (noted - n)) in by_if (MarkHeadStep n c frame below role noted page next) (nat_le n noted) _ _
+      (λ turn. let le = leb-true n noted turn in by_if (MarkHeadStep n c frame below role noted page next) (same_link l (normal_link next (suc (noted - n)))) _ _
       (λ at. marks (noted - n) on (omega arith) (same_link_true l (normal_link next (suc (noted - n))) at) refl refl)
       (λ at. mark_fails (noted - n) on (omega arith) (same_link_false l (normal_link next (suc (noted - n))) at) refl refl))
       (λ first. tt)
 
-  mark_sound : (role : Role) (noted page next : ℕ) → Sound (MarkStep n c frame below role noted page next) (mark_of n c frame below role noted page next)
-  mark_sound owner noted page next = mark_at_sound owner noted page next tt
-  mark_sound helper noted page next = by_if (MarkStep n c frame below helper noted page next) (noted == c.opened) _ _
-      (λ e. mark_at_sound helper noted page next (eqb-true noted c.opened e))
+  mark_head_sound : (role : Role) (noted page next : ℕ) → Sound (MarkHeadStep n c frame below role noted page next) (mark_head_of n c frame below role noted page next)
+  mark_head_sound owner noted page next = mark_head_at_sound owner noted page next tt
+  mark_head_sound helper noted page next = by_if (MarkHeadStep n c frame below helper noted page next) (noted == c.opened) _ _
+      (λ e. mark_head_at_sound helper noted page next (eqb-true noted c.opened e))
       (λ e. mark_late refl (again_is noted (eqb-false noted c.opened e)))
 
-  clear_sound : (noted page : ℕ) → Sound (ClearStep n c frame below noted page) (clear_of n c frame below noted page)
-  clear_sound noted page = let l = link_into n c.links noted in by_if (ClearStep n c frame below noted page) (nat_le n noted) _ _
-      (λ turn. let le = leb-true n noted turn in by_if (ClearStep n c frame below noted page) (same_link l (update_link page (noted - n))) _ _
+  clear_update_sound : (noted page : ℕ) → Sound (ClearUpdateStep n c frame below noted page) (clear_update_of n c frame below noted page)
+  clear_update_sound noted page = let l = link_into n c.links noted in by_if (ClearUpdateStep n c frame below noted page) (nat_le n noted) _ _
+      (λ turn. let le = leb-true n noted turn in by_if (ClearUpdateStep n c frame below noted page) (same_link l (update_link page (noted - n))) _ _
       (λ at. clears (noted - n) (omega arith) (same_link_true l (update_link page (noted - n)) at) refl refl)
       (λ at. tt))
       (λ first. tt)
 
-  open_sound : (noted page : ℕ) → Sound (OpenStep n c frame below noted page) (open_of c frame below noted page)
-  open_sound noted page = by_if (OpenStep n c frame below noted page) (noted == c.opened) _ _
+  open_fill_sound : (noted page : ℕ) → Sound (OpenFillStep n c frame below noted page) (open_fill_of c frame below noted page)
+  open_fill_sound noted page = by_if (OpenFillStep n c frame below noted page) (noted == c.opened) _ _
       (λ e. opens (eqb-true noted c.opened e) refl refl)
       (λ e. open_late (again_is noted (eqb-false noted c.opened e)))
 
-release_sound : (c : Core) (frame : Frame) (below : List Frame) → Sound (ReleaseStep c frame below) (release_of c frame below)
-release_sound c frame [] = by_if (ReleaseStep c frame []) ((c.done + 2) == c.opened) _ _
+release_fill_sound : (c : Core) (frame : Frame) (below : List Frame) → Sound (ReleaseFillStep c frame below) (release_fill_of c frame below)
+release_fill_sound c frame [] = by_if (ReleaseFillStep c frame []) ((c.done + 2) == c.opened) _ _
     (λ e. releases_last refl (eqb-true (c.done + 2) c.opened e) refl refl)
-    (λ e. by_if (ReleaseStep c frame []) (nat_lt (c.done + 2) c.opened) _ _ (λ more. releases refl (ltb-true (c.done + 2) c.opened more) refl refl) (λ none. tt))
-release_sound c frame (next ∷ below) = tt
+    (λ e. by_if (ReleaseFillStep c frame []) (nat_lt (c.done + 2) c.opened) _ _ (λ more. releases refl (ltb-true (c.done + 2) c.opened more) refl refl) (λ none. tt))
+release_fill_sound c frame (next ∷ below) = tt
 
 not_empty : (records : List Reservation) → is_empty records ≡ false → records ≢ []
 not_empty [] e none = both_ways true e refl
@@ -191,13 +191,13 @@ granted_false n c e g = by_wish (c.wish == c.opened) refl e
     by_wish true is t = by_tail (is_empty (tail_of c.history)) refl t
     by_wish false is t = eqb-false c.wish c.opened is g.asks_tail
 
-wish_sound : (n : ℕ) (c : Core) (frame : Frame) (below : List Frame) → Sound (WishStep n c frame below) (wish_of n c frame below)
-wish_sound n c frame [] = by_if (WishStep n c frame []) (is_granted n c) _ _
+load_wish_sound : (n : ℕ) (c : Core) (frame : Frame) (below : List Frame) → Sound (LoadWishStep n c frame below) (load_wish_of n c frame below)
+load_wish_sound n c frame [] = by_if (LoadWishStep n c frame []) (is_granted n c) _ _
     (λ e. grants refl (granted_true n c e) refl refl)
-    (λ e. by_if (WishStep n c frame []) ((c.done + 1) == c.opened) _ _
+    (λ e. by_if (LoadWishStep n c frame []) ((c.done + 1) == c.opened) _ _
     (λ last. goes_away refl (granted_false n c e) (eqb-true (c.done + 1) c.opened last) refl refl)
-    (λ some. by_if (WishStep n c frame []) (nat_lt (c.done + 1) c.opened) _ _ (λ more. closes_more refl (granted_false n c e) (ltb-true (c.done + 1) c.opened more) refl refl) (λ none. tt)))
-wish_sound n c frame (next ∷ below) = tt
+    (λ some. by_if (LoadWishStep n c frame []) (nat_lt (c.done + 1) c.opened) _ _ (λ more. closes_more refl (granted_false n c e) (ltb-true (c.done + 1) c.opened more) refl refl) (λ none. tt)))
+load_wish_sound n c frame (next ∷ below) = tt
 
 idle_sound : (n size : ℕ) (c : Core) (frame : Frame) (below : List Frame) (state : FrameState) → Sound (IdleStep n size c frame below state) (idle_of n size c frame below state)
 idle_sound n size c frame below waiting = reserve_sound n size c frame below frame.kind refl
@@ -206,35 +206,35 @@ idle_sound n size c frame below left = tt
 
 frame_sound : (n size : ℕ) (c : Core) (frame : Frame) (below : List Frame) (phase : Phase) → Sound (FrameStep n size c frame below phase) (frame_of n size c frame below phase)
 frame_sound n size c frame below idle = idle_sound n size c frame below frame.state
-frame_sound n size c frame below (looking noted) = look_sound n size c frame below noted
-frame_sound n size c frame below (claiming noted page) = claim_sound n size c frame below noted page
-frame_sound n size c frame below (looking_next role noted page) = next_sound n size c frame below role noted page
-frame_sound n size c frame below (marking role noted page next) = mark_sound n size c frame below role noted page next
-frame_sound n size c frame below (clearing noted page) = clear_sound n size c frame below noted page
-frame_sound n size c frame below (opening noted page) = open_sound n size c frame below noted page
-frame_sound n size c frame below releasing = release_sound c frame below
-frame_sound n size c frame below wishing = wish_sound n c frame below
+frame_sound n size c frame below (looking noted) = load_link_sound n size c frame below noted
+frame_sound n size c frame below (claiming noted page) = claim_head_sound n size c frame below noted page
+frame_sound n size c frame below (looking_next role noted page) = load_next_sound n size c frame below role noted page
+frame_sound n size c frame below (marking role noted page next) = mark_head_sound n size c frame below role noted page next
+frame_sound n size c frame below (clearing noted page) = clear_update_sound n size c frame below noted page
+frame_sound n size c frame below (opening noted page) = open_fill_sound n size c frame below noted page
+frame_sound n size c frame below releasing = release_fill_sound c frame below
+frame_sound n size c frame below wishing = load_wish_sound n c frame below
 
 -- ---- the steps of the reader
 
-load_sound : (n : ℕ) (c : Core) (mark : Mark) → (link_into n c.links c.reader.hint).mark ≡ mark → Sound (LoadStep n c) (load_at n c (link_into n c.links c.reader.hint) mark)
-load_sound n c header is = let l = link_into n c.links c.reader.hint in loads_header l.page l.fill (link_is l header l.page l.fill is refl refl) refl refl
-load_sound n c update is = let l = link_into n c.links c.reader.hint in loads_update l.page l.fill (link_is l update l.page l.fill is refl refl) refl refl
-load_sound n c normal is = let l = link_into n c.links c.reader.hint in by_if (LoadStep n c) (l.fill == c.reader.hint) _ _
+load_head_sound : (n : ℕ) (c : Core) (mark : Mark) → (link_into n c.links c.reader.hint).mark ≡ mark → Sound (LoadHeadStep n c) (load_head_at n c (link_into n c.links c.reader.hint) mark)
+load_head_sound n c header is = let l = link_into n c.links c.reader.hint in loads_header l.page l.fill (link_is l header l.page l.fill is refl refl) refl refl
+load_head_sound n c update is = let l = link_into n c.links c.reader.hint in loads_update l.page l.fill (link_is l update l.page l.fill is refl refl) refl refl
+load_head_sound n c normal is = let l = link_into n c.links c.reader.hint in by_if (LoadHeadStep n c) (l.fill == c.reader.hint) _ _
     (λ e. loads_owed l.page (link_is l normal l.page c.reader.hint is refl (eqb-true l.fill c.reader.hint e)) refl refl)
-    (λ e. by_if (LoadStep n c) (nat_lt c.reader.hint l.fill) _ _
-    (λ more. by_if (LoadStep n c) (nat_le n (suc l.fill)) _ _
+    (λ e. by_if (LoadHeadStep n c) (nat_lt c.reader.hint l.fill) _ _
+    (λ more. by_if (LoadHeadStep n c) (nat_le n (suc l.fill)) _ _
     (λ turn. let le = leb-true n (suc l.fill) turn in loads_passed l.page l.fill (suc l.fill - n) (link_is l normal l.page l.fill is refl refl) (ltb-true c.reader.hint l.fill more) (omega arith) refl refl)
     (λ first. tt))
     (λ less. tt))
 
 read_sound : (n : ℕ) (c : Core) (phase : ReaderPhase) → Sound (ReadStep n c phase) (read_of n c phase)
-read_sound n c loading_link = load_sound n c (link_into n c.links c.reader.hint).mark refl
+read_sound n c loading_link = load_head_sound n c (link_into n c.links c.reader.hint).mark refl
 read_sound n c (loading_done page fill) = by_if (LoadDoneStep c page fill) (nat_le c.done fill) _ _
     (λ e. finds_none (leb-true c.done fill e) refl refl)
     (λ e. finds_closed (leb-false c.done fill e) refl refl)
 read_sound n c (storing_link page fill) = record { answer_is = refl; after_is = refl }
-read_sound n c (swapping page fill) = by_if (SwapStep n c page fill) (same_link (link_into n c.links fill) (header_link page fill)) _ _
+read_sound n c (swapping page fill) = by_if (SwapHeadStep n c page fill) (same_link (link_into n c.links fill) (header_link page fill)) _ _
     (λ e. swaps (same_link_true (link_into n c.links fill) (header_link page fill) e) refl refl)
     (λ e. swap_fails (same_link_false (link_into n c.links fill) (header_link page fill) e) refl refl)
 
@@ -294,7 +294,7 @@ step_sound n size c pushes_close = close_push_sound n size c
 step_sound n size c steps = steps_sound n size c c.frames refl
 step_sound n size c (ends payload) = end_sound n size c payload c.frames refl
 step_sound n size c reads = sound_as (ReadStep n c c.reader.phase) (Step n size c reads) (read_of n c c.reader.phase) (λ answer after step. read_step refl step) (read_sound n c c.reader.phase)
-step_sound n size c wishes = wish_step refl refl refl
+step_sound n size c wishes = store_wish_step refl refl refl
 
 -- ---- runs
 

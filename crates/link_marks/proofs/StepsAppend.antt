@@ -1,10 +1,10 @@
--- Each event appends to the history what it is said to, and there is one such list of actions.
+-- Each event appends to the history what it is said to, and there is one such list of history events.
 use Rattle.std.proofs.Common.{◌≡◌, ◌≢◌, ℕ, ◌⊎◌, List, [], ◌∷◌, ◌++◌, Some, None, refl, sym, ap, ◌∙◌, subst, inl, inr, append_assoc, append-nil}
-use Rattle.trace_model.specs.History.{Action, push, push_close, open_fill, reserve, leave, wished}
+use Rattle.trace_model.specs.History.{HistoryEvent, push, push_close, open_fill, reserve, leave, wished}
 use Rattle.trace_model.specs.Packing.{tail_of}
 use Rattle.trace_model.specs.Frames.{Kind, for_record, for_close, FrameState, waiting, reserved, left, number_of, Phase, idle, looking, claiming, looking_next, marking, clearing, opening, releasing, wishing, Role, owner, helper, noted_fill, owned_update, Frame, Refusal, too_deep, not_reserved, crowded, worn}
 use Rattle.trace_model.specs.Ring.{ReaderPhase, loading_link, loading_done, storing_link, swapping, Core}
-use Rattle.trace_model.specs.Steps.{Event, pushes, pushes_close, steps, ends, reads, wishes, Answer, going, reserved_as, gone, refused, MayOpen, IsGranted, with_new_tail, after_begin, begin_answer, leave_answer, BeginsAgain, reserves, finds_nothing, is_crowded, is_worn, notes, IdleStep, look_late, sees_free, sees_header, sees_update, claim_late, claims, claim_fails, next_late, sees_normal, sees_other, mark_late, marks, mark_fails, clears, open_late, opens, releases, releases_last, grants, closes_more, goes_away, FrameStep, push_step, push_refused, close_step, close_refused, frame_step, frame_lacks, end_step, end_lacks, end_early, read_step, wish_step, loads_header, loads_update, loads_owed, loads_passed, finds_none, finds_closed, swaps, swap_fails, ReadStep}
+use Rattle.trace_model.specs.Steps.{Event, pushes, pushes_close, steps, ends, reads, wishes, Answer, going, reserved_as, gone, refused, MayOpen, IsGranted, with_new_tail, after_begin, begin_answer, leave_answer, BeginsAgain, reserves, finds_nothing, is_crowded, is_worn, notes, IdleStep, load_link_late, sees_free, sees_header, sees_update, claim_late, claims, claim_fails, load_next_late, sees_normal, sees_other, mark_late, marks, mark_fails, clears, open_late, opens, releases, releases_last, grants, closes_more, goes_away, FrameStep, push_step, push_refused, close_step, close_refused, frame_step, frame_lacks, end_step, end_lacks, end_early, read_step, store_wish_step, loads_header, loads_update, loads_owed, loads_passed, finds_none, finds_closed, swaps, swap_fails, ReadStep}
 use Rattle.link_marks.specs.KeptStack.{MayBeIn}
 use Rattle.link_marks.specs.Appended.{PushAppends, is_pushed, isnt_pushed, EndAppends, TopEndAppends, IsOpening, IsRefusedPage, RecordAppends, record_reserved, record_refused, record_opens, record_goes_on, HasWhatItWants, tail_is_empty, was_faster, CloseAppends, close_refused as refused_close, close_opens, close_leaves, close_goes_on, Grants, LeftAppends, left_opens, left_grants, left_stays, FrameAppends, TopAppends, Appends}
 use Rattle.link_marks.specs.HistoryLaws.{StepsAppend, AppendedIsOne}
@@ -39,7 +39,7 @@ owner_wants_on c phase noted owns (was_faster other is passed free) = none_some 
 
 module _ (n size : ℕ) (c : Core) (below : List Frame) (answer : Answer) (after : Core) where
   abbrev Told : Kind → FrameState → Phase → Type 0
-  Told kind state phase = (actions : List Action) × (after.history ≡ c.history ++ actions) × FrameAppends n c kind state phase below answer actions
+  Told kind state phase = (history_events : List HistoryEvent) × (after.history ≡ c.history ++ history_events) × FrameAppends n c kind state phase below answer history_events
 
   history_is : (next : Core) → after ≡ next → after.history ≡ next.history
   history_is next is = ap (λ (d : Core). d.history) is
@@ -125,14 +125,14 @@ module _ (n size : ℕ) (c : Core) (below : List Frame) (answer : Answer) (after
   -- in its phase
   told_frame : (kind : Kind) (state : FrameState) (phase : Phase) → MayBeIn kind state phase → FrameStep n size c (record { kind = kind; state = state; phase = phase }) below phase answer after → Told kind state phase
   told_frame kind state idle may step = told_idle kind state step
-  told_frame kind state (looking noted) may (look_late step) = late kind state (looking noted) noted may refl refl step
+  told_frame kind state (looking noted) may (load_link_late step) = late kind state (looking noted) noted may refl refl step
   told_frame kind state (looking noted) may (sees_free page now at a is) = looks kind state noted _ may now a is refl
   told_frame kind state (looking noted) may (sees_header page lost now sum at a is) = looks kind state noted _ may now a is refl
   told_frame kind state (looking noted) may (sees_update page lost now sum at a is) = looks kind state noted _ may now a is refl
   told_frame kind state (claiming noted page) may (claim_late step) = late kind state (claiming noted page) noted may refl refl step
   told_frame kind state (claiming noted page) may (claims lost now sum at a is) = tries kind state noted page _ may now a is refl
   told_frame kind state (claiming noted page) may (claim_fails now none a is) = tries kind state noted page _ may now a is refl
-  told_frame kind state (looking_next role noted page) may (next_late helps step) = late kind state (looking_next role noted page) noted may refl (ap (λ (r : Role). owned_update (looking_next r noted page)) helps) step
+  told_frame kind state (looking_next role noted page) may (load_next_late helps step) = late kind state (looking_next role noted page) noted may refl (ap (λ (r : Role). owned_update (looking_next r noted page)) helps) step
   told_frame kind state (looking_next role noted page) may (sees_normal lost next on sum at a is) = looks_next kind state role noted page _ may on a is refl
   told_frame kind state (looking_next role noted page) may (sees_other lost on sum none a is) = looks_next kind state role noted page _ may on a is refl
   told_frame kind state (marking role noted page next) may (mark_late helps step) = late kind state (marking role noted page next) noted may refl (ap (λ (r : Role). owned_update (marking r noted page next)) helps) step
@@ -180,8 +180,8 @@ steps_append n size start c event answer after kept (push_refused moment len why
 steps_append n size start c event answer after kept (close_step e few a is) = (push_close ∷ [], ap (λ (d : Core). d.history) is, subst (λ (x : Event). Appends n c x answer (push_close ∷ [])) (sym e) (is_pushed a refl))
 steps_append n size start c event answer after kept (close_refused e many a is) = ([], same c after is, subst (λ (x : Event). Appends n c x answer []) (sym e) (isnt_pushed too_deep a refl))
 steps_append n size start c event answer after kept (frame_step frame below e top step) =
-    let (actions, is, by) = told_frame n size c below answer after frame.kind frame.state frame.phase (top_agrees c frame below kept.stack top).0 step in
-    (actions, is, subst (λ (x : Event). Appends n c x answer actions) (sym e) (subst (λ (fs : List Frame). TopAppends n c fs answer actions) (sym top) by))
+    let (history_events, is, by) = told_frame n size c below answer after frame.kind frame.state frame.phase (top_agrees c frame below kept.stack top).0 step in
+    (history_events, is, subst (λ (x : Event). Appends n c x answer history_events) (sym e) (subst (λ (fs : List Frame). TopAppends n c fs answer history_events) (sym top) by))
 steps_append n size start c event answer after kept (frame_lacks e none a is) =
     ([], same c after is, subst (λ (x : Event). Appends n c x answer []) (sym e) (subst (λ (fs : List Frame). TopAppends n c fs answer []) (sym none) (a, refl)))
 steps_append n size start c event answer after kept (end_step payload frame below number moment len e top has kind slot a is) = (
@@ -195,17 +195,17 @@ steps_append n size start c event answer after kept (end_lacks payload e none a 
 steps_append n size start c event answer after kept (end_early payload frame below e top none a is) =
     ([], same c after is, subst (λ (x : Event). Appends n c x answer []) (sym e) (subst (λ (fs : List Frame). TopEndAppends payload fs answer []) (sym top) (told_end payload frame below answer none a)))
 steps_append n size start c event answer after kept (read_step e step) = ([], read_same n c after c.reader.phase answer step, subst (λ (x : Event). Appends n c x answer []) (sym e) refl)
-steps_append n size start c event answer after kept (wish_step e a is) = ([], ap (λ (d : Core). d.history) is ∙ sym (append-nil c.history), subst (λ (x : Event). Appends n c x answer []) (sym e) refl)
+steps_append n size start c event answer after kept (store_wish_step e a is) = ([], ap (λ (d : Core). d.history) is ∙ sym (append-nil c.history), subst (λ (x : Event). Appends n c x answer []) (sym e) refl)
 
 -- ---- one list
 
-pushed_is_one : (action : Action) (answer : Answer) (some others : List Action) → PushAppends action answer some → PushAppends action answer others → some ≡ others
-pushed_is_one action answer some others (is_pushed a is) (is_pushed b same_is) = is ∙ sym same_is
-pushed_is_one action answer some others (is_pushed a is) (isnt_pushed why b same_is) = absurd (cc)
-pushed_is_one action answer some others (isnt_pushed why a is) (is_pushed b same_is) = absurd (cc)
-pushed_is_one action answer some others (isnt_pushed why a is) (isnt_pushed other b same_is) = is ∙ sym same_is
+pushed_is_one : (history_event : HistoryEvent) (answer : Answer) (some others : List HistoryEvent) → PushAppends history_event answer some → PushAppends history_event answer others → some ≡ others
+pushed_is_one history_event answer some others (is_pushed a is) (is_pushed b same_is) = is ∙ sym same_is
+pushed_is_one history_event answer some others (is_pushed a is) (isnt_pushed why b same_is) = absurd (cc)
+pushed_is_one history_event answer some others (isnt_pushed why a is) (is_pushed b same_is) = absurd (cc)
+pushed_is_one history_event answer some others (isnt_pushed why a is) (isnt_pushed other b same_is) = is ∙ sym same_is
 
-ended_is_one : (payload : List ℕ) (frames : List Frame) (answer : Answer) (some others : List Action) → TopEndAppends payload frames answer some → TopEndAppends payload frames answer others → some ≡ others
+ended_is_one : (payload : List ℕ) (frames : List Frame) (answer : Answer) (some others : List HistoryEvent) → TopEndAppends payload frames answer some → TopEndAppends payload frames answer others → some ≡ others
 ended_is_one payload [] answer some others one other = one.1 ∙ sym other.1
 ended_is_one payload (frame ∷ below) answer some others one other = by frame.state one other
   where
@@ -229,7 +229,7 @@ pub leave_not_refused : (below : List Frame) (why : Refusal) → leave_answer be
 leave_not_refused [] why e = cc
 leave_not_refused (next ∷ below) why e = cc
 
-module _ (c : Core) (phase : Phase) (answer : Answer) (some others : List Action) where
+module _ (c : Core) (phase : Phase) (answer : Answer) (some others : List HistoryEvent) where
   record_is_one : RecordAppends c phase answer some → RecordAppends c phase answer others → some ≡ others
   record_is_one (record_reserved a is) (record_reserved b that) = is ∙ sym that
   record_is_one (record_reserved a is) (record_refused b that) = absurd (not_refused answer _ (number_not_refused _) a b)
@@ -285,13 +285,13 @@ module _ (c : Core) (phase : Phase) (answer : Answer) (some others : List Action
   left_is_one n (left_stays none denied a is) (left_grants wish b that) = absurd (denied wish)
   left_is_one n (left_stays none denied a is) (left_stays other refused_too b that) = is ∙ sym that
 
-frame_is_one : (n : ℕ) (c : Core) (kind : Kind) (state : FrameState) (phase : Phase) (below : List Frame) (answer : Answer) (some others : List Action) → FrameAppends n c kind state phase below answer some → FrameAppends n c kind state phase below answer others → some ≡ others
+frame_is_one : (n : ℕ) (c : Core) (kind : Kind) (state : FrameState) (phase : Phase) (below : List Frame) (answer : Answer) (some others : List HistoryEvent) → FrameAppends n c kind state phase below answer some → FrameAppends n c kind state phase below answer others → some ≡ others
 frame_is_one n c (for_record moment len) waiting phase below answer some others one other = record_is_one c phase answer some others one other
 frame_is_one n c for_close waiting phase below answer some others one other = close_is_one c phase answer some others below one other
 frame_is_one n c kind (reserved number) phase below answer some others one other = one.1 ∙ sym other.1
 frame_is_one n c kind left phase below answer some others one other = left_is_one c phase answer some others n one other
 
-top_is_one : (n : ℕ) (c : Core) (frames : List Frame) (answer : Answer) (some others : List Action) → TopAppends n c frames answer some → TopAppends n c frames answer others → some ≡ others
+top_is_one : (n : ℕ) (c : Core) (frames : List Frame) (answer : Answer) (some others : List HistoryEvent) → TopAppends n c frames answer some → TopAppends n c frames answer others → some ≡ others
 top_is_one n c [] answer some others one other = one.1 ∙ sym other.1
 top_is_one n c (frame ∷ below) answer some others one other = frame_is_one n c frame.kind frame.state frame.phase below answer some others one other
 

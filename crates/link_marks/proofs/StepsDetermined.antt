@@ -8,10 +8,10 @@ use Rattle.trace_model.specs.Packing.{FitsBehind, tail_of}
 use Rattle.trace_model.specs.Links.{Link, normal_link, header_link, update_link}
 use Rattle.trace_model.specs.Frames.{Kind, for_record, for_close, FrameState, waiting, reserved, left, number_of, Role, owner, helper, Phase, idle, looking, claiming, looking_next, marking, clearing, opening, releasing, wishing, Frame, Refusal, not_reserved}
 use Rattle.trace_model.specs.Ring.{ReaderPhase, loading_link, loading_done, storing_link, swapping, Core, link_into}
-use Rattle.trace_model.specs.Steps.{Event, Answer, going, refused, with_action, with_released, with_head_claimed, with_link, with_reservation, in_phase, in_reserved, reader_at, NeedsPage, BeginsAgain, ReserveStep, reserves, finds_nothing, is_crowded, is_worn, notes, LookStep, look_late, sees_free, sees_header, sees_update, ClaimStep, claim_late, claims, claim_fails, NextStep, next_late, sees_normal, sees_other, MarkStep, mark_late, marks, mark_fails, ClearStep, clears, OpenStep, open_late, opens, ReleaseStep, releases, releases_last, IsGranted, WishStep, grants, closes_more, goes_away, IdleStep, FrameStep, LoadStep, loads_header, loads_update, loads_owed, loads_passed, LoadDoneStep, finds_none, finds_closed, SwapStep, swaps, swap_fails, ReadStep, after_next, IsTooLong, PushRefused, all_stand, has_no_room, comes_late, Run, Step, push_step, push_refused, close_step, close_refused, frame_step, frame_lacks, end_step, end_lacks, end_early, read_step, wish_step}
+use Rattle.trace_model.specs.Steps.{Event, Answer, going, refused, with_history_event, with_released, with_head_claimed, with_link, with_reservation, in_phase, in_reserved, reader_at, NeedsPage, BeginsAgain, ReserveStep, reserves, finds_nothing, is_crowded, is_worn, notes, LoadLinkStep, load_link_late, sees_free, sees_header, sees_update, ClaimHeadStep, claim_late, claims, claim_fails, LoadNextStep, load_next_late, sees_normal, sees_other, MarkHeadStep, mark_late, marks, mark_fails, ClearUpdateStep, clears, OpenFillStep, open_late, opens, ReleaseFillStep, releases, releases_last, IsGranted, LoadWishStep, grants, closes_more, goes_away, IdleStep, FrameStep, LoadHeadStep, loads_header, loads_update, loads_owed, loads_passed, LoadDoneStep, finds_none, finds_closed, SwapHeadStep, swaps, swap_fails, ReadStep, after_next, IsTooLong, PushRefused, all_stand, has_no_room, comes_late, Run, Step, push_step, push_refused, close_step, close_refused, frame_step, frame_lacks, end_step, end_lacks, end_early, read_step, store_wish_step}
 use Rattle.link_marks.specs.RingLaws.{StepsAreDetermined, events_of, RunsAreDetermined}
 use Rattle.link_marks.proofs.FramePhases.{none_some}
-use Rattle.link_marks.proofs.StepFunction.{Outcome, gives, same_link, again, goes_on, needs_page, record_len, close_of, reserve_of, look_at, look_of, claim_of, next_at, next_of, mark_at, mark_of, clear_of, open_of, release_of, is_granted, wish_of, idle_of, frame_of, load_at, read_of, too_long_for, push_of, steps_of, full_end, end_in, end_of, step_of}
+use Rattle.link_marks.proofs.StepFunction.{Outcome, gives, same_link, again, goes_on, needs_page, record_len, close_of, reserve_of, load_link_at, load_link_of, claim_head_of, load_next_at, load_next_of, mark_head_at, mark_head_of, clear_update_of, open_fill_of, release_fill_of, is_granted, load_wish_of, idle_of, frame_of, load_head_at, read_of, too_long_for, push_of, steps_of, full_end, end_in, end_of, step_of}
 use Rattle.link_marks.proofs.StepFunctionSound.{same_link_true, same_link_refl, granted_true, granted_false, too_long_true}
 
 -- what is computed is this answer and this state
@@ -67,26 +67,26 @@ module _ (n size : ℕ) (c : Core) (frame : Frame) (below : List Frame) (answer 
   again_is : (noted : ℕ) → BeginsAgain c frame below noted answer after → Is (again c frame below) answer after
   again_is noted step = here _ answer _ after step.answer_is step.after_is
 
-  look_is : (noted : ℕ) → LookStep n c frame below noted answer after → Is (look_of n c frame below noted) answer after
-  look_is noted (look_late step) = if_no (noted == c.opened) _ _ (ne_eqb noted c.opened step.passed) ∙ again_is noted step
-  look_is noted (sees_free page now at a is) =
-      if_yes (noted == c.opened) _ _ (eq-eqb noted c.opened now) ∙ ap (λ (l : Link). look_at n c frame below noted l l.mark) at
+  load_link_is : (noted : ℕ) → LoadLinkStep n c frame below noted answer after → Is (load_link_of n c frame below noted) answer after
+  load_link_is noted (load_link_late step) = if_no (noted == c.opened) _ _ (ne_eqb noted c.opened step.passed) ∙ again_is noted step
+  load_link_is noted (sees_free page now at a is) =
+      if_yes (noted == c.opened) _ _ (eq-eqb noted c.opened now) ∙ ap (λ (l : Link). load_link_at n c frame below noted l l.mark) at
       ∙ if_yes (noted == noted) _ _ (eq-eqb noted noted refl) ∙ here _ answer _ after a is
-  look_is noted (sees_header page lost now sum at a is) =
-      if_yes (noted == c.opened) _ _ (eq-eqb noted c.opened now) ∙ ap (λ (l : Link). look_at n c frame below noted l l.mark) at
+  load_link_is noted (sees_header page lost now sum at a is) =
+      if_yes (noted == c.opened) _ _ (eq-eqb noted c.opened now) ∙ ap (λ (l : Link). load_link_at n c frame below noted l l.mark) at
       ∙ if_yes ((lost + n) == noted) _ _ (eq-eqb (lost + n) noted sum) ∙ here _ answer _ after a is
-  look_is noted (sees_update page lost now sum at a is) =
-      if_yes (noted == c.opened) _ _ (eq-eqb noted c.opened now) ∙ ap (λ (l : Link). look_at n c frame below noted l l.mark) at
+  load_link_is noted (sees_update page lost now sum at a is) =
+      if_yes (noted == c.opened) _ _ (eq-eqb noted c.opened now) ∙ ap (λ (l : Link). load_link_at n c frame below noted l l.mark) at
       ∙ if_yes ((lost + n) == noted) _ _ (eq-eqb (lost + n) noted sum) ∙ here _ answer _ after a is
 
-  claim_is : (noted page : ℕ) → ClaimStep n c frame below noted page answer after → Is (claim_of n c frame below noted page) answer after
-  claim_is noted page (claim_late step) = if_no (noted == c.opened) _ _ (ne_eqb noted c.opened step.passed) ∙ again_is noted step
-  claim_is noted page (claims lost now sum at a is) = let fill : lost ≡ noted - n = omega arith in
+  claim_head_is : (noted page : ℕ) → ClaimHeadStep n c frame below noted page answer after → Is (claim_head_of n c frame below noted page) answer after
+  claim_head_is noted page (claim_late step) = if_no (noted == c.opened) _ _ (ne_eqb noted c.opened step.passed) ∙ again_is noted step
+  claim_head_is noted page (claims lost now sum at a is) = let fill : lost ≡ noted - n = omega arith in
       if_yes (noted == c.opened) _ _ (eq-eqb noted c.opened now)
       ∙ if_yes (nat_le n noted) _ _ (le-leb n noted (omega arith))
       ∙ if_yes (same_link (link_into n c.links noted) (header_link page (noted - n))) _ _ (same_yes (link_into n c.links noted) (header_link page (noted - n)) (at ∙ ap (header_link page) fill))
       ∙ here _ answer _ after a (is ∙ ap (λ (f : ℕ). in_phase (with_head_claimed n c noted page f) frame below (looking_next owner noted page)) fill)
-  claim_is noted page (claim_fails now other a is) =
+  claim_head_is noted page (claim_fails now other a is) =
       if_yes (noted == c.opened) _ _ (eq-eqb noted c.opened now) ∙ by_turn (nat_le n noted) refl
     where
       by_turn : (b : Bool) → nat_le n noted ≡ b
@@ -95,15 +95,15 @@ module _ (n size : ℕ) (c : Core) (frame : Frame) (below : List Frame) (answer 
           if_no (same_link (link_into n c.links noted) (header_link page (noted - n))) _ _ (same_no (link_into n c.links noted) (header_link page (noted - n)) (other (noted - n) (omega arith))) ∙ here _ answer _ after a is
       by_turn false e = here _ answer _ after a is
 
-  next_at_is : (role : Role) (noted page : ℕ) → NextStep n c frame below role noted page answer after → (role ≡ helper → noted ≡ c.opened) → Is (next_at n c frame below role noted page (link_into n c.links (suc (noted - n)))) answer after
-  next_at_is role noted page (next_late helps step) now = absurd (step.passed (now helps))
-  next_at_is role noted page (sees_normal lost next on sum at a is) now = let fill : lost ≡ noted - n = omega arith in
+  load_next_at_is : (role : Role) (noted page : ℕ) → LoadNextStep n c frame below role noted page answer after → (role ≡ helper → noted ≡ c.opened) → Is (load_next_at n c frame below role noted page (link_into n c.links (suc (noted - n)))) answer after
+  load_next_at_is role noted page (load_next_late helps step) now = absurd (step.passed (now helps))
+  load_next_at_is role noted page (sees_normal lost next on sum at a is) now = let fill : lost ≡ noted - n = omega arith in
       let at' : link_into n c.links (suc (noted - n)) ≡ normal_link next (suc (noted - n)) = subst (λ (f : ℕ). link_into n c.links (suc f) ≡ normal_link next (suc f)) fill at in
       let page_is = ap (λ (l : Link). l.page) at' in let l = link_into n c.links (suc (noted - n)) in
       if_yes (nat_le n noted) _ _ (le-leb n noted (omega arith))
       ∙ if_yes (same_link l (normal_link l.page (suc (noted - n)))) _ _ (same_yes l (normal_link l.page (suc (noted - n))) (at' ∙ ap (λ (p : ℕ). normal_link p (suc (noted - n))) (sym page_is)))
       ∙ here _ answer _ after a (is ∙ ap (λ (p : ℕ). in_phase c frame below (marking role noted page p)) (sym page_is))
-  next_at_is role noted page (sees_other lost on sum other a is) now = let fill : lost ≡ noted - n = omega arith in
+  load_next_at_is role noted page (sees_other lost on sum other a is) now = let fill : lost ≡ noted - n = omega arith in
       let other' : (next : ℕ) → link_into n c.links (suc (noted - n)) ≢ normal_link next (suc (noted - n)) = subst (λ (f : ℕ). (next : ℕ) → link_into n c.links (suc f) ≢ normal_link next (suc f)) fill other in
       let l = link_into n c.links (suc (noted - n)) in
       if_yes (nat_le n noted) _ _ (le-leb n noted (omega arith))
@@ -113,45 +113,45 @@ module _ (n size : ℕ) (c : Core) (frame : Frame) (below : List Frame) (answer 
   role_differs : owner ≢ helper
   role_differs e = let z : ⊥ = cc in z
 
-  next_is : (role : Role) (noted page : ℕ) → NextStep n c frame below role noted page answer after → Is (next_of n c frame below role noted page) answer after
-  next_is owner noted page step = next_at_is owner noted page step (λ e. absurd (role_differs e))
-  next_is helper noted page (next_late helps step) = if_no (noted == c.opened) _ _ (ne_eqb noted c.opened step.passed) ∙ again_is noted step
-  next_is helper noted page (sees_normal lost next on sum at a is) = if_yes (noted == c.opened) _ _ (eq-eqb noted c.opened on) ∙ next_at_is helper noted page (sees_normal lost next on sum at a is) (λ e. on)
-  next_is helper noted page (sees_other lost on sum other a is) = if_yes (noted == c.opened) _ _ (eq-eqb noted c.opened on) ∙ next_at_is helper noted page (sees_other lost on sum other a is) (λ e. on)
+  load_next_is : (role : Role) (noted page : ℕ) → LoadNextStep n c frame below role noted page answer after → Is (load_next_of n c frame below role noted page) answer after
+  load_next_is owner noted page step = load_next_at_is owner noted page step (λ e. absurd (role_differs e))
+  load_next_is helper noted page (load_next_late helps step) = if_no (noted == c.opened) _ _ (ne_eqb noted c.opened step.passed) ∙ again_is noted step
+  load_next_is helper noted page (sees_normal lost next on sum at a is) = if_yes (noted == c.opened) _ _ (eq-eqb noted c.opened on) ∙ load_next_at_is helper noted page (sees_normal lost next on sum at a is) (λ e. on)
+  load_next_is helper noted page (sees_other lost on sum other a is) = if_yes (noted == c.opened) _ _ (eq-eqb noted c.opened on) ∙ load_next_at_is helper noted page (sees_other lost on sum other a is) (λ e. on)
 
-  mark_at_is : (role : Role) (noted page next : ℕ) → MarkStep n c frame below role noted page next answer after → (role ≡ helper → noted ≡ c.opened) → Is (mark_at n c frame below role noted page next) answer after
-  mark_at_is role noted page next (mark_late helps step) now = absurd (step.passed (now helps))
-  mark_at_is role noted page next (marks lost on sum at a is) now = let fill : lost ≡ noted - n = omega arith in
+  mark_head_at_is : (role : Role) (noted page next : ℕ) → MarkHeadStep n c frame below role noted page next answer after → (role ≡ helper → noted ≡ c.opened) → Is (mark_head_at n c frame below role noted page next) answer after
+  mark_head_at_is role noted page next (mark_late helps step) now = absurd (step.passed (now helps))
+  mark_head_at_is role noted page next (marks lost on sum at a is) now = let fill : lost ≡ noted - n = omega arith in
       let at' : link_into n c.links (suc (noted - n)) ≡ normal_link next (suc (noted - n)) = subst (λ (f : ℕ). link_into n c.links (suc f) ≡ normal_link next (suc f)) fill at in
       if_yes (nat_le n noted) _ _ (le-leb n noted (omega arith))
       ∙ if_yes (same_link (link_into n c.links (suc (noted - n))) (normal_link next (suc (noted - n)))) _ _ (same_yes (link_into n c.links (suc (noted - n))) (normal_link next (suc (noted - n))) at')
       ∙ here _ answer _ after a (is ∙ ap (λ (f : ℕ). in_phase (with_link n c (suc f) (header_link next (suc f))) frame below (after_next role noted page)) fill)
-  mark_at_is role noted page next (mark_fails lost on sum other a is) now = let fill : lost ≡ noted - n = omega arith in
+  mark_head_at_is role noted page next (mark_fails lost on sum other a is) now = let fill : lost ≡ noted - n = omega arith in
       let other' : link_into n c.links (suc (noted - n)) ≢ normal_link next (suc (noted - n)) = subst (λ (f : ℕ). link_into n c.links (suc f) ≢ normal_link next (suc f)) fill other in
       if_yes (nat_le n noted) _ _ (le-leb n noted (omega arith))
       ∙ if_no (same_link (link_into n c.links (suc (noted - n))) (normal_link next (suc (noted - n)))) _ _ (same_no (link_into n c.links (suc (noted - n))) (normal_link next (suc (noted - n))) other')
       ∙ here _ answer _ after a is
 
-  mark_is : (role : Role) (noted page next : ℕ) → MarkStep n c frame below role noted page next answer after → Is (mark_of n c frame below role noted page next) answer after
-  mark_is owner noted page next step = mark_at_is owner noted page next step (λ e. absurd (role_differs e))
-  mark_is helper noted page next (mark_late helps step) = if_no (noted == c.opened) _ _ (ne_eqb noted c.opened step.passed) ∙ again_is noted step
-  mark_is helper noted page next (marks lost on sum at a is) = if_yes (noted == c.opened) _ _ (eq-eqb noted c.opened on) ∙ mark_at_is helper noted page next (marks lost on sum at a is) (λ e. on)
-  mark_is helper noted page next (mark_fails lost on sum other a is) = if_yes (noted == c.opened) _ _ (eq-eqb noted c.opened on) ∙ mark_at_is helper noted page next (mark_fails lost on sum other a is) (λ e. on)
+  mark_head_is : (role : Role) (noted page next : ℕ) → MarkHeadStep n c frame below role noted page next answer after → Is (mark_head_of n c frame below role noted page next) answer after
+  mark_head_is owner noted page next step = mark_head_at_is owner noted page next step (λ e. absurd (role_differs e))
+  mark_head_is helper noted page next (mark_late helps step) = if_no (noted == c.opened) _ _ (ne_eqb noted c.opened step.passed) ∙ again_is noted step
+  mark_head_is helper noted page next (marks lost on sum at a is) = if_yes (noted == c.opened) _ _ (eq-eqb noted c.opened on) ∙ mark_head_at_is helper noted page next (marks lost on sum at a is) (λ e. on)
+  mark_head_is helper noted page next (mark_fails lost on sum other a is) = if_yes (noted == c.opened) _ _ (eq-eqb noted c.opened on) ∙ mark_head_at_is helper noted page next (mark_fails lost on sum other a is) (λ e. on)
 
-  clear_is : (noted page : ℕ) → ClearStep n c frame below noted page answer after → Is (clear_of n c frame below noted page) answer after
-  clear_is noted page (clears lost sum at a is) = let fill : lost ≡ noted - n = omega arith in
+  clear_update_is : (noted page : ℕ) → ClearUpdateStep n c frame below noted page answer after → Is (clear_update_of n c frame below noted page) answer after
+  clear_update_is noted page (clears lost sum at a is) = let fill : lost ≡ noted - n = omega arith in
       if_yes (nat_le n noted) _ _ (le-leb n noted (omega arith))
       ∙ if_yes (same_link (link_into n c.links noted) (update_link page (noted - n))) _ _ (same_yes (link_into n c.links noted) (update_link page (noted - n)) (at ∙ ap (update_link page) fill))
       ∙ here _ answer _ after a is
 
-  open_is : (noted page : ℕ) → OpenStep n c frame below noted page answer after → Is (open_of c frame below noted page) answer after
-  open_is noted page (open_late step) = if_no (noted == c.opened) _ _ (ne_eqb noted c.opened step.passed) ∙ again_is noted step
-  open_is noted page (opens now a is) = if_yes (noted == c.opened) _ _ (eq-eqb noted c.opened now) ∙ here _ answer _ after a is
+  open_fill_is : (noted page : ℕ) → OpenFillStep n c frame below noted page answer after → Is (open_fill_of c frame below noted page) answer after
+  open_fill_is noted page (open_late step) = if_no (noted == c.opened) _ _ (ne_eqb noted c.opened step.passed) ∙ again_is noted step
+  open_fill_is noted page (opens now a is) = if_yes (noted == c.opened) _ _ (eq-eqb noted c.opened now) ∙ here _ answer _ after a is
 
-  release_is : ReleaseStep c frame below answer after → Is (release_of c frame below) answer after
-  release_is (releases alone more a is) =
-      ap (release_of c frame) alone ∙ if_no ((c.done + 2) == c.opened) _ _ (ne_eqb (c.done + 2) c.opened (λ e. omega arith)) ∙ if_yes (nat_lt (c.done + 2) c.opened) _ _ (lt-ltb (c.done + 2) c.opened more) ∙ here _ answer _ after a is
-  release_is (releases_last alone last a is) = ap (release_of c frame) alone ∙ if_yes ((c.done + 2) == c.opened) _ _ (eq-eqb (c.done + 2) c.opened last)
+  release_fill_is : ReleaseFillStep c frame below answer after → Is (release_fill_of c frame below) answer after
+  release_fill_is (releases alone more a is) =
+      ap (release_fill_of c frame) alone ∙ if_no ((c.done + 2) == c.opened) _ _ (ne_eqb (c.done + 2) c.opened (λ e. omega arith)) ∙ if_yes (nat_lt (c.done + 2) c.opened) _ _ (lt-ltb (c.done + 2) c.opened more) ∙ here _ answer _ after a is
+  release_fill_is (releases_last alone last a is) = ap (release_fill_of c frame) alone ∙ if_yes ((c.done + 2) == c.opened) _ _ (eq-eqb (c.done + 2) c.opened last)
       ∙ here _ answer _ after a (is ∙ ap (λ (fs : List Frame). in_phase (with_released c) frame fs wishing) alone)
 
   denied_is : (IsGranted n c → ⊥) → is_granted n c ≡ false
@@ -161,13 +161,13 @@ module _ (n size : ℕ) (c : Core) (frame : Frame) (below : List Frame) (answer 
   granted_is true e granted = e
   granted_is false e granted = absurd (granted_false n c e granted)
 
-  wish_is : WishStep n c frame below answer after → Is (wish_of n c frame below) answer after
-  wish_is (grants alone granted a is) = ap (wish_of n c frame) alone ∙ if_yes (is_granted n c) _ _ (granted_is (is_granted n c) refl granted)
-      ∙ here _ answer _ after a (is ∙ ap (λ (fs : List Frame). in_phase (with_action c wished) frame fs (looking c.opened)) alone)
-  wish_is (closes_more alone denied more a is) = ap (wish_of n c frame) alone ∙ if_no (is_granted n c) _ _ (denied_is denied)
+  load_wish_is : LoadWishStep n c frame below answer after → Is (load_wish_of n c frame below) answer after
+  load_wish_is (grants alone granted a is) = ap (load_wish_of n c frame) alone ∙ if_yes (is_granted n c) _ _ (granted_is (is_granted n c) refl granted)
+      ∙ here _ answer _ after a (is ∙ ap (λ (fs : List Frame). in_phase (with_history_event c wished) frame fs (looking c.opened)) alone)
+  load_wish_is (closes_more alone denied more a is) = ap (load_wish_of n c frame) alone ∙ if_no (is_granted n c) _ _ (denied_is denied)
       ∙ if_no ((c.done + 1) == c.opened) _ _ (ne_eqb (c.done + 1) c.opened (λ e. omega arith)) ∙ if_yes (nat_lt (c.done + 1) c.opened) _ _ (lt-ltb (c.done + 1) c.opened more)
       ∙ here _ answer _ after a (is ∙ ap (λ (fs : List Frame). in_phase c frame fs releasing) alone)
-  wish_is (goes_away alone denied last a is) = ap (wish_of n c frame) alone ∙ if_no (is_granted n c) _ _ (denied_is denied)
+  load_wish_is (goes_away alone denied last a is) = ap (load_wish_of n c frame) alone ∙ if_no (is_granted n c) _ _ (denied_is denied)
       ∙ if_yes ((c.done + 1) == c.opened) _ _ (eq-eqb (c.done + 1) c.opened last) ∙ here _ answer _ after a is
 
   idle_is : (state : FrameState) → IdleStep n size c frame below state answer after → Is (idle_of n size c frame below state) answer after
@@ -177,25 +177,25 @@ module _ (n size : ℕ) (c : Core) (frame : Frame) (below : List Frame) (answer 
 
   frame_is : (phase : Phase) → FrameStep n size c frame below phase answer after → Is (frame_of n size c frame below phase) answer after
   frame_is idle step = idle_is frame.state step
-  frame_is (looking noted) step = look_is noted step
-  frame_is (claiming noted page) step = claim_is noted page step
-  frame_is (looking_next role noted page) step = next_is role noted page step
-  frame_is (marking role noted page next) step = mark_is role noted page next step
-  frame_is (clearing noted page) step = clear_is noted page step
-  frame_is (opening noted page) step = open_is noted page step
-  frame_is releasing step = release_is step
-  frame_is wishing step = wish_is step
+  frame_is (looking noted) step = load_link_is noted step
+  frame_is (claiming noted page) step = claim_head_is noted page step
+  frame_is (looking_next role noted page) step = load_next_is role noted page step
+  frame_is (marking role noted page next) step = mark_head_is role noted page next step
+  frame_is (clearing noted page) step = clear_update_is noted page step
+  frame_is (opening noted page) step = open_fill_is noted page step
+  frame_is releasing step = release_fill_is step
+  frame_is wishing step = load_wish_is step
 
 -- ---- the steps of the reader
 
 module _ (n : ℕ) (c : Core) (answer : Answer) (after : Core) where
-  load_is : LoadStep n c answer after → Is (read_of n c loading_link) answer after
-  load_is (loads_header page fill at a is) = ap (λ (l : Link). load_at n c l l.mark) at ∙ here _ answer _ after a is
-  load_is (loads_update page lost at a is) = ap (λ (l : Link). load_at n c l l.mark) at ∙ here _ answer _ after a is
-  load_is (loads_owed page at a is) =
-      ap (λ (l : Link). load_at n c l l.mark) at ∙ if_yes (c.reader.hint == c.reader.hint) _ _ (eq-eqb c.reader.hint c.reader.hint refl) ∙ here _ answer _ after a is
-  load_is (loads_passed page fill least at more sum a is) =
-      ap (λ (l : Link). load_at n c l l.mark) at ∙ if_no (fill == c.reader.hint) _ _ (ne_eqb fill c.reader.hint (λ e. omega arith))
+  load_head_is : LoadHeadStep n c answer after → Is (read_of n c loading_link) answer after
+  load_head_is (loads_header page fill at a is) = ap (λ (l : Link). load_head_at n c l l.mark) at ∙ here _ answer _ after a is
+  load_head_is (loads_update page lost at a is) = ap (λ (l : Link). load_head_at n c l l.mark) at ∙ here _ answer _ after a is
+  load_head_is (loads_owed page at a is) =
+      ap (λ (l : Link). load_head_at n c l l.mark) at ∙ if_yes (c.reader.hint == c.reader.hint) _ _ (eq-eqb c.reader.hint c.reader.hint refl) ∙ here _ answer _ after a is
+  load_head_is (loads_passed page fill least at more sum a is) =
+      ap (λ (l : Link). load_head_at n c l l.mark) at ∙ if_no (fill == c.reader.hint) _ _ (ne_eqb fill c.reader.hint (λ e. omega arith))
       ∙ if_yes (nat_lt c.reader.hint fill) _ _ (lt-ltb c.reader.hint fill more)
       ∙ if_yes (nat_le n (suc fill)) _ _ (le-leb n (suc fill) (omega arith))
       ∙ here _ answer _ after a (is ∙ ap (λ (f : ℕ). reader_at c loading_link f) (let e : least ≡ suc fill - n = omega arith in e))
@@ -204,15 +204,15 @@ module _ (n : ℕ) (c : Core) (answer : Answer) (after : Core) where
   load_done_is page fill (finds_none le a is) = if_yes (nat_le c.done fill) _ _ (le-leb c.done fill le) ∙ here _ answer _ after a is
   load_done_is page fill (finds_closed closed a is) = if_no (nat_le c.done fill) _ _ (lt-leb c.done fill closed) ∙ here _ answer _ after a is
 
-  swap_is : (page fill : ℕ) → SwapStep n c page fill answer after → Is (read_of n c (swapping page fill)) answer after
-  swap_is page fill (swaps at a is) = if_yes (same_link (link_into n c.links fill) (header_link page fill)) _ _ (same_yes (link_into n c.links fill) (header_link page fill) at) ∙ here _ answer _ after a is
-  swap_is page fill (swap_fails at a is) = if_no (same_link (link_into n c.links fill) (header_link page fill)) _ _ (same_no (link_into n c.links fill) (header_link page fill) at) ∙ here _ answer _ after a is
+  swap_head_is : (page fill : ℕ) → SwapHeadStep n c page fill answer after → Is (read_of n c (swapping page fill)) answer after
+  swap_head_is page fill (swaps at a is) = if_yes (same_link (link_into n c.links fill) (header_link page fill)) _ _ (same_yes (link_into n c.links fill) (header_link page fill) at) ∙ here _ answer _ after a is
+  swap_head_is page fill (swap_fails at a is) = if_no (same_link (link_into n c.links fill) (header_link page fill)) _ _ (same_no (link_into n c.links fill) (header_link page fill) at) ∙ here _ answer _ after a is
 
   read_is : (phase : ReaderPhase) → ReadStep n c phase answer after → Is (read_of n c phase) answer after
-  read_is loading_link step = load_is step
+  read_is loading_link step = load_head_is step
   read_is (loading_done page fill) step = load_done_is page fill step
   read_is (storing_link page fill) step = here _ answer _ after step.answer_is step.after_is
-  read_is (swapping page fill) step = swap_is page fill step
+  read_is (swapping page fill) step = swap_head_is page fill step
 
 -- ---- the whole
 
@@ -252,7 +252,7 @@ step_is n size c event answer after (end_step payload frame below number moment 
 step_is n size c event answer after (end_lacks payload e none a is) = ap (step_of n size c) e ∙ ap (end_of c payload) none ∙ here _ answer _ after a is
 step_is n size c event answer after (end_early payload frame below e top none a is) = ap (step_of n size c) e ∙ ap (end_of c payload) top ∙ early_is c frame below payload frame.state none ∙ here _ answer _ after a is
 step_is n size c event answer after (read_step e step) = ap (step_of n size c) e ∙ read_is n c answer after c.reader.phase step
-step_is n size c event answer after (wish_step e a is) = ap (step_of n size c) e ∙ here _ answer _ after a is
+step_is n size c event answer after (store_wish_step e a is) = ap (step_of n size c) e ∙ here _ answer _ after a is
 
 abbrev answer_or : Answer → Option Outcome → Answer
 answer_or d None = d

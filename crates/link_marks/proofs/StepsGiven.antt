@@ -19,7 +19,7 @@ use Rattle.link_marks.proofs.Positions.{at_position, link_turn}
 use Rattle.link_marks.proofs.LinkFills.{normal_tells, header_tells, update_tells, owned_by}
 use Rattle.link_marks.proofs.FrameChanges.{top_kept}
 use Rattle.link_marks.proofs.StackSteps.{top_agrees, releasing_left, wishing_left}
-use Rattle.link_marks.proofs.StepFunction.{Outcome, same_link, needs_page, record_len, close_of, reserve_of, look_at, look_of, claim_of, next_at, next_of, mark_at, mark_of, clear_of, open_of, release_of, is_granted, wish_of, idle_of, frame_of, load_at, read_of, too_long_for, push_of, close_push_of, steps_of, full_end, end_in, end_of, step_of}
+use Rattle.link_marks.proofs.StepFunction.{Outcome, same_link, needs_page, record_len, close_of, reserve_of, load_link_at, load_link_of, claim_head_of, load_next_at, load_next_of, mark_head_at, mark_head_of, clear_update_of, open_fill_of, release_fill_of, is_granted, load_wish_of, idle_of, frame_of, load_head_at, read_of, too_long_for, push_of, close_push_of, steps_of, full_end, end_in, end_of, step_of}
 use Rattle.link_marks.proofs.StepFunctionSound.{Sound, step_sound, link_is, same_link_false}
 
 abbrev pub Given : Option Outcome → Type 0
@@ -44,8 +44,8 @@ module _ (n size : ℕ) (c : Core) (frame : Frame) (below : List Frame) (k : Lin
   reserve_given (for_record moment len) = given_if (nat_le (record_len c moment len) size) _ _ (λ e. tt) (λ e. needs_page_given)
   reserve_given for_close = close_given (tail_of c.history)
 
-  look_at_given : (noted : ℕ) (mark : Mark) → noted ≡ c.opened → (link_into n c.links noted).mark ≡ mark → Given (look_at n c frame below noted (link_into n c.links noted) mark)
-  look_at_given noted normal now is = let l = link_into n c.links noted in given_if (l.fill == noted) _ _ (λ e. tt) (λ e. eqb-false l.fill noted e (fill_is (link_is l normal l.page l.fill is refl refl)))
+  load_link_at_given : (noted : ℕ) (mark : Mark) → noted ≡ c.opened → (link_into n c.links noted).mark ≡ mark → Given (load_link_at n c frame below noted (link_into n c.links noted) mark)
+  load_link_at_given noted normal now is = let l = link_into n c.links noted in given_if (l.fill == noted) _ _ (λ e. tt) (λ e. eqb-false l.fill noted e (fill_is (link_is l normal l.page l.fill is refl refl)))
     where
       fill_is : link_into n c.links noted ≡ normal_link (link_into n c.links noted).page (link_into n c.links noted).fill → (link_into n c.links noted).fill ≡ noted
       fill_is at = let some_pages = k.some_pages in let unread = k.head_le in let behind = k.done_lt in let within = k.opened_le in let l = link_into n c.links noted in
@@ -54,7 +54,7 @@ module _ (n size : ℕ) (c : Core) (frame : Frame) (below : List Frame) (k : Lin
           let told = normal_tells n c.links c.order c.head c.frames c.head l.page l.fill (k.each c.head (omega arith) (omega arith)) here in
           let more = r.room l.page (here ∙ ap (normal_link l.page) told.0) in absurd (omega arith))
           (λ ne. (normal_tells n c.links c.order c.head c.frames noted l.page l.fill (k.each noted (omega arith) (omega arith)) at).0)
-  look_at_given noted header now is = let l = link_into n c.links noted in given_if ((l.fill + n) == noted) _ _ (λ e. tt) (λ e. eqb-false (l.fill + n) noted e (fill_is (link_is l header l.page l.fill is refl refl)))
+  load_link_at_given noted header now is = let l = link_into n c.links noted in given_if ((l.fill + n) == noted) _ _ (λ e. tt) (λ e. eqb-false (l.fill + n) noted e (fill_is (link_is l header l.page l.fill is refl refl)))
     where
       fill_is : link_into n c.links noted ≡ header_link (link_into n c.links noted).page (link_into n c.links noted).fill → (link_into n c.links noted).fill + n ≡ noted
       fill_is at = let some_pages = k.some_pages in let unread = k.head_le in let behind = k.done_lt in let within = k.opened_le in let l = link_into n c.links noted in
@@ -62,7 +62,7 @@ module _ (n size : ℕ) (c : Core) (frame : Frame) (below : List Frame) (k : Lin
           (λ e. let here = sym (link_turn n c.links c.head) ∙ ap (link_into n c.links) (sym e) ∙ at in
           let told = header_tells n c.links c.order c.head c.frames c.head l.page l.fill (k.each c.head (omega arith) (omega arith)) here in let it = told.0 in omega arith)
           (λ ne. let told = header_tells n c.links c.order c.head c.frames noted l.page l.fill (k.each noted (omega arith) (omega arith)) at in let it = told.1 in absurd (omega arith))
-  look_at_given noted update now is = let l = link_into n c.links noted in given_if ((l.fill + n) == noted) _ _ (λ e. tt) (λ e. eqb-false (l.fill + n) noted e (fill_is (link_is l update l.page l.fill is refl refl)))
+  load_link_at_given noted update now is = let l = link_into n c.links noted in given_if ((l.fill + n) == noted) _ _ (λ e. tt) (λ e. eqb-false (l.fill + n) noted e (fill_is (link_is l update l.page l.fill is refl refl)))
     where
       fill_is : link_into n c.links noted ≡ update_link (link_into n c.links noted).page (link_into n c.links noted).fill → (link_into n c.links noted).fill + n ≡ noted
       fill_is at = let some_pages = k.some_pages in let unread = k.head_le in let behind = k.done_lt in let within = k.opened_le in let l = link_into n c.links noted in
@@ -72,53 +72,53 @@ module _ (n size : ℕ) (c : Core) (frame : Frame) (below : List Frame) (k : Lin
           let (u, sum, low, open_yet, there) = owned_by n c k c.head told.2 in absurd (omega arith))
           (λ ne. (update_tells n c.links c.order c.head c.frames noted l.page l.fill (k.each noted (omega arith) (omega arith)) at).0)
 
-  look_given : (noted : ℕ) → Given (look_of n c frame below noted)
-  look_given noted = given_if (noted == c.opened) _ _ (λ e. look_at_given noted (link_into n c.links noted).mark (eqb-true noted c.opened e) refl) (λ e. tt)
+  load_link_given : (noted : ℕ) → Given (load_link_of n c frame below noted)
+  load_link_given noted = given_if (noted == c.opened) _ _ (λ e. load_link_at_given noted (link_into n c.links noted).mark (eqb-true noted c.opened e) refl) (λ e. tt)
 
-  claim_given : (noted page : ℕ) → Given (claim_of n c frame below noted page)
-  claim_given noted page = given_if (noted == c.opened) _ _
+  claim_head_given : (noted page : ℕ) → Given (claim_head_of n c frame below noted page)
+  claim_head_given noted page = given_if (noted == c.opened) _ _
       (λ e. given_if (nat_le n noted) _ _ (λ turn. given_if (same_link (link_into n c.links noted) (header_link page (noted - n))) _ _ (λ at. tt) (λ at. tt)) (λ first. tt))
       (λ e. tt)
 
-  next_at_given : (role : Role) (noted page : ℕ) (l : Link) → n ≤ noted → Given (next_at n c frame below role noted page l)
-  next_at_given role noted page l turn = given_if (nat_le n noted) _ _
+  load_next_at_given : (role : Role) (noted page : ℕ) (l : Link) → n ≤ noted → Given (load_next_at n c frame below role noted page l)
+  load_next_at_given role noted page l turn = given_if (nat_le n noted) _ _
       (λ e. given_if (same_link l (normal_link l.page (suc (noted - n)))) _ _ (λ at. tt) (λ at. tt))
       (λ e. let less = leb-false n noted e in omega arith)
 
-  next_given : (role : Role) (noted page : ℕ) → n ≤ noted → Given (next_of n c frame below role noted page)
-  next_given owner noted page turn = next_at_given owner noted page (link_into n c.links (suc (noted - n))) turn
-  next_given helper noted page turn = given_if (noted == c.opened) _ _ (λ e. next_at_given helper noted page (link_into n c.links (suc (noted - n))) turn) (λ e. tt)
+  load_next_given : (role : Role) (noted page : ℕ) → n ≤ noted → Given (load_next_of n c frame below role noted page)
+  load_next_given owner noted page turn = load_next_at_given owner noted page (link_into n c.links (suc (noted - n))) turn
+  load_next_given helper noted page turn = given_if (noted == c.opened) _ _ (λ e. load_next_at_given helper noted page (link_into n c.links (suc (noted - n))) turn) (λ e. tt)
 
-  mark_at_given : (role : Role) (noted page next : ℕ) → n ≤ noted → Given (mark_at n c frame below role noted page next)
-  mark_at_given role noted page next turn = given_if (nat_le n noted) _ _
+  mark_head_at_given : (role : Role) (noted page next : ℕ) → n ≤ noted → Given (mark_head_at n c frame below role noted page next)
+  mark_head_at_given role noted page next turn = given_if (nat_le n noted) _ _
       (λ e. given_if (same_link (link_into n c.links (suc (noted - n))) (normal_link next (suc (noted - n)))) _ _ (λ at. tt) (λ at. tt))
       (λ e. let less = leb-false n noted e in omega arith)
 
-  mark_given : (role : Role) (noted page next : ℕ) → n ≤ noted → Given (mark_of n c frame below role noted page next)
-  mark_given owner noted page next turn = mark_at_given owner noted page next turn
-  mark_given helper noted page next turn = given_if (noted == c.opened) _ _ (λ e. mark_at_given helper noted page next turn) (λ e. tt)
+  mark_head_given : (role : Role) (noted page next : ℕ) → n ≤ noted → Given (mark_head_of n c frame below role noted page next)
+  mark_head_given owner noted page next turn = mark_head_at_given owner noted page next turn
+  mark_head_given helper noted page next turn = given_if (noted == c.opened) _ _ (λ e. mark_head_at_given helper noted page next turn) (λ e. tt)
 
   -- the UPDATE that the frame owns is still there
-  clear_given : (noted page : ℕ) → PhaseKept n c.links c.order c.head c.done c.opened (clearing noted page) → Given (clear_of n c frame below noted page)
-  clear_given noted page kept = let (lost, sum, low, open_yet, at) = kept.moves noted refl in let page_is = (kept.passed noted page refl).2 in
+  clear_update_given : (noted page : ℕ) → PhaseKept n c.links c.order c.head c.done c.opened (clearing noted page) → Given (clear_update_of n c frame below noted page)
+  clear_update_given noted page kept = let (lost, sum, low, open_yet, at) = kept.moves noted refl in let page_is = (kept.passed noted page refl).2 in
       given_if (nat_le n noted) _ _
       (λ e. given_if (same_link (link_into n c.links noted) (update_link page (noted - n))) _ _ (λ same. tt)
       (λ differ. same_link_false (link_into n c.links noted) (update_link page (noted - n)) differ
       (at ∙ ap (λ (p : ℕ). update_link p lost) (sym page_is) ∙ ap (update_link page) (let s : lost ≡ noted - n = omega arith in s))))
       (λ e. let less = leb-false n noted e in omega arith)
 
-  open_given : (noted page : ℕ) → Given (open_of c frame below noted page)
-  open_given noted page = given_if (noted == c.opened) _ _ (λ e. tt) (λ e. tt)
+  open_fill_given : (noted page : ℕ) → Given (open_fill_of c frame below noted page)
+  open_fill_given noted page = given_if (noted == c.opened) _ _ (λ e. tt) (λ e. tt)
 
-  release_given : (fs : List Frame) → fs ≡ [] → c.done + 1 < c.opened → Given (release_of c frame fs)
-  release_given [] alone more = given_if ((c.done + 2) == c.opened) _ _ (λ e. tt)
+  release_fill_given : (fs : List Frame) → fs ≡ [] → c.done + 1 < c.opened → Given (release_fill_of c frame fs)
+  release_fill_given [] alone more = given_if ((c.done + 2) == c.opened) _ _ (λ e. tt)
       (λ e. given_if (nat_lt (c.done + 2) c.opened) _ _ (λ s. tt) (λ s. let less = ltb-false (c.done + 2) c.opened s in let ne = eqb-false (c.done + 2) c.opened e in ne (omega arith)))
-  release_given (next ∷ fs) alone more = let z = ap (λ (l : List Frame). length l) alone in absurd (omega arith)
+  release_fill_given (next ∷ fs) alone more = let z = ap (λ (l : List Frame). length l) alone in absurd (omega arith)
 
-  wish_given : (fs : List Frame) → fs ≡ [] → Given (wish_of n c frame fs)
-  wish_given [] alone = let behind = k.done_lt in given_if (is_granted n c) _ _ (λ e. tt) (λ e. given_if ((c.done + 1) == c.opened) _ _ (λ last. tt)
+  load_wish_given : (fs : List Frame) → fs ≡ [] → Given (load_wish_of n c frame fs)
+  load_wish_given [] alone = let behind = k.done_lt in given_if (is_granted n c) _ _ (λ e. tt) (λ e. given_if ((c.done + 1) == c.opened) _ _ (λ last. tt)
       (λ some. given_if (nat_lt (c.done + 1) c.opened) _ _ (λ more. tt) (λ none. let less = ltb-false (c.done + 1) c.opened none in let ne = eqb-false (c.done + 1) c.opened some in ne (omega arith))))
-  wish_given (next ∷ fs) alone = let z = ap (λ (l : List Frame). length l) alone in absurd (omega arith)
+  load_wish_given (next ∷ fs) alone = let z = ap (λ (l : List Frame). length l) alone in absurd (omega arith)
 
   -- a frame that rests hasn't left
   idle_given : (state : FrameState) → MayBeIn frame.kind state idle → Given (idle_of n size c frame below state)
@@ -128,22 +128,22 @@ module _ (n size : ℕ) (c : Core) (frame : Frame) (below : List Frame) (k : Lin
 
   frame_given : (phase : Phase) → PhaseKept n c.links c.order c.head c.done c.opened phase → PhaseAdvances n c.links c.head phase → MayBeIn frame.kind frame.state phase → (frame.state ≡ left → below ≡ []) → Given (frame_of n size c frame below phase)
   frame_given idle kept advances may alone = idle_given frame.state may
-  frame_given (looking noted) kept advances may alone = look_given noted
-  frame_given (claiming noted page) kept advances may alone = claim_given noted page
-  frame_given (looking_next role noted page) kept advances may alone = next_given role noted page advances
-  frame_given (marking role noted page next) kept advances may alone = mark_given role noted page next advances
-  frame_given (clearing noted page) kept advances may alone = clear_given noted page kept
-  frame_given (opening noted page) kept advances may alone = open_given noted page
-  frame_given releasing kept advances may alone = release_given below (alone (releasing_left frame.kind frame.state releasing refl may)) (kept.releases refl)
-  frame_given wishing kept advances may alone = wish_given below (alone (wishing_left frame.kind frame.state wishing refl may))
+  frame_given (looking noted) kept advances may alone = load_link_given noted
+  frame_given (claiming noted page) kept advances may alone = claim_head_given noted page
+  frame_given (looking_next role noted page) kept advances may alone = load_next_given role noted page advances
+  frame_given (marking role noted page next) kept advances may alone = mark_head_given role noted page next advances
+  frame_given (clearing noted page) kept advances may alone = clear_update_given noted page kept
+  frame_given (opening noted page) kept advances may alone = open_fill_given noted page
+  frame_given releasing kept advances may alone = release_fill_given below (alone (releasing_left frame.kind frame.state releasing refl may)) (kept.releases refl)
+  frame_given wishing kept advances may alone = load_wish_given below (alone (wishing_left frame.kind frame.state wishing refl may))
 
 -- ---- the steps of the reader
 
 module _ (n : ℕ) (c : Core) (k : LinksKept n c) where
-  load_given : (mark : Mark) → (link_into n c.links c.reader.hint).mark ≡ mark → Given (load_at n c (link_into n c.links c.reader.hint) mark)
-  load_given header is = tt
-  load_given update is = tt
-  load_given normal is = let l = link_into n c.links c.reader.hint in let (low, turn) = behind (link_is l normal l.page l.fill is refl refl) in
+  load_head_given : (mark : Mark) → (link_into n c.links c.reader.hint).mark ≡ mark → Given (load_head_at n c (link_into n c.links c.reader.hint) mark)
+  load_head_given header is = tt
+  load_head_given update is = tt
+  load_head_given normal is = let l = link_into n c.links c.reader.hint in let (low, turn) = behind (link_is l normal l.page l.fill is refl refl) in
       given_if (l.fill == c.reader.hint) _ _ (λ e. tt)
       (λ e. given_if (nat_lt c.reader.hint l.fill) _ _
       (λ more. given_if (nat_le n (suc l.fill)) _ _ (λ s. tt) (λ s. let less = leb-false n (suc l.fill) s in let ne = eqb-false l.fill c.reader.hint e in absurd (ne (turn (omega arith)))))
@@ -159,7 +159,7 @@ module _ (n : ℕ) (c : Core) (k : LinksKept n c) where
           (omega arith, λ first. fill ∙ sym (mod-eq_of_lt (let x : g < n = omega arith in x)) ∙ position ∙ mod-eq_of_lt (let x : c.reader.hint < n = omega arith in x))
 
   read_given : (phase : ReaderPhase) → Given (read_of n c phase)
-  read_given loading_link = load_given (link_into n c.links c.reader.hint).mark refl
+  read_given loading_link = load_head_given (link_into n c.links c.reader.hint).mark refl
   read_given (loading_done page fill) = given_if (nat_le c.done fill) _ _ (λ e. tt) (λ e. tt)
   read_given (storing_link page fill) = tt
   read_given (swapping page fill) = given_if (same_link (link_into n c.links fill) (header_link page fill)) _ _ (λ e. tt) (λ e. tt)

@@ -5,7 +5,7 @@ use mathlib.Core.Logic.{dite}
 use native.Mathlib.Decide.{dec_le}
 use Rattle.trace_model.specs.Links.{normal_link}
 use Rattle.trace_model.specs.Ring.{ReaderPhase, loading_link, loading_done, storing_link, swapping, Core}
-use Rattle.trace_model.specs.Steps.{pushes, pushes_close, steps, ends, reads, wishes, Answer, reading, moving, empty, LoadStep, loads_header, loads_update, loads_owed, loads_passed, LoadDoneStep, finds_none, finds_closed, SwapStep, swaps, swap_fails, ReadStep, push_step, push_refused, close_step, close_refused, frame_step, frame_lacks, end_step, end_lacks, end_early, read_step, wish_step}
+use Rattle.trace_model.specs.Steps.{pushes, pushes_close, steps, ends, reads, wishes, Answer, reading, moving, empty, LoadHeadStep, loads_header, loads_update, loads_owed, loads_passed, LoadDoneStep, finds_none, finds_closed, SwapHeadStep, swaps, swap_fails, ReadStep, push_step, push_refused, close_step, close_refused, frame_step, frame_lacks, end_step, end_lacks, end_early, read_step, store_wish_step}
 use Rattle.link_marks.specs.KeptLinks.{ReaderKept, LinksKept}
 use Rattle.link_marks.specs.Ranks.{distance, reader_phase_rank, reader_rank, TakesComeToAnAnswer, TakesAreNearTheirAnswer}
 use Rattle.link_marks.proofs.LinkFills.{header_tells, normal_tells, fill_at}
@@ -21,8 +21,8 @@ module _ (n size : ℕ) (c : Core) (k : LinksKept n c) where
       (λ le. le)
       (λ no. let some_pages = k.some_pages in let same = one_position c.reader.hint n g c.reader.hint (omega arith) (omega arith) (omega arith) (omega arith) at in absurd (omega arith))
 
-  load_lowers : (answer : Answer) (after : Core) → answer ≡ reading → c.reader.phase ≡ loading_link → LoadStep n c answer after → reader_rank n after < reader_rank n c
-  load_lowers answer after goes same (loads_header page fill at a is) =
+  load_head_lowers : (answer : Answer) (after : Core) → answer ≡ reading → c.reader.phase ≡ loading_link → LoadHeadStep n c answer after → reader_rank n after < reader_rank n c
+  load_head_lowers answer after goes same (loads_header page fill at a is) =
       let (g, low, high, link, kept) = fill_at n c k c.reader.hint in
       let (it, here, page_is) = header_tells n c.links c.order c.head c.frames g page fill kept (link ∙ at) in
       let hint_le = k.hint_le in
@@ -30,9 +30,9 @@ module _ (n size : ℕ) (c : Core) (k : LinksKept n c) where
       let far : 1 ≤ min (c.head + 1 - c.reader.hint) (n + 2) = le-min (omega arith) (omega arith) in
       subst (λ (x : Core). reader_rank n x < reader_rank n c) (sym is)
       (subst (λ (m : ℕ). 4 * min (c.head + 1 - fill) (n + 3) + 2 < m) (sym (old loading_link same)) (omega arith))
-  load_lowers answer after goes same (loads_update page lost at a is) = absurd (let wrong : reading ≡ moving (suc lost) = sym goes ∙ a in cc)
-  load_lowers answer after goes same (loads_owed page at a is) = absurd (let wrong : reading ≡ moving c.reader.hint = sym goes ∙ a in cc)
-  load_lowers answer after goes same (loads_passed page fill least at more sum a is) =
+  load_head_lowers answer after goes same (loads_update page lost at a is) = absurd (let wrong : reading ≡ moving (suc lost) = sym goes ∙ a in cc)
+  load_head_lowers answer after goes same (loads_owed page at a is) = absurd (let wrong : reading ≡ moving c.reader.hint = sym goes ∙ a in cc)
+  load_head_lowers answer after goes same (loads_passed page fill least at more sum a is) =
       let some_pages = k.some_pages in
       let (g, low, high, place) = at_position c.head n (c.reader.hint % n) (mod-lt c.reader.hint (omega arith)) in
       let told = normal_tells n c.links c.order c.head c.frames g page fill (k.each g low high) (ap (λ (i : ℕ). get_or c.links i (normal_link 0 0)) place ∙ at) in
@@ -49,9 +49,9 @@ module _ (n size : ℕ) (c : Core) (k : LinksKept n c) where
       subst (λ (x : Core). reader_rank n x < reader_rank n c) (sym is)
       (subst (λ (m : ℕ). 4 * distance (n + 3) c + 1 < m) (sym (old (loading_done page fill) same)) (omega arith))
 
-  swap_lowers : (page fill : ℕ) (answer : Answer) (after : Core) → answer ≡ reading → c.reader.phase ≡ swapping page fill → fill ≡ c.reader.hint → SwapStep n c page fill answer after → reader_rank n after < reader_rank n c
-  swap_lowers page fill answer after goes same hint_is (swaps at a is) = absurd (let wrong = sym goes ∙ a in cc)
-  swap_lowers page fill answer after goes same hint_is (swap_fails at a is) =
+  swap_head_lowers : (page fill : ℕ) (answer : Answer) (after : Core) → answer ≡ reading → c.reader.phase ≡ swapping page fill → fill ≡ c.reader.hint → SwapHeadStep n c page fill answer after → reader_rank n after < reader_rank n c
+  swap_head_lowers page fill answer after goes same hint_is (swaps at a is) = absurd (let wrong = sym goes ∙ a in cc)
+  swap_head_lowers page fill answer after goes same hint_is (swap_fails at a is) =
       let hint_le = k.hint_le in
       let near = min-le_left (c.head + 1 - suc fill) (n + 2) in
       let near_most = min-le_right (c.head + 1 - suc fill) (n + 2) in
@@ -60,12 +60,12 @@ module _ (n size : ℕ) (c : Core) (k : LinksKept n c) where
       (subst (λ (m : ℕ). 4 * min (c.head + 1 - suc fill) (n + 2) + 3 < m) (sym (old (swapping page fill) same)) (omega arith))
 
   read_lowers : (phase : ReaderPhase) (answer : Answer) (after : Core) → answer ≡ reading → c.reader.phase ≡ phase → ReaderKept n c.links c.order c.spare_link c.head c.done c.reader.hint phase → ReadStep n c phase answer after → reader_rank n after < reader_rank n c
-  read_lowers loading_link answer after goes same facts step = load_lowers answer after goes same step
+  read_lowers loading_link answer after goes same facts step = load_head_lowers answer after goes same step
   read_lowers (loading_done page fill) answer after goes same facts step = load_done_lowers page fill answer after goes same step
   read_lowers (storing_link page fill) answer after goes same facts step =
       subst (λ (x : Core). reader_rank n x < reader_rank n c) (sym step.after_is)
       (subst (λ (m : ℕ). 4 * distance (n + 3) c < m) (sym (old (storing_link page fill) same)) (omega arith))
-  read_lowers (swapping page fill) answer after goes same facts step = swap_lowers page fill answer after goes same facts.0.fill_is step
+  read_lowers (swapping page fill) answer after goes same facts step = swap_head_lowers page fill answer after goes same facts.0.fill_is step
 
 pub takes_lower : TakesComeToAnAnswer
 takes_lower n size start c after r (read_step e step) = read_lowers n size c r.links c.reader.phase reading after refl refl r.links.reader step
@@ -78,7 +78,7 @@ takes_lower n size start c after r (frame_lacks e at a is) = absurd (let w : rea
 takes_lower n size start c after r (end_step payload f b number moment len e at own kind fits a is) = absurd (let w : reads ≡ ends payload = e in cc)
 takes_lower n size start c after r (end_lacks payload e at a is) = absurd (let w : reads ≡ ends payload = e in cc)
 takes_lower n size start c after r (end_early payload f b e at lacks a is) = absurd (let w : reads ≡ ends payload = e in cc)
-takes_lower n size start c after r (wish_step e a is) = absurd (let w : reads ≡ wishes = e in cc)
+takes_lower n size start c after r (store_wish_step e a is) = absurd (let w : reads ≡ wishes = e in cc)
 
 phase_le : (n : ℕ) (c : Core) (phase : ReaderPhase) → reader_phase_rank n c phase ≤ 4 * n + 14
 phase_le n c loading_link = let low = min-le_right (c.head + 1 - c.reader.hint) (n + 2) in omega arith

@@ -1,11 +1,11 @@
 -- Every run of a ring is a run of its window: each step is described by events.
 use Rattle.std.proofs.Common.{◌≡◌, ℕ, ◌+◌, ◌<◌, ◌≤◌, List, [], ◌∷◌, ◌++◌, None, Some, refl, sym, ap, ◌∙◌, subst, arith, append_assoc, append-nil}
-use Rattle.trace_model.specs.History.{Action, push, push_close, open_fill, reserve, leave, wished}
-use Rattle.trace_model.proofs.NextAction.{settled_at_rest}
+use Rattle.trace_model.specs.History.{HistoryEvent, push, push_close, open_fill, reserve, leave, wished}
+use Rattle.trace_model.proofs.NextEvent.{settled_at_rest}
 use Rattle.trace_model.specs.Frames.{Kind, for_record, for_close, FrameState, waiting, reserved, left, Phase, idle, looking, claiming, looking_next, marking, clearing, opening, releasing, wishing, Frame}
-use Rattle.trace_model.specs.Window.{first_window, released_one, window_after, RingEvent, acts, closes, takes, loses, actions_of, window_event_of, window_behind, MayPass, WindowRunFrom}
+use Rattle.trace_model.specs.Window.{first_window, released_one, window_after, RingEvent, acts, closes, takes, loses, history_events_of, window_event_of, window_behind, MayPass, WindowRunFrom}
 use Rattle.trace_model.specs.Ring.{ReaderPhase, loading_link, loading_done, storing_link, swapping, Reader, Core, IsStart, window_of}
-use Rattle.trace_model.specs.Steps.{Event, Answer, with_new_tail, after_begin, BeginsAgain, reserves, finds_nothing, is_crowded, is_worn, notes, IdleStep, look_late, sees_free, sees_header, sees_update, claim_late, claims, claim_fails, next_late, sees_normal, sees_other, mark_late, marks, mark_fails, clears, open_late, opens, releases, releases_last, grants, closes_more, goes_away, FrameStep, Step, push_step, push_refused, close_step, close_refused, frame_step, frame_lacks, end_step, end_lacks, end_early, read_step, wish_step, loads_header, loads_update, loads_owed, loads_passed, finds_none, finds_closed, swaps, swap_fails, ReadStep, taken_fill, Exchange, Run}
+use Rattle.trace_model.specs.Steps.{Event, Answer, with_new_tail, after_begin, BeginsAgain, reserves, finds_nothing, is_crowded, is_worn, notes, IdleStep, load_link_late, sees_free, sees_header, sees_update, claim_late, claims, claim_fails, load_next_late, sees_normal, sees_other, mark_late, marks, mark_fails, clears, open_late, opens, releases, releases_last, grants, closes_more, goes_away, FrameStep, Step, push_step, push_refused, close_step, close_refused, frame_step, frame_lacks, end_step, end_lacks, end_early, read_step, store_wish_step, loads_header, loads_update, loads_owed, loads_passed, finds_none, finds_closed, swaps, swap_fails, ReadStep, taken_fill, Exchange, Run}
 use Rattle.link_marks.specs.KeptLinks.{PhaseKept, ReaderKept, LinksKept}
 use Rattle.link_marks.specs.KeptStack.{StackKept}
 use Rattle.link_marks.specs.KeptHistory.{HistoryKept}
@@ -15,23 +15,23 @@ use Rattle.link_marks.specs.ToldRuns.{fills_taken, numbers_of, IsToldBy}
 use Rattle.link_marks.proofs.LinkFills.{header_inside, header_tells, fill_at}
 use Rattle.link_marks.proofs.FrameChanges.{top_kept}
 use Rattle.link_marks.proofs.HistorySteps.{rest_releasing}
-use Rattle.link_marks.proofs.WindowRuns.{run_rises, run-append, taken-append, actions-append, numbers-push}
+use Rattle.link_marks.proofs.WindowRuns.{run_rises, run-append, taken-append, history_events-append, numbers-push}
 use Rattle.link_marks.proofs.RingsKept.{ring_start, ring_step}
 
 -- the events lead from one state to another
 pub record Leads (n : ℕ) (c after : Core) : Type 0 where
   pub events : List RingEvent
-  pub actions : after.history ≡ c.history ++ actions_of events
+  pub history_events : after.history ≡ c.history ++ history_events_of events
   pub window : WindowRunFrom n c.history (window_of c) events (window_of after)
   pub took : numbers_of after.reader.taken ≡ numbers_of c.reader.taken ++ fills_taken c.head events
 
 -- no event
 no_event : (n : ℕ) (c after : Core) → after.history ≡ c.history → window_of after ≡ window_of c → numbers_of after.reader.taken ≡ numbers_of c.reader.taken → Leads n c after
-no_event n c after h w t = record { events = []; actions = h ∙ sym (append-nil c.history); window = sym w; took = t ∙ sym (append-nil (numbers_of c.reader.taken)) }
+no_event n c after h w t = record { events = []; history_events = h ∙ sym (append-nil c.history); window = sym w; took = t ∙ sym (append-nil (numbers_of c.reader.taken)) }
 
--- an action of a frame, and what happens with it
-does : (n : ℕ) (c after : Core) (a : Action) → MayPass n c.history (window_of c) (window_event_of a) → after.history ≡ c.history ++ a ∷ [] → window_of after ≡ window_behind (window_of c) (window_event_of a) → numbers_of after.reader.taken ≡ numbers_of c.reader.taken → Leads n c after
-does n c after a may h w t = record { events = acts a ∷ []; actions = h; window = (may, sym w); took = t ∙ sym (append-nil (numbers_of c.reader.taken)) }
+-- a history event of a frame, and what happens with it
+does : (n : ℕ) (c after : Core) (a : HistoryEvent) → MayPass n c.history (window_of c) (window_event_of a) → after.history ≡ c.history ++ a ∷ [] → window_of after ≡ window_behind (window_of c) (window_event_of a) → numbers_of after.reader.taken ≡ numbers_of c.reader.taken → Leads n c after
+does n c after a may h w t = record { events = acts a ∷ []; history_events = h; window = (may, sym w); took = t ∙ sym (append-nil (numbers_of c.reader.taken)) }
 
 leads_again : (n : ℕ) (c : Core) (frame : Frame) (below : List Frame) (kind : Kind) (state : FrameState) → Leads n c (after_begin kind state c frame below)
 leads_again n c frame below (for_record moment len) waiting = no_event n c _ refl refl refl
@@ -46,7 +46,7 @@ leads_begun : (n : ℕ) (c : Core) (frame : Frame) (below : List Frame) (page : 
 leads_begun n c frame below page (for_record moment len) waiting room = does n c _ open_fill room refl refl refl
 leads_begun n c frame below page for_close waiting room = record {
   events = acts open_fill ∷ acts (leave None) ∷ [];
-  actions = append_assoc c.history (open_fill ∷ []) (leave None ∷ []);
+  history_events = append_assoc c.history (open_fill ∷ []) (leave None ∷ []);
   window = (room, (tt, refl));
   took = sym (append-nil (numbers_of c.reader.taken));
 }
@@ -67,14 +67,14 @@ module _ (n size start : ℕ) (c : Core) (frame : Frame) (below : List Frame) (k
   leads_closed : (answer : Answer) (after : Core) → frame.phase ≡ releasing → c.done + 1 < c.opened → after.history ≡ c.history → window_of after ≡ window_after (window_of c) released_one → numbers_of after.reader.taken ≡ numbers_of c.reader.taken → Leads n c after
   leads_closed answer after same more h' w t = record {
     events = closes ∷ [];
-    actions = h' ∙ sym (append-nil c.history);
+    history_events = h' ∙ sym (append-nil c.history);
     window = ((more, settled_at_rest c.history (rest_releasing n size start c frame below k s h top same)), sym w);
     took = t ∙ sym (append-nil (numbers_of c.reader.taken));
   }
 
   leads_frame : (phase : Phase) (answer : Answer) (after : Core) → frame.phase ≡ phase → FrameStep n size c frame below phase answer after → Leads n c after
   leads_frame idle answer after same step = leads_idle frame.state answer after step
-  leads_frame (looking noted) answer after same (look_late step) = again n c frame below noted answer after step
+  leads_frame (looking noted) answer after same (load_link_late step) = again n c frame below noted answer after step
   leads_frame (looking noted) answer after same (sees_free page now at a is) = subst (Leads n c) (sym is) (no_event n c _ refl refl refl)
   leads_frame (looking noted) answer after same (sees_header page lost now sum at a is) = subst (Leads n c) (sym is) (no_event n c _ refl refl refl)
   leads_frame (looking noted) answer after same (sees_update page lost now sum at a is) = subst (Leads n c) (sym is) (no_event n c _ refl refl refl)
@@ -83,9 +83,9 @@ module _ (n size start : ℕ) (c : Core) (frame : Frame) (below : List Frame) (k
       let (open_yet, begun_yet, room, small) = (subst (PhaseKept n c.links c.order c.head c.done c.opened) same (top_kept n c frame below k top)).noted noted refl in
       let unread = k.head_le in let within = k.opened_le in
       let (here, page_is, head_at) = header_inside n c k noted page lost (omega arith) (omega arith) sum at in
-      subst (Leads n c) (sym is) record { events = loses ∷ []; actions = sym (append-nil c.history); window = ((omega arith, omega arith), refl); took = sym (append-nil (numbers_of c.reader.taken)) }
+      subst (Leads n c) (sym is) record { events = loses ∷ []; history_events = sym (append-nil c.history); window = ((omega arith, omega arith), refl); took = sym (append-nil (numbers_of c.reader.taken)) }
   leads_frame (claiming noted page) answer after same (claim_fails now other a is) = subst (Leads n c) (sym is) (no_event n c _ refl refl refl)
-  leads_frame (looking_next role noted page) answer after same (next_late helps step) = again n c frame below noted answer after step
+  leads_frame (looking_next role noted page) answer after same (load_next_late helps step) = again n c frame below noted answer after step
   leads_frame (looking_next role noted page) answer after same (sees_normal lost next goes_on sum at a is) = subst (Leads n c) (sym is) (no_event n c _ refl refl refl)
   leads_frame (looking_next role noted page) answer after same (sees_other lost goes_on sum other a is) = subst (Leads n c) (sym is) (no_event n c _ refl refl refl)
   leads_frame (marking role noted page next) answer after same (mark_late helps step) = again n c frame below noted answer after step
@@ -116,7 +116,7 @@ leads_read n c (swapping page fill) answer after k facts (swaps at a is) =
     let here : fill ≡ c.head = told.0 ∙ told.1 in let closed = facts.1 in
     subst (Leads n c) (sym is) record {
       events = takes ∷ [];
-      actions = sym (append-nil c.history);
+      history_events = sym (append-nil c.history);
       window = (omega arith, refl);
       took = numbers-push c.reader.taken (taken_fill c page fill) ∙ ap (λ (f : ℕ). numbers_of c.reader.taken ++ f ∷ []) here;
     }
@@ -133,15 +133,15 @@ leads_step n size start c event answer after k s h (end_step payload frame below
 leads_step n size start c event answer after k s h (end_lacks payload e none a is) = subst (Leads n c) (sym is) (no_event n c c refl refl refl)
 leads_step n size start c event answer after k s h (end_early payload frame below e top none a is) = subst (Leads n c) (sym is) (no_event n c c refl refl refl)
 leads_step n size start c event answer after k s h (read_step e step) = leads_read n c c.reader.phase answer after k k.reader step
-leads_step n size start c event answer after k s h (wish_step e a is) = subst (Leads n c) (sym is) (no_event n c _ refl refl refl)
+leads_step n size start c event answer after k s h (store_wish_step e a is) = subst (Leads n c) (sym is) (no_event n c _ refl refl refl)
 
 -- ---- runs
 
 leads_on : (n : ℕ) (c between after : Core) → Leads n c between → Leads n between after → Leads n c after
 leads_on n c between after x y = record {
   events = x.events ++ y.events;
-  actions = y.actions ∙ ap (λ (h : List Action). h ++ actions_of y.events) x.actions ∙ append_assoc c.history (actions_of x.events) (actions_of y.events) ∙ ap (λ (h : List Action). c.history ++ h) (sym (actions-append x.events y.events));
-  window = run-append n c.history (window_of c) (window_of between) (window_of after) x.events y.events x.window (subst (λ (h : List Action). WindowRunFrom n h (window_of between) y.events (window_of after)) x.actions y.window);
+  history_events = y.history_events ∙ ap (λ (h : List HistoryEvent). h ++ history_events_of y.events) x.history_events ∙ append_assoc c.history (history_events_of x.events) (history_events_of y.events) ∙ ap (λ (h : List HistoryEvent). c.history ++ h) (sym (history_events-append x.events y.events));
+  window = run-append n c.history (window_of c) (window_of between) (window_of after) x.events y.events x.window (subst (λ (h : List HistoryEvent). WindowRunFrom n h (window_of between) y.events (window_of after)) x.history_events y.window);
   took = y.took ∙ ap (λ (l : List ℕ). l ++ fills_taken between.head y.events) x.took ∙ append_assoc (numbers_of c.reader.taken) (fills_taken c.head x.events) (fills_taken between.head y.events)
       ∙ ap (λ (l : List ℕ). numbers_of c.reader.taken ++ l) (sym (taken-append n c.history (window_of c) (window_of between) x.events y.events x.window));
 }
@@ -154,8 +154,8 @@ leads_run n size start c after (x ∷ exchanges) r (between, step, run) = leads_
 -- events that describe a state, and those that lead on from there, describe the later one
 told_on : (n start : ℕ) (c after : Core) (events : List RingEvent) → IsToldBy n start c events → (x : Leads n c after) → IsToldBy n start after (events ++ x.events)
 told_on n start c after events t x = record {
-  actions = actions-append events x.events ∙ ap (λ (h : List Action). h ++ actions_of x.events) t.actions ∙ sym x.actions;
-  window = run-append n [] (first_window start) (window_of c) (window_of after) events x.events t.window (subst (λ (h : List Action). WindowRunFrom n h (window_of c) x.events (window_of after)) (sym t.actions) x.window);
+  history_events = history_events-append events x.events ∙ ap (λ (h : List HistoryEvent). h ++ history_events_of x.events) t.history_events ∙ sym x.history_events;
+  window = run-append n [] (first_window start) (window_of c) (window_of after) events x.events t.window (subst (λ (h : List HistoryEvent). WindowRunFrom n h (window_of c) x.events (window_of after)) (sym t.history_events) x.window);
   took = taken-append n [] (first_window start) (window_of c) events x.events t.window ∙ ap (λ (l : List ℕ). l ++ fills_taken c.head x.events) t.took ∙ sym x.took;
 }
 
@@ -166,7 +166,7 @@ run_extends n size start c after exchanges events r told run = let x = leads_run
 -- a new ring is described by no events
 start_told : (n start : ℕ) (c : Core) → IsStart n start c → IsToldBy n start c []
 start_told n start c s = record {
-  actions = sym s.history;
+  history_events = sym s.history;
   window = λ i. record { head = (sym s.head) i; done = (sym s.done) i; opened = (sym s.opened) i };
   took = ap (λ (r : Reader). numbers_of r.taken) (sym s.reader);
 }

@@ -2,7 +2,7 @@
 use Rattle.std.proofs.Common.{◌≡◌, ℕ, List, [], ◌∷◌, length, sym, ap, ◌∙◌, subst, arith}
 use Rattle.trace_model.specs.Frames.{Phase, Frame}
 use Rattle.trace_model.specs.Ring.{Core}
-use Rattle.trace_model.specs.Steps.{Event, pushes, pushes_close, steps, ends, reads, wishes, Answer, FrameStep, Step, push_step, push_refused, close_step, close_refused, frame_step, frame_lacks, end_step, end_lacks, end_early, read_step, wish_step}
+use Rattle.trace_model.specs.Steps.{Event, pushes, pushes_close, steps, ends, reads, wishes, Answer, FrameStep, Step, push_step, push_refused, close_step, close_refused, frame_step, frame_lacks, end_step, end_lacks, end_early, read_step, store_wish_step}
 
 abbrev IsSteps : Event → Type 0
 IsSteps (pushes moment len) = ⊥
@@ -39,4 +39,4 @@ module _ (n size : ℕ) (c : Core) (frame : Frame) (below : List Frame) (phase :
   top_stepped (end_lacks payload e none a is) = absurd (subst IsSteps e tt)
   top_stepped (end_early payload f fs e is none a after_is) = absurd (subst IsSteps e tt)
   top_stepped (read_step e step) = absurd (subst IsSteps e tt)
-  top_stepped (wish_step e a is) = absurd (subst IsSteps e tt)
+  top_stepped (store_wish_step e a is) = absurd (subst IsSteps e tt)

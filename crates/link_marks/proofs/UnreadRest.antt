@@ -7,7 +7,7 @@ use Rattle.trace_model.specs.Packing.{opens_of}
 use Rattle.trace_model.specs.Partition.{IsPartition}
 use Rattle.trace_model.specs.Ring.{Core, first_of_fill}
 use Rattle.trace_model.specs.Frames.{pushed_frames}
-use Rattle.trace_model.proofs.NextAction.{settled_at_rest}
+use Rattle.trace_model.proofs.NextEvent.{settled_at_rest}
 use Rattle.trace_model.proofs.Committed.{committed_prefix, committed_len-settled}
 use Rattle.trace_model.proofs.FillsJoined.{joined_behind}
 use Rattle.link_marks.specs.KeptPartition.{pieces_of}

@@ -3,11 +3,11 @@ use Rattle.std.proofs.Common.{◌≡◌, ◌≢◌, ℕ, ◌+◌, ◌<◌, ◌�
 use mathlib.Core.Logic.{dite}
 use native.Mathlib.Decide.{ℕ_discrete, dec_le}
 use Rattle.trace_model.specs.declared.limits.TheConstants.{LINK_FILLS}
-use Rattle.trace_model.specs.History.{Action, Reservation}
+use Rattle.trace_model.specs.History.{HistoryEvent, Reservation}
 use Rattle.trace_model.specs.Packing.{tail_of}
 use Rattle.trace_model.specs.Frames.{Kind, for_record, for_close, FrameState, waiting, reserved, left, Phase, idle, looking, claiming, looking_next, marking, clearing, opening, releasing, wishing, Frame}
 use Rattle.trace_model.specs.Ring.{ReaderPhase, loading_link, loading_done, storing_link, swapping, Core, window_of}
-use Rattle.trace_model.specs.Steps.{Event, Answer, gone, empty, IsGranted, with_new_tail, frames_after_leave, after_begin, BeginsAgain, reserves, finds_nothing, is_crowded, is_worn, notes, look_late, sees_free, sees_header, sees_update, claim_late, claims, claim_fails, next_late, sees_normal, sees_other, mark_late, marks, mark_fails, clears, open_late, opens, releases, releases_last, grants, closes_more, goes_away, IdleStep, FrameStep, loads_header, loads_update, loads_owed, loads_passed, finds_none, finds_closed, swaps, swap_fails, ReadStep, Step, push_step, push_refused, close_step, close_refused, frame_step, frame_lacks, end_step, end_lacks, end_early, read_step, wish_step, Exchange, Run}
+use Rattle.trace_model.specs.Steps.{Event, Answer, gone, empty, IsGranted, with_new_tail, frames_after_leave, after_begin, BeginsAgain, reserves, finds_nothing, is_crowded, is_worn, notes, load_link_late, sees_free, sees_header, sees_update, claim_late, claims, claim_fails, load_next_late, sees_normal, sees_other, mark_late, marks, mark_fails, clears, open_late, opens, releases, releases_last, grants, closes_more, goes_away, IdleStep, FrameStep, loads_header, loads_update, loads_owed, loads_passed, finds_none, finds_closed, swaps, swap_fails, ReadStep, Step, push_step, push_refused, close_step, close_refused, frame_step, frame_lacks, end_step, end_lacks, end_early, read_step, store_wish_step, Exchange, Run}
 use Rattle.link_marks.specs.RingKept.{IsRingKept}
 use Rattle.link_marks.specs.WishLaws.{WishesAreHeld, GoneHasLooked, WishesAreAnswered, WishedTailsAreClosed, WishBehindEmptyLosesNone}
 use Rattle.link_marks.proofs.RingsKept.{run_snoc, ring_step, ring_run}
@@ -28,7 +28,7 @@ wishes_held n size start c answer after r (end_step payload frame below number m
 wishes_held n size start c answer after r (end_lacks payload e none a is) = absurd (cc)
 wishes_held n size start c answer after r (end_early payload frame below e top none a is) = absurd (cc)
 wishes_held n size start c answer after r (read_step e step) = absurd (cc)
-wishes_held n size start c answer after r (wish_step e a is) = (a, is, r.links.seen_le)
+wishes_held n size start c answer after r (store_wish_step e a is) = (a, is, r.links.seen_le)
 
 -- ---- the last frame leaves
 
@@ -74,14 +74,14 @@ module _ (n size : ℕ) (c : Core) (frame : Frame) (below : List Frame) (answer 
       idle_stays waiting (notes needs room small a is) = goes _ _ refl is
       idle_stays (reserved number) step' = goes c frame top step'.1
       idle_stays left step' = step'
-  gone_frame (looking noted) (look_late step) = absurd (again noted step)
+  gone_frame (looking noted) (load_link_late step) = absurd (again noted step)
   gone_frame (looking noted) (sees_free page now at a is) = absurd (goes _ _ refl is)
   gone_frame (looking noted) (sees_header page lost now sum at a is) = absurd (goes _ _ refl is)
   gone_frame (looking noted) (sees_update page lost now sum at a is) = absurd (goes _ _ refl is)
   gone_frame (claiming noted page) (claim_late step) = absurd (again noted step)
   gone_frame (claiming noted page) (claims lost now sum at a is) = absurd (goes _ _ refl is)
   gone_frame (claiming noted page) (claim_fails now other a is) = absurd (goes _ _ refl is)
-  gone_frame (looking_next role noted page) (next_late helps step) = absurd (again noted step)
+  gone_frame (looking_next role noted page) (load_next_late helps step) = absurd (again noted step)
   gone_frame (looking_next role noted page) (sees_normal lost next goes_on sum at a is) = absurd (goes _ _ refl is)
   gone_frame (looking_next role noted page) (sees_other lost goes_on sum other a is) = absurd (goes _ _ refl is)
   gone_frame (marking role noted page next) (mark_late helps step) = absurd (again noted step)
@@ -123,7 +123,7 @@ looked_step n size c event answer after frame below top (end_step payload other 
 looked_step n size c event answer after frame below top (end_lacks payload e lacks a is) none = absurd (some_stands frame below (sym top ∙ lacks))
 looked_step n size c event answer after frame below top (end_early payload other under e there lacks a is) none = absurd (some_stands frame below (sym top ∙ sym (ap (λ (x : Core). x.frames) is) ∙ none))
 looked_step n size c event answer after frame below top (read_step e step) none = absurd (some_stands frame below (sym top ∙ sym (read_stays n c c.reader.phase answer after step).0 ∙ none))
-looked_step n size c event answer after frame below top (wish_step e a is) none = absurd (some_stands frame below (sym top ∙ sym (ap (λ (x : Core). x.frames) is) ∙ none))
+looked_step n size c event answer after frame below top (store_wish_step e a is) none = absurd (some_stands frame below (sym top ∙ sym (ap (λ (x : Core). x.frames) is) ∙ none))
 
 tail_cases : (records : List Reservation) → (records ≡ []) ⊎ (records ≢ [])
 tail_cases [] = inl refl
@@ -164,14 +164,14 @@ idle_wish n size c frame below left answer after step = absurd step
 
 frame_wish : (n size : ℕ) (c : Core) (frame : Frame) (below : List Frame) (phase : Phase) (answer : Answer) (after : Core) → FrameStep n size c frame below phase answer after → after.wish ≡ c.wish
 frame_wish n size c frame below idle answer after step = idle_wish n size c frame below frame.state answer after step
-frame_wish n size c frame below (looking noted) answer after (look_late step) = again_wish c frame below noted answer after step
+frame_wish n size c frame below (looking noted) answer after (load_link_late step) = again_wish c frame below noted answer after step
 frame_wish n size c frame below (looking noted) answer after (sees_free page now at a is) = wish_is c after _ is refl
 frame_wish n size c frame below (looking noted) answer after (sees_header page lost now sum at a is) = wish_is c after _ is refl
 frame_wish n size c frame below (looking noted) answer after (sees_update page lost now sum at a is) = wish_is c after _ is refl
 frame_wish n size c frame below (claiming noted page) answer after (claim_late step) = again_wish c frame below noted answer after step
 frame_wish n size c frame below (claiming noted page) answer after (claims lost now sum at a is) = wish_is c after _ is refl
 frame_wish n size c frame below (claiming noted page) answer after (claim_fails now other a is) = wish_is c after _ is refl
-frame_wish n size c frame below (looking_next role noted page) answer after (next_late helps step) = again_wish c frame below noted answer after step
+frame_wish n size c frame below (looking_next role noted page) answer after (load_next_late helps step) = again_wish c frame below noted answer after step
 frame_wish n size c frame below (looking_next role noted page) answer after (sees_normal lost next goes_on sum at a is) = wish_is c after _ is refl
 frame_wish n size c frame below (looking_next role noted page) answer after (sees_other lost goes_on sum other a is) = wish_is c after _ is refl
 frame_wish n size c frame below (marking role noted page next) answer after (mark_late helps step) = again_wish c frame below noted answer after step
@@ -198,7 +198,7 @@ wish_moves n size c event answer after (end_step payload frame below number mome
 wish_moves n size c event answer after (end_lacks payload e none a is) = inl (wish_is c after _ is refl)
 wish_moves n size c event answer after (end_early payload frame below e top none a is) = inl (wish_is c after _ is refl)
 wish_moves n size c event answer after (read_step e step) = inl (read_stays n c c.reader.phase answer after step).1
-wish_moves n size c event answer after (wish_step e a is) = inr (ap (λ (x : Core). x.wish) is)
+wish_moves n size c event answer after (store_wish_step e a is) = inr (ap (λ (x : Core). x.wish) is)
 
 -- The wish of a state isn't answered yet: no fill more is closed.
 record IsPending (c s : Core) : Type 0 where
@@ -240,7 +240,7 @@ module _ (n size start : ℕ) (c : Core) where
   -- while no fill is begun, the tail goes on to hold a record
   tail_run : (s : Core) (exchanges : List Exchange) → IsRingKept n size start c → Run n size c exchanges s → s.opened ≡ c.opened → tail_of c.history ≢ [] → tail_of s.history ≢ []
   tail_run s exchanges r run same some = let x = leads_run n size start c s exchanges r run in
-      subst (λ (h : List Action). tail_of h ≢ []) (sym x.actions) (tail_over n c.history (window_of c) x.events (window_of s) r.contents.rising x.window same some)
+      subst (λ (h : List HistoryEvent). tail_of h ≢ []) (sym x.history_events) (tail_over n c.history (window_of c) x.events (window_of s) r.contents.rising x.window same some)
 
   -- no state without a frame comes before the fill is closed
   stands_run : (s after : Core) (front exchanges : List Exchange) → tail_of c.history ≢ [] → c.opened + n < LINK_FILLS → IsRingKept n size start c → IsRingKept n size start s → Run n size c front s → Run n size s exchanges after

@@ -7,7 +7,7 @@ use Rattle.trace_model.specs.Links.{Link, normal_link, update_link, mark_code}
 use Rattle.trace_model.specs.Ring.{Taken, Core, link_into, page_at, IsStart, IsRing, IsBehindHead, told, moved, IsAtHead, marked, owed}
 use Rattle.trace_model.specs.History.{wished}
 use Rattle.trace_model.specs.Packing.{IsPacked}
-use Rattle.trace_model.specs.Steps.{Exchange, with_action}
+use Rattle.trace_model.specs.Steps.{Exchange, with_history_event}
 use Rattle.trace_model.specs.Frames.{for_record, waiting, owner, looking_next}
 use Rattle.link_marks.specs.WrongSteps.{to_free_positions, with_head_lost, to_open_tail, with_tail_taken, to_helped_move, with_update_cleared, to_passed_mark, with_second_head, to_late_swap, with_late_swap, to_inner_end, with_page_closed, to_unasked_end, with_page_begun, to_empty_page, with_empty_page_left, IsWrongStep, IsUnpackedStep, ClosesWithoutAWish, WishClosesAnEmptyPage, LosesWhileAPositionIsFree, TakesTheTail, HelperClearsTheUpdate, TwoHeads, SwapIgnoresTheFill, InnerEndPublishes}
 use Rattle.link_marks.proofs.FramePhases.{none_some}
@@ -104,4 +104,4 @@ pub wish_closes_an_empty_page : WishClosesAnEmptyPage
 wish_closes_an_empty_page = unpacked 2 32 two_pages to_empty_page with_empty_page_left (omega arith) (omega arith) two_start (refl, refl) breaks
   where
     breaks : IsPacked (with_empty_page_left (last_from 2 32 two_pages to_empty_page)).history 32 → ⊥
-    breaks packed = packed.begins (with_action (last_from 2 32 two_pages to_empty_page) wished).history [] refl refl
+    breaks packed = packed.begins (with_history_event (last_from 2 32 two_pages to_empty_page) wished).history [] refl refl

@@ -3,7 +3,7 @@
 use Rattle.std.specs.Prelude.{◌≡◌, ◌≢◌, ℕ, ◌+◌, ◌-◌, ◌*◌, ◌^◌, ◌<◌, ◌≤◌, List, [], ◌++◌, length, map, drop, flat_map, Some, slice_get}
 use Rattle.trace_model.specs.declared.limits.TheConstants.{MAX_SIZE}
 use Rattle.trace_model.specs.Record.{Record}
-use Rattle.trace_model.specs.History.{Action, IsHistory, Reservation, reserved_records, as_record, committed_records}
+use Rattle.trace_model.specs.History.{HistoryEvent, IsHistory, Reservation, reserved_records, as_record, committed_records}
 use Rattle.trace_model.specs.Packing.{fills_of, tail_of, IsPacked}
 use Rattle.trace_model.specs.Partition.{IsPartition}
 use Rattle.trace_model.specs.Ring.{Taken, Core, first_of_fill, AreFillsOf}
@@ -14,21 +14,21 @@ use Rattle.link_marks.specs.Appended.{Appends}
 
 -- ---- histories
 
--- An event appends to what the frames did the actions that its answer states, and nothing else.
+-- An event appends to what the frames did the history events that its answer states, and nothing else.
 abbrev pub StepsAppend : Type 0
 StepsAppend = (n size start : ℕ) (c : Core) (event : Event) (answer : Answer) (after : Core)
     → IsRingKept n size start c
     → Step n size c event answer after
-    → (actions : List Action) × (after.history ≡ c.history ++ actions) × Appends n c event answer actions
+    → (appended : List HistoryEvent) × (after.history ≡ c.history ++ appended) × Appends n c event answer appended
 
 -- By the state before the event, and its answer, these are one list only.
 abbrev pub AppendedIsOne : Type 0
-AppendedIsOne = (n : ℕ) (c : Core) (event : Event) (answer : Answer) (some others : List Action)
+AppendedIsOne = (n : ℕ) (c : Core) (event : Event) (answer : Answer) (some others : List HistoryEvent)
     → Appends n c event answer some
     → Appends n c event answer others
     → some ≡ others
 
--- What the frames did keeps the discipline of the stack: each action is one that the frames that stood allowed
+-- What the frames did keeps the discipline of the stack: each history event is one that the frames that stood allowed
 abbrev pub RunsAreHistories : Type 0
 RunsAreHistories = (n size start : ℕ) (c : Core) → IsRingKept n size start c → IsHistory c.history
 
@@ -77,7 +77,7 @@ TakenAreFills = (n size start : ℕ) (c : Core)
 -- ---- the rest
 
 -- the records of the fills of a history, joined, but for those of the first ones
-abbrev pub records_from : List Action → ℕ → List Reservation
+abbrev pub records_from : List HistoryEvent → ℕ → List Reservation
 records_from history fills = flat_map (λ fill. fill) (drop fills (fills_of history))
 
 -- After the pieces that the reader took come the records of the fills that were lost since. Then comes the

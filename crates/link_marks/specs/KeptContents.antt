@@ -1,6 +1,6 @@
 -- What each step of a ring keeps of its pages and their records.
 use Rattle.std.specs.Prelude.{◌≡◌, ◌≢◌, ℕ, ◌+◌, ◌-◌, ◌<◌, ◌≤◌, List, [], ◌∷◌, length, slice_index_or}
-use Rattle.trace_model.specs.History.{Action, Reservation, reserved_records, settled_prefix}
+use Rattle.trace_model.specs.History.{HistoryEvent, Reservation, reserved_records, settled_prefix}
 use Rattle.trace_model.specs.Packing.{opens_of, cut_from}
 use Rattle.trace_model.specs.Fitting.{IsRising}
 use Rattle.trace_model.specs.Ring.{PageRecords, empty_page, Core, page_at, first_of_fill}
@@ -33,7 +33,7 @@ ContentsKept n start c =
     PagesKept n start c.order c.held (opens_of c.history) (reserved_records c.history) c.head c.opened
 
 -- the records of the fills that are closed are committed
-abbrev pub ClosedAt : ℕ → List Action → ℕ → Type 0
+abbrev pub ClosedAt : ℕ → List HistoryEvent → ℕ → Type 0
 ClosedAt start history done = first_of_fill history start done ≤ length (reserved_records (settled_prefix history))
 
 abbrev pub ClosedKept : ℕ → Core → Type 0
@@ -48,7 +48,7 @@ abbrev pub OpenPagesKept : ℕ → Core → Type 0
 OpenPagesKept n c = OpenPagesAt n c.order c.open_pages c.done c.opened
 
 -- each page that the writer doesn't hold has none but committed records: their numbers end with these
-abbrev pub OtherPagesAt : List Action → List ℕ → List PageRecords → Type 0
+abbrev pub OtherPagesAt : List HistoryEvent → List ℕ → List PageRecords → Type 0
 OtherPagesAt history open_pages held = (page : ℕ)
     → ((i : ℕ) → i < length open_pages → slice_index_or open_pages i 0 ≢ page)
     → (slice_index_or held page empty_page).first + length (slice_index_or held page empty_page).records

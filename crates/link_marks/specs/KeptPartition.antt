@@ -1,7 +1,7 @@
 -- What each step of a ring keeps of the fills that the reader took.
 use Rattle.std.specs.Prelude.{◌≡◌, ℕ, ◌+◌, ◌<◌, ◌≤◌, List, [], ◌∷◌, map, take, Some}
 use Rattle.std.specs.List.{slice_get}
-use Rattle.trace_model.specs.History.{Action, reserved_records, as_record}
+use Rattle.trace_model.specs.History.{HistoryEvent, reserved_records, as_record}
 use Rattle.trace_model.specs.Partition.{Piece, IsPartition, covered_count, first_of}
 use Rattle.trace_model.specs.Ring.{Taken, Core, first_of_fill, AreFillsOf}
 
@@ -26,7 +26,7 @@ HaveFirsts taken = (k : ℕ) (t : Taken)
 -- The reader expects no number above the head's first one; and the records below that number are,
 -- in order, those that it took and those that were lost between. What it took are fills of the history, from
 -- below the head.
-pub record PartitionAt (start : ℕ) (history : List Action) (head expected : ℕ) (taken : List Taken)
+pub record PartitionAt (start : ℕ) (history : List HistoryEvent) (head expected : ℕ) (taken : List Taken)
     : Type 0 where
   pub expected_le : expected ≤ first_of_fill history start head
   pub partition : IsPartition (take expected (map as_record (reserved_records history))) (pieces_of taken) []

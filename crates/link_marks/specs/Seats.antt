@@ -2,7 +2,7 @@
 -- touch no word of the ring.
 -- docs/FORMATS.md, "The ring".
 use Rattle.std.specs.Prelude.{◌≡◌, ◌≢◌, ℕ, ◌<◌, List, [], ◌∷◌, length, slice_index_or}
-use Rattle.trace_model.specs.History.{Action}
+use Rattle.trace_model.specs.History.{HistoryEvent}
 use Rattle.trace_model.specs.Links.{Link}
 use Rattle.trace_model.specs.Frames.{owner, helper, Phase, idle, looking, claiming, looking_next, marking, clearing, opening, releasing, wishing, Frame}
 use Rattle.trace_model.specs.Ring.{Reader, Core}
@@ -38,7 +38,7 @@ seen_by part c = record c {
 pub record WriterPart : Type 0 where
   pub frames : List Frame
   pub open_pages : List ℕ
-  pub history : List Action
+  pub history : List HistoryEvent
   pub opened : ℕ
 
 -- the state with this as the writer's part

@@ -1,7 +1,7 @@
 -- A run of a ring, as events: which fills they take, and which they lose.
 -- docs/FORMATS.md, "The ring".
 use Rattle.std.specs.Prelude.{◌≡◌, ℕ, ◌+◌, List, [], ◌∷◌, map}
-use Rattle.trace_model.specs.Window.{RingEvent, acts, closes, takes, loses, actions_of, WindowRun}
+use Rattle.trace_model.specs.Window.{RingEvent, acts, closes, takes, loses, history_events_of, WindowRun}
 use Rattle.trace_model.specs.Ring.{Taken, Core, window_of}
 
 -- the fills that the events take, from this head on, in order
@@ -26,6 +26,6 @@ numbers_of taken = map (λ t. t.fill) taken
 -- These events of a ring from its start are what its frames did, in order, lead to its window, and take the
 -- fills that its reader took.
 pub record IsToldBy (n start : ℕ) (c : Core) (events : List RingEvent) : Type 0 where
-  pub actions : actions_of events ≡ c.history
+  pub history_events : history_events_of events ≡ c.history
   pub window : WindowRun n start events (window_of c)
   pub took : fills_taken start events ≡ numbers_of c.reader.taken

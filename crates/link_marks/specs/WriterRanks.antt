@@ -2,7 +2,7 @@
 -- and below which fill all are passed. Each of its steps lowers this number, whatever a reader does in between.
 -- docs/FORMATS.md, "Writer frames".
 use Rattle.std.specs.Prelude.{◌≡◌, ◌≢◌, ℕ, ◌+◌, ◌-◌, ◌*◌, ◌<◌, ◌≤◌, nat_lt, if◌then◌else◌, List, [], ◌∷◌, length, None}
-use Rattle.trace_model.specs.History.{Action, Reservation}
+use Rattle.trace_model.specs.History.{HistoryEvent, Reservation}
 use Rattle.trace_model.specs.Packing.{tail_of}
 use Rattle.trace_model.specs.Links.{header_link}
 use Rattle.trace_model.specs.Frames.{FrameState, waiting, reserved, left, number_of, Phase, idle, looking, claiming, looking_next, marking, clearing, opening, releasing, wishing, Frame}
@@ -26,13 +26,13 @@ abbrev pub grant_rank : List Reservation → ℕ
 grant_rank [] = 0
 grant_rank (r ∷ records) = 12
 
-abbrev pub fresh_rank : List Action → FrameState → ℕ
+abbrev pub fresh_rank : List HistoryEvent → FrameState → ℕ
 fresh_rank history waiting = need_rank (tail_of history)
 fresh_rank history (reserved number) = 15
 fresh_rank history left = 0
 
 -- how far a frame in this state and phase is from closing its last fill, but for the fills that are begun
-abbrev pub own_rank : (n passed opened : ℕ) → List Action → FrameState → Phase → ℕ
+abbrev pub own_rank : (n passed opened : ℕ) → List HistoryEvent → FrameState → Phase → ℕ
 own_rank n passed opened history state idle = fresh_rank history state
 own_rank n passed opened history state (looking noted) =
     state_rank state + late_rank noted opened + look_rank n passed noted
@@ -45,7 +45,7 @@ own_rank n passed opened history state releasing = grant_rank (tail_of history)
 own_rank n passed opened history state wishing = grant_rank (tail_of history) + 1
 
 -- of the frame on top, with the fills that are begun and not closed
-abbrev pub writer_rank : (n passed done opened : ℕ) → List Action → List Frame → ℕ
+abbrev pub writer_rank : (n passed done opened : ℕ) → List HistoryEvent → List Frame → ℕ
 writer_rank n passed done opened history [] = 0
 writer_rank n passed done opened history (frame ∷ below) =
     3 * (opened - done) + own_rank n passed opened history frame.state frame.phase

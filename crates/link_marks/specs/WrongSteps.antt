@@ -4,7 +4,7 @@ use Rattle.trace_model.specs.History.{wished}
 use Rattle.trace_model.specs.Packing.{IsPacked}
 use Rattle.trace_model.specs.Links.{normal_link, header_link}
 use Rattle.trace_model.specs.Ring.{Core, IsStart, IsRing}
-use Rattle.trace_model.specs.Steps.{Event, Answer, going, reserved_as, pending, full, reading, with_action, with_link, with_new_tail, after_swap, Step, Exchange, Run}
+use Rattle.trace_model.specs.Steps.{Event, Answer, going, reserved_as, pending, full, reading, with_history_event, with_link, with_new_tail, after_swap, Step, Exchange, Run}
 use Rattle.link_marks.specs.Examples.{pushing, stepping, after_going, ending, taking, all, four, writing, writing_on_free, writing_over_head, closing_above, wishing_for, pushing_close}
 
 -- These exchanges lead from a new ring of n positions to a state. What the wrong step makes of it is no ring; and
@@ -139,7 +139,7 @@ to_empty_page = wishing_for 0 ++ pushing_close ++ stepping (going ∷ [])
 
 -- it takes the wish, and begins the next page
 abbrev pub with_empty_page_left : Core → Core
-with_empty_page_left c = with_new_tail (with_action c wished) 1
+with_empty_page_left c = with_new_tail (with_history_event c wished) 1
 
 abbrev pub WishClosesAnEmptyPage : Type 0
 WishClosesAnEmptyPage = IsUnpackedStep 2 32 to_empty_page with_empty_page_left

@@ -1,7 +1,7 @@
 -- What allot makes of a stack, by its answer.
 use Rattle.std.proofs.Common.{◌≡◌, ℕ, ◌≤◌, List, [], ◌∷◌, ◌++◌, Option, Some, None, Ok, Err, refl, sym, ap, ◌∙◌, subst, arith, append-nil}
 use Rattle.std.specs.Prelude.{unwrap_or}
-use Rattle.trace_model.specs.History.{Action, reserve, leave, reserved_records}
+use Rattle.trace_model.specs.History.{HistoryEvent, reserve, leave, reserved_records}
 use Rattle.trace_model.specs.Packing.{opens_of, is_wished}
 use Rattle.trace_model.specs.Frames.{waiting}
 use Rattle.record_words.specs.declared.put.Place.{Place}
@@ -41,7 +41,7 @@ module _ (s after : Stack) (top : Frame) (below : List Frame) (top_is : s.frames
   pub worn_after : WantsPage s top.purpose top.progress → after ≡ after_leave s top below → IsAllotted s s.frames (Err Worn) after
   worn_after w is = subst (λ (fs : List Frame). IsAllotted s fs (Err Worn) after) (sym top_is) (is, leaves (wants_waiting s top.purpose top.progress w) is)
 
-  notes : (purpose : Purpose) (progress : Progress) → top.purpose ≡ purpose → top.progress ≡ progress → WantsPage s purpose progress → (start : ℕ) (h : List Action) → IsStack start h s → IsStack start h (with_progress s top below (Waiting (Some (opened s))))
+  notes : (purpose : Purpose) (progress : Progress) → top.purpose ≡ purpose → top.progress ≡ progress → WantsPage s purpose progress → (start : ℕ) (h : List HistoryEvent) → IsStack start h s → IsStack start h (with_progress s top below (Waiting (Some (opened s))))
   notes (Record moment len) (Waiting noted) p q w start h k = noted_record start h s top below moment len top_is p (ap state_of q) w k
   notes Close (Waiting noted) p q w start h k = noted_close start h s top below top_is p (ap state_of q) w.0 k
   notes (Record moment len) (Through noted) p q w start h k = absurd w
@@ -53,15 +53,15 @@ module _ (s after : Stack) (top : Frame) (below : List Frame) (top_is : s.frames
 
   pub noted_after : WantsPage s top.purpose top.progress → after ≡ with_progress s top below (Waiting (Some (opened s))) → IsAllotted s s.frames (Ok NeedsPage) after
   noted_after w is = subst (λ (fs : List Frame). IsAllotted s fs (Ok NeedsPage) after) (sym top_is)
-      (is, λ start h k. subst (λ (g : List Action). IsStack start g after) (sym (append-nil h)) (subst (IsStack start h) (sym is) (notes top.purpose top.progress refl refl w start h k)))
+      (is, λ start h k. subst (λ (g : List HistoryEvent). IsStack start g after) (sym (append-nil h)) (subst (IsStack start h) (sym is) (notes top.purpose top.progress refl refl w start h k)))
 
-  passes : (noted : ℕ) → top.purpose ≡ Close → state_of top.progress ≡ waiting → ((start : ℕ) (h : List Action) → IsStack start h s → noted ≤ opened s) → after ≡ with_progress s top below (Through noted) → HasActed s [] after
-  passes noted p q le is start h k = subst (λ (g : List Action). IsStack start g after) (sym (append-nil h)) (subst (IsStack start h) (sym is) (gone_through start h s top below noted p' p q (le start h k) k))
+  passes : (noted : ℕ) → top.purpose ≡ Close → state_of top.progress ≡ waiting → ((start : ℕ) (h : List HistoryEvent) → IsStack start h s → noted ≤ opened s) → after ≡ with_progress s top below (Through noted) → HasActed s [] after
+  passes noted p q le is start h k = subst (λ (g : List HistoryEvent). IsStack start g after) (sym (append-nil h)) (subst (IsStack start h) (sym is) (gone_through start h s top below noted p' p q (le start h k) k))
     where
       p' : s.frames ≡ top ∷ below
       p' = top_is
 
-  stands : (progress : Progress) → top.progress ≡ progress → (start : ℕ) (h : List Action) → IsStack start h s → StandsAt s.size s.done s.older s.tail (opens_of h) (reserved_records h) (is_wished h) (kind_of top.purpose) progress
+  stands : (progress : Progress) → top.progress ≡ progress → (start : ℕ) (h : List HistoryEvent) → IsStack start h s → StandsAt s.size s.done s.older s.tail (opens_of h) (reserved_records h) (is_wished h) (kind_of top.purpose) progress
   stands progress q start h k = subst (StandsAt s.size s.done s.older s.tail (opens_of h) (reserved_records h) (is_wished h) (kind_of top.purpose)) q (subst (FramesStand s.size s.done s.older s.tail (opens_of h) (reserved_records h) (is_wished h)) top_is k.holds.frames_are).1
 
   tried_first : (noted : Option ℕ) → IsNoted (opened s) noted → unwrap_or noted (opened s) ≤ opened s

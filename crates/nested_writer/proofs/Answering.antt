@@ -1,7 +1,7 @@
 -- What an answer of allot states of the fills that a history leaves.
 use Rattle.std.proofs.Common.{◌≡◌, ◌≢◌, ℕ, ◌<◌, ◌⊎◌, ◌+◌, List, [], ◌∷◌, ◌++◌, length, Option, Some, None, Result, Ok, Err, subst, refl, sym, ap, ◌∙◌, inl, inr, arith}
 use Rattle.trace_model.specs.declared.limits.TheConstants.{LINK_FILLS}
-use Rattle.trace_model.specs.History.{Action, Reservation, reservation_for, reserved_records}
+use Rattle.trace_model.specs.History.{HistoryEvent, Reservation, reservation_for, reserved_records}
 use Rattle.trace_model.specs.Packing.{opens_of, fill_len, tail_of, is_wished}
 use Rattle.trace_model.proofs.PackedHistories.{tail_is}
 use Rattle.record_words.specs.declared.put.Place.{Place}
@@ -24,7 +24,7 @@ use Rattle.nested_writer.proofs.Reserving.{number_is, end_is}
 use Rattle.nested_writer.proofs.Plain.{plain_room}
 use Rattle.nested_writer.proofs.Releasing.{tail_empty, tail_holds}
 
-module _ (start : ℕ) (h : List Action) (s : Stack) (k : IsStack start h s) where
+module _ (start : ℕ) (h : List HistoryEvent) (s : Stack) (k : IsStack start h s) where
   -- what the tail takes with one record more
   tail_end : (moment len : ℕ) → fill_len (tail_of h ++ reservation_for moment len (reserved_records h) ∷ []) ≡ end_with s moment len
   tail_end moment len = ap (λ (l : List Reservation). fill_len (l ++ reservation_for moment len (reserved_records h) ∷ [])) (tail_is h) ∙ end_is start (opens_of h) (reserved_records h) (is_wished h) s k.holds moment len

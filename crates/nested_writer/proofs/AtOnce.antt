@@ -10,11 +10,11 @@ use Rattle.trace_model.specs.Record.{Record}
 use Rattle.trace_model.specs.Words.{Decodes, slot_len, padded, encoded_len}
 use Rattle.trace_model.specs.Reading.{records_in, EndsInRecord, IsPlaceIn}
 use Rattle.trace_model.specs.Overwriting.{overwritten, bytes_at, IsPlaceOf}
-use Rattle.trace_model.specs.History.{Action, push, reserve, leave, Reservation, PushedFrame, record_frame, records_with_payload, writer_after, reserved_records, MayLeave, IsHistory}
+use Rattle.trace_model.specs.History.{HistoryEvent, push, reserve, leave, Reservation, PushedFrame, record_frame, records_with_payload, writer_after, reserved_records, MayLeave, IsHistory}
 use Rattle.trace_model.specs.Steps.{IsTooLong}
 use Rattle.trace_model.specs.Fitting.{AreFit}
 use Rattle.trace_model.proofs.Allowed.{IsHistory-push}
-use Rattle.trace_model.proofs.NextAction.{left_stack}
+use Rattle.trace_model.proofs.NextEvent.{left_stack}
 use Rattle.trace_model.proofs.NextRecords.{records_left}
 use Rattle.trace_model.proofs.FillCuts.{opens_of-leave}
 use Rattle.trace_model.proofs.PackedHistories.{fit_more, is_wished-leave}
@@ -136,20 +136,20 @@ same_padded number p q [] same = refl
 same_padded zero p q (x ∷ xs) same = ap (λ (b : List ℕ). let r : Reservation = record x { bytes = Some b } in r ∷ xs) same
 same_padded (suc number) p q (x ∷ xs) same = ap (λ (l : List Reservation). x ∷ l) (same_padded number p q xs same)
 
-keeps_front : (h : List Action) (a : Action) → IsHistory (h ++ a ∷ []) → IsHistory h
-keeps_front h a keeps = λ front behind x is. keeps front (behind ++ a ∷ []) x (ap (λ (g : List Action). g ++ a ∷ []) is ∙ append_assoc front (x ∷ behind) (a ∷ []))
+keeps_front : (h : List HistoryEvent) (a : HistoryEvent) → IsHistory (h ++ a ∷ []) → IsHistory h
+keeps_front h a keeps = λ front behind x is. keeps front (behind ++ a ∷ []) x (ap (λ (g : List HistoryEvent). g ++ a ∷ []) is ∙ append_assoc front (x ∷ behind) (a ∷ []))
 
-fit_front : (size : ℕ) (h : List Action) (a : Action) → AreFit size (h ++ a ∷ []) → AreFit size h
-fit_front size h a fit = λ front behind x is. fit front (behind ++ a ∷ []) x (ap (λ (g : List Action). g ++ a ∷ []) is ∙ append_assoc front (x ∷ behind) (a ∷ []))
+fit_front : (size : ℕ) (h : List HistoryEvent) (a : HistoryEvent) → AreFit size (h ++ a ∷ []) → AreFit size h
+fit_front size h a fit = λ front behind x is. fit front (behind ++ a ∷ []) x (ap (λ (g : List HistoryEvent). g ++ a ∷ []) is ∙ append_assoc front (x ∷ behind) (a ∷ []))
 
 -- so its frame may leave with either of them
-pub left_alike : (start : ℕ) (h : List Action) (s : Stack) (moment len number : ℕ) (below : List PushedFrame) (p q : List ℕ) → padded p ≡ padded q → (writer_after h).stack ≡ record_frame moment len (Some number) ∷ below → slot_len (length p) ≡ slot_len len
+pub left_alike : (start : ℕ) (h : List HistoryEvent) (s : Stack) (moment len number : ℕ) (below : List PushedFrame) (p q : List ℕ) → padded p ≡ padded q → (writer_after h).stack ≡ record_frame moment len (Some number) ∷ below → slot_len (length p) ≡ slot_len len
     → IsStack start (h ++ leave (Some q) ∷ []) s
     → IsStack start (h ++ leave (Some p) ∷ []) s
 left_alike start h s moment len number below p q same stack fills k =
     let f : PushedFrame = record_frame moment len (Some number) in
-    let a : Action = leave (Some p) in
-    let b : Action = leave (Some q) in
+    let a : HistoryEvent = leave (Some p) in
+    let b : HistoryEvent = leave (Some q) in
     record {
       keeps = IsHistory-push h a (keeps_front h b k.keeps) (subst (λ (st : List PushedFrame). MayLeave st (Some p)) (sym stack) fills);
       stack_is = left_stack h f below (Some p) stack ∙ sym (left_stack h f below (Some q) stack) ∙ k.stack_is;
@@ -165,7 +165,7 @@ pub fits_page : (size len : ℕ) → (IsTooLong size len → ⊥) → encoded_le
 fits_page size len fits = dite (dec_le (encoded_len len 0 true) size) (λ low. low) (λ past. absurd (fits (inr (omega arith))))
 
 -- a frame that has left may be put on an empty stack
-pub stands_again : (start : ℕ) (h : List Action) (s : Stack) (moment len : ℕ) → s.frames ≡ [] → MayStand s moment len → IsStack start h s → IsStack start h (with_left s moment len)
+pub stands_again : (start : ℕ) (h : List HistoryEvent) (s : Stack) (moment len : ℕ) → s.frames ≡ [] → MayStand s moment len → IsStack start h s → IsStack start h (with_left s moment len)
 stands_again start h s moment len none may k = record {
   keeps = k.keeps;
   stack_is = k.stack_is ∙ ap (λ (fs : List Frame). pushed_of (model_frames fs)) none;
@@ -174,7 +174,7 @@ stands_again start h s moment len none may k = record {
 }
 
 -- and goes again
-pub goes_again : (start : ℕ) (h : List Action) (s : Stack) (f : Frame) → s.frames ≡ f ∷ [] → f.progress ≡ Left None → IsStack start h s → IsStack start h (record s { frames = [] })
+pub goes_again : (start : ℕ) (h : List HistoryEvent) (s : Stack) (f : Frame) → s.frames ≡ f ∷ [] → f.progress ≡ Left None → IsStack start h s → IsStack start h (record s { frames = [] })
 goes_again start h s f top_is gone k =
     let o = k.holds in
     record {
@@ -197,7 +197,7 @@ goes_again start h s f top_is gone k =
 
 -- ---- the stack
 
-module _ (start : ℕ) (h : List Action) (s : Stack) (moment : ℕ) (payload : List ℕ) (tail' : Contents) (place : Place) (none : s.frames ≡ []) (fits : encoded_len (length payload) 0 true ≤ s.size) (early : moment < MOMENT_LIMIT) (low : length tail'.bytes ≤ s.size) (p : IsPutWith s.tail tail' s.last_moment (max moment s.last_moment) (length payload) (padded payload) place) (k : IsStack start h s) where
+module _ (start : ℕ) (h : List HistoryEvent) (s : Stack) (moment : ℕ) (payload : List ℕ) (tail' : Contents) (place : Place) (none : s.frames ≡ []) (fits : encoded_len (length payload) 0 true ≤ s.size) (early : moment < MOMENT_LIMIT) (low : length tail'.bytes ≤ s.size) (p : IsPutWith s.tail tail' s.last_moment (max moment s.last_moment) (length payload) (padded payload) place) (k : IsStack start h s) where
   abbrev raised : ℕ
   raised = max moment s.last_moment
 
@@ -243,23 +243,23 @@ module _ (start : ℕ) (h : List Action) (s : Stack) (moment : ℕ) (payload : L
 
   is_left : IsStack start (((h ++ push moment (length payload) ∷ []) ++ reserve ∷ []) ++ leave (Some payload) ∷ []) (record s { tail = tail'; frames = has_left ∷ []; last_moment = raised })
   is_left =
-      let before : List Action = (h ++ push moment (length payload) ∷ []) ++ reserve ∷ [] in
+      let before : List HistoryEvent = (h ++ push moment (length payload) ∷ []) ++ reserve ∷ [] in
       let frames : filled.frames ≡ holds ∷ [] = ap (λ (fs : List Frame). holds ∷ fs) none in
       let there : bytes_at place.start place.len tail'.bytes ≡ padded payload = part_at s.tail tail' s.last_moment raised (length payload) (padded payload) place k.holds.tail_is.page_reads p in
       left_alike start before (after_leave filled holds []) moment (length payload) (next_number s) [] payload (padded payload) (sym (padded_twice payload)) (is_filled.stack_is ∙ ap (λ (fs : List Frame). pushed_of (model_frames fs)) frames) refl
       (subst (λ (b : List ℕ). IsStack start (before ++ leave (Some b) ∷ []) (after_leave filled holds [])) there (ended start before filled holds [] slot tail' frames refl (is_tail refl refl) is_filled))
 
   is_written : IsStack start (h ++ push moment (length payload) ∷ reserve ∷ leave (Some payload) ∷ []) (record s { tail = tail'; frames = record { purpose = ForRecord moment (length payload); progress = Left None } ∷ []; last_moment = max moment s.last_moment })
-  is_written = subst (λ (g : List Action). IsStack start g (record s { tail = tail'; frames = has_left ∷ []; last_moment = raised }))
+  is_written = subst (λ (g : List HistoryEvent). IsStack start g (record s { tail = tail'; frames = has_left ∷ []; last_moment = raised }))
       (append_assoc (h ++ push moment (length payload) ∷ []) (reserve ∷ []) (leave (Some payload) ∷ []) ∙ append_assoc h (push moment (length payload) ∷ []) (reserve ∷ leave (Some payload) ∷ [])) is_left
 
   -- and its frame may be taken off again
   pub written_at_once : IsStack start (h ++ push moment (length payload) ∷ reserve ∷ leave (Some payload) ∷ []) (record s { tail = tail'; last_moment = max moment s.last_moment })
   written_at_once =
-      let actions : List Action = push moment (length payload) ∷ reserve ∷ leave (Some payload) ∷ [] in
+      let events : List HistoryEvent = push moment (length payload) ∷ reserve ∷ leave (Some payload) ∷ [] in
       let after : Stack = record s { tail = tail'; frames = has_left ∷ []; last_moment = raised } in
-      subst (λ (fs : List Frame). IsStack start (h ++ actions) (record s { tail = tail'; frames = fs; last_moment = raised })) (sym none)
-      (goes_again start (h ++ actions) after has_left refl refl is_written)
+      subst (λ (fs : List Frame). IsStack start (h ++ events) (record s { tail = tail'; frames = fs; last_moment = raised })) (sym none)
+      (goes_again start (h ++ events) after has_left refl refl is_written)
 
 -- if the stack is empty, no frame is below
 pub none_below : (top : Option Frame) (items : List Frame) → frames_from top items ≡ [] → items ≡ []

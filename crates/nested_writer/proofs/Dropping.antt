@@ -2,7 +2,7 @@
 use Rattle.std.proofs.Common.{◌≡◌, ℕ, suc, ◌+◌, ◌-◌, ◌<◌, List, [], ◌∷◌, ◌++◌, length, IfSome, sym, ap, ◌∙◌, subst, arith, append-nil}
 use Rattle.std.specs.Prelude.{Bool}
 use Rattle.std.specs.List.{slice_get}
-use Rattle.trace_model.specs.History.{Action, Reservation, reserved_records}
+use Rattle.trace_model.specs.History.{HistoryEvent, Reservation, reserved_records}
 use Rattle.trace_model.specs.Packing.{opens_of, is_wished}
 use Rattle.trace_model.specs.Frames.{FrameState, number_of}
 use Rattle.page_image.specs.Contents.{Contents}
@@ -46,8 +46,8 @@ module _ (start : ℕ) (cuts : List ℕ) (records : List Reservation) (found : B
             s.frames (none_reserved s.frames bottom) k.frames_are;
       }
 
-pub released : (start : ℕ) (h : List Action) (s : Stack) (first : Contents) (rest : List Contents) (closed : ℕ) → s.older ≡ first ∷ rest → closed ≡ s.done + 1 → IsAtBottom s.frames → IsStack start h s → IsStack start (h ++ []) (record s { done = closed; older = rest })
-released start h s first rest closed older is bottom k = subst (λ (g : List Action). IsStack start g (record s { done = closed; older = rest })) (sym (append-nil h)) (rw is record {
+pub released : (start : ℕ) (h : List HistoryEvent) (s : Stack) (first : Contents) (rest : List Contents) (closed : ℕ) → s.older ≡ first ∷ rest → closed ≡ s.done + 1 → IsAtBottom s.frames → IsStack start h s → IsStack start (h ++ []) (record s { done = closed; older = rest })
+released start h s first rest closed older is bottom k = subst (λ (g : List HistoryEvent). IsStack start g (record s { done = closed; older = rest })) (sym (append-nil h)) (rw is record {
   keeps = k.keeps;
   stack_is = k.stack_is;
   fit = k.fit;

@@ -9,7 +9,7 @@ use Rattle.trace_model.specs.Record.{Record}
 use Rattle.trace_model.specs.Words.{slot_len, padded}
 use Rattle.trace_model.specs.Reading.{records_in}
 use Rattle.trace_model.specs.Overwriting.{IsPlaceOf, bytes_at}
-use Rattle.trace_model.specs.History.{Action, leave, Reservation, PushedFrame, record_frame, last_moment, records_with_payload, writer_after, reserved_records, MayLeave}
+use Rattle.trace_model.specs.History.{HistoryEvent, leave, Reservation, PushedFrame, record_frame, last_moment, records_with_payload, writer_after, reserved_records, MayLeave}
 use Rattle.trace_model.specs.Packing.{opens_of, cut_from, is_wished}
 use Rattle.trace_model.specs.Fitting.{IsRising}
 use Rattle.trace_model.specs.Frames.{Kind, reserved, number_of, pushed_onto, pushed_of}
@@ -18,7 +18,7 @@ use Rattle.trace_model.specs.OpenPages.{HoldsRecords}
 use Rattle.trace_model.proofs.Elements.{some_is}
 use Rattle.trace_model.proofs.Lengths.{padded_whole, slot_len-slot_len}
 use Rattle.trace_model.proofs.Allowed.{IsHistory-push}
-use Rattle.trace_model.proofs.NextAction.{left_stack}
+use Rattle.trace_model.proofs.NextEvent.{left_stack}
 use Rattle.trace_model.proofs.NextRecords.{records_left, length-records_with_payload}
 use Rattle.trace_model.proofs.FillFirsts.{first_below, first_rises_to, fill_behind}
 use Rattle.trace_model.proofs.FillCuts.{finished_fill, opens_of-leave}
@@ -215,7 +215,7 @@ module _ (start : ℕ) (cuts : List ℕ) (xs : List Reservation) (found : Bool) 
 
 -- ---- the history
 
-pub ended : (start : ℕ) (h : List Action) (s : Stack) (top : Frame) (below : List Frame) (slot : Slot) (page : Contents) → s.frames ≡ top ∷ below → top.progress ≡ Reserved slot → IsOpenPage s.done s.older s.tail slot.fill page
+pub ended : (start : ℕ) (h : List HistoryEvent) (s : Stack) (top : Frame) (below : List Frame) (slot : Slot) (page : Contents) → s.frames ≡ top ∷ below → top.progress ≡ Reserved slot → IsOpenPage s.done s.older s.tail slot.fill page
     → IsStack start h s
     → IsStack start (h ++ leave (Some (bytes_at slot.place.start slot.place.len page.bytes)) ∷ []) (after_leave s top below)
 ended start h s top below slot page top_is has there k =

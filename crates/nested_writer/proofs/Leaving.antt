@@ -1,12 +1,12 @@
 -- A frame that leaves, and one that goes on waiting.
 use Rattle.std.proofs.Common.{◌≡◌, ◌≢◌, ℕ, ◌<◌, ◌≤◌, Bool, true, List, [], ◌∷◌, ◌++◌, Some, None, IfSome, refl, sym, ap, ◌∙◌, subst, arith}
 use Rattle.std.proofs.lemmas.Option.{none-some}
-use Rattle.trace_model.specs.History.{Action, leave, wished, Reservation, PushedFrame, records_after_leave, writer_after, reserved_records, MayLeave, MayWish}
+use Rattle.trace_model.specs.History.{HistoryEvent, leave, wished, Reservation, PushedFrame, records_after_leave, writer_after, reserved_records, MayLeave, MayWish}
 use Rattle.trace_model.specs.Packing.{opens_of, is_wished}
 use Rattle.trace_model.specs.Fitting.{NeedsFill}
 use Rattle.trace_model.specs.Frames.{Kind, for_record, for_close, FrameState, waiting, left, number_of, pushed_frame, pushed_onto, pushed_of}
 use Rattle.trace_model.proofs.Allowed.{IsHistory-push}
-use Rattle.trace_model.proofs.NextAction.{left_stack, wished_stack}
+use Rattle.trace_model.proofs.NextEvent.{left_stack, wished_stack}
 use Rattle.trace_model.proofs.NextRecords.{records_snoc, records_left}
 use Rattle.trace_model.proofs.FillCuts.{opens_of-leave, opens_of-wished}
 use Rattle.trace_model.proofs.PackedHistories.{fit_more, is_wished-leave, is_wished-wished}
@@ -55,7 +55,7 @@ same_records (for_record moment len) records = refl
 same_records for_close records = refl
 
 -- a frame without a record leaves
-pub left_none : (start : ℕ) (h : List Action) (s : Stack) (top : Frame) (below : List Frame) → s.frames ≡ top ∷ below → state_of top.progress ≡ waiting → IsStack start h s → IsStack start (h ++ leave None ∷ []) (after_leave s top below)
+pub left_none : (start : ℕ) (h : List HistoryEvent) (s : Stack) (top : Frame) (below : List Frame) → s.frames ≡ top ∷ below → state_of top.progress ≡ waiting → IsStack start h s → IsStack start (h ++ leave None ∷ []) (after_leave s top below)
 left_none start h s top below top_is waits k =
     let rest : List PushedFrame = pushed_of (model_frames below) in
     let frames = subst (FramesStand s.size s.done s.older s.tail (opens_of h) (reserved_records h) (is_wished h)) top_is k.holds.frames_are in
@@ -93,7 +93,7 @@ of_progress start cuts records found s top below progress top_is waits st k =
     waits_not_left : waiting ≡ left → ⊥
     waits_not_left e = cc
 
-is_progress : (start : ℕ) (h : List Action) (s : Stack) (top : Frame) (below : List Frame) (progress : Progress) → s.frames ≡ top ∷ below → state_of top.progress ≡ waiting → state_of progress ≡ waiting
+is_progress : (start : ℕ) (h : List HistoryEvent) (s : Stack) (top : Frame) (below : List Frame) (progress : Progress) → s.frames ≡ top ∷ below → state_of top.progress ≡ waiting → state_of progress ≡ waiting
     → StandsAt s.size s.done s.older s.tail (opens_of h) (reserved_records h) (is_wished h) (kind_of top.purpose) progress
     → IsStack start h s
     → IsStack start h (with_progress s top below progress)
@@ -105,24 +105,24 @@ is_progress start h s top below progress top_is waits goes st k = record {
 }
 
 -- what a frame needs that wants a page
-needs_record : (start : ℕ) (h : List Action) (s : Stack) (moment len : ℕ) → s.size < end_with s moment len → IsStack start h s → NeedsFill s.size (opens_of h) (reserved_records h) (is_wished h) (for_record moment len) waiting
+needs_record : (start : ℕ) (h : List HistoryEvent) (s : Stack) (moment len : ℕ) → s.size < end_with s moment len → IsStack start h s → NeedsFill s.size (opens_of h) (reserved_records h) (is_wished h) (for_record moment len) waiting
 needs_record start h s moment len past k fits = let e = end_is start (opens_of h) (reserved_records h) (is_wished h) s k.holds moment len in absurd (omega arith)
 
 -- it noted that it needs a page
-pub noted_record : (start : ℕ) (h : List Action) (s : Stack) (top : Frame) (below : List Frame) (moment len : ℕ) → s.frames ≡ top ∷ below → top.purpose ≡ Record moment len → state_of top.progress ≡ waiting → s.size < end_with s moment len
+pub noted_record : (start : ℕ) (h : List HistoryEvent) (s : Stack) (top : Frame) (below : List Frame) (moment len : ℕ) → s.frames ≡ top ∷ below → top.purpose ≡ Record moment len → state_of top.progress ≡ waiting → s.size < end_with s moment len
     → IsStack start h s
     → IsStack start h (with_progress s top below (Waiting (Some (opened s))))
 noted_record start h s top below moment len top_is purpose waits past k = is_progress start h s top below (Waiting (Some (opened s))) top_is waits refl
     (omega arith, λ e. subst (λ (kind : Kind). NeedsFill s.size (opens_of h) (reserved_records h) (is_wished h) kind waiting) (sym (ap kind_of purpose)) (needs_record start h s moment len past k)) k
 
-pub noted_close : (start : ℕ) (h : List Action) (s : Stack) (top : Frame) (below : List Frame) → s.frames ≡ top ∷ below → top.purpose ≡ Close → state_of top.progress ≡ waiting → s.tail.bytes ≢ []
+pub noted_close : (start : ℕ) (h : List HistoryEvent) (s : Stack) (top : Frame) (below : List Frame) → s.frames ≡ top ∷ below → top.purpose ≡ Close → state_of top.progress ≡ waiting → s.tail.bytes ≢ []
     → IsStack start h s
     → IsStack start h (with_progress s top below (Waiting (Some (opened s))))
 noted_close start h s top below top_is purpose waits some k = is_progress start h s top below (Waiting (Some (opened s))) top_is waits refl
     (omega arith, λ e. subst (λ (kind : Kind). NeedsFill s.size (opens_of h) (reserved_records h) (is_wished h) kind waiting) (sym (ap kind_of purpose)) (tail_some start (opens_of h) (reserved_records h) (is_wished h) s k.holds some)) k
 
 -- a close frame has nothing to close
-pub gone_through : (start : ℕ) (h : List Action) (s : Stack) (top : Frame) (below : List Frame) (noted : ℕ) → s.frames ≡ top ∷ below → top.purpose ≡ Close → state_of top.progress ≡ waiting → noted ≤ opened s
+pub gone_through : (start : ℕ) (h : List HistoryEvent) (s : Stack) (top : Frame) (below : List Frame) (noted : ℕ) → s.frames ≡ top ∷ below → top.purpose ≡ Close → state_of top.progress ≡ waiting → noted ≤ opened s
     → IsStack start h s
     → IsStack start h (with_progress s top below (Through noted))
 gone_through start h s top below noted top_is purpose waits le k = is_progress start h s top below (Through noted) top_is waits refl (ap kind_of purpose, le) k
@@ -135,11 +135,11 @@ left_is (Through noted) gone = absurd gone
 left_is (Reserved slot) gone = absurd gone
 left_is (Left noted) gone = refl
 
-left_empty : (start : ℕ) (h : List Action) (s : Stack) (bottom : Frame) → s.frames ≡ bottom ∷ [] → state_of bottom.progress ≡ left → IsStack start h s → (writer_after h).stack ≡ []
+left_empty : (start : ℕ) (h : List HistoryEvent) (s : Stack) (bottom : Frame) → s.frames ≡ bottom ∷ [] → state_of bottom.progress ≡ left → IsStack start h s → (writer_after h).stack ≡ []
 left_empty start h s bottom top_is gone k = k.stack_is ∙ ap (λ (fs : List Frame). pushed_of (model_frames fs)) top_is ∙ ap (λ (state : FrameState). pushed_onto (kind_of bottom.purpose) state []) gone
 
 -- it is asked to close the tail, which holds a record
-pub asked : (start : ℕ) (h : List Action) (s : Stack) (bottom : Frame) → s.frames ≡ bottom ∷ [] → state_of bottom.progress ≡ left → s.tail.bytes ≢ [] → IsStack start h s → IsStack start (h ++ wished ∷ []) (with_progress s bottom [] (Left (Some (opened s))))
+pub asked : (start : ℕ) (h : List HistoryEvent) (s : Stack) (bottom : Frame) → s.frames ≡ bottom ∷ [] → state_of bottom.progress ≡ left → s.tail.bytes ≢ [] → IsStack start h s → IsStack start (h ++ wished ∷ []) (with_progress s bottom [] (Left (Some (opened s))))
 asked start h s bottom top_is gone some k =
     let empty = left_empty start h s bottom top_is gone k in
     let o = k.holds in
@@ -164,7 +164,7 @@ asked start h s bottom top_is gone some k =
     }
 
 -- the same, by the number as it is worked out
-pub asked_at : (start : ℕ) (h : List Action) (s : Stack) (bottom : Frame) (below : List Frame) (noted : ℕ) → noted ≡ opened s → s.frames ≡ bottom ∷ below → IsAtBottom (bottom ∷ below) → s.tail.bytes ≢ [] → IsStack start h s
+pub asked_at : (start : ℕ) (h : List HistoryEvent) (s : Stack) (bottom : Frame) (below : List Frame) (noted : ℕ) → noted ≡ opened s → s.frames ≡ bottom ∷ below → IsAtBottom (bottom ∷ below) → s.tail.bytes ≢ [] → IsStack start h s
     → IsStack start (h ++ wished ∷ []) (record s { frames = record bottom { progress = Left (Some noted) } ∷ below })
 asked_at start h s bottom [] noted is top_is gone some k = rw is (asked start h s bottom top_is (left_is bottom.progress gone) some k)
 asked_at start h s bottom (next ∷ below) noted is top_is gone some k = absurd gone

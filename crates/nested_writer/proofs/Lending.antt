@@ -4,7 +4,7 @@ use Rattle.std.specs.Prelude.{slice_set, slice_range}
 use Rattle.std.specs.List.{slice_get}
 use Rattle.std.proofs.lemmas.Bool.{cond-true, cond-false, ne_eqb, eq-eqb}
 use Rattle.std.proofs.lemmas.Option.{slice_get_within, get_or_from_slice_get}
-use Rattle.trace_model.specs.History.{Action, reserved_records}
+use Rattle.trace_model.specs.History.{HistoryEvent, reserved_records}
 use Rattle.trace_model.specs.Reading.{IsPlaceIn}
 use Rattle.trace_model.proofs.Overwritten.{place-within}
 use Rattle.trace_model.specs.Packing.{opens_of, is_wished}
@@ -19,7 +19,7 @@ use Rattle.nested_writer.proofs.Ending.{open_page_is}
 use Rattle.nested_writer.specs.IsStack.{IsOpenPage, is_tail, is_older, IsUnwritten, StandsAt, FramesStand, IsStack}
 
 -- its record is in an open page
-pub slot_lies : (start : ℕ) (h : List Action) (s : Stack) (slot : Slot) → IsTopSlot s.frames slot → IsStack start h s → (len : ℕ) × IsUnwritten s.done s.older s.tail (reserved_records h) len slot
+pub slot_lies : (start : ℕ) (h : List HistoryEvent) (s : Stack) (slot : Slot) → IsTopSlot s.frames slot → IsStack start h s → (len : ℕ) × IsUnwritten s.done s.older s.tail (reserved_records h) len slot
 slot_lies start h s slot is k = by_frames s.frames is k.holds.frames_are
   where
     by_frames : (frames : List Frame) → IsTopSlot frames slot → FramesStand s.size s.done s.older s.tail (opens_of h) (reserved_records h) (is_wished h) frames → (len : ℕ) × IsUnwritten s.done s.older s.tail (reserved_records h) len slot
@@ -50,7 +50,7 @@ in_older s slot part page other at =
     ∙ sym (cond-false (eqb slot.fill s.tail.fill) _ _ (ne_eqb slot.fill s.tail.fill other))
 
 -- what is there is as long as the slot
-pub lent_len : (start : ℕ) (h : List Action) (s : Stack) (slot : Slot) (page : Contents) → IsTopSlot s.frames slot → IsOpenPage s.done s.older s.tail slot.fill page → IsStack start h s
+pub lent_len : (start : ℕ) (h : List HistoryEvent) (s : Stack) (slot : Slot) (page : Contents) → IsTopSlot s.frames slot → IsOpenPage s.done s.older s.tail slot.fill page → IsStack start h s
     → length (slice_range page.bytes slot.place.start (slot.place.start + slot.place.len)) ≡ slot.place.len
 lent_len start h s slot page is there k =
     let (len, lies) = slot_lies start h s slot is k in

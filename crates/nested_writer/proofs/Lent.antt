@@ -5,7 +5,7 @@ use Rattle.std.specs.List.{slice_get}
 use Rattle.std.proofs.lemmas.List.{drop-take, drop_at, set-get_or, take-take, take_at}
 use Rattle.std.proofs.lemmas.Option.{get_or_from_slice_get}
 use Rattle.std.proofs.lemmas.Bool.{cond-true, cond-false, ne_eqb, eq-eqb}
-use Rattle.trace_model.specs.History.{Action, reserved_records}
+use Rattle.trace_model.specs.History.{HistoryEvent, reserved_records}
 use Rattle.trace_model.specs.Packing.{opens_of, is_wished}
 use Rattle.trace_model.specs.Words.{slot_len}
 use Rattle.trace_model.specs.Frames.{for_record}
@@ -119,7 +119,7 @@ pub record HasPage (s : Stack) (slot : Slot) : Type 0 where
   pub there : IsOpenPage s.done s.older s.tail slot.fill page
   pub within : slot.place.start + slot.place.len ≤ length page.bytes
 
-module _ (start : ℕ) (h : List Action) (s : Stack) (slot : Slot) (is : IsTopSlot s.frames slot) (k : IsStack start h s) where
+module _ (start : ℕ) (h : List HistoryEvent) (s : Stack) (slot : Slot) (is : IsTopSlot s.frames slot) (k : IsStack start h s) where
   pub slot_page : HasPage s slot
   slot_page = let (len, lies) = slot_lies start h s slot is k in record {
     page = lies.page;
@@ -195,7 +195,7 @@ lent_there payload part within long =
     ∙ overwritten_there payload.page.bytes start len part long within
 
 -- what is written there leaves the stack that of its history
-pub lent_written : (start : ℕ) (h : List Action) (s : Stack) (payload : Lent) (part : List ℕ) → IsLent s payload → length part ≡ length (lent_bytes payload) → IsStack start h s → IsStack start h (with_top s (with_bytes payload part))
+pub lent_written : (start : ℕ) (h : List HistoryEvent) (s : Stack) (payload : Lent) (part : List ℕ) → IsLent s payload → length part ≡ length (lent_bytes payload) → IsStack start h s → IsStack start h (with_top s (with_bytes payload part))
 lent_written start h s payload part lent fills k = subst (IsStack start h) (sym (lent.in_slot part)) (written start h s lent.slot part lent.on_top (fills ∙ lent.long ∙ ap (λ (p : Place). p.len) lent.place_is) k)
 
 pub lent_stays : (s : Stack) (payload : Lent) (part : List ℕ) → IsLent s payload → length part ≡ length (lent_bytes payload) → Stands s → Stands (with_top s (with_bytes payload part))

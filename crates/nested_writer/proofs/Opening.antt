@@ -3,7 +3,7 @@ use Rattle.std.proofs.Common.{◌≡◌, ℕ, zero, suc, ◌+◌, ◌-◌, ◌<�
 use Rattle.std.specs.List.{slice_get}
 use Rattle.std.proofs.lemmas.Option.{none-some, slice_get_within}
 use Rattle.std.proofs.lemmas.List.{length_push}
-use Rattle.trace_model.specs.History.{Action, open_fill, Reservation, PushedFrame, writer_after, reserved_records, MayOpen}
+use Rattle.trace_model.specs.History.{HistoryEvent, open_fill, Reservation, PushedFrame, writer_after, reserved_records, MayOpen}
 use Rattle.trace_model.specs.Packing.{opens_of, cut_from, is_wished}
 use Rattle.trace_model.specs.Fitting.{NeedsFill, FitsPage}
 use Rattle.trace_model.specs.Frames.{Kind, for_record, for_close, left, pushed_onto, pushed_of}
@@ -12,7 +12,7 @@ use Rattle.trace_model.specs.Reading.{records_in}
 use Rattle.trace_model.proofs.Elements.{some_is, get_in_front, get_behind}
 use Rattle.trace_model.proofs.Allowed.{IsHistory-push}
 use Rattle.trace_model.proofs.Appended.{EndsInRecord-nil}
-use Rattle.trace_model.proofs.NextAction.{opened_stack}
+use Rattle.trace_model.proofs.NextEvent.{opened_stack}
 use Rattle.trace_model.proofs.NextRecords.{records_snoc}
 use Rattle.trace_model.proofs.FillCuts.{IsRising-snoc, opened_before, opened_last, opens_of-open_fill}
 use Rattle.trace_model.proofs.PackedHistories.{room_opened, fit_more, fit_open, is_wished-open_fill}
@@ -133,7 +133,7 @@ fits_page size (for_record moment len) may = may.0
 fits_page size for_close may = tt
 
 -- a page is added for the frame on top, which noted that it needs one
-pub page_added : (start : ℕ) (h : List Action) (s : Stack) (top : Frame) (below : List Frame) (page : Contents) → s.frames ≡ top ∷ below → HasNoted s top.progress → page ≡ blank_page s.size (next_number s) (opened s) → IsPage page
+pub page_added : (start : ℕ) (h : List HistoryEvent) (s : Stack) (top : Frame) (below : List Frame) (page : Contents) → s.frames ≡ top ∷ below → HasNoted s top.progress → page ≡ blank_page s.size (next_number s) (opened s) → IsPage page
     → IsStack start h s
     → IsStack start (h ++ open_fill ∷ []) (with_tail s page)
 page_added start h s top below page top_is has blank reads k =
@@ -150,7 +150,7 @@ page_added start h s top below page top_is has blank reads k =
           (opens_of-open_fill h) (records_snoc h open_fill) (is_wished-open_fill h) (of_opened start (opens_of h) (reserved_records h) (is_wished h) s k.holds page blank reads);
     }
 
-pub page_may_be_added : (start : ℕ) (h : List Action) (s : Stack) (page : Contents) → MayAddPage s s.frames → page ≡ blank_page s.size (next_number s) (opened s) → IsPage page → IsStack start h s → IsStack start (h ++ open_fill ∷ []) (with_tail s page)
+pub page_may_be_added : (start : ℕ) (h : List HistoryEvent) (s : Stack) (page : Contents) → MayAddPage s s.frames → page ≡ blank_page s.size (next_number s) (opened s) → IsPage page → IsStack start h s → IsStack start (h ++ open_fill ∷ []) (with_tail s page)
 page_may_be_added start h s page may blank reads k = by_frames s.frames refl may
   where
     by_frames : (frames : List Frame) → s.frames ≡ frames → MayAddPage s frames → IsStack start (h ++ open_fill ∷ []) (with_tail s page)

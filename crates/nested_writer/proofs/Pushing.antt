@@ -4,10 +4,10 @@ use Rattle.std.specs.Prelude.{Bool, if◌then◌else◌, nat_le}
 use Rattle.std.proofs.lemmas.Option.{none-some}
 use Rattle.trace_model.specs.declared.limits.TheConstants.{MIN_SIZE, MOMENT_LIMIT}
 use Rattle.trace_model.specs.Words.{slot_len, encoded_len}
-use Rattle.trace_model.specs.History.{Action, push, push_close, Reservation, WriterState, PushedFrame, record_frame, close_frame, reserved_records}
+use Rattle.trace_model.specs.History.{HistoryEvent, push, push_close, Reservation, WriterState, PushedFrame, record_frame, close_frame, reserved_records}
 use Rattle.trace_model.specs.Packing.{opens_of, is_wished}
 use Rattle.trace_model.proofs.Allowed.{IsHistory-push}
-use Rattle.trace_model.proofs.NextAction.{writer_snoc}
+use Rattle.trace_model.proofs.NextEvent.{writer_snoc}
 use Rattle.trace_model.proofs.NextRecords.{records_snoc}
 use Rattle.trace_model.proofs.FillCuts.{opens_of-push, opens_of-push_close}
 use Rattle.trace_model.proofs.PackedHistories.{fit_more, is_wished-push, is_wished-push_close}
@@ -44,7 +44,7 @@ surely_fits size len some low = let slot : slot_len len ≤ len + 4 = omega arit
     word_len true = omega arith
     word_len false = omega arith
 
-pub pushed_record : (start : ℕ) (h : List Action) (s : Stack) (moment len : ℕ) → encoded_len len 0 true ≤ s.size → moment < MOMENT_LIMIT → IsStack start h s → IsStack start (h ++ push moment len ∷ []) (with_frame s record { purpose = Record moment len; progress = Waiting None })
+pub pushed_record : (start : ℕ) (h : List HistoryEvent) (s : Stack) (moment len : ℕ) → encoded_len len 0 true ≤ s.size → moment < MOMENT_LIMIT → IsStack start h s → IsStack start (h ++ push moment len ∷ []) (with_frame s record { purpose = Record moment len; progress = Waiting None })
 pushed_record start h s moment len fits early k = record {
   keeps = IsHistory-push h (push moment len) k.keeps tt;
   stack_is = ap (λ (w : WriterState). w.stack) (writer_snoc h (push moment len)) ∙ ap (λ (l : List PushedFrame). record_frame moment len None ∷ l) k.stack_is;
@@ -53,7 +53,7 @@ pushed_record start h s moment len fits early k = record {
       (opens_of-push h moment len) (records_snoc h (push moment len)) (is_wished-push h moment len) (of_pushed start (opens_of h) (reserved_records h) (is_wished h) s (Record moment len) (fits, early) k.holds);
 }
 
-pub pushed_close : (start : ℕ) (h : List Action) (s : Stack) → IsStack start h s → IsStack start (h ++ push_close ∷ []) (with_frame s record { purpose = Close; progress = Waiting None })
+pub pushed_close : (start : ℕ) (h : List HistoryEvent) (s : Stack) → IsStack start h s → IsStack start (h ++ push_close ∷ []) (with_frame s record { purpose = Close; progress = Waiting None })
 pushed_close start h s k = record {
   keeps = IsHistory-push h push_close k.keeps tt;
   stack_is = ap (λ (w : WriterState). w.stack) (writer_snoc h push_close) ∙ ap (λ (l : List PushedFrame). close_frame ∷ l) k.stack_is;

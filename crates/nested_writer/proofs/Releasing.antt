@@ -4,7 +4,7 @@ use Rattle.std.specs.Prelude.{All, IsSomeAnd, unwrap_or}
 use Rattle.std.proofs.lemmas.List.{take_all, take-map, drop-map}
 use Rattle.std.proofs.lemmas.List.Elements.{All-nil, All-head, All-tail, All-take, All-drop}
 use Rattle.trace_model.specs.Record.{Record}
-use Rattle.trace_model.specs.History.{Action, Reservation, HasItsBytes, as_record, writer_after, reserved_records, is_settled, settled_prefix, committed_records, IsHistory}
+use Rattle.trace_model.specs.History.{HistoryEvent, Reservation, HasItsBytes, as_record, writer_after, reserved_records, is_settled, settled_prefix, committed_records, IsHistory}
 use Rattle.trace_model.specs.Packing.{opens_of, cut_from, tail_of, is_wished}
 use Rattle.trace_model.specs.Fitting.{tail_at}
 use Rattle.trace_model.specs.Frames.{FrameState, left, pushed_onto, pushed_of}
@@ -30,15 +30,15 @@ use Rattle.nested_writer.proofs.Dropping.{oldest}
 
 -- ---- records if the stack is empty
 
-whole_prefix : (h : List Action) → (writer_after h).stack ≡ [] → settled_prefix h ≡ h
+whole_prefix : (h : List HistoryEvent) → (writer_after h).stack ≡ [] → settled_prefix h ≡ h
 whole_prefix h none = let settled : is_settled h ≡ true = rw none refl in whole_front (length h) h (omega arith) settled
 
 -- all of them are committed
-all_committed : (h : List Action) → (writer_after h).stack ≡ [] → committed_records h ≡ map as_record (reserved_records h)
-all_committed h none = ap (λ (front : List Action). map as_record (reserved_records front)) (whole_prefix h none)
+all_committed : (h : List HistoryEvent) → (writer_after h).stack ≡ [] → committed_records h ≡ map as_record (reserved_records h)
+all_committed h none = ap (λ (front : List HistoryEvent). map as_record (reserved_records front)) (whole_prefix h none)
 
-all_written : (h : List Action) → IsHistory h → (writer_after h).stack ≡ [] → All HasItsBytes (reserved_records h)
-all_written h keeps none = subst (λ (front : List Action). All HasItsBytes (reserved_records front)) (whole_prefix h none) (committed-IsWritten h keeps)
+all_written : (h : List HistoryEvent) → IsHistory h → (writer_after h).stack ≡ [] → All HasItsBytes (reserved_records h)
+all_written h keeps none = subst (λ (front : List HistoryEvent). All HasItsBytes (reserved_records front)) (whole_prefix h none) (committed-IsWritten h keeps)
 
 -- ---- a fill of them
 
@@ -77,7 +77,7 @@ records_read (r ∷ records) (s ∷ fill) all written = λ i. record_read r s al
 
 -- ---- a page of an open fill, if the stack is empty
 
-module _ (size start : ℕ) (h : List Action) (fill : ℕ) (page : Contents) (keeps : IsHistory h) (none : (writer_after h).stack ≡ []) (p : IsPageOf size fill (opens_of h) (reserved_records h) (fill - start) page) where
+module _ (size start : ℕ) (h : List HistoryEvent) (fill : ℕ) (page : Contents) (keeps : IsHistory h) (none : (writer_after h).stack ≡ []) (p : IsPageOf size fill (opens_of h) (reserved_records h) (fill - start) page) where
   abbrev its : List Reservation
   its = (fill_of h start fill).records
 
@@ -115,13 +115,13 @@ bottom_of [] at = absurd at
 bottom_of (f ∷ []) at = (f, refl, left_is f.progress at)
 bottom_of (f ∷ next ∷ below) at = absurd at
 
-pub none_stands : (start : ℕ) (h : List Action) (s : Stack) → IsAtBottom s.frames → IsStack start h s → (writer_after h).stack ≡ []
+pub none_stands : (start : ℕ) (h : List HistoryEvent) (s : Stack) → IsAtBottom s.frames → IsStack start h s → (writer_after h).stack ≡ []
 none_stands start h s at k = let bottom = bottom_of s.frames at in
     k.stack_is ∙ ap (λ (fs : List Frame). pushed_of (model_frames fs)) bottom.1 ∙ ap (λ (state : FrameState). pushed_onto (kind_of bottom.0.purpose) state []) bottom.2
 
 -- ---- the oldest page goes
 
-module _ (start : ℕ) (h : List Action) (s : Stack) (page : Contents) (older : List Contents) (at : IsAtBottom s.frames) (is : s.older ≡ page ∷ older) (k : IsStack start h s) where
+module _ (start : ℕ) (h : List HistoryEvent) (s : Stack) (page : Contents) (older : List Contents) (at : IsAtBottom s.frames) (is : s.older ≡ page ∷ older) (k : IsStack start h s) where
   abbrev cuts : List ℕ
   cuts = opens_of h
 
@@ -163,10 +163,10 @@ no_top (Some f) below e = cc
 pub only_tail : (w : Inside) (s : Stack) → stack_of w ≡ s → (w.top ≡ None → w.older.pages ≡ []) → s.frames ≡ [] → s.older ≡ []
 only_tail w s is rest none = ap (λ (x : Stack). x.older) (sym is) ∙ rest (no_top w.top w.below.items (ap (λ (x : Stack). x.frames) is ∙ none))
 
-pub all_left : (start : ℕ) (h : List Action) (s : Stack) → s.frames ≡ [] → IsStack start h s → (writer_after h).stack ≡ []
+pub all_left : (start : ℕ) (h : List HistoryEvent) (s : Stack) → s.frames ≡ [] → IsStack start h s → (writer_after h).stack ≡ []
 all_left start h s none k = k.stack_is ∙ ap (λ (fs : List Frame). pushed_of (model_frames fs)) none
 
-module _ (start : ℕ) (h : List Action) (s : Stack) (none : s.frames ≡ []) (alone : s.older ≡ []) (k : IsStack start h s) where
+module _ (start : ℕ) (h : List HistoryEvent) (s : Stack) (none : s.frames ≡ []) (alone : s.older ≡ []) (k : IsStack start h s) where
   last_fill : length (opens_of h) ≡ s.done - start
   last_fill = let few : length s.older ≡ 0 = ap length alone in let begun = k.holds.begun in omega arith
 
@@ -187,8 +187,8 @@ empty_fill : (page : Contents) (fill : List Reservation) → HoldsRecords page.t
 empty_fill page [] holds none = refl
 empty_fill page (r ∷ fill) holds none = absurd (let long = holds.len_is in let few = ap length none in let some = fill_len-some r fill in omega arith)
 
-pub tail_empty : (start : ℕ) (h : List Action) (s : Stack) → IsStack start h s → s.tail.bytes ≡ [] → tail_of h ≡ []
+pub tail_empty : (start : ℕ) (h : List HistoryEvent) (s : Stack) → IsStack start h s → s.tail.bytes ≡ [] → tail_of h ≡ []
 tail_empty start h s k none = tail_is h ∙ empty_fill s.tail (tail_at (opens_of h) (reserved_records h)) k.holds.tail_is.holds none
 
-pub tail_holds : (start : ℕ) (h : List Action) (s : Stack) → IsStack start h s → s.tail.bytes ≢ [] → tail_of h ≢ []
+pub tail_holds : (start : ℕ) (h : List HistoryEvent) (s : Stack) → IsStack start h s → s.tail.bytes ≢ [] → tail_of h ≢ []
 tail_holds start h s k some none = tail_some start (opens_of h) (reserved_records h) (is_wished h) s k.holds some (sym (tail_is h) ∙ none)

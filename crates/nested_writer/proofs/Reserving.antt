@@ -7,7 +7,7 @@ use Rattle.trace_model.specs.declared.limits.TheConstants.{MOMENT_LIMIT}
 use Rattle.trace_model.specs.Words.{slot_len, encoded_len}
 use Rattle.trace_model.specs.Reading.{EndsInRecord}
 use Rattle.trace_model.specs.Overwriting.{IsPlaceOf}
-use Rattle.trace_model.specs.History.{Action, reserve, Reservation, PushedFrame, record_frame, last_moment, reservation_for, writer_after, reserved_records, MayReserve}
+use Rattle.trace_model.specs.History.{HistoryEvent, reserve, Reservation, PushedFrame, record_frame, last_moment, reservation_for, writer_after, reserved_records, MayReserve}
 use Rattle.trace_model.specs.Packing.{opens_of, cut_from, tail_of, fill_len, FitsBehind, is_wished}
 use Rattle.trace_model.specs.Fitting.{IsRising, tail_at}
 use Rattle.trace_model.specs.Frames.{Kind, reserved, pushed_onto, pushed_of}
@@ -16,7 +16,7 @@ use Rattle.trace_model.proofs.Elements.{get_in_front, get_behind}
 use Rattle.trace_model.proofs.FillCuts.{IsRising-more, reserved_before, reserved_last, opens_of-reserve}
 use Rattle.trace_model.proofs.PackedHistories.{room_reserved, needs_reserved, fit_more, tail_is, wanted_record, is_wished-reserve}
 use Rattle.trace_model.proofs.Allowed.{IsHistory-push}
-use Rattle.trace_model.proofs.NextAction.{reserved_stack}
+use Rattle.trace_model.proofs.NextEvent.{reserved_stack}
 use Rattle.trace_model.proofs.NextRecords.{records_reserved}
 use Rattle.trace_model.proofs.OpenPages.{AreOf-length, holds_put_first, holds_put_behind, fill_len-some, fill_len-first, fill_len-push, encoded_len-slot}
 use Rattle.page_image.specs.Contents.{Contents, IsPage, records_of_page, is_blank}
@@ -269,7 +269,7 @@ module _ (start : ℕ) (cuts : List ℕ) (records : List Reservation) (found : B
 
 -- ---- the history
 
-pub reserved_record : (start : ℕ) (h : List Action) (s : Stack) (top : Frame) (below : List Frame) (moment len : ℕ) (noted : Option ℕ) (tail' : Contents) (place : Place)
+pub reserved_record : (start : ℕ) (h : List HistoryEvent) (s : Stack) (top : Frame) (below : List Frame) (moment len : ℕ) (noted : Option ℕ) (tail' : Contents) (place : Place)
     → s.frames ≡ top ∷ below
     → top.purpose ≡ ForRecord moment len
     → top.progress ≡ Waiting noted
@@ -295,7 +295,7 @@ reserved_record start h s top below moment len noted tail' place top_is purpose 
     }
 
 -- the same, by the numbers as they are worked out
-pub reserved_with : (start : ℕ) (h : List Action) (s : Stack) (top : Frame) (below : List Frame) (moment len : ℕ) (noted : Option ℕ) (tail' : Contents) (place : Place) (raised number fill : ℕ)
+pub reserved_with : (start : ℕ) (h : List HistoryEvent) (s : Stack) (top : Frame) (below : List Frame) (moment len : ℕ) (noted : Option ℕ) (tail' : Contents) (place : Place) (raised number fill : ℕ)
     → raised ≡ max moment s.last_moment
     → number ≡ next_number s
     → fill ≡ tail_fill s

@@ -1,6 +1,6 @@
 -- What each call makes of a stack is again that of a history.
 use Rattle.std.proofs.Common.{◌≡◌, ℕ, List, [], ◌∷◌, ◌++◌, Some, None, Result, Ok, Err, refl, sym, subst}
-use Rattle.trace_model.specs.History.{Action, reserve, leave}
+use Rattle.trace_model.specs.History.{HistoryEvent, reserve, leave}
 use Rattle.trace_model.specs.Overwriting.{bytes_at}
 use Rattle.record_words.specs.declared.put.Place.{Place}
 use Rattle.nested_writer.specs.declared.fault.WriteFault.{WriteFault}
@@ -22,10 +22,10 @@ use Rattle.nested_writer.proofs.Lending.{slot_lies}
 
 -- the stack is that of some history, from this fill on
 abbrev pub StandsFrom : ℕ → Stack → Type 0
-StandsFrom start s = (history : List Action) × IsStack start history s
+StandsFrom start s = (history : List HistoryEvent) × IsStack start history s
 
-pub acted : (start : ℕ) (s after : Stack) (actions : List Action) → HasActed s actions after → StandsFrom start s → StandsFrom start after
-acted start s after actions acts (h, k) = (h ++ actions, acts start h k)
+pub acted : (start : ℕ) (s after : Stack) (events : List HistoryEvent) → HasActed s events after → StandsFrom start s → StandsFrom start after
+acted start s after events acts (h, k) = (h ++ events, acts start h k)
 
 pub unmoved : (start : ℕ) (s after : Stack) → after ≡ s → StandsFrom start s → StandsFrom start after
 unmoved start s after same st = subst (StandsFrom start) (sym same) st
@@ -70,9 +70,9 @@ some_start : (start : ℕ) (s : Stack) → StandsFrom start s → Stands s
 unfolding Stands
 some_start start s (h, k) = (start, h, k)
 
-pub acted_stays : (s after : Stack) (actions : List Action) → HasActed s actions after → Stands s → Stands after
+pub acted_stays : (s after : Stack) (events : List HistoryEvent) → HasActed s events after → Stands s → Stands after
 unfolding Stands
-acted_stays s after actions acts (start, h, k) = some_start start after (acted start s after actions acts (h, k))
+acted_stays s after events acts (start, h, k) = some_start start after (acted start s after events acts (h, k))
 
 pub allotted_stays : (s after : Stack) (result : Result Allot WriteFault) → IsAllotted s s.frames result after → Stands s → Stands after
 unfolding Stands

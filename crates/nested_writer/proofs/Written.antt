@@ -7,7 +7,7 @@ use Rattle.std.proofs.lemmas.Option.{none-some, slice_get_within}
 use mathlib.Core.Logic.{dite}
 use native.Mathlib.Decide.{ℕ_discrete}
 use Rattle.trace_model.specs.Overwriting.{overwritten, IsPlaceOf}
-use Rattle.trace_model.specs.History.{Action, Reservation, reserved_records}
+use Rattle.trace_model.specs.History.{HistoryEvent, Reservation, reserved_records}
 use Rattle.trace_model.specs.Packing.{opens_of, cut_from, is_wished}
 use Rattle.trace_model.specs.Fitting.{AreFit}
 use Rattle.trace_model.specs.OpenPages.{HoldsRecords}
@@ -243,7 +243,7 @@ same_size s true one other a b = a
 same_size s false one other a b = b
 
 -- a payload of the right length, whatever it is
-pub written : (start : ℕ) (h : List Action) (s : Stack) (slot : Slot) (part : List ℕ) → IsTopSlot s.frames slot → length part ≡ slot.place.len → IsStack start h s → IsStack start h (with_slot s slot part)
+pub written : (start : ℕ) (h : List HistoryEvent) (s : Stack) (slot : Slot) (part : List ℕ) → IsTopSlot s.frames slot → length part ≡ slot.place.len → IsStack start h s → IsStack start h (with_slot s slot part)
 written start h s slot part top fills k =
     let (len, lies) = slot_lies start h s slot top k in
     record {

@@ -1,6 +1,6 @@
 -- What allot makes of a writer's stack and of its history, by its answer.
 use Rattle.std.specs.Prelude.{◌≡◌, ℕ, List, [], ◌∷◌, ◌++◌, Some, None, Result, Ok, Err}
-use Rattle.trace_model.specs.History.{Action, reserve, leave}
+use Rattle.trace_model.specs.History.{HistoryEvent, reserve, leave}
 use Rattle.record_words.specs.declared.put.Place.{Place}
 use Rattle.nested_writer.specs.declared.fault.WriteFault.{WriteFault}
 use Rattle.nested_writer.specs.declared.fault.WriteFault.TheVariants.{TooDeep, TooLong, LateMoment, Crowded, Worn, NoFrame, NotReserved}
@@ -15,11 +15,11 @@ use Rattle.nested_writer.specs.Stack.{Stack, opened}
 use Rattle.nested_writer.specs.Calls.{with_progress, after_leave, ReservesRecord}
 use Rattle.nested_writer.specs.IsStack.{IsStack}
 
--- if a history is that of the one stack, then with these actions after it, it is that of the other
-abbrev pub HasActed : Stack → List Action → Stack → Type 0
-HasActed s actions after = (start : ℕ) (history : List Action)
+-- if a history is that of the one stack, then with these events after it, it is that of the other
+abbrev pub HasActed : Stack → List HistoryEvent → Stack → Type 0
+HasActed s events after = (start : ℕ) (history : List HistoryEvent)
     → IsStack start history s
-    → IsStack start (history ++ actions) after
+    → IsStack start (history ++ events) after
 
 -- when a close frame tried first
 abbrev pub first_try : Stack → Progress → ℕ

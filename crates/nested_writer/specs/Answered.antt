@@ -1,7 +1,7 @@
 -- What an answer of allot states of the fills that a history leaves.
 use Rattle.std.specs.Prelude.{◌≡◌, ◌≢◌, ℕ, ◌+◌, ◌<◌, ◌⊎◌, List, [], ◌∷◌, length, Option, Some, None, Result, Ok, Err}
 use Rattle.trace_model.specs.declared.limits.TheConstants.{LINK_FILLS}
-use Rattle.trace_model.specs.History.{Action, reservation_for, reserved_records}
+use Rattle.trace_model.specs.History.{HistoryEvent, reservation_for, reserved_records}
 use Rattle.trace_model.specs.Packing.{tail_of, FitsBehind}
 use Rattle.nested_writer.specs.declared.fault.WriteFault.{WriteFault}
 use Rattle.nested_writer.specs.declared.fault.WriteFault.TheVariants.{TooDeep, TooLong, LateMoment, Crowded, Worn, NoFrame, NotReserved}
@@ -16,7 +16,7 @@ use Rattle.nested_writer.specs.Stack.{Stack, opened, next_number}
 use Rattle.nested_writer.specs.Calls.{IsUnchanged, HasLeft, IsCrowded, IsWorn}
 
 -- the record that a frame was pushed for fits after those of the tail
-abbrev pub FitsTail : Stack → List Action → (moment len : ℕ) → Type 0
+abbrev pub FitsTail : Stack → List HistoryEvent → (moment len : ℕ) → Type 0
 FitsTail s history moment len =
     FitsBehind s.size (tail_of history) (reservation_for moment len (reserved_records history))
 
@@ -27,7 +27,7 @@ IsBegunSince s (Some noted) = noted ≢ opened s
 
 -- The frame needs the next fill: its record doesn't fit in the tail; or it closes one that holds a record, and no fill
 -- was begun since it tried first.
-abbrev pub WantsFill : Stack → List Action → Purpose → Progress → Type 0
+abbrev pub WantsFill : Stack → List HistoryEvent → Purpose → Progress → Type 0
 WantsFill s history (Record moment len) (Waiting noted) = FitsTail s history moment len → ⊥
 WantsFill s history Close (Waiting noted) = (tail_of history ≢ []) × IsUnchanged s noted
 WantsFill s history (Record moment len) (Through noted) = ⊥
@@ -37,7 +37,7 @@ WantsFill s history purpose (Left noted) = ⊥
 
 -- It needs none: its record fits in the tail, and has the next number; or nothing is left to close; or it has its
 -- record already.
-abbrev pub HasItsFill : Stack → List Action → Purpose → Progress → Type 0
+abbrev pub HasItsFill : Stack → List HistoryEvent → Purpose → Progress → Type 0
 HasItsFill s history (Record moment len) (Waiting noted) =
     FitsTail s history moment len × (next_number s ≡ length (reserved_records history))
 HasItsFill s history Close (Waiting noted) = (tail_of history ≡ []) ⊎ IsBegunSince s noted
@@ -46,7 +46,7 @@ HasItsFill s history Close (Through noted) = (tail_of history ≡ []) ⊎ (noted
 HasItsFill s history purpose (Reserved slot) = Unit {0}
 HasItsFill s history purpose (Left noted) = ⊥
 
-abbrev pub IsAnsweredTop : Stack → List Action → Frame → Result Allot WriteFault → Type 0
+abbrev pub IsAnsweredTop : Stack → List HistoryEvent → Frame → Result Allot WriteFault → Type 0
 IsAnsweredTop s history top (Ok (Fits place)) = HasItsFill s history top.purpose top.progress
 IsAnsweredTop s history top (Ok NeedsPage) =
     WantsFill s history top.purpose top.progress × (IsCrowded s → ⊥) × (opened s + s.pages < LINK_FILLS)
@@ -60,6 +60,6 @@ IsAnsweredTop s history top (Err TooLong) = ⊥
 IsAnsweredTop s history top (Err LateMoment) = ⊥
 
 -- The answer for these frames: whether the one on top needs a fill, by the history, and whether it may have one.
-abbrev pub IsAnswered : Stack → List Action → List Frame → Result Allot WriteFault → Type 0
+abbrev pub IsAnswered : Stack → List HistoryEvent → List Frame → Result Allot WriteFault → Type 0
 IsAnswered s history [] result = result ≡ Err NoFrame
 IsAnswered s history (top ∷ below) result = IsAnsweredTop s history top result

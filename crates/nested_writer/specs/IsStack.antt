@@ -4,7 +4,7 @@ use Rattle.std.specs.List.{slice_get}
 use Rattle.trace_model.specs.declared.limits.TheConstants.{MOMENT_LIMIT, MAX_SIZE}
 use Rattle.trace_model.specs.Words.{slot_len}
 use Rattle.trace_model.specs.Overwriting.{IsPlaceOf}
-use Rattle.trace_model.specs.History.{Action, Reservation, last_moment, writer_after, reserved_records, IsHistory}
+use Rattle.trace_model.specs.History.{HistoryEvent, Reservation, last_moment, writer_after, reserved_records, IsHistory}
 use Rattle.trace_model.specs.Packing.{opens_of, cut_from, is_wished}
 use Rattle.trace_model.specs.Fitting.{IsRising, HaveRoom, AreFit, FitsPage, NeedsFill}
 use Rattle.trace_model.specs.Frames.{Kind, for_record, for_close, waiting, left, number_of, pushed_of}
@@ -111,9 +111,9 @@ pub record IsStackOf (start : ℕ) (cuts : List ℕ) (records : List Reservation
   pub frames_are : FramesStand s.size s.done s.older s.tail cuts records found s.frames
 
 -- The stack is what this history leaves, in a ring whose first fill has the number start: the history keeps the
--- discipline of frames, those that haven't left are the stack's, each action was fit, and the open pages hold the last
+-- discipline of frames, those that haven't left are the stack's, each event was fit, and the open pages hold the last
 -- fills of its reserved records.
-pub record IsStack (start : ℕ) (history : List Action) (s : Stack) : Type 0 where
+pub record IsStack (start : ℕ) (history : List HistoryEvent) (s : Stack) : Type 0 where
   pub keeps : IsHistory history
   pub stack_is : (writer_after history).stack ≡ pushed_of (model_frames s.frames)
   pub fit : AreFit s.size history
@@ -121,4 +121,4 @@ pub record IsStack (start : ℕ) (history : List Action) (s : Stack) : Type 0 wh
 
 -- The stack is what some history leaves, in a ring with some first fill.
 unfoldable pub Stands : Stack → Type 0
-Stands s = (start : ℕ) × (history : List Action) × IsStack start history s
+Stands s = (start : ℕ) × (history : List HistoryEvent) × IsStack start history s

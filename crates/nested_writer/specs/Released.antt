@@ -1,6 +1,6 @@
 -- What a page holds that a writer's stack passes out.
 use Rattle.std.specs.Prelude.{◌≡◌, ℕ, All, List, take, drop, map}
-use Rattle.trace_model.specs.History.{Action, HasItsBytes, as_record, committed_records}
+use Rattle.trace_model.specs.History.{HistoryEvent, HasItsBytes, as_record, committed_records}
 use Rattle.trace_model.specs.Ring.{PageRecords}
 use Rattle.trace_model.specs.OpenPages.{HoldsRecords}
 use Rattle.page_image.specs.Contents.{Contents, records_of_page, IsPage}
@@ -16,5 +16,5 @@ pub record IsWrittenPage (size fill : ℕ) (held : PageRecords) (page : Contents
   pub records_are : records_of_page page ≡ map as_record held.records
 
 -- the page's records are the committed ones from its first number on
-abbrev pub AreCommitted : List Action → Contents → Type 0
+abbrev pub AreCommitted : List HistoryEvent → Contents → Type 0
 AreCommitted history page = records_of_page page ≡ take page.count (drop page.first (committed_records history))

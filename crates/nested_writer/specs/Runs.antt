@@ -1,6 +1,6 @@
 -- Lists of calls on a writer's stack, and what holds after them.
 use Rattle.std.specs.Prelude.{◌≡◌, ℕ, List, [], ◌∷◌, length, Some, Result}
-use Rattle.trace_model.specs.History.{Action, push, push_close, open_fill, reserve, leave, wished}
+use Rattle.trace_model.specs.History.{HistoryEvent, push, push_close, open_fill, reserve, leave, wished}
 use Rattle.trace_model.specs.Packing.{IsPacked}
 use Rattle.nested_writer.specs.declared.fault.WriteFault.{WriteFault}
 use Rattle.nested_writer.specs.declared.stack.allot.Allot.{Allot}
@@ -40,7 +40,7 @@ IsRun s (next ∷ more) after = IsStackCall s next × IsRun next more after
 
 -- The stack is what a packed history leaves: its open pages hold the last fills of the history's reserved records.
 pub record HoldsLastFills (start : ℕ) (s : Stack) : Type 0 where
-  pub history : List Action
+  pub history : List HistoryEvent
   pub is_stack : IsStack start history s
   pub packed : IsPacked history s.size
 

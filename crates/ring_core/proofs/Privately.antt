@@ -2,7 +2,7 @@
 -- ring shows the state after them as it did the one before.
 use Rattle.std.proofs.Common.{◌≡◌, ◌≢◌, ℕ, ◌+◌, ◌<◌, ◌≤◌, List, length, slice_index_or, refl, sym, ◌∙◌, subst, arith}
 use Rattle.trace_model.specs.Frames.{Frame}
-use Rattle.trace_model.specs.History.{Action}
+use Rattle.trace_model.specs.History.{HistoryEvent}
 use Rattle.trace_model.specs.Ring.{PageRecords, Core, page_at}
 use Rattle.trace_model.specs.Steps as model
 use Rattle.trace_model.specs.Steps.{contents_of}
@@ -27,7 +27,7 @@ closed_is_other n size start c f k low high i inside e =
     pages_differ n c.order c.spare c.head (c.done + i) f (omega arith) k.links.apart (omega arith) (omega arith) low (omega arith) (λ same. omega arith) (sym (k.open_pages.each i inside) ∙ e)
 
 -- the ring with these frames, if they are those of the state with these frames, this history and these contents
-pub shows_reframed : (n size start : ℕ) (v : CoreValue) (c : Core) (new : FramesValue) (frames : List Frame) (history : List Action) (held : List PageRecords) → HasStateOf n size start v c → AreFrames n size start new (private_state c frames history held)
+pub shows_reframed : (n size start : ℕ) (v : CoreValue) (c : Core) (new : FramesValue) (frames : List Frame) (history : List HistoryEvent) (held : List PageRecords) → HasStateOf n size start v c → AreFrames n size start new (private_state c frames history held)
     → ((f : ℕ) → c.head ≤ f → f < c.done → contents_of (private_state c frames history held) (page_at n c.order f) ≡ contents_of c (page_at n c.order f))
     → HasStateOf n size start (with_frames v new) (private_state c frames history held)
 shows_reframed n size start v c new frames history held s are holds = record {

@@ -67,7 +67,7 @@ module _ (n size start : ℕ) (v : CoreValue) (c : ring.Core) (core : IsCore n s
   pub wished : IsStep n size start c model.wishes (Wished record { 0 = v.reader.seen }) (record v { wish = v.reader.seen + 1 })
   wished = let s = core.shows in
       stepped n size start v (record v { wish = v.reader.seen + 1 }) c model.wishes (Wished record { 0 = v.reader.seen }) (model.wished_for c.reader.seen) (model.with_wish c) core
-      (model.wish_step refl refl refl) (ap model.wished_for s.seen_is)
+      (model.store_wish_step refl refl refl) (ap model.wished_for s.seen_is)
       (reader_shown n size start v c v.spare_link c.spare_link (v.reader.seen + 1) (c.reader.seen + 1) v.reader c.reader s
       s.spare_link_is (ap (λ (k : ℕ). k + 1) s.seen_is) s.reader_phase_is s.hint_is s.seen_is s.expected_is)
 

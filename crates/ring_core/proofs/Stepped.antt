@@ -69,7 +69,7 @@ who_reserves n size c event number after (model.end_step payload frame (next ∷
 who_reserves n size c event number after (model.end_lacks payload e none a is) = absurd (cc)
 who_reserves n size c event number after (model.end_early payload frame below e is none a after_is) = absurd (cc)
 who_reserves n size c event number after (model.read_step e step) = inr e
-who_reserves n size c event number after (model.wish_step e a is) = absurd (cc)
+who_reserves n size c event number after (model.store_wish_step e a is) = absurd (cc)
 
 -- so nothing is reserved by another event
 pub unreserved : (old new : CoreValue) (event : model.Event) (result : Answer) → (event ≢ model.steps) → (event ≢ model.reads) → IsReachedCore old → Makes old event result new → ZerosSlot old.stack result new.stack

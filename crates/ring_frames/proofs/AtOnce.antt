@@ -3,13 +3,13 @@ use Rattle.std.specs.Prelude.{Bool, if◌then◌else◌}
 use Rattle.std.proofs.Common.{◌≡◌, ℕ, ◌+◌, ◌<◌, List, [], ◌∷◌, ◌++◌, length, Some, None, refl, sym, ap, ◌∙◌, subst, eq-eqb, arith, append_assoc}
 use Rattle.trace_model.specs.declared.limits.TheConstants.{MAX_FRAMES}
 use Rattle.trace_model.specs.Words.{slot_len, padded}
-use Rattle.trace_model.specs.History.{Action, push, reserve, leave, record_frame, writer_after, reserved_records}
+use Rattle.trace_model.specs.History.{HistoryEvent, push, reserve, leave, record_frame, writer_after, reserved_records}
 use Rattle.trace_model.specs.Packing.{tail_of, FitsBehind}
 use Rattle.trace_model.specs.Frames.{for_record, waiting, reserved, left, idle, pushed_of, Frame as ModelFrame}
 use Rattle.trace_model.specs.Ring.{Core}
 use Rattle.trace_model.specs.Steps as model
 use Rattle.trace_model.proofs.Lengths.{length-padded, slot_len-slot_len}
-use Rattle.trace_model.proofs.NextAction.{reserved_stack}
+use Rattle.trace_model.proofs.NextEvent.{reserved_stack}
 use Rattle.nested_writer.specs.declared.frame.Purpose.TheVariants.{Record}
 use Rattle.nested_writer.specs.declared.frame.Progress.TheVariants.{Left}
 use Rattle.nested_writer.specs.declared.frame.Frame.{Frame}
@@ -53,7 +53,7 @@ module _ (n size start : ℕ) (v : FramesValue) (c : Core) (k : AreFrames n size
   holds number = record { kind = for_record moment len; state = reserved number; phase = idle }
 
   abbrev pushed : Core
-  pushed = model.with_action (model.with_frame c (for_record moment len)) (push moment len)
+  pushed = model.with_history_event (model.with_frame c (for_record moment len)) (push moment len)
 
   abbrev number : ℕ
   number = length (reserved_records pushed.history)
@@ -105,7 +105,7 @@ module _ (n size start : ℕ) (v : FramesValue) (c : Core) (k : AreFrames n size
   kept acted =
       let turns = append_assoc pushed.history (reserve ∷ []) (leave (Some payload) ∷ []) ∙ append_assoc c.history (push moment len ∷ []) (reserve ∷ leave (Some payload) ∷ []) in
       left_alike start (pushed.history ++ reserve ∷ []) stack moment len number [] (padded payload) payload (padded_twice payload) reserved_alone same_slot
-      (subst (λ (h : List Action). IsStack start h stack) (sym turns) (acted start c.history k.stack_is))
+      (subst (λ (h : List HistoryEvent). IsStack start h stack) (sym turns) (acted start c.history k.stack_is))
 
   abbrev has_left : Frame
   has_left = record { purpose = Record moment len; progress = Left None }

@@ -1,7 +1,7 @@
 -- A close frame that leaves.
 use Rattle.std.proofs.Common.{◌≡◌, ◌≢◌, ℕ, List, [], ◌∷◌, ◌++◌, Option, Some, None, refl, sym, ap, ◌∙◌, subst, append-nil}
 use Rattle.std.specs.Prelude.{Result, Ok, Err}
-use Rattle.trace_model.specs.History.{Action, leave}
+use Rattle.trace_model.specs.History.{HistoryEvent, leave}
 use Rattle.trace_model.specs.Frames.{Frame as ModelFrame}
 use Rattle.trace_model.specs.Ring.{Core}
 use Rattle.trace_model.specs.Steps as model
@@ -38,7 +38,7 @@ abbrev pub IsThrough : Stack → Frame → List Frame → Option ℕ → Stack �
 IsThrough s top below noted after = (after ≡ with_progress s top below (Through (first_try s (Waiting noted)))) × HasActed s [] after
 
 -- if a fill was begun since it noted, it fits
-pub close_fits : (s : Stack) (history : List Action) (noted : ℕ) (below : List Frame) (result : Result Allot WriteFault) (after : Stack) → noted ≢ opened s
+pub close_fits : (s : Stack) (history : List HistoryEvent) (noted : ℕ) (below : List Frame) (result : Result Allot WriteFault) (after : Stack) → noted ≢ opened s
     → IsAnswered s history (record { purpose = Close; progress = Waiting (Some noted) } ∷ below) result
     → IsAllotted s (record { purpose = Close; progress = Waiting (Some noted) } ∷ below) result after
     → ((place : Place) × (result ≡ Ok (Fits place))) × IsThrough s (record { purpose = Close; progress = Waiting (Some noted) }) below (Some noted) after
@@ -54,7 +54,7 @@ close_fits s history noted below (Err LateMoment) after ne answered allotted = a
 
 -- so does that on top of the ring's stack
 pub top_fits : (n size start : ℕ) (v : FramesValue) (c : Core) (noted : ℕ) (result : Result Allot WriteFault) (after : Stack) → AreFrames n size start v c → (top : IsCloseTop v noted) → noted ≢ opened v.stack
-    → ((start : ℕ) (history : List Action) → IsStack start history v.stack → IsAnswered v.stack history v.stack.frames result)
+    → ((start : ℕ) (history : List HistoryEvent) → IsStack start history v.stack → IsAnswered v.stack history v.stack.frames result)
     → IsAllotted v.stack v.stack.frames result after
     → ((place : Place) × (result ≡ Ok (Fits place))) × IsThrough v.stack (record { purpose = Close; progress = Waiting (Some noted) }) top.0 (Some noted) after
 top_fits n size start v c noted result after k (below, is) ne answered allotted =
@@ -65,8 +65,8 @@ top_fits n size start v c noted result after k (below, is) ne answered allotted 
 pub through_may_end : (s : Stack) (top : Frame) (below : List Frame) (noted : ℕ) (after : Stack) → after ≡ with_progress s top below (Through noted) → MayEndTop after.frames
 through_may_end s top below noted after is = subst (λ (x : Stack). MayEndTop x.frames) (sym is) tt
 
-pub acted_none : (start : ℕ) (history : List Action) (s after : Stack) → HasActed s [] after → IsStack start history s → IsStack start history after
-acted_none start history s after acted k = subst (λ (h : List Action). IsStack start h after) (append-nil history) (acted start history k)
+pub acted_none : (start : ℕ) (history : List HistoryEvent) (s after : Stack) → HasActed s [] after → IsStack start history s → IsStack start history after
+acted_none start history s after acted k = subst (λ (h : List HistoryEvent). IsStack start h after) (append-nil history) (acted start history k)
 
 -- ---- and then it leaves
 

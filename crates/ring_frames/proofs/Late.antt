@@ -24,10 +24,10 @@ module _ (n size : ℕ) (c : Core) (frame : Frame) (below : List Frame) where
 
   late_in : (phase : Phase) (noted : ℕ) → noted_fill phase ≡ Some noted → PhaseIsPrivate phase c.opened → model.FrameStep n size c frame below phase answer_is after_is
   late_in idle noted is own = absurd (none_some is)
-  late_in (looking o) noted is own = model.look_late (again o own)
+  late_in (looking o) noted is own = model.load_link_late (again o own)
   late_in (claiming o page) noted is own = model.claim_late (again o own)
   late_in (looking_next owner o page) noted is own = absurd own
-  late_in (looking_next helper o page) noted is own = model.next_late refl (again o own)
+  late_in (looking_next helper o page) noted is own = model.load_next_late refl (again o own)
   late_in (marking owner o page next) noted is own = absurd own
   late_in (marking helper o page next) noted is own = model.mark_late refl (again o own)
   late_in (clearing o page) noted is own = absurd own

@@ -7,7 +7,7 @@ use Rattle.std.proofs.lemmas.Option.{slice_get_within, get_or_from_slice_get}
 use Rattle.trace_model.specs.Words.{slot_len}
 use Rattle.trace_model.specs.Overwriting.{bytes_at}
 use Rattle.trace_model.specs.Frames.{for_record, Frame as ModelFrame}
-use Rattle.trace_model.specs.History.{Action}
+use Rattle.trace_model.specs.History.{HistoryEvent}
 use Rattle.trace_model.specs.Ring.{Core}
 use Rattle.trace_model.proofs.Overwritten.{place-within}
 use Rattle.record_words.specs.declared.put.Place.{Place}
@@ -114,7 +114,7 @@ module _ (n size start : ℕ) (v : FramesValue) (c : Core) (k : AreFrames n size
       ∙ lent_len start c.history v.stack slot lies.page is lies.open_page k.stack_is
 
   -- whatever is written there, the frames are those of the same state
-  pub written_stays : (part : List ℕ) → length part ≡ slot.place.len → ((history : List Action) → IsStack start history v.stack → length part ≡ slot.place.len → IsStack start history (with_slot v.stack slot part)) → AreFrames n size start (with_slot_payload v slot part) c
+  pub written_stays : (part : List ℕ) → length part ≡ slot.place.len → ((history : List HistoryEvent) → IsStack start history v.stack → length part ≡ slot.place.len → IsStack start history (with_slot v.stack slot part)) → AreFrames n size start (with_slot_payload v slot part) c
   written_stays part fills written =
       let s : Stack = with_slot v.stack slot part in
       let keeps : Keeps v.stack s = slot_keeps v.stack slot part in

@@ -7,7 +7,7 @@ use Rattle.std.proofs.lemmas.Option.{slice_get_within}
 use mathlib.Core.Logic.{dite}
 use native.Mathlib.Decide.{ℕ_discrete}
 use Rattle.trace_model.specs.Overwriting.{overwritten, bytes_at, IsPlaceOf}
-use Rattle.trace_model.specs.History.{Action, reserved_records}
+use Rattle.trace_model.specs.History.{HistoryEvent, reserved_records}
 use Rattle.trace_model.specs.Packing.{opens_of, is_wished}
 use Rattle.trace_model.specs.Frames.{number_of}
 use Rattle.trace_model.proofs.Overwritten.{place-within}
@@ -70,7 +70,7 @@ number_before number [] slot none before = absurd none
 number_before number (f ∷ below) slot (inl is) before = subst (λ (p : Progress). IfSome (number_of (state_of p)) (λ n. n < number)) is before.0
 number_before number (f ∷ below) slot (inr there) before = number_before number below slot there before.1
 
-pub leaves_others : (start : ℕ) (h : List Action) (s : Stack) (slot : Slot) → IsStack start h s → IsTopSlot s.frames slot → LeavesOthers s slot
+pub leaves_others : (start : ℕ) (h : List HistoryEvent) (s : Stack) (slot : Slot) → IsStack start h s → IsTopSlot s.frames slot → LeavesOthers s slot
 leaves_others start h s slot k is top below other part stack_is held = dite (ℕ_discrete other.fill slot.fill) in_page elsewhere
   where
     has : top.progress ≡ Reserved slot

@@ -6,7 +6,7 @@ use Rattle.std.proofs.lemmas.Bool.{cond_both}
 use Rattle.std.proofs.lemmas.List.{same_lists, places, take_all, drop_at, append-nil, length_push, length-replicate}
 use Rattle.trace_model.specs.Words.{Word, data_word, time_extend, bytes_of_word, joined, encoding, slot_len}
 use Rattle.trace_model.specs.Overwriting.{bytes_at}
-use Rattle.trace_model.specs.History.{Action, Reservation, reserve, reserved_records}
+use Rattle.trace_model.specs.History.{HistoryEvent, Reservation, reserve, reserved_records}
 use Rattle.trace_model.specs.Packing.{opens_of, is_wished}
 use Rattle.trace_model.proofs.Elements.{get_in_front, get_behind}
 use Rattle.trace_model.proofs.Appended.{data_word-IsData, data_word-payload}
@@ -152,7 +152,7 @@ lies_in : (s : Stack) (slot : Slot) (records : List Reservation) (len : ℕ) →
 lies_in s slot records len lies = record { page = lies.page; open_page = lies.open_page; inside = place-within lies.page.bytes slot.place.start slot.place.len lies.place.place }
 
 -- its record is in an open page
-pub held_open : (start : ℕ) (h : List Action) (s : Stack) (slot : Slot) → IsStack start h s → HoldSlot s.frames slot → (len : ℕ) × IsUnwritten s.done s.older s.tail (reserved_records h) len slot
+pub held_open : (start : ℕ) (h : List HistoryEvent) (s : Stack) (slot : Slot) → IsStack start h s → HoldSlot s.frames slot → (len : ℕ) × IsUnwritten s.done s.older s.tail (reserved_records h) len slot
 held_open start h s slot k held = by_frames s.frames held k.holds.frames_are
   where
     by_frames : (frames : List Frame) → HoldSlot frames slot → FramesStand s.size s.done s.older s.tail (opens_of h) (reserved_records h) (is_wished h) frames → (len : ℕ) × IsUnwritten s.done s.older s.tail (reserved_records h) len slot
@@ -160,7 +160,7 @@ held_open start h s slot k held = by_frames s.frames held k.holds.frames_are
     by_frames (f ∷ below) (inl is) st = let (moment, len, kind, lies) = subst (StandsAt s.size s.done s.older s.tail (opens_of h) (reserved_records h) (is_wished h) (kind_of f.purpose)) is st.1 in (len, lies)
     by_frames (f ∷ below) (inr there) st = by_frames below there st.4
 
-slot_lies : (start : ℕ) (h : List Action) (s : Stack) (slot : Slot) → IsStack start h s → HoldSlot s.frames slot → LiesIn s slot
+slot_lies : (start : ℕ) (h : List HistoryEvent) (s : Stack) (slot : Slot) → IsStack start h s → HoldSlot s.frames slot → LiesIn s slot
 slot_lies start h s slot k held = let (len, lies) = held_open start h s slot k held in lies_in s slot (reserved_records h) len lies
 
 -- the bytes in a slot, by its page
@@ -173,7 +173,7 @@ appended : (a b : List ℕ) (start len : ℕ) → start + len ≤ length a → b
 appended a b start len low = same_lists _ _ (search (rules, places)) (λ k d h. grind (arith, places))
 
 -- the tail has more bytes after its own
-pub grown : (start : ℕ) (h : List Action) (s after : Stack) (more : List ℕ) → IsStack start h s → after.done ≡ s.done → after.older ≡ s.older → after.tail.fill ≡ tail_fill after → after.tail.bytes ≡ s.tail.bytes ++ more → StayHeld s.frames after.frames → KeepsPayloads s after
+pub grown : (start : ℕ) (h : List HistoryEvent) (s after : Stack) (more : List ℕ) → IsStack start h s → after.done ≡ s.done → after.older ≡ s.older → after.tail.fill ≡ tail_fill after → after.tail.bytes ≡ s.tail.bytes ++ more → StayHeld s.frames after.frames → KeepsPayloads s after
 grown start h s after more k done older fill bytes stay slot held = (stay slot held, kept lies.page lies.open_page lies.inside)
   where
     lies : LiesIn s slot
@@ -189,12 +189,12 @@ grown start h s after more k done older fill bytes stay slot held = (stay slot h
         by_page s slot page k.holds.tail_is.fill_is (is_older j at is)
         ∙ sym (by_page after slot page fill (is_older j (at ∙ ap (λ (d : ℕ). d + j) (sym done)) (ap (λ (ps : List Contents). slice_get ps j) older ∙ is)))
 
-record_kept : (start : ℕ) (h : List Action) (s after : Stack) (top : Frame) (below : List Frame) (moment len : ℕ) (place : Place) → IsStack start h s → s.frames ≡ top ∷ below → HasNoSlot top.progress → ReservesRecord s top below moment len place after → HasActed s (reserve ∷ []) after → KeepsPayloads s after
+record_kept : (start : ℕ) (h : List HistoryEvent) (s after : Stack) (top : Frame) (below : List Frame) (moment len : ℕ) (place : Place) → IsStack start h s → s.frames ≡ top ∷ below → HasNoSlot top.progress → ReservesRecord s top below moment len place after → HasActed s (reserve ∷ []) after → KeepsPayloads s after
 record_kept start h s after top below moment len place k at none is acted =
     grown start h s after _ k (ap (λ (t : Stack). t.done) is.others) (ap (λ (t : Stack). t.older) is.others) (acted start h k).holds.tail_is.fill_is is.bytes
     (went_on s.frames top below after.frames at none (λ slot there. subst (λ (t : Stack). HoldSlot t.frames slot) (sym is.others) (inr there)))
 
-wants_none : (s : Stack) (h : List Action) (purpose : Purpose) (progress : Progress) → WantsFill s h purpose progress → HasNoSlot progress
+wants_none : (s : Stack) (h : List HistoryEvent) (purpose : Purpose) (progress : Progress) → WantsFill s h purpose progress → HasNoSlot progress
 wants_none s h purpose (Waiting noted) wants = tt
 wants_none s h purpose (Through noted) wants = tt
 wants_none s h (Record moment len) (Reserved slot) wants = wants
@@ -202,7 +202,7 @@ wants_none s h Close (Reserved slot) wants = wants
 wants_none s h purpose (Left noted) wants = tt
 
 -- a place is answered for what fits, whichever it is
-pub fits_anywhere : (s : Stack) (h : List Action) (frames : List Frame) (one other : Place) → IsAnswered s h frames (Ok (Fits one)) → IsAnswered s h frames (Ok (Fits other))
+pub fits_anywhere : (s : Stack) (h : List HistoryEvent) (frames : List Frame) (one other : Place) → IsAnswered s h frames (Ok (Fits one)) → IsAnswered s h frames (Ok (Fits other))
 fits_anywhere s h [] one other none = absurd (not_both none)
   where
     not_both : ◌≡◌ {A = Result Allot WriteFault} (Ok (Fits one)) (Err NoFrame) → ⊥
@@ -210,7 +210,7 @@ fits_anywhere s h [] one other none = absurd (not_both none)
 fits_anywhere s h (top ∷ below) one other fits = fits
 
 -- whatever is allotted
-pub allotted_kept : (start : ℕ) (h : List Action) (s after : Stack) (result : Result Allot WriteFault) → IsStack start h s → IsAnswered s h s.frames result → IsAllotted s s.frames result after → KeepsPayloads s after
+pub allotted_kept : (start : ℕ) (h : List HistoryEvent) (s after : Stack) (result : Result Allot WriteFault) → IsStack start h s → IsAnswered s h s.frames result → IsAllotted s s.frames result after → KeepsPayloads s after
 allotted_kept start h s after result k = by_frames s.frames refl
   where
     framed : (top : Frame) (below frames : List Frame) → s.frames ≡ top ∷ below → HasNoSlot top.progress → StayHeld below frames → after ≡ record s { frames = frames } → KeepsPayloads s after
@@ -245,7 +245,7 @@ allotted_kept start h s after result k = by_frames s.frames refl
 
 -- ---- a page more
 
-module _ (start : ℕ) (h : List Action) (s : Stack) (k : IsStack start h s) where
+module _ (start : ℕ) (h : List HistoryEvent) (s : Stack) (k : IsStack start h s) where
   abbrev added : Stack
   added = with_tail s (blank_page s.size (next_number s) (opened s))
 
@@ -289,7 +289,7 @@ last_bytes bytes front last start len is end long =
     ap (take len) (ap (drop start) is ∙ drop_at front last start at) ∙ take_all len last (omega (arith, long))
 
 -- the place of a record that is put into the tail holds zeros
-pub zeros_put : (start : ℕ) (h : List Action) (s after : Stack) (top : Frame) (below : List Frame) (moment len : ℕ) (place : Place) (number : ℕ) → IsStack start h s → ReservesRecord s top below moment len place after → HasActed s (reserve ∷ []) after
+pub zeros_put : (start : ℕ) (h : List HistoryEvent) (s after : Stack) (top : Frame) (below : List Frame) (moment len : ℕ) (place : Place) (number : ℕ) → IsStack start h s → ReservesRecord s top below moment len place after → HasActed s (reserve ∷ []) after
     → bytes_in after record { number = number; fill = tail_fill s; place = place } ≡ replicate place.len 0
 zeros_put start h s after top below moment len place number k is acted =
     let zeros : List ℕ = replicate (slot_len len) 0 in
@@ -301,7 +301,7 @@ zeros_put start h s after top below moment len place number k is acted =
     ∙ ap (λ (n : ℕ). replicate n 0) (sym is.place_len)
 
 -- so a slot that is reserved first
-pub zeros_reserved : (start : ℕ) (h : List Action) (s after : Stack) (place : Place) → IsStack start h s → IsAllotted s s.frames (Ok (Fits place)) after → LacksSlot s.frames → (slot : Slot) → IsTopSlot after.frames slot → bytes_in after slot ≡ replicate slot.place.len 0
+pub zeros_reserved : (start : ℕ) (h : List HistoryEvent) (s after : Stack) (place : Place) → IsStack start h s → IsAllotted s s.frames (Ok (Fits place)) after → LacksSlot s.frames → (slot : Slot) → IsTopSlot after.frames slot → bytes_in after slot ≡ replicate slot.place.len 0
 zeros_reserved start h s after place k is lacks slot top_slot = by_frames s.frames is lacks
   where
     slot_is : (one other : Slot) → Reserved one ≡ Reserved other → one ≡ other

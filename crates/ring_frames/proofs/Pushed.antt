@@ -2,10 +2,10 @@
 use Rattle.std.proofs.Common.{◌≡◌, ℕ, suc, ◌<◌, ◌≤◌, List, [], ◌∷◌, ◌++◌, length, None, refl, sym, ap, ◌∙◌, subst, arith}
 use Rattle.std.proofs.lemmas.Bool.{cond-true, lt-ltb}
 use Rattle.trace_model.specs.declared.limits.TheConstants.{MAX_FRAMES}
-use Rattle.trace_model.specs.History.{Action}
+use Rattle.trace_model.specs.History.{HistoryEvent}
 use Rattle.trace_model.specs.Frames.{Frame as model, waiting, idle}
 use Rattle.trace_model.specs.Ring.{Core}
-use Rattle.trace_model.specs.Steps.{with_action, with_frame as with_model_frame, HasRoom}
+use Rattle.trace_model.specs.Steps.{with_history_event, with_frame as with_model_frame, HasRoom}
 use Rattle.link_marks.proofs.FramePhases.{none_some}
 use Rattle.nested_writer.specs.declared.frame.Purpose.{Purpose}
 use Rattle.nested_writer.specs.declared.frame.Purpose.TheVariants.{Record, Close}
@@ -57,11 +57,11 @@ noted_nothing Close = refl
 abbrev pub new_frame : Purpose → Frame
 new_frame purpose = record { purpose = purpose; progress = Waiting None }
 
-pub pushed_shown : (n size start : ℕ) (v : FramesValue) (c : Core) (purpose : Purpose) (action : Action) → AreFrames n size start v c → IsStack start (c.history ++ action ∷ []) (with_frame v.stack (new_frame purpose)) → AreFrames n size start (with_pushed_phase (record v { stack = with_frame v.stack (new_frame purpose) })) (with_action (with_model_frame c (kind_of purpose)) action)
-pushed_shown n size start v c purpose action k is =
+pub pushed_shown : (n size start : ℕ) (v : FramesValue) (c : Core) (purpose : Purpose) (event : HistoryEvent) → AreFrames n size start v c → IsStack start (c.history ++ event ∷ []) (with_frame v.stack (new_frame purpose)) → AreFrames n size start (with_pushed_phase (record v { stack = with_frame v.stack (new_frame purpose) })) (with_history_event (with_model_frame c (kind_of purpose)) event)
+pushed_shown n size start v c purpose event k is =
     let top : model = record { kind = kind_of purpose; state = waiting; phase = idle } in
     let frames : List Frame = v.stack.frames in
-    reshown n size start v c (with_frame v.stack (new_frame purpose)) Idle (below_after_push (suc (length frames)) v.phase v.below) (top ∷ c.frames) (c.history ++ action ∷ []) c.held k record {
+    reshown n size start v c (with_frame v.stack (new_frame purpose)) Idle (below_after_push (suc (length frames)) v.phase v.below) (top ∷ c.frames) (c.history ++ event ∷ []) c.held k record {
       pages_is = refl;
       size_is = refl;
       done_is = refl;

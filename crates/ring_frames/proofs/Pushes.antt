@@ -4,7 +4,7 @@ use mathlib.Core.Logic.{dite}
 use native.Mathlib.Decide.{dec_le}
 use Rattle.trace_model.specs.declared.limits.TheConstants.{MAX_FRAMES, MOMENT_LIMIT}
 use Rattle.trace_model.specs.Words.{encoded_len}
-use Rattle.trace_model.specs.History.{Action, push, push_close}
+use Rattle.trace_model.specs.History.{HistoryEvent, push, push_close}
 use Rattle.trace_model.specs.Ring.{Core}
 use Rattle.trace_model.specs.Steps as model
 use Rattle.link_marks.specs.Seats.{IsPrivate}
@@ -29,13 +29,13 @@ abbrev pub pushed_value : FramesValue → Stack → FramesValue
 pushed_value v stack = with_pushed_phase (record v { stack = stack })
 
 -- and of the state
-abbrev after_push : Core → Purpose → Action → Core
-after_push c purpose action = model.with_action (model.with_frame c (kind_of purpose)) action
+abbrev after_push : Core → Purpose → HistoryEvent → Core
+after_push c purpose history_event = model.with_history_event (model.with_frame c (kind_of purpose)) history_event
 
-shown_with : (n size start : ℕ) (v : FramesValue) (c : Core) (purpose : Purpose) (action : Action) (stack : Stack) → AreFrames n size start v c → stack ≡ with_frame v.stack (new_frame purpose) → IsStack start (c.history ++ action ∷ []) stack → AreFrames n size start (pushed_value v stack) (after_push c purpose action)
-shown_with n size start v c purpose action stack k is kept =
-    subst (λ (s : Stack). AreFrames n size start (pushed_value v s) (after_push c purpose action)) (sym is)
-    (pushed_shown n size start v c purpose action k (subst (IsStack start (c.history ++ action ∷ [])) is kept))
+shown_with : (n size start : ℕ) (v : FramesValue) (c : Core) (purpose : Purpose) (history_event : HistoryEvent) (stack : Stack) → AreFrames n size start v c → stack ≡ with_frame v.stack (new_frame purpose) → IsStack start (c.history ++ history_event ∷ []) stack → AreFrames n size start (pushed_value v stack) (after_push c purpose history_event)
+shown_with n size start v c purpose history_event stack k is kept =
+    subst (λ (s : Stack). AreFrames n size start (pushed_value v s) (after_push c purpose history_event)) (sym is)
+    (pushed_shown n size start v c purpose history_event k (subst (IsStack start (c.history ++ history_event ∷ [])) is kept))
 
 pub record_pushed : (n size start : ℕ) (v : FramesValue) (c : Core) (moment len : ℕ) (stack : Stack) → AreFrames n size start v c → length v.stack.frames < MAX_FRAMES → (model.IsTooLong v.stack.size len → ⊥) → moment < MOMENT_LIMIT → stack ≡ with_frame v.stack (new_frame (Record moment len)) → IsStack start (c.history ++ push moment len ∷ []) stack → IsPrivateStep n size start c (model.pushes moment len) Pushed (pushed_value v stack)
 record_pushed n size start v c moment len stack k few fits early is kept =

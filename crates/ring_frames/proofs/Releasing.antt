@@ -1,7 +1,7 @@
 -- The oldest open fill is closed: its page is let go.
 use Rattle.std.proofs.Common.{◌≡◌, ◌≢◌, ℕ, suc, ◌+◌, ◌<◌, Bool, true, false, if◌then◌else◌, ◌==◌, List, [], ◌∷◌, length, None, refl, sym, ap, ◌∙◌, subst, arith, append-nil}
 use Rattle.std.proofs.lemmas.Bool.{eqb-true, eqb-false}
-use Rattle.trace_model.specs.History.{Action}
+use Rattle.trace_model.specs.History.{HistoryEvent}
 use Rattle.trace_model.specs.Frames.{left, noted_fill, Frame}
 use Rattle.trace_model.specs.Ring.{Core, PageRecords, page_at, fill_of}
 use Rattle.trace_model.specs.Steps as model
@@ -31,7 +31,7 @@ pub record IsLetGo (v : FramesValue) (later : Stack) (page : Contents) : Type 0 
   pub oldest : v.stack.older ≡ page ∷ later.older
   pub released : later ≡ record v.stack { done = v.stack.done + 1; older = later.older }
   pub acted : HasActed v.stack [] later
-  pub written : (start : ℕ) (history : List Action) → IsStack start history v.stack → IsWrittenPage v.stack.size v.stack.done (fill_of history start v.stack.done) page
+  pub written : (start : ℕ) (history : List HistoryEvent) → IsStack start history v.stack → IsWrittenPage v.stack.size v.stack.done (fill_of history start v.stack.done) page
 
 module _ (n size start : ℕ) (v : FramesValue) (c : Core) (core : HasFrames n size start v c) (some : v.stack.frames ≢ []) (is : v.phase ≡ Releasing) where
   kept : IsRingKept n size start c
@@ -72,7 +72,7 @@ module _ (n size start : ℕ) (v : FramesValue) (c : Core) (core : HasFrames n s
         let was_done = s.done_is in let was_opened = s.opened_is in record {
           pages_is = ap (λ (x : Stack). x.pages) gone.released ∙ s.pages_is;
           size_is = ap (λ (x : Stack). x.size) gone.released ∙ s.size_is;
-          stack_is = subst (λ (h : List Action). IsStack start h later) (append-nil c.history) (gone.acted start c.history s.stack_is);
+          stack_is = subst (λ (h : List HistoryEvent). IsStack start h later) (append-nil c.history) (gone.acted start c.history s.stack_is);
           done_is = omega arith;
           opened_is = omega arith;
           frames_are = sym (λ i. ring_frames (frames_same i) (phase ∷ one.below_is i));
@@ -81,7 +81,7 @@ module _ (n size start : ℕ) (v : FramesValue) (c : Core) (core : HasFrames n s
         }
 
     release_to : (phase : Phase) → noted_fill (phase_of phase) ≡ None
-        → model.ReleaseStep c (frame_in v.phase) [] model.going (released_in c (frame_in phase))
+        → model.ReleaseFillStep c (frame_in v.phase) [] model.going (released_in c (frame_in phase))
         → IsRelease n size start c page (record v { stack = later; phase = phase })
     unfolding frame_in
     release_to phase none step = record {

@@ -1,6 +1,6 @@
 -- The frames of a state are those of each other one with the same frames, history and counts.
 use Rattle.std.proofs.Common.{◌≡◌, ℕ, List, sym, ◌∙◌, subst}
-use Rattle.trace_model.specs.History.{Action}
+use Rattle.trace_model.specs.History.{HistoryEvent}
 use Rattle.trace_model.specs.Ring.{Core}
 use Rattle.nested_writer.specs.IsStack.{IsStack}
 use Rattle.ring_frames.specs.Value.{FramesValue}
@@ -10,7 +10,7 @@ pub same_frames : (n size start : ℕ) (v : FramesValue) (c other : Core) → Ar
 same_frames n size start v c other are frames history done opened = record {
   pages_is = are.pages_is;
   size_is = are.size_is;
-  stack_is = subst (λ (h : List Action). IsStack start h v.stack) (sym history) are.stack_is;
+  stack_is = subst (λ (h : List HistoryEvent). IsStack start h v.stack) (sym history) are.stack_is;
   done_is = done ∙ are.done_is;
   opened_is = opened ∙ are.opened_is;
   frames_are = frames ∙ are.frames_are;

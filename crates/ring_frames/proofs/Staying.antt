@@ -4,7 +4,7 @@ use Rattle.std.specs.Prelude.{◌==◌, Bool, true, false, if◌then◌else◌}
 use Rattle.std.proofs.Common.{◌≡◌, ◌≢◌, ℕ, ◌+◌, List, [], length, None, refl, sym, ap, ◌∙◌, subst, arith, append-nil}
 use Rattle.std.proofs.lemmas.Bool.{eqb-true}
 use Rattle.trace_model.specs.Steps.{IsGranted}
-use Rattle.trace_model.specs.History.{Action}
+use Rattle.trace_model.specs.History.{HistoryEvent}
 use Rattle.nested_writer.specs.declared.frame.Purpose.TheVariants.{Record}
 use Rattle.nested_writer.specs.declared.frame.Progress.TheVariants.{Left}
 use Rattle.nested_writer.specs.declared.frame.Frame.{Frame}
@@ -41,7 +41,7 @@ some_left v moment len e = let none = ap (length {A = Frame}) e in absurd (omega
 left_again : (s : Stack) (moment len : ℕ) → s.frames ≡ [] → HasActed (with_left s moment len) [] s
 left_again s moment len none = λ start h k.
     let bare : ◌≡◌ {A = Stack} (record s { frames = [] }) s = ap (λ (fs : List Frame). let x : Stack = record s { frames = fs } in x) (sym none) in
-    subst (λ (g : List Action). IsStack start g s) (sym (append-nil h))
+    subst (λ (g : List HistoryEvent). IsStack start g s) (sym (append-nil h))
     (subst (IsStack start h) bare (goes_again start h (with_left s moment len) (record { purpose = Record moment len; progress = Left None }) refl refl k))
 
 pub gone_unasked : (v : FramesValue) (wish moment len : ℕ) → v.stack.frames ≡ [] → closing_phase v.stack ≡ Wishing → (wish ≡ v.stack.done + 1 → ⊥) → LooksForWish (with_left_frame v moment len) wish Gone v

@@ -71,14 +71,14 @@ module _ (n size : ℕ) (c : Core) (frame : Frame) where
 
     kept_by : (phase : Phase) → model.FrameStep n size c frame below phase answer after → IsKept
     kept_by idle step = kept_idle frame.state step
-    kept_by (looking noted) (model.look_late late) = again noted late
+    kept_by (looking noted) (model.load_link_late late) = again noted late
     kept_by (looking noted) (model.sees_free page at link a is) = kept _ _ a is refl
     kept_by (looking noted) (model.sees_header page lost at sum link a is) = kept _ _ a is refl
     kept_by (looking noted) (model.sees_update page lost at sum link a is) = kept _ _ a is refl
     kept_by (claiming noted page) (model.claim_late late) = again noted late
     kept_by (claiming noted page) (model.claims lost at sum link a is) = kept _ _ a is refl
     kept_by (claiming noted page) (model.claim_fails at none a is) = kept _ _ a is refl
-    kept_by (looking_next role noted page) (model.next_late helps late) = again noted late
+    kept_by (looking_next role noted page) (model.load_next_late helps late) = again noted late
     kept_by (looking_next role noted page) (model.sees_normal lost next goes sum link a is) = kept _ _ a is refl
     kept_by (looking_next role noted page) (model.sees_other lost goes sum other a is) = kept _ _ a is refl
     kept_by (marking role noted page next) (model.mark_late helps late) = again noted late
@@ -105,7 +105,7 @@ kind_kept n size c answer after (model.end_step payload frame below number momen
 kind_kept n size c answer after (model.end_lacks payload e none a is) = absurd (cc)
 kind_kept n size c answer after (model.end_early payload frame below e is none a after_is) = absurd (cc)
 kind_kept n size c answer after (model.read_step e step) = absurd (cc)
-kind_kept n size c answer after (model.wish_step e a is) = absurd (cc)
+kind_kept n size c answer after (model.store_wish_step e a is) = absurd (cc)
 
 -- a push
 kind_pushed : (n size : ℕ) (c : Core) (moment len : ℕ) (after : Core) → model.Step n size c (model.pushes moment len) model.pushed after → top_kind after.frames ≡ Some (for_record moment len)
@@ -119,7 +119,7 @@ kind_pushed n size c moment len after (model.end_step payload frame below number
 kind_pushed n size c moment len after (model.end_lacks payload e none a is) = absurd (cc)
 kind_pushed n size c moment len after (model.end_early payload frame below e is none a after_is) = absurd (cc)
 kind_pushed n size c moment len after (model.read_step e step) = absurd (cc)
-kind_pushed n size c moment len after (model.wish_step e a is) = absurd (cc)
+kind_pushed n size c moment len after (model.store_wish_step e a is) = absurd (cc)
 
 -- ---- in the frames
 

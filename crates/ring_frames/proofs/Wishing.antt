@@ -2,7 +2,7 @@
 use Rattle.std.proofs.Common.{◌≡◌, ◌≢◌, ℕ, ◌+◌, ◌<◌, ◌≤◌, List, [], ◌∷◌, ◌++◌, Some, refl, sym, ap, ◌∙◌, subst, arith, append-nil}
 use Rattle.std.specs.Prelude.{Bool, false, IsTrue}
 use Rattle.trace_model.specs.declared.limits.TheConstants.{LINK_FILLS}
-use Rattle.trace_model.specs.History.{Action, wished}
+use Rattle.trace_model.specs.History.{HistoryEvent, wished}
 use Rattle.trace_model.specs.Packing.{tail_of}
 use Rattle.trace_model.specs.Frames.{left, Frame}
 use Rattle.trace_model.specs.Ring.{Core}
@@ -27,7 +27,7 @@ use Rattle.ring_frames.proofs.Privately.{kept_of}
 use Rattle.ring_frames.proofs.Bottom.{IsAlone, alone}
 use Rattle.ring_frames.proofs.Reshown.{reshown}
 
-pub no_record : (v : FramesValue) (wish : ℕ) → ((start : ℕ) (history : List Action) → IsStack start history v.stack → tail_of history ≢ [] → ⊥) → GrantsNone v wish
+pub no_record : (v : FramesValue) (wish : ℕ) → ((start : ℕ) (history : List HistoryEvent) → IsStack start history v.stack → tail_of history ≢ [] → ⊥) → GrantsNone v wish
 no_record v wish none = λ n size start c are same g. none start c.history are.stack_is g.holds_record
 
 module _ (n size start : ℕ) (v : FramesValue) (c : Core) (core : HasFrames n size start v c) (some : v.stack.frames ≢ []) (is : v.phase ≡ Wishing) where
@@ -40,7 +40,7 @@ module _ (n size start : ℕ) (v : FramesValue) (c : Core) (core : HasFrames n s
   frame_in : Phase → Frame
   frame_in phase = record { kind = kind_of one.purpose; state = left; phase = phase_of phase }
 
-  looks : (result : Answer) (new : FramesValue) (answer : model.Answer) (frames : List Frame) (history : List Action) → model.WishStep n c (frame_in v.phase) [] answer (told_in c frames history) → IsAnswerOf size result answer → AreFrames n size start new (told_in c frames history)
+  looks : (result : Answer) (new : FramesValue) (answer : model.Answer) (frames : List Frame) (history : List HistoryEvent) → model.LoadWishStep n c (frame_in v.phase) [] answer (told_in c frames history) → IsAnswerOf size result answer → AreFrames n size start new (told_in c frames history)
       → IsLookForWish n size start c result new
   unfolding frame_in
   looks result new answer frames history step tells shows = record {
@@ -97,7 +97,7 @@ module _ (n size start : ℕ) (v : FramesValue) (c : Core) (core : HasFrames n s
         size_is = ap (λ (x : Stack). x.size) popped;
         done_is = ap (λ (x : Stack). x.done) popped;
         opened_is = ap opened popped;
-        stack_is = subst (λ (h : List Action). IsStack start h later) (append-nil c.history) (acted start c.history s.stack_is);
+        stack_is = subst (λ (h : List HistoryEvent). IsStack start h later) (append-nil c.history) (acted start c.history s.stack_is);
         frames_are = ap (λ (fs : List stack.Frame). ring_frames fs (phase ∷ v.below)) (sym no_frames);
         below_are = subst (λ (fs : List stack.Frame). AreBelow fs v.below) (sym no_frames) one.below_is;
         noted = subst (λ (fs : List stack.Frame). AreNotedAlike fs (phase ∷ v.below)) (sym no_frames) tt;

@@ -1,7 +1,7 @@
 -- What the steps at the words of counts and of the wish make of a writer's frames: a fill is begun, one is closed, and
 -- the reader's wish is looked for.
 use Rattle.std.specs.Prelude.{◌≡◌, ℕ, List, [], ◌∷◌}
-use Rattle.trace_model.specs.History.{Action}
+use Rattle.trace_model.specs.History.{HistoryEvent}
 use Rattle.trace_model.specs.Frames.{Frame}
 use Rattle.trace_model.specs.Ring.{Core, page_at}
 use Rattle.trace_model.specs.Steps as model
@@ -42,14 +42,14 @@ Releases old page new = (n size start : ℕ) (c : Core)
     → IsRelease n size start c page new
 
 -- the state with these frames and this history
-abbrev pub told_in : Core → List Frame → List Action → Core
+abbrev pub told_in : Core → List Frame → List HistoryEvent → Core
 told_in c frames history = record c { frames = frames; history = history }
 
 -- In this state the frame on top looks for the reader's wish, and answers so.
 pub record IsLookForWish (n size start : ℕ) (c : Core) (result : Answer) (new : FramesValue) : Type 0 where
   pub answer : model.Answer
   pub frames : List Frame
-  pub history : List Action
+  pub history : List HistoryEvent
   pub step : model.Step n size c model.steps answer (told_in c frames history)
   pub tells : IsAnswerOf size result answer
   pub are : AreFrames n size start new (told_in c frames history)

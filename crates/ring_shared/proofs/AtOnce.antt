@@ -43,7 +43,7 @@ pub data Wished (frame : Frame) (below : List Frame) (answer : model.Answer) (af
   wishes_on : (next : Frame) → answer ≡ model.going → after ≡ next ∷ below → next.kind ≡ frame.kind → next.state ≡ frame.state → Wished frame below answer after
   wished_gone : answer ≡ model.gone → after ≡ below → Wished frame below answer after
 
-wish_outcome : (n : ℕ) (c : Core) (frame : Frame) (below : List Frame) (answer : model.Answer) (after : Core) → model.WishStep n c frame below answer after → Wished frame below answer after.frames
+wish_outcome : (n : ℕ) (c : Core) (frame : Frame) (below : List Frame) (answer : model.Answer) (after : Core) → model.LoadWishStep n c frame below answer after → Wished frame below answer after.frames
 wish_outcome n c frame below answer after (model.grants alone granted a is) = wishes_on _ a (ap (λ (d : Core). d.frames) is) refl refl
 wish_outcome n c frame below answer after (model.closes_more alone denied more a is) = wishes_on _ a (ap (λ (d : Core). d.frames) is) refl refl
 wish_outcome n c frame below answer after (model.goes_away alone denied last a is) = wished_gone a (ap (λ (d : Core). d.frames) is ∙ sym alone)

@@ -25,7 +25,7 @@ pub mod CallsAppend
 pub mod FinishParts
 pub mod TopAnswers
 pub mod Turning
-pub mod StepActions
+pub mod StepEvents
 pub mod WholeAppends
 pub mod TopLent
 pub mod TopKinds

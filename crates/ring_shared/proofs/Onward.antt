@@ -73,7 +73,7 @@ given_up shape before after fill a is = let hint = a.hint_le in record {
 -- a wish changes only the wish
 pub wish_stays : (shape : Shape) (before after : Reading) (sees : ring.Core → Type 0) (answer : model.Answer) → IsReaderStep shape before sees model.wishes answer after → Stays shape (record before { wish = after.wish }) after before.reader
 wish_stays shape before after sees answer r =
-    let is = (steps_are_determined shape.pages shape.size r.core model.wishes answer (model.wished_for r.core.reader.seen) r.next (model.with_wish r.core) r.step (model.wish_step refl refl refl)).1 in record {
+    let is = (steps_are_determined shape.pages shape.size r.core model.wishes answer (model.wished_for r.core.reader.seen) r.next (model.with_wish r.core) r.step (model.store_wish_step refl refl refl)).1 in record {
       known = record {
         core = r.next;
         reached = reached_further shape.pages shape.size shape.start r.core model.wishes answer r.next r.reached r.step;

@@ -52,7 +52,7 @@ module _ (v new : WriterValue) (w : IsWriter v) (some : v.frames.stack.frames �
       (ap (λ (c : Core). c.open_pages) after_is ∙ begun_pages t.frame.kind t.frame.state (model.with_new_tail s.core page) t.frame t.below
       ∙ ap (λ (pages : List ℕ). pages ++ page ∷ []) (pages_before answer s) ∙ sym pages_is)
     where
-      opened : {c after : Core} {answer : model.Answer} (frame : Frame) (below : List Frame) → noted ≡ c.opened → model.OpenStep v.shape.pages c frame below noted page answer after
+      opened : {c after : Core} {answer : model.Answer} (frame : Frame) (below : List Frame) → noted ≡ c.opened → model.OpenFillStep v.shape.pages c frame below noted page answer after
           → after ≡ model.after_begin frame.kind frame.state (model.with_new_tail c page) frame below
       opened frame below here (model.open_late late) = absurd (late.passed here)
       opened frame below here (model.opens x a is) = is

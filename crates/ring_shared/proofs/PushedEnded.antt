@@ -3,7 +3,7 @@ use Rattle.std.specs.Prelude.{None, Some, Option}
 use Rattle.std.proofs.Common.{◌≡◌, ℕ, ◌⊎◌, List, [], ◌∷◌, length, refl, sym, ap, ◌∙◌, subst, inl, inr, arith}
 use Rattle.trace_model.specs.Frames.{for_record, waiting, reserved, number_of, Refusal, Frame}
 use Rattle.trace_model.specs.Ring.{Core}
-use Rattle.trace_model.specs.Steps.{Event, pushes, pushes_close, steps, ends, reads, wishes, Answer, pushed, refused, frames_after_leave, end_answer, Step, push_step, push_refused, close_step, close_refused, frame_step, frame_lacks, end_step, end_lacks, end_early, read_step, wish_step}
+use Rattle.trace_model.specs.Steps.{Event, pushes, pushes_close, steps, ends, reads, wishes, Answer, pushed, refused, frames_after_leave, end_answer, Step, push_step, push_refused, close_step, close_refused, frame_step, frame_lacks, end_step, end_lacks, end_early, read_step, store_wish_step}
 
 -- ---- a push
 
@@ -35,7 +35,7 @@ push_answers n size c moment len answer after (end_step payload frame below numb
 push_answers n size c moment len answer after (end_lacks payload e none a is) = absurd (subst IsPush e tt)
 push_answers n size c moment len answer after (end_early payload frame below e top none a is) = absurd (subst IsPush e tt)
 push_answers n size c moment len answer after (read_step e step) = absurd (subst IsPush e tt)
-push_answers n size c moment len answer after (wish_step e a is) = absurd (subst IsPush e tt)
+push_answers n size c moment len answer after (store_wish_step e a is) = absurd (subst IsPush e tt)
 
 -- ---- an end
 
@@ -81,4 +81,4 @@ module _ (n size : ℕ) (c : Core) (payload : List ℕ) (frame : Frame) (below :
       let state : f.state ≡ frame.state = ap (λ (fs : List Frame). (first_of frame fs).state) (sym top ∙ on_top) in
       let numbered : ◌≡◌ {A = Option ℕ} None (Some number) = sym none ∙ ap number_of (state ∙ has) in absurd (cc)
   end_answers (read_step e step) = absurd (subst IsEnd e tt)
-  end_answers (wish_step e a is) = absurd (subst IsEnd e tt)
+  end_answers (store_wish_step e a is) = absurd (subst IsEnd e tt)

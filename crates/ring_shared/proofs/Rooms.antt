@@ -7,7 +7,7 @@ use Rattle.trace_model.proofs.Elements.{some_is}
 use Rattle.trace_model.specs.Frames.{Kind, for_record, for_close, FrameState, waiting, reserved, left, Refusal, Frame}
 use Rattle.trace_model.specs.Ring.{Core}
 use Rattle.trace_model.specs.Steps as model
-use Rattle.trace_model.specs.Steps.{end_answer, frames_after_leave, Step, push_step, push_refused, close_step, close_refused, frame_step, frame_lacks, end_step, end_lacks, end_early, read_step, wish_step}
+use Rattle.trace_model.specs.Steps.{end_answer, frames_after_leave, Step, push_step, push_refused, close_step, close_refused, frame_step, frame_lacks, end_step, end_lacks, end_early, read_step, store_wish_step}
 use Rattle.link_marks.specs.KeptStack.{MayBeIn, IsForRecord}
 use Rattle.link_marks.proofs.StackSteps.{top_agrees}
 use Rattle.nested_writer.specs.declared.frame.Slot.{Slot}
@@ -65,7 +65,7 @@ module _ (n size : ℕ) (c : Core) (answer : model.Answer) (after : Core) where
   close_in (end_lacks payload e none a is) told = absurd (subst IsClose e tt)
   close_in (end_early payload frame below e top none a is) told = absurd (subst IsClose e tt)
   close_in (read_step e step) told = absurd (subst IsClose e tt)
-  close_in (wish_step e a is) told = absurd (subst IsClose e tt)
+  close_in (store_wish_step e a is) told = absurd (subst IsClose e tt)
 
   -- a frame that ends above others leaves them
   above_others : (frame : Frame) (below others : List Frame) → c.frames ≡ frame ∷ below → below ≡ others → answer ≡ end_answer others → answer ≡ model.pending → after.frames ≡ frames_after_leave c frame others → IsOneMore (rooms_of c.frames) (rooms_of after.frames)
@@ -84,7 +84,7 @@ module _ (n size : ℕ) (c : Core) (answer : model.Answer) (after : Core) where
   end_in payload (end_lacks p e none a is) told = absurd (let both = refused_not answer model.pending _ a told in cc)
   end_in payload (end_early p frame below e top none a is) told = absurd (let both = refused_not answer model.pending _ a told in cc)
   end_in payload (read_step e step) told = absurd (subst IsEnd e tt)
-  end_in payload (wish_step e a is) told = absurd (subst IsEnd e tt)
+  end_in payload (store_wish_step e a is) told = absurd (subst IsEnd e tt)
 
 -- ---- of the writer's part
 

@@ -2,7 +2,7 @@
 use Rattle.std.proofs.Common.{◌≡◌, ◌⊎◌, ℕ, ◌+◌, ◌-◌, ◌<◌, ◌≤◌, ◌==◌, List, [], ◌∷◌, ◌++◌, length, map, get_or, Option, Some, refl, sym, ap, ◌∙◌, subst, arith, append-nil, inl, inr, ⊎_elim}
 use Rattle.std.proofs.lemmas.Bool.{cases_Bool, cond-true, cond-false, eqb-true}
 use Rattle.trace_model.specs.Record.{Record}
-use Rattle.trace_model.specs.History.{Action, as_record, committed_records}
+use Rattle.trace_model.specs.History.{HistoryEvent, as_record, committed_records}
 use Rattle.trace_model.specs.Packing.{tail_of, fills_of}
 use Rattle.trace_model.specs.Partition.{Piece, IsPartition}
 use Rattle.trace_model.specs.Ring.{Reader, IsTaken, fill_of, AreFillsOf}
@@ -71,7 +71,7 @@ module _ (shape : Shape) (writing : Writing) (part : Reading) (settled : Settled
       let from = (reached_ring shape.pages shape.size shape.start p.core p.reached).from_start in
       let head = all_read in
       let done = done_is in
-      let count = ap (λ (h : List Action). length (fills_of h)) history_is in
+      let count = ap (λ (h : List HistoryEvent). length (fills_of h)) history_is in
       ap (λ (i : ℕ). map as_record (get_or (fills_of writing.history) i [])) (let e : length (fills_of writing.history) - 1 ≡ writing.done - shape.start = omega arith in e)
       ∙ sym tail.records_are
 
@@ -79,7 +79,7 @@ module _ (shape : Shape) (writing : Writing) (part : Reading) (settled : Settled
   left =
       let whole = tail_is_the_rest shape.pages shape.size shape.start p.core kept none_stand all_read in
       subst (IsPartition (committed_records writing.history) (pieces_of part.reader.taken)) tail_records
-      (subst (λ (h : List Action). IsPartition (committed_records h) (pieces_of part.reader.taken) (map as_record (tail_of h))) history_is
+      (subst (λ (h : List HistoryEvent). IsPartition (committed_records h) (pieces_of part.reader.taken) (map as_record (tail_of h))) history_is
       (subst (λ (r : Reader). IsPartition (committed_records p.core.history) (pieces_of r.taken) (map as_record (tail_of p.core.history))) (sym p.reading_is.reader_is) whole))
 
   passed : (f : ℕ) → shape.start ≤ f → f < writing.done → WasTaken part f ⊎ (f + shape.pages < writing.opened)
@@ -93,7 +93,7 @@ module _ (shape : Shape) (writing : Writing) (part : Reading) (settled : Settled
 
   fills : AreFillsOf shape.start writing.history part.reader.taken
   fills =
-      subst (λ (h : List Action). AreFillsOf shape.start h part.reader.taken) history_is
+      subst (λ (h : List HistoryEvent). AreFillsOf shape.start h part.reader.taken) history_is
       (subst (λ (r : Reader). AreFillsOf shape.start p.core.history r.taken) (sym p.reading_is.reader_is) kept.partition.fills)
 
   pub settles : IsSettled shape writing part settled
@@ -112,21 +112,21 @@ pub done_there : (w : WriterValue) → IsWriter w → w.part.done ≡ w.frames.s
 done_there w writer = sym (ap (λ (p : Writing). p.done) writer.part_is) ∙ writer.frames_are.done_is
 
 module _ (w : WriterValue) (r : ReaderValue) (tail : Contents) (writer : IsWriter w) (reader : IsReader r) (at_rest : w.part.frames ≡ []) (found : r.empty_at ≡ Some w.part.done) where
-  tail_there : ((start : ℕ) (history : List Action) → IsStack start history w.frames.stack → IsWrittenPage w.frames.stack.size w.frames.stack.done (fill_of history start w.frames.stack.done) tail)
+  tail_there : ((start : ℕ) (history : List HistoryEvent) → IsStack start history w.frames.stack → IsWrittenPage w.frames.stack.size w.frames.stack.done (fill_of history start w.frames.stack.done) tail)
       → IsWrittenPage w.shape.size w.part.done (fill_of w.part.history w.shape.start w.part.done) tail
   tail_there written =
       let page = written w.shape.start writer.core.history writer.frames_are.stack_is in
-      subst (λ (h : List Action). IsWrittenPage w.shape.size w.part.done (fill_of h w.shape.start w.part.done) tail) (ap (λ (p : Writing). p.history) writer.part_is)
+      subst (λ (h : List HistoryEvent). IsWrittenPage w.shape.size w.part.done (fill_of h w.shape.start w.part.done) tail) (ap (λ (p : Writing). p.history) writer.part_is)
       (subst (λ (done : ℕ). IsWrittenPage w.shape.size done (fill_of writer.core.history w.shape.start done) tail) (sym (done_there w writer))
       (subst (λ (size : ℕ). IsWrittenPage size w.frames.stack.done (fill_of writer.core.history w.shape.start w.frames.stack.done) tail) writer.frames_are.size_is page))
 
   -- what is known of the seats and the frames, of which both ends are shown
   pub ends_settle : (shown_w : WriterValue) (shown_r : ReaderValue) → shown_w ≡ w → shown_r ≡ r
       → AreParts shown_w.shape shown_w.part shown_r.part
-      → ((start : ℕ) (history : List Action) → IsStack start history shown_w.frames.stack → IsWrittenPage shown_w.frames.stack.size shown_w.frames.stack.done (fill_of history start shown_w.frames.stack.done) tail)
+      → ((start : ℕ) (history : List HistoryEvent) → IsStack start history shown_w.frames.stack → IsWrittenPage shown_w.frames.stack.size shown_w.frames.stack.done (fill_of history start shown_w.frames.stack.done) tail)
       → IsSettled w.shape w.part r.part record { tail = tail }
   ends_settle shown_w shown_r w_is r_is parts written =
       settles w.shape w.part r.part record { tail = tail }
       (subst (λ (v : ReaderValue). AreParts w.shape w.part v.part) r_is (subst (λ (v : WriterValue). AreParts v.shape v.part shown_r.part) w_is parts))
       at_rest (reader.empty w.part.done found).hint_is
-      (tail_there (subst (λ (v : WriterValue). (start : ℕ) (history : List Action) → IsStack start history v.frames.stack → IsWrittenPage v.frames.stack.size v.frames.stack.done (fill_of history start v.frames.stack.done) tail) w_is written))
+      (tail_there (subst (λ (v : WriterValue). (start : ℕ) (history : List HistoryEvent) → IsStack start history v.frames.stack → IsWrittenPage v.frames.stack.size v.frames.stack.done (fill_of history start v.frames.stack.done) tail) w_is written))

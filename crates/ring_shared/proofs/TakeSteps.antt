@@ -115,7 +115,7 @@ module _ (shape : Shape) (before after : Reading) (sees : Core → Type 0) (answ
 
   module _ (at : before.reader.phase ≡ loading_link) where
     -- the reader goes on in this phase, with this hint
-    loads : (phase : ReaderPhase) (hint : ℕ) (told : model.Answer) → model.LoadStep shape.pages r.core told (model.reader_at r.core phase hint) → Stays shape before after (record before.reader { phase = phase; hint = hint })
+    loads : (phase : ReaderPhase) (hint : ℕ) (told : model.Answer) → model.LoadHeadStep shape.pages r.core told (model.reader_at r.core phase hint) → Stays shape before after (record before.reader { phase = phase; hint = hint })
     loads phase hint told step = subst (λ (x : Reader). Stays shape before after (record x { phase = phase; hint = hint })) (sym reader_is)
         (stays (record r.core.reader { phase = phase; hint = hint }) r.core.spare_link (is_step loading_link told (model.reader_at r.core phase hint) at step).1 refl)
 
@@ -143,7 +143,7 @@ module _ (shape : Shape) (before after : Reading) (sees : Core → Type 0) (answ
 
     pub sees_update : (page lost : ℕ) → link_into shape.pages r.core.links before.reader.hint ≡ update_link page lost → Stays shape before after (record before.reader { phase = loading_link; hint = lost + 1 }) × (before.reader.hint ≤ lost + 1)
     sees_update page lost e =
-        let step : model.LoadStep shape.pages r.core (model.moving (suc lost)) (model.reader_at r.core loading_link (suc lost)) = model.loads_update page lost (here (update_link page lost) e) refl refl in
+        let step : model.LoadHeadStep shape.pages r.core (model.moving (suc lost)) (model.reader_at r.core loading_link (suc lost)) = model.loads_update page lost (here (update_link page lost) e) refl refl in
         let next : suc lost ≡ lost + 1 = omega arith in
         let is = is_step loading_link (model.moving (suc lost)) (model.reader_at r.core loading_link (suc lost)) at step in
         let way = (moving_right shape.pages shape.size shape.start r.core model.reads (suc lost) r.next kept (subst (λ (a : model.Answer). model.Step shape.pages shape.size r.core model.reads a r.next) is.0 r.step)).0 in
@@ -169,7 +169,7 @@ module _ (shape : Shape) (before after : Reading) (sees : Core → Type 0) (answ
         )
 
     passed_step : (page fill : ℕ) → link_into shape.pages r.core.links before.reader.hint ≡ normal_link page fill → fill ≢ before.reader.hint
-        → model.LoadStep shape.pages r.core model.reading (model.reader_at r.core loading_link (fill + 1 - shape.pages))
+        → model.LoadHeadStep shape.pages r.core model.reading (model.reader_at r.core loading_link (fill + 1 - shape.pages))
     passed_step page fill e other =
         let (behind, some_pages) = far page fill e other in let same = hint_is in
         model.loads_passed page fill (fill + 1 - shape.pages) (here (normal_link page fill) e) (omega arith) (omega arith) refl refl

@@ -3,7 +3,7 @@ use Rattle.std.proofs.Common.{◌≡◌, ◌≢◌, ℕ, List, [], ◌∷◌, le
 use Rattle.trace_model.specs.Frames.{Kind, for_record, for_close, FrameState, waiting, reserved, left, Phase as ModelPhase, idle, releasing, Frame, no_frame}
 use Rattle.trace_model.specs.Ring.{Core}
 use Rattle.trace_model.specs.Steps as model
-use Rattle.trace_model.specs.Steps.{ReleaseStep, releases, releases_last, Step, push_step, push_refused, close_step, close_refused, frame_step, frame_lacks, end_step, end_lacks, end_early, read_step, wish_step}
+use Rattle.trace_model.specs.Steps.{ReleaseFillStep, releases, releases_last, Step, push_step, push_refused, close_step, close_refused, frame_step, frame_lacks, end_step, end_lacks, end_early, read_step, store_wish_step}
 use Rattle.link_marks.specs.FrameOutcomes.{IsLeaving}
 use Rattle.link_marks.specs.KeptStack.{MayBeIn}
 use Rattle.link_marks.proofs.RingsKept.{reached_kept}
@@ -35,7 +35,7 @@ has_left : (kind : Kind) → IsLeaving kind left
 has_left (for_record moment len) = tt
 has_left for_close = tt
 
-release_answers : (c : Core) (frame : Frame) (below : List Frame) (answer : model.Answer) (after : Core) → ReleaseStep c frame below answer after → answer ≡ model.going
+release_answers : (c : Core) (frame : Frame) (below : List Frame) (answer : model.Answer) (after : Core) → ReleaseFillStep c frame below answer after → answer ≡ model.going
 release_answers c frame below answer after (releases alone more a is) = a
 release_answers c frame below answer after (releases_last alone last a is) = a
 
@@ -92,7 +92,7 @@ none_answers n size c answer after none (end_step payload frame below number mom
 none_answers n size c answer after none (end_lacks payload e lacks a is) = absurd (subst IsSteps e tt)
 none_answers n size c answer after none (end_early payload frame below e top lacks a is) = absurd (subst IsSteps e tt)
 none_answers n size c answer after none (read_step e step) = absurd (subst IsSteps e tt)
-none_answers n size c answer after none (wish_step e a is) = absurd (subst IsSteps e tt)
+none_answers n size c answer after none (store_wish_step e a is) = absurd (subst IsSteps e tt)
 
 module _ (shape : Shape) (before : Writing) (result : Answer) (after : Writing) (call : IsCall shape before model.steps result after) where
   -- one that has reserved answers its number again

@@ -4,7 +4,7 @@ use Rattle.trace_model.specs.Frames.{Kind, for_record, for_close, FrameState, wa
 use Rattle.trace_model.specs.History.{reserved_records}
 use Rattle.trace_model.specs.Ring.{Core}
 use Rattle.link_marks.proofs.TopSteps.{top_stepped}
-use Rattle.trace_model.specs.Steps.{steps, Step, Answer, going, gone, refused, reserved_as, leave_answer, frames_after_leave, after_next, begin_answer, after_begin, with_new_tail, closing_phase, BeginsAgain, IdleStep, reserves, finds_nothing, is_crowded, is_worn, notes, FrameStep, look_late, sees_free, sees_header, sees_update, claim_late, claims, claim_fails, next_late, sees_normal, sees_other, mark_late, marks, mark_fails, clears, open_late, opens, releases, releases_last, grants, closes_more, goes_away}
+use Rattle.trace_model.specs.Steps.{steps, Step, Answer, going, gone, refused, reserved_as, leave_answer, frames_after_leave, after_next, begin_answer, after_begin, with_new_tail, closing_phase, BeginsAgain, IdleStep, reserves, finds_nothing, is_crowded, is_worn, notes, FrameStep, load_link_late, sees_free, sees_header, sees_update, claim_late, claims, claim_fails, load_next_late, sees_normal, sees_other, mark_late, marks, mark_fails, clears, open_late, opens, releases, releases_last, grants, closes_more, goes_away}
 
 pub data TopStep (frame : Frame) (below : List Frame) (answer : Answer) (after : List Frame) : Type 0 where
   stays : (next : Frame)
@@ -67,14 +67,14 @@ module _ (frame : Frame) (below : List Frame) where
 
     in_phase : (phase : Phase) → FrameStep n size c frame below phase answer after → Steps answer after
     in_phase idle step = in_idle frame.state step
-    in_phase (looking noted) (look_late passed) = late noted passed
+    in_phase (looking noted) (load_link_late passed) = late noted passed
     in_phase (looking noted) (sees_free page x at a e) = goes (opening noted page) _ refl a e
     in_phase (looking noted) (sees_header page lost x sum at a e) = goes (claiming noted page) _ refl a e
     in_phase (looking noted) (sees_update page lost x sum at a e) = goes (looking_next helper noted page) _ refl a e
     in_phase (claiming noted page) (claim_late passed) = late noted passed
     in_phase (claiming noted page) (claims lost x sum at a e) = goes (looking_next owner noted page) _ refl a e
     in_phase (claiming noted page) (claim_fails x none a e) = goes (looking noted) _ refl a e
-    in_phase (looking_next role noted page) (next_late helps passed) = late noted passed
+    in_phase (looking_next role noted page) (load_next_late helps passed) = late noted passed
     in_phase (looking_next role noted page) (sees_normal lost next on sum at a e) = goes (marking role noted page next) _ refl a e
     in_phase (looking_next role noted page) (sees_other lost on sum none a e) = goes (after_next role noted page) _ refl a e
     in_phase (marking role noted page next) (mark_late helps passed) = late noted passed

@@ -3,7 +3,7 @@ use Rattle.std.proofs.Common.{◌≡◌, ℕ, ◌⊎◌, List, [], ◌∷◌, �
 use Rattle.trace_model.specs.declared.numbers.RecordNo.{RecordNo}
 use Rattle.trace_model.specs.Words.{padded}
 use Rattle.trace_model.specs.Packing.{IsPacked}
-use Rattle.trace_model.specs.History.{IsHistory, Action, push, reserve, leave, Reservation, reservation_for, record_frame, records_with_payload, WriterState, writer_after, reserved_records}
+use Rattle.trace_model.specs.History.{IsHistory, HistoryEvent, push, reserve, leave, Reservation, reservation_for, record_frame, records_with_payload, WriterState, writer_after, reserved_records}
 use Rattle.trace_model.specs.Frames.{Kind, for_record, for_close, FrameState, waiting, left, Refusal, Frame}
 use Rattle.trace_model.specs.Steps as model
 use Rattle.trace_model.proofs.HistoryPrefixes.{writer-append}
@@ -20,7 +20,7 @@ use Rattle.ring_frames.specs.declared.answer.Answer.TheVariants.{Pushed, Going, 
 use Rattle.ring_steps.specs.declared.rule.Shape.{Shape}
 use Rattle.ring_steps.specs.Views.{Writing, writing_of}
 use Rattle.ring_shared.specs.Calls.{IsCall}
-use Rattle.ring_shared.specs.Laws.{actions_of_refusal}
+use Rattle.ring_shared.specs.Laws.{events_of_refusal}
 use Rattle.ring_shared.specs.Finishing.{MakesSteps, at_once, one_more, Reserves, Leaves, is_gone, was_refused}
 use Rattle.ring_shared.specs.WholeWrites.{GoesAway, IsRefusedAmid}
 use Rattle.ring_shared.specs.WholeLaws.{AreFills, AreForReader, FinishesReserve, FinishesRefused, FinishesClose, FinishesLeft, WritesAppend, RefusedWritesAppend, written_record, WritesReserve, RefusedWritesReserveNone, RefusedWritesLeaveNoFrame, PaddedTwice, WritersHaveHistories}
@@ -29,7 +29,7 @@ use Rattle.ring_shared.proofs.Depths.{depth_is}
 use Rattle.ring_shared.proofs.Finishes.{IsAmidReserving, reserving_first, reserving_on}
 use Rattle.ring_shared.proofs.PushedEnded.{IsPushed, push_answers}
 use Rattle.ring_shared.proofs.Settles.{done_there}
-use Rattle.ring_shared.proofs.StepActions.{acted, fills_then, fills_keep, reader_keeps, fills_joined, reader_joined, history_then, reserving_waits, LeftOrGone, has_left, has_gone, CloseStep, waits_on, closes, going_fills, left_step, close_step, refused_step}
+use Rattle.ring_shared.proofs.StepEvents.{acted, fills_then, fills_keep, reader_keeps, fills_joined, reader_joined, history_then, reserving_waits, LeftOrGone, has_left, has_gone, CloseStep, waits_on, closes, going_fills, left_step, close_step, refused_step}
 use Rattle.ring_shared.proofs.WholeWrites.{HasBegun, has_begun, finished_reserving, finished_leaving, reserved_so, HasTopRecord, HasReservedTop, left_full}
 
 -- ---- a record frame
@@ -38,7 +38,7 @@ module _ (shape : Shape) (frame : Frame) (below : List Frame) where
   -- it has gone on, and begun fills at most
   record Waits (before between : Writing) : Type 0 where
     going_on : IsAmidReserving shape frame.kind below before between
-    fills : List Action
+    fills : List HistoryEvent
     are : AreFills fills
     history_is : between.history ≡ before.history ++ fills
 
@@ -54,25 +54,25 @@ module _ (shape : Shape) (frame : Frame) (below : List Frame) where
       }
 
   module _ (before after : Writing) (top : before.frames ≡ frame ∷ below) (is : IsReserving frame.kind frame.state) where
-    pub record_reserves : (number : RecordNo) → Reserves shape frame.kind below before (Reserved number) after → (fills : List Action) × AreFills fills × (number.0 ≡ length (reserved_records before.history)) × (after.history ≡ before.history ++ (fills ++ reserve ∷ []))
+    pub record_reserves : (number : RecordNo) → Reserves shape frame.kind below before (Reserved number) after → (fills : List HistoryEvent) × AreFills fills × (number.0 ≡ length (reserved_records before.history)) × (after.history ≡ before.history ++ (fills ++ reserve ∷ []))
     record_reserves number r =
         let w = waits_so before r.between top is r.goes in
         let (at, h) = reservations_append shape r.between w.going_on.frame below number after w.going_on.top (reserving_waits w.going_on.frame.kind w.going_on.frame.state w.going_on.reserves) r.last in (
           w.fills,
           w.are,
-          at ∙ ap (λ (h : List Action). length (reserved_records h)) w.history_is
+          at ∙ ap (λ (h : List HistoryEvent). length (reserved_records h)) w.history_is
               ∙ ap (λ (v : WriterState). length v.records) (writer-append record { stack = []; records = [] } before.history w.fills ∙ fills_keep (writer_after before.history) w.fills w.are),
           history_then before.history r.between.history after.history w.fills (reserve ∷ []) w.history_is h,
         )
 
-    pub record_refused : (fault : WriteFault) → Reserves shape frame.kind below before (Refused fault) after → (fills : List Action) × AreFills fills × (after.history ≡ before.history ++ (fills ++ leave None ∷ [])) × LeftOrGone below (Refused fault) after.frames
+    pub record_refused : (fault : WriteFault) → Reserves shape frame.kind below before (Refused fault) after → (fills : List HistoryEvent) × AreFills fills × (after.history ≡ before.history ++ (fills ++ leave None ∷ [])) × LeftOrGone below (Refused fault) after.frames
     record_refused fault r =
         let w = waits_so before r.between top is r.goes in
         let h = refusals_append shape r.between model.steps fault after r.last in (
           w.fills,
           w.are,
           history_then before.history r.between.history after.history w.fills (leave None ∷ []) w.history_is
-              (h ∙ ap (λ (fs : List Frame). r.between.history ++ actions_of_refusal model.steps fs) w.going_on.top),
+              (h ∙ ap (λ (fs : List Frame). r.between.history ++ events_of_refusal model.steps fs) w.going_on.top),
           refused_step shape r.between after fault w.going_on.frame below w.going_on.top r.last w.going_on.reserves,
         )
 
@@ -88,7 +88,7 @@ module _ (shape : Shape) (below : List Frame) where
 
   -- what a frame that has left appends
   abbrev ActsForReader : Writing → Writing → Type 0
-  ActsForReader before after = (actions : List Action) × AreForReader actions × (after.history ≡ before.history ++ actions)
+  ActsForReader before after = (events : List HistoryEvent) × AreForReader events × (after.history ≡ before.history ++ events)
 
   acts_then : (before between after : Writing) → ActsForReader before between → ActsForReader between after → ActsForReader before after
   acts_then before between after (one, are, h) (two, and, more) = (one ++ two, reader_joined one two are and, history_then before.history between.history after.history one two h more)
@@ -130,7 +130,7 @@ module _ (shape : Shape) (below : List Frame) where
   -- what it appends
   abbrev Closes : Writing → Writing → Type 0
   Closes before after =
-      (fills for_reader : List Action) × AreFills fills × AreForReader for_reader
+      (fills for_reader : List HistoryEvent) × AreFills fills × AreForReader for_reader
       × (after.history ≡ before.history ++ ((fills ++ leave None ∷ []) ++ for_reader))
 
   -- it waits on
@@ -155,16 +155,16 @@ module _ (shape : Shape) (below : List Frame) where
     are,
     reader_joined for_reader more reads and,
     history_then before.history between.history after.history ((fills ++ leave None ∷ []) ++ for_reader) more h next
-        ∙ ap (λ (l : List Action). before.history ++ l) (append_assoc (fills ++ leave None ∷ []) for_reader more),
+        ∙ ap (λ (l : List HistoryEvent). before.history ++ l) (append_assoc (fills ++ leave None ∷ []) for_reader more),
   )
 
-  closes_now : (before between after : Writing) (fills : List Action) → between.history ≡ before.history → AreFills fills → after.history ≡ between.history ++ (fills ++ leave None ∷ []) → Closes before after
+  closes_now : (before between after : Writing) (fills : List HistoryEvent) → between.history ≡ before.history → AreFills fills → after.history ≡ between.history ++ (fills ++ leave None ∷ []) → Closes before after
   closes_now before between after fills same are h = (
     fills,
     [],
     are,
     tt,
-    h ∙ ap (λ (x : List Action). x ++ (fills ++ leave None ∷ [])) same ∙ ap (λ (l : List Action). before.history ++ l) (sym (append-nil (fills ++ leave None ∷ []))),
+    h ∙ ap (λ (x : List HistoryEvent). x ++ (fills ++ leave None ∷ [])) same ∙ ap (λ (l : List HistoryEvent). before.history ++ l) (sym (append-nil (fills ++ leave None ∷ []))),
   )
 
   closing_on : (before between after : Writing) (result : Answer) → IsCall shape between model.steps result after → (result ≡ Going) ⊎ (after.frames ≡ below → ⊥) → WaitsOn before between ⊎ HasClosed before between → WaitsOn before after ⊎ HasClosed before after
@@ -202,7 +202,7 @@ module _ (shape : Shape) (below : List Frame) where
     for_reader,
     are,
     reads,
-    h ∙ ap (λ (x : List Action). x ++ ((fills ++ leave None ∷ []) ++ for_reader)) same,
+    h ∙ ap (λ (x : List HistoryEvent). x ++ ((fills ++ leave None ∷ []) ++ for_reader)) same,
   )
 
   pub close_leaves : (before : Writing) (answer : Answer) (after : Writing) (frame : Frame) → before.frames ≡ frame ∷ below → frame.kind ≡ for_close → frame.state ≡ waiting → Leaves shape below before answer after → Closes before after
@@ -238,15 +238,15 @@ finishes_left shape before frame below result after top s f =
 
 -- ---- `write`
 
-after_end : (shape : Shape) (reserved_as ended after : Writing) (payload : List ℕ) (how : How) → HasReservedTop reserved_as.frames → IsCall shape reserved_as (model.ends payload) (Ended how) ended → GoesAway shape ended how after → (for_reader : List Action) × AreForReader for_reader × (after.history ≡ ended.history ++ for_reader)
+after_end : (shape : Shape) (reserved_as ended after : Writing) (payload : List ℕ) (how : How) → HasReservedTop reserved_as.frames → IsCall shape reserved_as (model.ends payload) (Ended how) ended → GoesAway shape ended how after → (for_reader : List HistoryEvent) × AreForReader for_reader × (after.history ≡ ended.history ++ for_reader)
 after_end shape reserved_as ended after payload Pending t call same = ([], tt, ap (λ (w : Writing). w.history) same ∙ sym (append-nil ended.history))
 after_end shape reserved_as ended after payload Full t call (answer, leaves) =
     let (frame, top, s) = left_full shape reserved_as ended payload (Ended Full) call t refl in
     left_leaves shape [] ended answer after frame top s leaves
 
-in_order : (history fills for_reader : List Action) (first last : Action) → history ++ (((first ∷ (fills ++ reserve ∷ [])) ++ last ∷ []) ++ for_reader) ≡ history ++ first ∷ (fills ++ reserve ∷ last ∷ for_reader)
+in_order : (history fills for_reader : List HistoryEvent) (first last : HistoryEvent) → history ++ (((first ∷ (fills ++ reserve ∷ [])) ++ last ∷ []) ++ for_reader) ≡ history ++ first ∷ (fills ++ reserve ∷ last ∷ for_reader)
 in_order history fills for_reader first last =
-    ap (λ (l : List Action). history ++ first ∷ l)
+    ap (λ (l : List HistoryEvent). history ++ first ∷ l)
     (append_assoc (fills ++ reserve ∷ []) (last ∷ []) for_reader ∙ append_assoc fills (reserve ∷ []) (last ∷ for_reader))
 
 pub writes_append : WritesAppend
@@ -264,7 +264,7 @@ writes_append shape before moment payload after w =
     (fills, for_reader, are, reads, four ∙ in_order before.history fills for_reader (push moment (length payload)) (leave (Some (padded payload))))
 
 pushed_and_refused : (shape : Shape) (before : Writing) (moment len : ℕ) (fault : WriteFault) (after : Writing) → IsRefusedAmid shape before moment len fault after
-    → (fills for_reader : List Action) × AreFills fills × AreForReader for_reader × (after.history ≡ before.history ++ push moment len ∷ (fills ++ leave None ∷ for_reader))
+    → (fills for_reader : List HistoryEvent) × AreFills fills × AreForReader for_reader × (after.history ≡ before.history ++ push moment len ∷ (fills ++ leave None ∷ for_reader))
 pushed_and_refused shape before moment len fault after r =
     let begun : HasBegun moment len before r.pushed = (has_begun shape before r.pushed moment len Pushed r.push (λ (f, e). cc)).0 in
     let (fills, are, refuses, how) = record_refused shape begun.frame before.frames r.pushed r.refused begun.top begun.reserves fault
@@ -276,10 +276,10 @@ pushed_and_refused shape before moment len fault after r =
       for_reader,
       are,
       reads,
-      three ∙ ap (λ (l : List Action). before.history ++ push moment len ∷ l) (append_assoc fills (leave None ∷ []) for_reader),
+      three ∙ ap (λ (l : List HistoryEvent). before.history ++ push moment len ∷ l) (append_assoc fills (leave None ∷ []) for_reader),
     )
   where
-    rest : LeftOrGone before.frames (Refused fault) r.refused.frames → (after ≡ r.refused) ⊎ ((frame : Frame) × (answer : Answer) × (r.refused.frames ≡ frame ∷ before.frames) × IsLeaving frame.kind frame.state × Leaves shape before.frames r.refused answer after) → (for_reader : List Action) × AreForReader for_reader × (after.history ≡ r.refused.history ++ for_reader)
+    rest : LeftOrGone before.frames (Refused fault) r.refused.frames → (after ≡ r.refused) ⊎ ((frame : Frame) × (answer : Answer) × (r.refused.frames ≡ frame ∷ before.frames) × IsLeaving frame.kind frame.state × Leaves shape before.frames r.refused answer after) → (for_reader : List HistoryEvent) × AreForReader for_reader × (after.history ≡ r.refused.history ++ for_reader)
     rest how (inl same) = ([], tt, ap (λ (w : Writing). w.history) same ∙ sym (append-nil r.refused.history))
     rest how (inr (frame, answer, top, leaves, all)) =
         left_leaves shape before.frames r.refused answer after frame top (still_left shape before.frames (Refused fault) r.refused.frames frame how top) all
@@ -311,7 +311,7 @@ last_written [] r payload = refl
 last_written (s ∷ rs) r payload = ap (λ (l : List Reservation). s ∷ l) (last_written rs r payload)
 
 -- what a write makes of a writer's state
-record_adds : (w : WriterState) (moment : ℕ) (payload : List ℕ) (fills for_reader : List Action) → AreFills fills → AreForReader for_reader
+record_adds : (w : WriterState) (moment : ℕ) (payload : List ℕ) (fills for_reader : List HistoryEvent) → AreFills fills → AreForReader for_reader
     → (acted w (push moment (length payload) ∷ (fills ++ reserve ∷ leave (Some (padded payload)) ∷ for_reader))).records ≡ w.records ++ written_record moment payload w.records ∷ []
 record_adds w moment payload fills for_reader are reads =
     ap (λ (v : WriterState). v.records) (fills_then record { stack = record_frame moment (length payload) None ∷ w.stack; records = w.records } fills (reserve ∷ leave (Some (padded payload)) ∷ for_reader) are)
@@ -319,13 +319,13 @@ record_adds w moment payload fills for_reader are reads =
     ∙ last_written w.records (reservation_for moment (length payload) w.records) (padded payload)
     ∙ ap (λ (bytes : List ℕ). w.records ++ record (reservation_for moment (length payload) w.records) { bytes = Some bytes } ∷ []) (twice payload)
 
-refused_adds : (w : WriterState) (moment len : ℕ) (fills for_reader : List Action) → AreFills fills → AreForReader for_reader
+refused_adds : (w : WriterState) (moment len : ℕ) (fills for_reader : List HistoryEvent) → AreFills fills → AreForReader for_reader
     → (acted w (push moment len ∷ (fills ++ leave None ∷ for_reader))).records ≡ w.records
 refused_adds w moment len fills for_reader are reads =
     ap (λ (v : WriterState). v.records) (fills_then record { stack = record_frame moment len None ∷ w.stack; records = w.records } fills (leave None ∷ for_reader) are)
     ∙ ap (λ (v : WriterState). v.records) (reader_keeps _ for_reader reads)
 
-records_after : (front after own : List Action) → after ≡ front ++ own → reserved_records after ≡ (acted (writer_after front) own).records
+records_after : (front after own : List HistoryEvent) → after ≡ front ++ own → reserved_records after ≡ (acted (writer_after front) own).records
 records_after front after own is = ap reserved_records is ∙ ap (λ (v : WriterState). v.records) (writer-append record { stack = []; records = [] } front own)
 
 pub writes_reserve : WritesReserve
@@ -337,7 +337,7 @@ writes_reserve shape before moment payload after w =
 pub refused_writes_reserve_none : RefusedWritesReserveNone
 refused_writes_reserve_none shape before moment len fault after r = by (refused_writes_append shape before moment len fault after r)
   where
-    by : (after.history ≡ before.history) ⊎ ((fills for_reader : List Action) × AreFills fills × AreForReader for_reader × (after.history ≡ before.history ++ push moment len ∷ (fills ++ leave None ∷ for_reader))) → reserved_records after.history ≡ reserved_records before.history
+    by : (after.history ≡ before.history) ⊎ ((fills for_reader : List HistoryEvent) × AreFills fills × AreForReader for_reader × (after.history ≡ before.history ++ push moment len ∷ (fills ++ leave None ∷ for_reader))) → reserved_records after.history ≡ reserved_records before.history
     by (inl same) = ap reserved_records same
     by (inr (fills, for_reader, are, reads, h)) =
         records_after before.history after.history (push moment len ∷ (fills ++ leave None ∷ for_reader)) h
@@ -350,7 +350,7 @@ writers_have_histories v w =
     let kept = reached_kept v.shape.pages v.shape.size v.shape.start w.core w.reached in
     let same : w.core.history ≡ v.part.history = ap (λ (p : Writing). p.history) w.part_is in record {
       allowed = subst IsHistory same kept.history.allowed;
-      packed = subst (λ (h : List Action). IsPacked h v.shape.size) same (runs_packed v.shape.pages v.shape.size v.shape.start w.core kept);
+      packed = subst (λ (h : List HistoryEvent). IsPacked h v.shape.size) same (runs_packed v.shape.pages v.shape.size v.shape.start w.core kept);
       done_is = sym (done_there v w);
       depth_is = depth_is v w;
       at_rest = λ none.

@@ -2,7 +2,7 @@
 -- call that `IsCall` holds of: that of a `MakesSome`, and those which a record that is written whole is made of.
 use Rattle.std.specs.Prelude.{◌≡◌, ℕ, List, [], ◌∷◌, ◌++◌, length, Some, None}
 use Rattle.trace_model.specs.declared.numbers.RecordNo.{RecordNo}
-use Rattle.trace_model.specs.History.{Action, push, push_close, reserve, leave, reserved_records}
+use Rattle.trace_model.specs.History.{HistoryEvent, push, push_close, reserve, leave, reserved_records}
 use Rattle.trace_model.specs.Frames.{waiting, reserved, Frame}
 use Rattle.trace_model.specs.Ring.{Core}
 use Rattle.trace_model.specs.Steps as model
@@ -16,17 +16,17 @@ use Rattle.ring_steps.specs.declared.rule.Shape.{Shape}
 use Rattle.ring_steps.specs.Views.{Writing, writing_of}
 use Rattle.ring_shared.specs.Calls.{IsCall}
 
--- The event appends these actions to the history of the writer's part, as the model has it for the answer: in a state
--- with that part.
+-- The event appends these history events to the history of the writer's part, as the model has it for the answer: in a
+-- state with that part.
 pub record IsAppended (shape : Shape) (before : Writing) (event : model.Event) (result : Answer) (after : Writing)
     : Type 0 where
   pub core : Core
   pub answer : model.Answer
-  pub actions : List Action
+  pub history_events : List HistoryEvent
   pub before_is : writing_of core ≡ before
   pub tells : IsAnswerOf shape.size result answer
-  pub appends : Appends shape.pages core event answer actions
-  pub history_is : after.history ≡ before.history ++ actions
+  pub appends : Appends shape.pages core event answer history_events
+  pub history_is : after.history ≡ before.history ++ history_events
 
 -- Each call appends what the model says, and nothing else.
 abbrev pub CallsAppend : Type 0
@@ -71,17 +71,17 @@ NumbersAreToldAgain = (shape : Shape) (before : Writing) (frame : Frame) (below 
     → IsAnswerOf shape.size result (model.reserved_as number) × (after.history ≡ before.history)
 
 -- what a refusal appends: if there is a frame whose step is refused, it leaves without a record
-abbrev pub actions_of_refusal : model.Event → List Frame → List Action
-actions_of_refusal (model.pushes moment len) frames = []
-actions_of_refusal model.pushes_close frames = []
-actions_of_refusal model.steps [] = []
-actions_of_refusal model.steps (frame ∷ below) = leave None ∷ []
-actions_of_refusal (model.ends payload) frames = []
-actions_of_refusal model.reads frames = []
-actions_of_refusal model.wishes frames = []
+abbrev pub events_of_refusal : model.Event → List Frame → List HistoryEvent
+events_of_refusal (model.pushes moment len) frames = []
+events_of_refusal model.pushes_close frames = []
+events_of_refusal model.steps [] = []
+events_of_refusal model.steps (frame ∷ below) = leave None ∷ []
+events_of_refusal (model.ends payload) frames = []
+events_of_refusal model.reads frames = []
+events_of_refusal model.wishes frames = []
 
 -- and any other refusal appends nothing.
 abbrev pub RefusalsAppend : Type 0
 RefusalsAppend = (shape : Shape) (before : Writing) (event : model.Event) (fault : WriteFault) (after : Writing)
     → IsCall shape before event (Refused fault) after
-    → after.history ≡ before.history ++ actions_of_refusal event before.frames
+    → after.history ≡ before.history ++ events_of_refusal event before.frames

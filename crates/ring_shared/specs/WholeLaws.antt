@@ -3,7 +3,7 @@
 use Rattle.std.specs.Prelude.{◌≡◌, ℕ, ◌+◌, ◌⊎◌, List, [], ◌∷◌, ◌++◌, length, Some, None}
 use Rattle.trace_model.specs.declared.numbers.RecordNo.{RecordNo}
 use Rattle.trace_model.specs.Words.{padded}
-use Rattle.trace_model.specs.History.{Action, push, push_close, open_fill, reserve, leave, wished, Reservation, reservation_for, reserved_records, IsHistory}
+use Rattle.trace_model.specs.History.{HistoryEvent, push, push_close, open_fill, reserve, leave, wished, Reservation, reservation_for, reserved_records, IsHistory}
 use Rattle.trace_model.specs.Packing.{IsPacked}
 use Rattle.trace_model.specs.Frames.{for_close, waiting, left, Frame}
 use Rattle.link_marks.specs.FrameOutcomes.{IsReserving}
@@ -18,24 +18,24 @@ use Rattle.ring_shared.specs.Finishing.{Finishes}
 use Rattle.ring_shared.specs.WholeWrites.{IsWritten, IsRefusedWrite}
 
 -- fills that are begun, and nothing else
-abbrev pub AreFills : List Action → Type 0
+abbrev pub AreFills : List HistoryEvent → Type 0
 AreFills [] = Unit {0}
-AreFills (push moment len ∷ actions) = ⊥
-AreFills (push_close ∷ actions) = ⊥
-AreFills (open_fill ∷ actions) = AreFills actions
-AreFills (reserve ∷ actions) = ⊥
-AreFills (leave payload ∷ actions) = ⊥
-AreFills (wished ∷ actions) = ⊥
+AreFills (push moment len ∷ events) = ⊥
+AreFills (push_close ∷ events) = ⊥
+AreFills (open_fill ∷ events) = AreFills events
+AreFills (reserve ∷ events) = ⊥
+AreFills (leave payload ∷ events) = ⊥
+AreFills (wished ∷ events) = ⊥
 
 -- what a frame that has left does for the reader: it grants wishes, and begins fills
-abbrev pub AreForReader : List Action → Type 0
+abbrev pub AreForReader : List HistoryEvent → Type 0
 AreForReader [] = Unit {0}
-AreForReader (push moment len ∷ actions) = ⊥
-AreForReader (push_close ∷ actions) = ⊥
-AreForReader (open_fill ∷ actions) = AreForReader actions
-AreForReader (reserve ∷ actions) = ⊥
-AreForReader (leave payload ∷ actions) = ⊥
-AreForReader (wished ∷ actions) = AreForReader actions
+AreForReader (push moment len ∷ events) = ⊥
+AreForReader (push_close ∷ events) = ⊥
+AreForReader (open_fill ∷ events) = AreForReader events
+AreForReader (reserve ∷ events) = ⊥
+AreForReader (leave payload ∷ events) = ⊥
+AreForReader (wished ∷ events) = AreForReader events
 
 -- ---- `finish_top`
 
@@ -46,7 +46,7 @@ FinishesReserve = (shape : Shape) (before : Writing) (frame : Frame) (below : Li
     → before.frames ≡ frame ∷ below
     → IsReserving frame.kind frame.state
     → Finishes shape before (Reserved number) after
-    → (fills : List Action)
+    → (fills : List HistoryEvent)
     × AreFills fills
     × (number.0 ≡ length (reserved_records before.history))
     × (after.history ≡ before.history ++ (fills ++ reserve ∷ []))
@@ -58,7 +58,7 @@ FinishesRefused = (shape : Shape) (before : Writing) (frame : Frame) (below : Li
     → before.frames ≡ frame ∷ below
     → IsReserving frame.kind frame.state
     → Finishes shape before (Refused fault) after
-    → (fills : List Action) × AreFills fills × (after.history ≡ before.history ++ (fills ++ leave None ∷ []))
+    → (fills : List HistoryEvent) × AreFills fills × (after.history ≡ before.history ++ (fills ++ leave None ∷ []))
 
 -- A close frame begins fills and leaves, and then acts for the reader;
 abbrev pub FinishesClose : Type 0
@@ -68,7 +68,7 @@ FinishesClose = (shape : Shape) (before : Writing) (frame : Frame) (below : List
     → frame.kind ≡ for_close
     → frame.state ≡ waiting
     → Finishes shape before result after
-    → (fills for_reader : List Action)
+    → (fills for_reader : List HistoryEvent)
     × AreFills fills
     × AreForReader for_reader
     × (after.history ≡ before.history ++ ((fills ++ leave None ∷ []) ++ for_reader))
@@ -80,7 +80,7 @@ FinishesLeft = (shape : Shape) (before : Writing) (frame : Frame) (below : List 
     → before.frames ≡ frame ∷ below
     → frame.state ≡ left
     → Finishes shape before result after
-    → (for_reader : List Action) × AreForReader for_reader × (after.history ≡ before.history ++ for_reader)
+    → (for_reader : List HistoryEvent) × AreForReader for_reader × (after.history ≡ before.history ++ for_reader)
 
 -- ---- `write`
 
@@ -89,7 +89,7 @@ FinishesLeft = (shape : Shape) (before : Writing) (frame : Frame) (below : List 
 abbrev pub WritesAppend : Type 0
 WritesAppend = (shape : Shape) (before : Writing) (moment : ℕ) (payload : List ℕ) (after : Writing)
     → IsWritten shape before moment payload after
-    → (fills for_reader : List Action)
+    → (fills for_reader : List HistoryEvent)
     × AreFills fills
     × AreForReader for_reader
     × (after.history
@@ -102,7 +102,7 @@ abbrev pub RefusedWritesAppend : Type 0
 RefusedWritesAppend = (shape : Shape) (before : Writing) (moment len : ℕ) (fault : WriteFault) (after : Writing)
     → IsRefusedWrite shape before moment len fault after
     → (after.history ≡ before.history)
-    ⊎ ((fills for_reader : List Action)
+    ⊎ ((fills for_reader : List HistoryEvent)
     × AreFills fills
     × AreForReader for_reader
     × (after.history ≡ before.history ++ push moment len ∷ (fills ++ leave None ∷ for_reader)))

@@ -8,7 +8,7 @@ use Rattle.trace_model.specs.declared.limits.TheConstants.{MAX_PAGES, LINK_FILLS
 use Rattle.trace_model.specs.Links.{Link, word_of, update_link, FitsWord}
 use Rattle.trace_model.specs.Frames.{Phase, marking, clearing, Frame, noted_fill, owned_update}
 use Rattle.trace_model.specs.Ring.{Core, link_into}
-use Rattle.trace_model.specs.Steps.{Answer, ClearStep, clears}
+use Rattle.trace_model.specs.Steps.{Answer, ClearUpdateStep, clears}
 use Rattle.trace_model.proofs.LinkWords.{word_tells}
 use Rattle.link_marks.specs.KeptLinks.{spot, passed_spot}
 use Rattle.link_marks.specs.RingKept.{IsRingKept}
@@ -92,7 +92,7 @@ module _ (shape : Shape) (before now : Writing) (known : ∥ IsWriterReached sha
 -- ---- after the step
 
 -- a frame that clears finds its UPDATE
-update_there : (n : ℕ) (c : Core) (frame : Frame) (below : List Frame) (noted page lost : ℕ) (answer : Answer) (after : Core) → lost + n ≡ noted → ClearStep n c frame below noted page answer after
+update_there : (n : ℕ) (c : Core) (frame : Frame) (below : List Frame) (noted page lost : ℕ) (answer : Answer) (after : Core) → lost + n ≡ noted → ClearUpdateStep n c frame below noted page answer after
     → link_into n c.links noted ≡ update_link page lost
 update_there n c frame below noted page lost answer after sum (clears u u_sum at a after_is) = let same : u ≡ lost = omega arith in at ∙ ap (update_link page) same
 

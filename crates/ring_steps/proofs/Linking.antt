@@ -12,7 +12,7 @@ use Rattle.trace_model.specs.declared.limits.TheConstants.{MAX_PAGES, LINK_PAGES
 use Rattle.trace_model.specs.Links.{Link, word_of, normal_link, header_link, update_link, FitsWord}
 use Rattle.trace_model.specs.Frames.{Role, owner, helper, Phase, looking, claiming, looking_next, marking, clearing, opening, wishing, Frame, noted_fill}
 use Rattle.trace_model.specs.Ring.{Core, link_into, links_with, page_at}
-use Rattle.trace_model.specs.Steps.{steps, going, Answer, MayOpen, after_next, in_phase, with_head_claimed, with_link, contents_of, LookStep, look_late, sees_free, sees_header, sees_update, ClaimStep, claim_late, claims, claim_fails, NextStep, next_late, sees_normal, sees_other, MarkStep, mark_late, marks, mark_fails, ClearStep, clears, WishStep, grants, closes_more, goes_away, Step}
+use Rattle.trace_model.specs.Steps.{steps, going, Answer, MayOpen, after_next, in_phase, with_head_claimed, with_link, contents_of, LoadLinkStep, load_link_late, sees_free, sees_header, sees_update, ClaimHeadStep, claim_late, claims, claim_fails, LoadNextStep, load_next_late, sees_normal, sees_other, MarkHeadStep, mark_late, marks, mark_fails, ClearUpdateStep, clears, LoadWishStep, grants, closes_more, goes_away, Step}
 use Rattle.trace_model.proofs.LinkWords.{word_tells}
 use Rattle.link_marks.specs.KeptLinks.{passed_spot}
 use Rattle.link_marks.specs.RingKept.{IsRingKept}
@@ -186,8 +186,8 @@ module _ (shape : Shape) (me : Sat) (is : IsWriting me) (now : Writing) (c : Cor
       stays_on (page_word page) (λ n. n) (λ found. Sees fill found) (record frame { phase = phase } ∷ below) (goes answer after (in_phase c frame below phase) step a after_is) (known, word_there page fill e) refl
 
   looks : (page noted : ℕ) (frame : Frame) (below : List Frame) (answer : Answer) (after : Core) → page ≡ page_before shape.pages c.order noted → noted ≡ c.opened
-      → Step shape.pages shape.size c steps answer after → LookStep shape.pages c frame below noted answer after → LoadMoves page noted
-  looks page noted frame below answer after e here step (look_late late) = absurd (late.passed here)
+      → Step shape.pages shape.size c steps answer after → LoadLinkStep shape.pages c frame below noted answer after → LoadMoves page noted
+  looks page noted frame below answer after e here step (load_link_late late) = absurd (late.passed here)
   looks page noted frame below answer after e here step (sees_free p x at a after_is) = loads page noted frame below (opening noted p) answer after e step a after_is
   looks page noted frame below answer after e here step (sees_header p lost x sum at a after_is) = loads page noted frame below (claiming noted p) answer after e step a after_is
   looks page noted frame below answer after e here step (sees_update p lost x sum at a after_is) = loads page noted frame below (looking_next helper noted p) answer after e step a after_is
@@ -203,8 +203,8 @@ module _ (shape : Shape) (me : Sat) (is : IsWriting me) (now : Writing) (c : Cor
       (top_stepped shape.pages shape.size c top.frame top.below (looking now.opened) answer after top.is top.phase_is step)
 
   nexts : (page behind : ℕ) (frame : Frame) (below : List Frame) (role : Role) (noted : ℕ) (answer : Answer) (after : Core) → page ≡ page_before shape.pages c.order behind → MayOpen role noted c.opened
-      → Step shape.pages shape.size c steps answer after → NextStep shape.pages c frame below role noted page answer after → LoadMoves page behind
-  nexts page behind frame below role noted answer after e on step (next_late helps late) = absurd (late.passed (subst (λ (x : Role). MayOpen x noted c.opened) helps on))
+      → Step shape.pages shape.size c steps answer after → LoadNextStep shape.pages c frame below role noted page answer after → LoadMoves page behind
+  nexts page behind frame below role noted answer after e on step (load_next_late helps late) = absurd (late.passed (subst (λ (x : Role). MayOpen x noted c.opened) helps on))
   nexts page behind frame below role noted answer after e on step (sees_normal lost next x sum at a after_is) = loads page behind frame below (marking role noted page next) answer after e step a after_is
   nexts page behind frame below role noted answer after e on step (sees_other lost x sum other a after_is) = loads page behind frame below (after_next role noted page) answer after e step a after_is
 
@@ -248,7 +248,7 @@ module _ (shape : Shape) (me : Sat) (is : IsWriting me) (now : Writing) (c : Cor
         };
       }
 
-  wishes_at : (frame : Frame) (below : List Frame) (answer : Answer) (after : Core) → Step shape.pages shape.size c steps answer after → WishStep shape.pages c frame below answer after
+  wishes_at : (frame : Frame) (below : List Frame) (answer : Answer) (after : Core) → Step shape.pages shape.size c steps answer after → LoadWishStep shape.pages c frame below answer after
       → WriterMoves shape r me ws homes 2 (λ n. n) (λ found after. WishTold shape now (passed me.0) found after)
   wishes_at frame below answer after step (grants alone granted a after_is) = asks answer after _ step after_is refl (λ page. refl) refl
   wishes_at frame below answer after step (closes_more alone denied more a after_is) = asks answer after _ step after_is refl (λ page. refl) refl
@@ -300,7 +300,7 @@ module _ (shape : Shape) (me : Sat) (is : IsWriting me) (now : Writing) (c : Cor
 
   claims_at : (tail page lost from to : ℕ) (frame : Frame) (below : List Frame) (answer : Answer) (after : Core) → c.frames ≡ frame ∷ below → frame.phase ≡ claiming now.opened page
       → lost + shape.pages ≡ now.opened → page < LINK_PAGES → from ≡ word_of (header_link page lost) → to ≡ word_of (update_link page lost) → tail ≡ page_before shape.pages c.order now.opened
-      → Step shape.pages shape.size c steps answer after → ClaimStep shape.pages c frame below now.opened page answer after → ClaimMoves tail from to
+      → Step shape.pages shape.size c steps answer after → ClaimHeadStep shape.pages c frame below now.opened page answer after → ClaimMoves tail from to
   unfolding moves_on stays_on done_on fails_on
   claims_at tail page lost from to frame below answer after top at_phase sum fits from_is to_is e step (claim_late late) = absurd (late.passed opened_is)
   claims_at tail page lost from to frame below answer after top at_phase sum fits from_is to_is e step (claims u x u_sum at a after_is) =
@@ -330,7 +330,7 @@ module _ (shape : Shape) (me : Sat) (is : IsWriting me) (now : Writing) (c : Cor
   marks_at : (page next behind from to : ℕ) (frame : Frame) (below : List Frame) (role : Role) (noted : ℕ) (answer : Answer) (after : Core)
       → MayOpen role noted c.opened → behind + shape.pages ≡ noted + 1 → FitsWord (normal_link next behind) → from ≡ word_of (normal_link next behind) → to ≡ word_of (header_link next behind)
       → page ≡ page_before shape.pages c.order behind
-      → Step shape.pages shape.size c steps answer after → MarkStep shape.pages c frame below role noted page next answer after → ExchangeMoves page behind from to
+      → Step shape.pages shape.size c steps answer after → MarkHeadStep shape.pages c frame below role noted page next answer after → ExchangeMoves page behind from to
   marks_at page next behind from to frame below role noted answer after on sum fits from_is to_is e step (mark_late helps late) = absurd (late.passed (subst (λ (x : Role). MayOpen x noted c.opened) helps on))
   marks_at page next behind from to frame below role noted answer after on sum fits from_is to_is e step (marks lost x lost_sum at a after_is) =
       let same : suc lost ≡ behind = omega arith in
@@ -359,7 +359,7 @@ module _ (shape : Shape) (me : Sat) (is : IsWriting me) (now : Writing) (c : Cor
 
   clears_at : (before page lost noted from to : ℕ) (frame : Frame) (below : List Frame) (answer : Answer) (after : Core) → lost + shape.pages ≡ noted → from ≡ word_of (update_link page lost) → to ≡ word_of (normal_link page noted)
       → before ≡ page_before shape.pages c.order noted
-      → Step shape.pages shape.size c steps answer after → ClearStep shape.pages c frame below noted page answer after → ExchangeMoves before noted from to
+      → Step shape.pages shape.size c steps answer after → ClearUpdateStep shape.pages c frame below noted page answer after → ExchangeMoves before noted from to
   clears_at before page lost noted from to frame below answer after sum from_is to_is e step (clears u u_sum at a after_is) =
       let same : u ≡ lost = omega arith in
       done_on before noted from to (update_link page lost) (normal_link page noted) (record frame { phase = opening noted page } ∷ below) c.head e from_is to_is

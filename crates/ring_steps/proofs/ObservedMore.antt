@@ -2,7 +2,7 @@
 use Rattle.std.proofs.Common.{◌≡◌, ℕ, suc, ◌+◌, ◌-◌, ◌<◌, ◌≤◌, List, [], ◌∷◌, ◌++◌, length, get_or, take, map, sym, ap, ◌∙◌, arith, length-append, length-take-le, append_assoc}
 use Rattle.std.proofs.lemmas.List.{map-append, length-map}
 use Rattle.trace_model.specs.Record.{Record}
-use Rattle.trace_model.specs.History.{Action, Reservation, reserved_records, as_record}
+use Rattle.trace_model.specs.History.{HistoryEvent, Reservation, reserved_records, as_record}
 use Rattle.trace_model.specs.Packing.{opens_of, fills_of}
 use Rattle.trace_model.specs.Fitting.{IsRising}
 use Rattle.trace_model.specs.Ring.{PageRecords, first_of_fill, fill_of}
@@ -11,7 +11,7 @@ use Rattle.link_marks.proofs.PartitionLemmas.{take_split, take_map}
 use Rattle.ring_steps.proofs.Observed.{first_records}
 
 -- The records up to the end of a fill: those before a number, those from there to the fill, and its own.
-pub observed_with : (start : ℕ) (h : List Action) (f expected : ℕ) (held : PageRecords)
+pub observed_with : (start : ℕ) (h : List HistoryEvent) (f expected : ℕ) (held : PageRecords)
     → f - start < length (opens_of h)
     → IsRising 0 (opens_of h) (length (reserved_records h))
     → expected ≤ first_of_fill h start f

@@ -9,9 +9,9 @@ use lib.ListN.{get_elem?}
 use Rattle.atomic_table.specs.Table.{takes, gives, rest, turned, Allows}
 use Rattle.atomic_table.proofs.Lists.{set_here, set_else}
 use Rattle.trace_model.specs.Frames.{Kind, for_record, for_close, FrameState, waiting, reserved, left, opening, releasing, wishing, Phase, Frame}
-use Rattle.trace_model.specs.History.{Action}
+use Rattle.trace_model.specs.History.{HistoryEvent}
 use Rattle.trace_model.specs.Ring.{PageRecords, Core, empty_page, page_at, fill_of}
-use Rattle.trace_model.specs.Steps.{steps, going, Answer, contents_of, with_new_tail, held_with_payload, own_number, after_begin, begin_answer, ReleaseStep, releases, releases_last, opens, FrameStep, Step, frame_step}
+use Rattle.trace_model.specs.Steps.{steps, going, Answer, contents_of, with_new_tail, held_with_payload, own_number, after_begin, begin_answer, ReleaseFillStep, releases, releases_last, opens, FrameStep, Step, frame_step}
 use Rattle.link_marks.specs.RingKept.{IsRingKept}
 use Rattle.link_marks.specs.KeptLinks.{passed_spot}
 use Rattle.link_marks.proofs.FrameChanges.{top_kept}
@@ -178,7 +178,7 @@ module _ (shape : Shape) (c : Core) (r : Reading) (ws : List ℕ) (homes : Homes
       let agree = top_agrees c top.frame top.below top.is kept.stack in
       let alone = agree.1 (releasing_left top.frame.kind top.frame.state top.frame.phase top.phase_is agree.0) in
       let more = (top_kept shape.pages c top.frame top.below kept.links top.is).releases top.phase_is in
-      let of_top : (after : Core) → ReleaseStep c top.frame top.below going after → Step shape.pages shape.size c steps going after =
+      let of_top : (after : Core) → ReleaseFillStep c top.frame top.below going after → Step shape.pages shape.size c steps going after =
       λ after step. frame_step top.frame top.below refl top.is (subst (λ (p : Phase). FrameStep shape.pages shape.size c top.frame top.below p going after) (sym top.phase_is) step) in
       dite (ℕ_discrete (c.done + 2) c.opened)
       (λ last. let frames : List Frame = record top.frame { phase = wishing } ∷ top.below in (frames, of_top (released_in frames) (releases_last alone last refl refl)))
@@ -210,7 +210,7 @@ module _ (shape : Shape) (c : Core) (r : Reading) (ws : List ℕ) (homes : Homes
     others_hold page ne = begun_contents top_frame.kind top_frame.state (with_new_tail c number) top_frame below page refl
         ∙ get_or-set_other c.held number page _ empty_page ne
 
-    begun_homes : (frames : List Frame) (history : List Action) (held : List PageRecords) → ((page : ℕ) → page ≢ number → slice_index_or held page empty_page ≡ contents_of c page)
+    begun_homes : (frames : List Frame) (history : List HistoryEvent) (held : List PageRecords) → ((page : ℕ) → page ≢ number → slice_index_or held page empty_page ≡ contents_of c page)
         → AreHomes shape.pages shape.size (private_state (with_new_tail c number) frames history held) r homes_without
     begun_homes frames history held same = let at = position.2 in let room = position.1 in let low_head = kept.links.head_le in let behind = kept.links.done_lt in record {
       count = length-set homes number none ∙ s.are_homes.count;

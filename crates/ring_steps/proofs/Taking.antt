@@ -16,7 +16,7 @@ use Rattle.trace_model.specs.History.{as_record, reserved_records}
 use Rattle.trace_model.specs.Links.{Link, word_of, normal_link, header_link, FitsWord}
 use Rattle.trace_model.specs.Ring.{Core, ReaderPhase, loading_link, loading_done, storing_link, swapping, Reader, AreApart, link_into, page_at}
 use Rattle.trace_model.specs.Steps as model
-use Rattle.trace_model.specs.Steps.{loads_header, loads_update, loads_owed, loads_passed, push_step, push_refused, close_step, close_refused, frame_step, frame_lacks, end_step, end_lacks, end_early, read_step, wish_step}
+use Rattle.trace_model.specs.Steps.{loads_header, loads_update, loads_owed, loads_passed, push_step, push_refused, close_step, close_refused, frame_step, frame_lacks, end_step, end_lacks, end_early, read_step, store_wish_step}
 use Rattle.link_marks.specs.RingKept.{IsRingKept}
 use Rattle.link_marks.specs.Seats.{IsOfReader}
 use Rattle.link_marks.proofs.LinksFit.{links_fit_words}
@@ -115,9 +115,9 @@ reads_of n size c answer next (end_step payload frame below number moment len e 
 reads_of n size c answer next (end_lacks payload e none a is) = absurd (subst IsOfReader e tt)
 reads_of n size c answer next (end_early payload frame below e top none a is) = absurd (subst IsOfReader e tt)
 reads_of n size c answer next (read_step e step) = step
-reads_of n size c answer next (wish_step e a is) = absurd (cc)
+reads_of n size c answer next (store_wish_step e a is) = absurd (cc)
 
-load_on : (n : ℕ) (c : Core) (answer : model.Answer) (next : Core) → model.LoadStep n c answer next → (reader : Reader) × (next ≡ gone_on c reader c.spare_link)
+load_on : (n : ℕ) (c : Core) (answer : model.Answer) (next : Core) → model.LoadHeadStep n c answer next → (reader : Reader) × (next ≡ gone_on c reader c.spare_link)
 load_on n c answer next (loads_header page fill at a is) = (record c.reader { phase = loading_done page fill; hint = fill }, is)
 load_on n c answer next (loads_update page lost at a is) = (record c.reader { phase = loading_link; hint = suc lost }, is)
 load_on n c answer next (loads_owed page at a is) = (record c.reader { phase = loading_link; hint = c.reader.hint }, is)

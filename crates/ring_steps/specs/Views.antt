@@ -2,7 +2,7 @@
 -- docs/MODEL.md, "The running ring".
 use Rattle.std.specs.Prelude.{ℕ, ◌≤◌, List, [], ◌∷◌, Bool, false}
 use Rattle.trace_model.specs.Record.{Record}
-use Rattle.trace_model.specs.History.{Action}
+use Rattle.trace_model.specs.History.{HistoryEvent}
 use Rattle.trace_model.specs.Links.{Link, normal_link}
 use Rattle.trace_model.specs.Frames.{Frame}
 use Rattle.trace_model.specs.Ring.{Core, Reader, first_reader}
@@ -12,7 +12,7 @@ use Rattle.trace_model.specs.Ring.{Core, Reader, first_reader}
 pub record Writing : Type 0 where
   pub frames : List Frame
   pub open_pages : List ℕ
-  pub history : List Action
+  pub history : List HistoryEvent
   pub done : ℕ
   pub opened : ℕ
 

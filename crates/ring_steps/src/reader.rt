@@ -44,7 +44,7 @@ impl ReaderSeat {
 
     /// A load of the link into the position of the reader's hint, from the word of the page before that position. A
     /// reader that keeps the spare's slot gives it back.
-    pub fn load_link(&mut self, page: u16) -> Link
+    pub fn load_head(&mut self, page: u16) -> Link
         requires due { (reading_in self.old).reader.phase ≡ loading_link }
         requires page { page ≡ page_before self.old.shape.pages (reading_in self.old).order
             (reading_in self.old).reader.hint }

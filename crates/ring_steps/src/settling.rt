@@ -24,7 +24,7 @@ impl Join<View> for Both {
 }
 
 /// A load of the number of closed fills by both seats in one, which shows what they know.
-fn look(board: &Board, shape: Shape, seat: &mut Place)
+fn load_done_joined(board: &Board, shape: Shape, seat: &mut Place)
     requires key { board.now.shared.key ≡ shape }
     requires table { IsTableOf shape board.now.shared.table_id }
     requires seated { seat.old.table_id ≡ board.now.shared.table_id }
@@ -51,5 +51,5 @@ pub fn settle(writer: WriterSeat, reader: ReaderSeat)
     } = writer;
     let ReaderSeat { seat: other, .. } = reader;
     board.shared.join_seat::<Both>(&mut seat, other);
-    look(&board, shape, &mut seat);
+    load_done_joined(&board, shape, &mut seat);
 }

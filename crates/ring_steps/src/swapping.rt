@@ -21,7 +21,7 @@ impl ReaderSeat {
     /// made the link to the reader's spare. If it was there, `body` is in the ring at the spare's number, and the
     /// head's page is answered, whose number is the spare's from now on; else a body of the same size is returned. In
     /// both cases the reader keeps the spare's slot until its next load of a link.
-    pub fn swap(
+    pub fn swap_head(
         &mut self,
         front: u16,
         page: u16,

@@ -132,7 +132,7 @@ impl WriterSeat {
     }
 
     /// A compare and exchange of the next link, in the word of this page, from NORMAL to HEADER; whether it was done.
-    pub fn mark_next<J: ChosenPart>(&mut self, page: u16, next: u16, behind: FillNo) -> bool
+    pub fn mark_head<J: ChosenPart>(&mut self, page: u16, next: u16, behind: FillNo) -> bool
         requires due { Leads self.old.shape (writing_in self.old) J.now }
         requires phase { MarksBehind self.old.shape.pages J.now page next behind.0 }
         requires fits { next < LINK_PAGES }
@@ -154,7 +154,7 @@ impl WriterSeat {
 
     /// A compare and exchange of the link in the word of the page before from the frame's own UPDATE to NORMAL with
     /// the fill that it noted; whether it was done. It always is: only the frame that set an UPDATE replaces it.
-    pub fn clear<J: ChosenPart>(&mut self, front: u16, page: u16, noted: FillNo) -> bool
+    pub fn clear_update<J: ChosenPart>(&mut self, front: u16, page: u16, noted: FillNo) -> bool
         requires due { Leads self.old.shape (writing_in self.old) J.now }
         requires phase { IsTopIn J.now.frames (clearing noted.0 page) }
         requires front { front ≡ slice_index_or J.now.open_pages (noted.0 - 1 - J.now.done) 0 }
@@ -177,7 +177,7 @@ impl WriterSeat {
 
     /// A store of the number of begun fills: the next fill, which the frame on top noted, is begun on the page of this
     /// number, whose body is answered.
-    pub fn open<J: ChosenPart>(&mut self, number: u16, fill: FillNo) -> Body
+    pub fn open_fill<J: ChosenPart>(&mut self, number: u16, fill: FillNo) -> Body
         requires due { Leads self.old.shape (writing_in self.old) J.now }
         requires phase { IsTopIn J.now.frames (opening fill.0 number) }
         requires next { fill.0 ≡ J.now.opened }
@@ -201,7 +201,7 @@ impl WriterSeat {
 
     /// A store of the number of closed fills: the oldest fill that isn't closed is, and its page, of this number, is
     /// put home.
-    pub fn release<J: ChosenPart>(&mut self, number: u16, page: Page)
+    pub fn release_fill<J: ChosenPart>(&mut self, number: u16, page: Page)
         requires due { Leads self.old.shape (writing_in self.old) J.now }
         requires phase { IsTopIn J.now.frames releasing }
         requires oldest { number ≡ slice_index_or J.now.open_pages 0 0 }

@@ -2,7 +2,7 @@
 use Rattle.std.specs.Prelude.{◌≡◌, ℕ, ◌≤◌, ◌↔◌, List, length, map, Contains, Some}
 use Rattle.std.specs.List.{slice_get}
 use Rattle.trace_model.specs.Record.{Record}
-use Rattle.trace_model.specs.History.{Action, committed_records}
+use Rattle.trace_model.specs.History.{HistoryEvent, committed_records}
 use Rattle.trace_model.specs.Parcel.{Parcel}
 use Rattle.trace_model.specs.Collection.{Has, Misses}
 use Rattle.trace_model.specs.Ring.{Core}
@@ -22,7 +22,7 @@ AreOfRings n size start cores ledgers = (cpu : ℕ) (ledger : Ledger)
 
 -- What is kept has the committed records of a CPU that are in a fill that was taken, under their own numbers, and no
 -- others; and it misses the numbers that were overwritten unread before such a fill, and no others.
-pub record KeepsExactly (history : List Action) (start : ℕ) (events : List RingEvent) (cpu : ℕ)
+pub record KeepsExactly (history : List HistoryEvent) (start : ℕ) (events : List RingEvent) (cpu : ℕ)
     (kept taken : List Parcel)
     : Type 0 where
   pub has : (number : ℕ) (r : Record)

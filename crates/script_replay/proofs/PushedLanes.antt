@@ -3,7 +3,7 @@ use Rattle.std.proofs.Common.{◌≡◌, ◌≢◌, ℕ, List, [], ◌∷◌, �
 use Rattle.trace_model.specs.Frames.{Refusal, Frame}
 use Rattle.trace_model.specs.Ring.{Core}
 use Rattle.trace_model.specs.Steps as model
-use Rattle.trace_model.specs.Steps.{pushes, pushes_close, pushed, refused, Step, push_step, push_refused, close_step, close_refused, frame_step, frame_lacks, end_step, end_lacks, end_early, read_step, wish_step, Exchange}
+use Rattle.trace_model.specs.Steps.{pushes, pushes_close, pushed, refused, Step, push_step, push_refused, close_step, close_refused, frame_step, frame_lacks, end_step, end_lacks, end_early, read_step, store_wish_step, Exchange}
 use Rattle.script_model.specs.Script.{begin_frame, finish_frame}
 use Rattle.link_marks.specs.Seats.{IsOfReader}
 use Rattle.world_model.specs.Lanes.{Lane, payloads_with, lane_with, FitsKind, FitFrames, PushesFrame, FinishesPushed, WritesFrame, LineRun}
@@ -57,7 +57,7 @@ module _ (n size : ℕ) (payload : List ℕ) (c : Core) (told : model.Answer) (a
   record_ends moment len long (end_lacks bytes e empty a is) = absurd (let z : ⊥ = cc in z)
   record_ends moment len long (end_early bytes frame below e top waits a is) = absurd (let z : ⊥ = cc in z)
   record_ends moment len long (read_step e step) = absurd (let z : ⊥ = cc in z)
-  record_ends moment len long (wish_step e a is) = absurd (let z : ⊥ = cc in z)
+  record_ends moment len long (store_wish_step e a is) = absurd (let z : ⊥ = cc in z)
 
   close_ends : payload ≡ [] → Step n size c pushes_close told after → PushEnds payload c told after
   close_ends none (push_step moment' len' e few short early a is) = absurd (let z : ⊥ = cc in z)
@@ -71,7 +71,7 @@ module _ (n size : ℕ) (payload : List ℕ) (c : Core) (told : model.Answer) (a
   close_ends none (end_lacks bytes e empty a is) = absurd (let z : ⊥ = cc in z)
   close_ends none (end_early bytes frame below e top waits a is) = absurd (let z : ⊥ = cc in z)
   close_ends none (read_step e step) = absurd (let z : ⊥ = cc in z)
-  close_ends none (wish_step e a is) = absurd (let z : ⊥ = cc in z)
+  close_ends none (store_wish_step e a is) = absurd (let z : ⊥ = cc in z)
 
   pub push_ends : (push : Event)
       → IsPushOf push payload

@@ -6,7 +6,7 @@ use Rattle.std.proofs.lemmas.List.{map-append}
 use Rattle.trace_model.specs.Ring.{Core}
 use Rattle.trace_model.specs.Parcel.{Parcel}
 use Rattle.trace_model.specs.Steps as model
-use Rattle.trace_model.specs.Steps.{Event, pushes, pushes_close, steps, ends, reads, wishes, reading, empty, moving, swapped, Step, push_step, push_refused, close_step, close_refused, frame_step, frame_lacks, end_step, end_lacks, end_early, read_step, wish_step, Exchange}
+use Rattle.trace_model.specs.Steps.{Event, pushes, pushes_close, steps, ends, reads, wishes, reading, empty, moving, swapped, Step, push_step, push_refused, close_step, close_refused, frame_step, frame_lacks, end_step, end_lacks, end_early, read_step, store_wish_step, Exchange}
 use Rattle.link_marks.specs.Seats.{IsOfReader}
 use Rattle.link_marks.proofs.RingsKept.{reached_kept}
 use Rattle.link_marks.proofs.SeatSteps.{reader_leaves_writer}
@@ -103,7 +103,7 @@ brings_none n size cpu c event answer after wish (end_lacks payload e none a is)
 brings_none n size cpu c event answer after wish (end_early payload frame below e top none a is) =
     absurd (subst IsWish e wish)
 brings_none n size cpu c event answer after wish (read_step e step) = absurd (subst IsWish e wish)
-brings_none n size cpu c event answer after wish (wish_step e a is) = ap (parcels_in cpu) a
+brings_none n size cpu c event answer after wish (store_wish_step e a is) = ap (parcels_in cpu) a
 
 pub wishes_of : (line cpu : ℕ) (v : LaneValue) (result : Answer) (new : LaneValue) (old_log new_log : List LogLine)
     → Makes v.core wishes result new.core

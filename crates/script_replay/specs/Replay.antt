@@ -2,7 +2,7 @@
 use Rattle.std.specs.Prelude.{◌≡◌, ℕ, [], ◌∷◌, ◌++◌, ◌↔◌, List, Some, Contains}
 use Rattle.std.specs.List.{slice_get}
 use Rattle.trace_model.specs.Record.{Record}
-use Rattle.trace_model.specs.History.{Action, committed_records}
+use Rattle.trace_model.specs.History.{HistoryEvent, committed_records}
 use Rattle.trace_model.specs.Window.{RingEvent}
 use Rattle.trace_model.specs.Parcel.{Parcel}
 use Rattle.trace_model.specs.Collection.{Has, Misses, IsSame, IsLeastUpperBound}
@@ -29,7 +29,7 @@ pub record IsReplay (script : Script) (collectors : List (List Parcel)) (log : L
 -- What a collector keeps makes of a CPU's history: it has exactly the committed records that are in the fill of one of
 -- the pages that were delivered to it, under their own numbers, and misses exactly the numbers that were overwritten
 -- unread before one of them.
-pub record KeepsExactly (history : List Action) (start : ℕ) (events : List RingEvent) (cpu : ℕ)
+pub record KeepsExactly (history : List HistoryEvent) (start : ℕ) (events : List RingEvent) (cpu : ℕ)
     (kept delivered : List Parcel)
     : Type 0 where
   pub has : (number : ℕ) (r : Record)

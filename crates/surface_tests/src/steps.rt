@@ -8,7 +8,7 @@ use trace_model::FillNo;
 #[test]
 fn a_link_is_loaded_and_the_seats_are_joined(rt: HostRuntime) -> Result<(), Fail> {
     let (writer, mut reader): (WriterSeat, ReaderSeat) = seats(rt.alloc(), 2, 32)?;
-    let link: Link = reader.load_link(1);
+    let link: Link = reader.load_head(1);
     assert!(rt; link.mark == Mark::Header && link.page == 0 && link.fill == 0);
     settle(writer, reader);
     Ok(())

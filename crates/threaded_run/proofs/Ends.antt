@@ -3,7 +3,7 @@ use Rattle.std.specs.Prelude.{Bool, false}
 use Rattle.std.proofs.Common.{◌≡◌, ℕ, ◌+◌, ◌≤◌, List, length, subst, sym, ap, ◌∙◌}
 use Rattle.trace_model.specs.declared.numbers.FillNo.{FillNo}
 use Rattle.trace_model.specs.declared.limits.TheConstants.{LINK_FILLS}
-use Rattle.trace_model.specs.History.{Action, committed_records}
+use Rattle.trace_model.specs.History.{HistoryEvent, committed_records}
 use Rattle.trace_model.specs.Packing.{IsPacked}
 use Rattle.script_model.specs.Script.{Command, Script}
 use Rattle.line_model.specs.Lines.{IsMadeByLines}
@@ -53,7 +53,7 @@ reader_by_gate {Gate} answers v w gate cpu stop fault view same told is shut =
 -- ---- the ends
 
 -- with whole lines alone, it commits their records
-abbrev CommitsWhole : Shape → List Command → List Action → Type 0
+abbrev CommitsWhole : Shape → List Command → List HistoryEvent → Type 0
 CommitsWhole s lines history = AllWriteOrClose lines
     → s.start + length lines + s.pages ≤ LINK_FILLS
     → committed_records history ≡ records_of_lines s.size 0 lines

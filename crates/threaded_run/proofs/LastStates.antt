@@ -3,7 +3,7 @@ use Rattle.std.specs.Prelude.{vec_len, map, Some}
 use Rattle.std.specs.List.{slice_get}
 use Rattle.std.proofs.Common.{◌≡◌, ℕ, zero, suc, ◌+◌, ◌<◌, List, [], ◌∷◌, length, refl, subst, sym, ap, ◌∙◌, inl, inr, arith}
 use Rattle.std.proofs.lemmas.Option.{slice_get_cases}
-use Rattle.trace_model.specs.History.{Action}
+use Rattle.trace_model.specs.History.{HistoryEvent}
 use Rattle.trace_model.specs.Links.{normal_link}
 use Rattle.trace_model.specs.Ring.{Core, Reader, first_reader}
 use Rattle.world_model.specs.World.{parcel_of}
@@ -77,7 +77,7 @@ history_of : (script : Script) (cpu : ℕ) (ledger : Ledger) (core : Core) → I
 history_of script cpu ledger core (run, is) =
     let same : core.history ≡ run.writing.history =
     ap (λ (c : Core). c.history) is ∙ ap (λ (w : Writing). w.history) run.is_ledger.settled.parts.writing_is in
-    subst (λ (h : List Action). IsRunHistory script cpu h) (sym same) run.history
+    subst (λ (h : List HistoryEvent). IsRunHistory script cpu h) (sym same) run.history
 
 there : (ledgers : List Ledger) (k : ℕ) → k < length ledgers → (ledger : Ledger) × (slice_get ledgers k ≡ Some ledger)
 there ledgers k low = elim (slice_get_cases ledgers k).1 [ inl found ↦ (found.0, found.2) | inr past ↦ absurd (omega (arith, past.0)) ]

@@ -2,7 +2,7 @@
 use Rattle.std.specs.Prelude.{◌≡◌, ℕ, ◌+◌, ◌<◌, ◌≤◌, List, length, Some, vec_len}
 use Rattle.std.specs.List.{slice_get}
 use Rattle.trace_model.specs.declared.limits.TheConstants.{LINK_FILLS}
-use Rattle.trace_model.specs.History.{Action, IsHistory, committed_records}
+use Rattle.trace_model.specs.History.{HistoryEvent, IsHistory, committed_records}
 use Rattle.trace_model.specs.Packing.{IsPacked}
 use Rattle.trace_model.specs.Ring.{Core}
 use Rattle.script_model.specs.Script.{Command, Script}
@@ -27,7 +27,7 @@ lines_of script cpu = writer_lines cpu (commands_of script.commands)
 -- The history keeps the discipline of the stack, is packed in pages of the ring's size, and is made by the lines of the
 -- CPU's writer. With `w` and `c` lines alone, at most as many as there are numbers left for fills, the committed
 -- records are exactly those of the `w` lines that are neither too long nor too late, in order, moments raised.
-pub record IsRunHistory (script : Script) (cpu : ℕ) (history : List Action) : Type 0 where
+pub record IsRunHistory (script : Script) (cpu : ℕ) (history : List HistoryEvent) : Type 0 where
   pub allowed : IsHistory history
   pub packed : IsPacked history script.size
   pub made : IsMadeByLines script.pages script.size script.start (lines_of script cpu) history

@@ -5,7 +5,7 @@ use Rattle.std.specs.List.{All, AllByRecursion}
 use Rattle.std.proofs.lemmas.List.{length-replicate}
 use Rattle.std.proofs.lemmas.List.Elements.{All-from_recursion}
 use Rattle.trace_model.specs.Words.{slot_len, padded}
-use Rattle.trace_model.specs.History.{Action, push, push_close, open_fill, reserve, leave, wished, Reservation, HasItsBytes, PushedFrame, record_frame, close_frame, WriterState, reservation_for, records_with_payload, after_reserve, records_after_leave, after_action, writer_after, reserved_records, settled_prefix, MayAct, IsHistory}
+use Rattle.trace_model.specs.History.{HistoryEvent, push, push_close, open_fill, reserve, leave, wished, Reservation, HasItsBytes, PushedFrame, record_frame, close_frame, WriterState, reservation_for, records_with_payload, after_reserve, records_after_leave, after_event, writer_after, reserved_records, settled_prefix, MayAct, IsHistory}
 use Rattle.trace_model.specs.Packing.{FillsSlot}
 use Rattle.trace_model.proofs.Lengths.{length-padded}
 use Rattle.trace_model.proofs.NextRecords.{length-records_with_payload}
@@ -168,34 +168,34 @@ leave-IsKept close_frame stack records payload may h = record {
 
 -- ---- a whole history
 
-after_action-IsKept : (stack : List PushedFrame) (records : List Reservation) (a : Action) → MayAct stack a → IsKept stack records → (let w = after_action stack records a in IsKept w.stack w.records)
-after_action-IsKept stack records (push moment len) may h = record {
+after_event-IsKept : (stack : List PushedFrame) (records : List Reservation) (a : HistoryEvent) → MayAct stack a → IsKept stack records → (let w = after_event stack records a in IsKept w.stack w.records)
+after_event-IsKept stack records (push moment len) may h = record {
   frames = (tt, h.frames);
   each = λ k r at. ⊎_elim (λ done. inl done) (λ stands. inr (inr stands)) (h.each k r at);
   fills = h.fills;
 }
-after_action-IsKept stack records push_close may h = record {
+after_event-IsKept stack records push_close may h = record {
   frames = (tt, h.frames);
   each = λ k r at. ⊎_elim (λ done. inl done) (λ stands. inr (inr stands)) (h.each k r at);
   fills = h.fills;
 }
-after_action-IsKept stack records open_fill may h = h
-after_action-IsKept [] records reserve may h = h
-after_action-IsKept (record_frame moment len number ∷ stack) records reserve may h = reserve-IsKept moment len number stack records may h
-after_action-IsKept (close_frame ∷ stack) records reserve may h = h
-after_action-IsKept [] records (leave payload) may h = h
-after_action-IsKept (f ∷ stack) records (leave payload) may h = leave-IsKept f stack records payload may h
-after_action-IsKept stack records wished may h = h
+after_event-IsKept stack records open_fill may h = h
+after_event-IsKept [] records reserve may h = h
+after_event-IsKept (record_frame moment len number ∷ stack) records reserve may h = reserve-IsKept moment len number stack records may h
+after_event-IsKept (close_frame ∷ stack) records reserve may h = h
+after_event-IsKept [] records (leave payload) may h = h
+after_event-IsKept (f ∷ stack) records (leave payload) may h = leave-IsKept f stack records payload may h
+after_event-IsKept stack records wished may h = h
 
-fold-IsKept : (w : WriterState) (history : List Action) → AreAllowed w history → IsKept w.stack w.records → (let v = fold (λ v a. after_action v.stack v.records a) w history in IsKept v.stack v.records)
+fold-IsKept : (w : WriterState) (history : List HistoryEvent) → AreAllowed w history → IsKept w.stack w.records → (let v = fold (λ v a. after_event v.stack v.records a) w history in IsKept v.stack v.records)
 fold-IsKept w [] allowed h = h
-fold-IsKept w (a ∷ history) allowed h = fold-IsKept (after_action w.stack w.records a) history allowed.1 (after_action-IsKept w.stack w.records a allowed.0 h)
+fold-IsKept w (a ∷ history) allowed h = fold-IsKept (after_event w.stack w.records a) history allowed.1 (after_event-IsKept w.stack w.records a allowed.0 h)
 
 each_written : (records : List Reservation) → ((k : ℕ) (r : Reservation) → StandsAt k records r → HasItsBytes r) → AllByRecursion HasItsBytes records
 each_written [] h = tt
 each_written (r ∷ records) h = (h 0 r refl, each_written records (λ k q at. h (suc k) q at))
 
-pub committed-IsWritten : (history : List Action) → IsHistory history → All HasItsBytes (reserved_records (settled_prefix history))
+pub committed-IsWritten : (history : List HistoryEvent) → IsHistory history → All HasItsBytes (reserved_records (settled_prefix history))
 committed-IsWritten history keeps =
     let start : WriterState = record { stack = []; records = [] } in
     let front = settled_prefix history in
@@ -210,7 +210,7 @@ each_fills [] h = tt
 each_fills (r ∷ records) h = (h 0 r refl, each_fills records (λ k q at. h (suc k) q at))
 
 -- each reserved record fills its slot, whether its frame is on the stack or has left
-pub reserved-FillsSlot : (history : List Action) → IsHistory history → AllByRecursion FillsSlot (reserved_records history)
+pub reserved-FillsSlot : (history : List HistoryEvent) → IsHistory history → AllByRecursion FillsSlot (reserved_records history)
 reserved-FillsSlot history keeps =
     let start : WriterState = record { stack = []; records = [] } in
     let kept = fold-IsKept start history (allowed-IsHistory history keeps) (record { frames = tt; each = λ k r at. absurd at; fills = λ k r at. absurd at }) in

@@ -5,7 +5,7 @@ use Rattle.std.proofs.lemmas.List.{drop-take, drop-append-le, take-append-le, ta
 use Rattle.std.proofs.lemmas.Bool.{cond_both, cond-true, cond-false, le-ltb, lt-ltb}
 use mathlib.Core.Logic.{dite}
 use native.Mathlib.Decide.{dec_le}
-use Rattle.trace_model.specs.History.{Action, push, push_close, open_fill, reserve, leave, wished, Reservation, records_with_payload, reserved_records}
+use Rattle.trace_model.specs.History.{HistoryEvent, push, push_close, open_fill, reserve, leave, wished, Reservation, records_with_payload, reserved_records}
 use Rattle.trace_model.specs.Packing.{opens_behind, opens_of, cut_from}
 use Rattle.trace_model.specs.Ring.{PageRecords}
 use Rattle.trace_model.specs.Steps.{held_with_payload}
@@ -39,7 +39,7 @@ cut-stays {A = A} from (cut ∷ cuts) more to xs ys zero r low same = let least 
 cut-stays from (cut ∷ cuts) more to xs ys (suc i) r low same = cut-stays cut cuts more to xs ys i r.1 (omega arith) same
 
 -- for an open, the number of records before it
-pub opens_at : List Action → Action → List ℕ
+pub opens_at : List HistoryEvent → HistoryEvent → List ℕ
 opens_at front (push moment len) = []
 opens_at front push_close = []
 opens_at front open_fill = length (reserved_records front) ∷ []
@@ -47,7 +47,7 @@ opens_at front reserve = []
 opens_at front (leave payload) = []
 opens_at front wished = []
 
-opens_step : (front : List Action) (a : Action) (behind : List Action) → opens_behind front (a ∷ behind) ≡ opens_at front a ++ opens_behind (front ++ a ∷ []) behind
+opens_step : (front : List HistoryEvent) (a : HistoryEvent) (behind : List HistoryEvent) → opens_behind front (a ∷ behind) ≡ opens_at front a ++ opens_behind (front ++ a ∷ []) behind
 unfolding opens_at
 opens_step front (push moment len) behind = refl
 opens_step front push_close behind = refl
@@ -56,35 +56,35 @@ opens_step front reserve behind = refl
 opens_step front (leave payload) behind = refl
 opens_step front wished behind = refl
 
-pub opens_more : (front h : List Action) (a : Action) → opens_behind front (h ++ a ∷ []) ≡ opens_behind front h ++ opens_at (front ++ h) a
-opens_more front [] a = opens_step front a [] ∙ append-nil (opens_at front a) ∙ ap (λ (x : List Action). opens_at x a) (sym (append-nil front))
+pub opens_more : (front h : List HistoryEvent) (a : HistoryEvent) → opens_behind front (h ++ a ∷ []) ≡ opens_behind front h ++ opens_at (front ++ h) a
+opens_more front [] a = opens_step front a [] ∙ append-nil (opens_at front a) ∙ ap (λ (x : List HistoryEvent). opens_at x a) (sym (append-nil front))
 opens_more front (x ∷ h) a = opens_step front x (h ++ a ∷ [])
     ∙ ap (λ (l : List ℕ). opens_at front x ++ l) (opens_more (front ++ x ∷ []) h a)
-    ∙ ap (λ (y : List Action). opens_at front x ++ (opens_behind (front ++ x ∷ []) h ++ opens_at y a)) (append_assoc front (x ∷ []) h)
+    ∙ ap (λ (y : List HistoryEvent). opens_at front x ++ (opens_behind (front ++ x ∷ []) h ++ opens_at y a)) (append_assoc front (x ∷ []) h)
     ∙ sym (append_assoc (opens_at front x) (opens_behind (front ++ x ∷ []) h) (opens_at (front ++ x ∷ h) a))
     ∙ ap (λ (l : List ℕ). l ++ opens_at (front ++ x ∷ h) a) (sym (opens_step front x h))
 
-pub opens_of-push : (h : List Action) (moment len : ℕ) → opens_of (h ++ push moment len ∷ []) ≡ opens_of h
+pub opens_of-push : (h : List HistoryEvent) (moment len : ℕ) → opens_of (h ++ push moment len ∷ []) ≡ opens_of h
 unfolding opens_at
 opens_of-push h moment len = opens_more [] h (push moment len) ∙ append-nil (opens_of h)
 
-pub opens_of-push_close : (h : List Action) → opens_of (h ++ push_close ∷ []) ≡ opens_of h
+pub opens_of-push_close : (h : List HistoryEvent) → opens_of (h ++ push_close ∷ []) ≡ opens_of h
 unfolding opens_at
 opens_of-push_close h = opens_more [] h push_close ∙ append-nil (opens_of h)
 
-pub opens_of-reserve : (h : List Action) → opens_of (h ++ reserve ∷ []) ≡ opens_of h
+pub opens_of-reserve : (h : List HistoryEvent) → opens_of (h ++ reserve ∷ []) ≡ opens_of h
 unfolding opens_at
 opens_of-reserve h = opens_more [] h reserve ∙ append-nil (opens_of h)
 
-pub opens_of-leave : (h : List Action) (payload : Option (List ℕ)) → opens_of (h ++ leave payload ∷ []) ≡ opens_of h
+pub opens_of-leave : (h : List HistoryEvent) (payload : Option (List ℕ)) → opens_of (h ++ leave payload ∷ []) ≡ opens_of h
 unfolding opens_at
 opens_of-leave h payload = opens_more [] h (leave payload) ∙ append-nil (opens_of h)
 
-pub opens_of-wished : (h : List Action) → opens_of (h ++ wished ∷ []) ≡ opens_of h
+pub opens_of-wished : (h : List HistoryEvent) → opens_of (h ++ wished ∷ []) ≡ opens_of h
 unfolding opens_at
 opens_of-wished h = opens_more [] h wished ∙ append-nil (opens_of h)
 
-pub opens_of-open_fill : (h : List Action) → opens_of (h ++ open_fill ∷ []) ≡ opens_of h ++ length (reserved_records h) ∷ []
+pub opens_of-open_fill : (h : List HistoryEvent) → opens_of (h ++ open_fill ∷ []) ≡ opens_of h ++ length (reserved_records h) ∷ []
 unfolding opens_at
 opens_of-open_fill h = opens_more [] h open_fill
 

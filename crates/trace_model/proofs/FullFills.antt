@@ -3,24 +3,24 @@ use Rattle.std.proofs.Common.{◌≡◌, ◌≢◌, ℕ, ◌+◌, ◌<◌, ◌�
 use Rattle.std.proofs.lemmas.List.{length-map}
 use mathlib.Core.Logic.{dite}
 use native.Mathlib.Decide.{ℕ_discrete}
-use Rattle.trace_model.specs.History.{Action, push, push_close, open_fill, reserve, leave, wished, Reservation, PushedFrame, record_frame, close_frame, after_action, writer_after, reserved_records}
+use Rattle.trace_model.specs.History.{HistoryEvent, push, push_close, open_fill, reserve, leave, wished, Reservation, PushedFrame, record_frame, close_frame, after_event, writer_after, reserved_records}
 use Rattle.trace_model.specs.Packing.{opens_of, cut_from, fills_of, tail_of, IsPacked}
 use Rattle.trace_model.specs.Fitting.{IsRising}
 use Rattle.trace_model.proofs.FillCuts.{length-cut_from, IsRising-more, IsRising-snoc, reserved_before, opened_before, opens_of-push, opens_of-push_close, opens_of-reserve, opens_of-leave, opens_of-wished, opens_of-open_fill}
 use Rattle.trace_model.proofs.NextRecords.{records_snoc}
 use Rattle.trace_model.proofs.PackedHistories.{plain, plain-finished, cut-plain, plain_nil, tail_is}
 
--- what an action makes of the records: one more of them, or the same but for bytes
+-- what an event makes of the records: one more of them, or the same but for bytes
 abbrev Grown : List Reservation → List Reservation → Type 0
 Grown xs ys = (map plain ys ≡ map plain xs) ⊎ ((s : Reservation) × (ys ≡ xs ++ s ∷ []))
 
-grown_reserve : (stack : List PushedFrame) (xs : List Reservation) → Grown xs (after_action stack xs reserve).records
+grown_reserve : (stack : List PushedFrame) (xs : List Reservation) → Grown xs (after_event stack xs reserve).records
 grown_reserve [] xs = inl refl
 grown_reserve (record_frame moment len None ∷ stack) xs = inr (_, refl)
 grown_reserve (record_frame moment len (Some number) ∷ stack) xs = inl refl
 grown_reserve (close_frame ∷ stack) xs = inl refl
 
-grown_leave : (stack : List PushedFrame) (xs : List Reservation) (payload : Option (List ℕ)) → Grown xs (after_action stack xs (leave payload)).records
+grown_leave : (stack : List PushedFrame) (xs : List Reservation) (payload : Option (List ℕ)) → Grown xs (after_event stack xs (leave payload)).records
 grown_leave [] xs payload = inl refl
 grown_leave (record_frame moment len number ∷ stack) xs payload = inl (plain-finished number payload xs)
 grown_leave (close_frame ∷ stack) xs payload = inl refl
@@ -51,15 +51,15 @@ full_opened cuts xs some k = record {
       (λ ne. k.full i (omega arith) (sym (opened_before 0 cuts xs i (omega arith)) ∙ none));
 }
 
-abbrev FullIn : List Action → Type 0
+abbrev FullIn : List HistoryEvent → Type 0
 FullIn h = AreFull (opens_of h) (reserved_records h)
 
--- an action that begins no fill
-full_acts : (h : List Action) (a : Action) → opens_of (h ++ a ∷ []) ≡ opens_of h → Grown (reserved_records h) (after_action (writer_after h).stack (writer_after h).records a).records → FullIn h → FullIn (h ++ a ∷ [])
+-- an event that begins no fill
+full_acts : (h : List HistoryEvent) (a : HistoryEvent) → opens_of (h ++ a ∷ []) ≡ opens_of h → Grown (reserved_records h) (after_event (writer_after h).stack (writer_after h).records a).records → FullIn h → FullIn (h ++ a ∷ [])
 full_acts h a cuts grown k = subst (λ (l : List ℕ). AreFull l (reserved_records (h ++ a ∷ []))) (sym cuts) (subst (AreFull (opens_of h)) (sym (records_snoc h a))
     (⊎_elim (λ same. full_alike (opens_of h) (reserved_records h) _ same k) (λ (s, is). subst (AreFull (opens_of h)) (sym is) (full_more (opens_of h) (reserved_records h) s k)) grown))
 
-full_act : (h : List Action) (a : Action) → (a ≡ open_fill → tail_of h ≢ []) → FullIn h → FullIn (h ++ a ∷ [])
+full_act : (h : List HistoryEvent) (a : HistoryEvent) → (a ≡ open_fill → tail_of h ≢ []) → FullIn h → FullIn (h ++ a ∷ [])
 full_act h (push moment len) begins k = full_acts h (push moment len) (opens_of-push h moment len) (inl refl) k
 full_act h push_close begins k = full_acts h push_close (opens_of-push_close h) (inl refl) k
 full_act h open_fill begins k = subst (λ (l : List ℕ). AreFull l (reserved_records (h ++ open_fill ∷ []))) (sym (opens_of-open_fill h)) (subst (AreFull (opens_of h ++ length (reserved_records h) ∷ [])) (sym (records_snoc h open_fill))
@@ -69,13 +69,13 @@ full_act h (leave payload) begins k = full_acts h (leave payload) (opens_of-leav
 full_act h wished begins k = full_acts h wished (opens_of-wished h) (inl refl) k
 
 -- after a front in which it is so
-full_behind : (front behind : List Action) → ((f b : List Action) → front ++ behind ≡ f ++ open_fill ∷ b → tail_of f ≢ []) → FullIn front → FullIn (front ++ behind)
+full_behind : (front behind : List HistoryEvent) → ((f b : List HistoryEvent) → front ++ behind ≡ f ++ open_fill ∷ b → tail_of f ≢ []) → FullIn front → FullIn (front ++ behind)
 full_behind front [] begins k = subst FullIn (sym (append-nil front)) k
 full_behind front (a ∷ behind) begins k =
     let one : front ++ a ∷ behind ≡ (front ++ a ∷ []) ++ behind = sym (append_assoc front (a ∷ []) behind) in
     subst FullIn (sym one) (full_behind (front ++ a ∷ []) behind (λ f b e. begins f b (one ∙ e))
-    (full_act front a (λ opens. begins front behind (ap (λ (x : Action). front ++ x ∷ behind) opens)) k))
+    (full_act front a (λ opens. begins front behind (ap (λ (x : HistoryEvent). front ++ x ∷ behind) opens)) k))
 
-pub packed_full : (h : List Action) (size k : ℕ) → IsPacked h size → k + 1 < length (fills_of h) → get_or (fills_of h) k [] ≢ []
+pub packed_full : (h : List HistoryEvent) (size k : ℕ) → IsPacked h size → k + 1 < length (fills_of h) → get_or (fills_of h) k [] ≢ []
 packed_full h size k p low = let all = full_behind [] h (λ f b e. p.begins f b e) record { rising = omega arith; full = λ i none. absurd (omega arith) } in
     all.full k (let long = length-cut_from 0 (opens_of h) (reserved_records h) in omega arith)

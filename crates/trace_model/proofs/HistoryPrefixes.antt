@@ -1,6 +1,6 @@
 -- The records reserved in a settled prefix of a history are a prefix of all that it reserves.
 use Rattle.std.proofs.Common.{◌≡◌, ◌⊎◌, inl, inr, ⊎_elim, ℕ, zero, suc, ◌≤◌, Bool, true, false, cond, List, [], ◌∷◌, ◌++◌, length, take, drop, fold, Option, Some, None, refl, sym, ap, ◌∙◌, arith, append_assoc, append-nil, take-append-drop, length-append}
-use Rattle.trace_model.specs.History.{Action, push, push_close, open_fill, reserve, leave, wished, Reservation, PushedFrame, record_frame, close_frame, WriterState, reservation_for, records_with_payload, after_reserve, records_after_leave, after_action, writer_after, reserved_records, is_settled, settled_prefix_within, settled_prefix}
+use Rattle.trace_model.specs.History.{HistoryEvent, push, push_close, open_fill, reserve, leave, wished, Reservation, PushedFrame, record_frame, close_frame, WriterState, reservation_for, records_with_payload, after_reserve, records_after_leave, after_event, writer_after, reserved_records, is_settled, settled_prefix_within, settled_prefix}
 use Rattle.trace_model.specs.Sublist.{IsPrefix}
 
 -- a frame that has no record yet, or one after the first n
@@ -36,7 +36,7 @@ reserved_keeps : (xs records : List Reservation) (r : Reservation) → IsPrefix 
 reserved_keeps xs records r front =
     (front.0 ++ r ∷ [], ap (λ (zs : List Reservation). zs ++ r ∷ []) front.1 ∙ append_assoc xs front.0 (r ∷ []))
 
--- what one action keeps
+-- what one event keeps
 record IsBehind (xs : List Reservation) (w : WriterState) : Type 0 where
   frames : AreFramesFrom (length xs) w.stack
   front : IsPrefix xs w.records
@@ -53,36 +53,36 @@ leaving_keeps : (xs : List Reservation) (f : PushedFrame) (payload : Option (Lis
 leaving_keeps xs (record_frame moment len number) payload records f h = finished_keeps xs records number payload f h
 leaving_keeps xs close_frame payload records f h = h
 
-after_action_keeps : (xs : List Reservation) (stack : List PushedFrame) (records : List Reservation) (a : Action) → AreFramesFrom (length xs) stack → IsPrefix xs records → IsBehind xs (after_action stack records a)
-after_action_keeps xs stack records (push moment len) f h = record { frames = (tt, f); front = h }
-after_action_keeps xs stack records push_close f h = record { frames = (tt, f); front = h }
-after_action_keeps xs stack records open_fill f h = record { frames = f; front = h }
-after_action_keeps xs [] records reserve f h = record { frames = tt; front = h }
-after_action_keeps xs (top ∷ stack) records reserve f h = reserving_keeps xs top stack records f.0 f.1 h
-after_action_keeps xs [] records (leave payload) f h = record { frames = tt; front = h }
-after_action_keeps xs (top ∷ stack) records (leave payload) f h =
+after_event_keeps : (xs : List Reservation) (stack : List PushedFrame) (records : List Reservation) (a : HistoryEvent) → AreFramesFrom (length xs) stack → IsPrefix xs records → IsBehind xs (after_event stack records a)
+after_event_keeps xs stack records (push moment len) f h = record { frames = (tt, f); front = h }
+after_event_keeps xs stack records push_close f h = record { frames = (tt, f); front = h }
+after_event_keeps xs stack records open_fill f h = record { frames = f; front = h }
+after_event_keeps xs [] records reserve f h = record { frames = tt; front = h }
+after_event_keeps xs (top ∷ stack) records reserve f h = reserving_keeps xs top stack records f.0 f.1 h
+after_event_keeps xs [] records (leave payload) f h = record { frames = tt; front = h }
+after_event_keeps xs (top ∷ stack) records (leave payload) f h =
     record { frames = f.1; front = leaving_keeps xs top payload records f.0 h }
-after_action_keeps xs stack records wished f h = record { frames = f; front = h }
+after_event_keeps xs stack records wished f h = record { frames = f; front = h }
 
-fold_keeps : (xs : List Reservation) (w : WriterState) (history : List Action) → IsBehind xs w → IsBehind xs (fold (λ v a. after_action v.stack v.records a) w history)
+fold_keeps : (xs : List Reservation) (w : WriterState) (history : List HistoryEvent) → IsBehind xs w → IsBehind xs (fold (λ v a. after_event v.stack v.records a) w history)
 fold_keeps xs w [] h = h
 fold_keeps xs w (a ∷ history) h =
-    fold_keeps xs (after_action w.stack w.records a) history (after_action_keeps xs w.stack w.records a h.frames h.front)
+    fold_keeps xs (after_event w.stack w.records a) history (after_event_keeps xs w.stack w.records a h.frames h.front)
 
-pub writer-append : (w : WriterState) (front behind : List Action) → fold (λ v a. after_action v.stack v.records a) w (front ++ behind) ≡ fold (λ v a. after_action v.stack v.records a) (fold (λ v a. after_action v.stack v.records a) w front) behind
+pub writer-append : (w : WriterState) (front behind : List HistoryEvent) → fold (λ v a. after_event v.stack v.records a) w (front ++ behind) ≡ fold (λ v a. after_event v.stack v.records a) (fold (λ v a. after_event v.stack v.records a) w front) behind
 writer-append w [] behind = refl
-writer-append w (a ∷ front) behind = writer-append (after_action w.stack w.records a) front behind
+writer-append w (a ∷ front) behind = writer-append (after_event w.stack w.records a) front behind
 
 -- if the stack is empty, all that follows keeps the records
 stack_cases : (stack : List PushedFrame) → (stack ≡ []) ⊎ ((f : PushedFrame) × (below : List PushedFrame) × (stack ≡ f ∷ below))
 stack_cases [] = inl refl
 stack_cases (f ∷ stack) = inr (f, stack, refl)
 
-pub none_stands : (history : List Action) → is_settled history ≡ true → (writer_after history).stack ≡ []
+pub none_stands : (history : List HistoryEvent) → is_settled history ≡ true → (writer_after history).stack ≡ []
 none_stands history h =
     ⊎_elim (λ e. e) (λ some. let wrong : false ≡ true = rw some.2 at h in cc) (stack_cases (writer_after history).stack)
 
-writer_keeps : (front behind : List Action) → is_settled front ≡ true → IsPrefix (reserved_records front) (reserved_records (front ++ behind))
+writer_keeps : (front behind : List HistoryEvent) → is_settled front ≡ true → IsPrefix (reserved_records front) (reserved_records (front ++ behind))
 writer_keeps front behind h =
     let w = writer_after front in
     let none : w.stack ≡ [] = none_stands front h in
@@ -96,17 +96,17 @@ cond_either P true x y first second = first refl
 cond_either P false x y first second = second
 
 -- a settled prefix of the history
-pub record IsSettledPrefix (history front : List Action) : Type 0 where
+pub record IsSettledPrefix (history front : List HistoryEvent) : Type 0 where
   pub settled : is_settled front ≡ true
   pub is_prefix : IsPrefix front history
 
-pub settled_within : (n : ℕ) (history : List Action) → IsSettledPrefix history (settled_prefix_within n history)
+pub settled_within : (n : ℕ) (history : List HistoryEvent) → IsSettledPrefix history (settled_prefix_within n history)
 settled_within zero history = record { settled = refl; is_prefix = (history, refl) }
 settled_within (suc n) history =
     cond_either (IsSettledPrefix history) (is_settled (take (suc n) history)) (take (suc n) history) (settled_prefix_within n history) (λ h. record { settled = h; is_prefix = (drop (suc n) history, sym (take-append-drop (suc n) history)) }) (settled_within n history)
 
 -- the records of the settled prefix are a prefix of the history's
-pub settled_records_prefix : (history : List Action) → IsPrefix (reserved_records (settled_prefix history)) (reserved_records history)
+pub settled_records_prefix : (history : List HistoryEvent) → IsPrefix (reserved_records (settled_prefix history)) (reserved_records history)
 settled_records_prefix history =
     let front = settled_within (length history) history in
     let kept = writer_keeps (settled_prefix history) front.is_prefix.0 front.settled in

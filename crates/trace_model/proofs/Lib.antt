@@ -12,7 +12,7 @@ pub mod Walked
 pub mod WordFaults
 pub mod HistoryPrefixes
 pub mod Allowed
-pub mod NextAction
+pub mod NextEvent
 pub mod CommittedWritten
 pub mod RecordsFill
 pub mod FirstFaults

@@ -3,7 +3,7 @@
 use Rattle.std.proofs.Common.{◌≡◌, ◌≢◌, ◌⊎◌, inl, inr, ℕ, zero, suc, ◌≤◌, List, [], ◌∷◌, ◌++◌, length, fold, Some, None, refl, sym, ap, ◌∙◌, subst, arith}
 use Rattle.std.specs.List.{slice_get}
 use Rattle.std.proofs.lemmas.Option.{none-some, same_Some, slice_get_within}
-use Rattle.trace_model.specs.History.{Action, push, push_close, open_fill, reserve, leave, wished, Reservation, PushedFrame, record_frame, close_frame, WriterState, reservation_for, records_with_payload, after_action, writer_after, reserved_records, MayAct, IsHistory}
+use Rattle.trace_model.specs.History.{HistoryEvent, push, push_close, open_fill, reserve, leave, wished, Reservation, PushedFrame, record_frame, close_frame, WriterState, reservation_for, records_with_payload, after_event, writer_after, reserved_records, MayAct, IsHistory}
 use Rattle.trace_model.proofs.Allowed.{AreAllowed, allowed-IsHistory}
 use Rattle.trace_model.proofs.Elements.{get_in_front}
 use Rattle.trace_model.proofs.Committed.{number_with, Behind, committed_len, committed_prefix}
@@ -72,12 +72,12 @@ are_open_finished number payload records (f ∷ stack) lacks h = (
 
 -- ---- a whole history
 
-open_after_action : (stack : List PushedFrame) (records : List Reservation) (a : Action) → MayAct stack a → AreOpen records stack → (let w = after_action stack records a in AreOpen w.records w.stack)
-open_after_action stack records (push moment len) may h = ((λ k e. absurd (none-some k e)), h)
-open_after_action stack records push_close may h = ((λ k e. absurd (none-some k e)), h)
-open_after_action stack records open_fill may h = h
-open_after_action [] records reserve may h = absurd may
-open_after_action (record_frame moment len None ∷ stack) records reserve may h =
+open_after_event : (stack : List PushedFrame) (records : List Reservation) (a : HistoryEvent) → MayAct stack a → AreOpen records stack → (let w = after_event stack records a in AreOpen w.records w.stack)
+open_after_event stack records (push moment len) may h = ((λ k e. absurd (none-some k e)), h)
+open_after_event stack records push_close may h = ((λ k e. absurd (none-some k e)), h)
+open_after_event stack records open_fill may h = h
+open_after_event [] records reserve may h = absurd may
+open_after_event (record_frame moment len None ∷ stack) records reserve may h =
     let last : Reservation = reservation_for moment len records in (
       (λ k e. let same : length records ≡ k = same_Some (length records) k e in (
         subst (IsOpenAt (records ++ last ∷ [])) same record { record_is = last; at = get_last records last; unwritten = refl },
@@ -85,23 +85,23 @@ open_after_action (record_frame moment len None ∷ stack) records reserve may h
       )),
       are_open_in_front records last stack h.1,
     )
-open_after_action (record_frame moment len (Some number) ∷ stack) records reserve may h = h
-open_after_action (close_frame ∷ stack) records reserve may h = absurd may
-open_after_action [] records (leave payload) may h = absurd may
-open_after_action (record_frame moment len None ∷ stack) records (leave payload) may h = h.1
-open_after_action (record_frame moment len (Some number) ∷ stack) records (leave None) may h = absurd may
-open_after_action (record_frame moment len (Some number) ∷ stack) records (leave (Some payload)) may h = are_open_finished number payload records stack (h.0 number refl).1 h.1
-open_after_action (close_frame ∷ stack) records (leave payload) may h = h.1
-open_after_action stack records wished may h = h
+open_after_event (record_frame moment len (Some number) ∷ stack) records reserve may h = h
+open_after_event (close_frame ∷ stack) records reserve may h = absurd may
+open_after_event [] records (leave payload) may h = absurd may
+open_after_event (record_frame moment len None ∷ stack) records (leave payload) may h = h.1
+open_after_event (record_frame moment len (Some number) ∷ stack) records (leave None) may h = absurd may
+open_after_event (record_frame moment len (Some number) ∷ stack) records (leave (Some payload)) may h = are_open_finished number payload records stack (h.0 number refl).1 h.1
+open_after_event (close_frame ∷ stack) records (leave payload) may h = h.1
+open_after_event stack records wished may h = h
 
-fold_open : (w : WriterState) (history : List Action) → AreAllowed w history → AreOpen w.records w.stack → (let v = fold (λ v a. after_action v.stack v.records a) w history in AreOpen v.records v.stack)
+fold_open : (w : WriterState) (history : List HistoryEvent) → AreAllowed w history → AreOpen w.records w.stack → (let v = fold (λ v a. after_event v.stack v.records a) w history in AreOpen v.records v.stack)
 fold_open w [] allowed h = h
-fold_open w (a ∷ history) allowed h = fold_open (after_action w.stack w.records a) history allowed.1 (open_after_action w.stack w.records a allowed.0 h)
+fold_open w (a ∷ history) allowed h = fold_open (after_event w.stack w.records a) history allowed.1 (open_after_event w.stack w.records a allowed.0 h)
 
 -- of a history that keeps the discipline of the stack
-pub numbers_open : (history : List Action) → IsHistory history → AreOpen (reserved_records history) (writer_after history).stack
+pub numbers_open : (history : List HistoryEvent) → IsHistory history → AreOpen (reserved_records history) (writer_after history).stack
 numbers_open history keeps = fold_open record { stack = []; records = [] } history (allowed-IsHistory history keeps) tt
 
 -- and of any
-pub numbers_uncommitted : (history : List Action) (number : ℕ) → HasNumber number (writer_after history).stack → committed_len history ≤ number
+pub numbers_uncommitted : (history : List HistoryEvent) (number : ℕ) → HasNumber number (writer_after history).stack → committed_len history ≤ number
 numbers_uncommitted history number has = behind_at (committed_len history) (writer_after history).stack number (committed_prefix history).behind has

@@ -1,4 +1,4 @@
--- What was done stays packed by one more action: the fills have room, and the action was allowed.
+-- What was done stays packed by one more event: the fills have room, and the event was allowed.
 use Rattle.std.proofs.Common.{◌≡◌, ◌≢◌, ℕ, zero, suc, ◌+◌, ◌-◌, ◌^◌, ◌<◌, ◌≤◌, ◌⊎◌, true, false, max, List, [], ◌∷◌, ◌++◌, length, get_or, take, drop, map, Option, Some, None, refl, sym, ap, ◌∙◌, subst, inl, inr, ⊎_elim, arith, append_assoc, length-append}
 use Rattle.std.specs.Prelude.{nat_lt, nat_le, if◌then◌else◌, Bool, IsTrue}
 use Rattle.std.proofs.lemmas.List.Sums.{fold-append}
@@ -8,7 +8,7 @@ use Rattle.std.proofs.lemmas.List.{map_push}
 use mathlib.Core.Logic.{dite}
 use native.Mathlib.Decide.{ℕ_discrete, dec_le}
 use Rattle.trace_model.specs.Words.{slot_len, encoded_len}
-use Rattle.trace_model.specs.History.{Action, push, push_close, open_fill, reserve, leave, wished, Reservation, PushedFrame, record_frame, close_frame, last_moment, reservation_for, records_with_payload, writer_after, reserved_records}
+use Rattle.trace_model.specs.History.{HistoryEvent, push, push_close, open_fill, reserve, leave, wished, Reservation, PushedFrame, record_frame, close_frame, last_moment, reservation_for, records_with_payload, writer_after, reserved_records}
 use Rattle.trace_model.specs.Packing.{opens_of, cut_from, fills_of, tail_of, len_behind, fill_len, FitsBehind, next_reservation_of, next_reservation, is_wished, MayCloseTail, IsPacked}
 use Rattle.trace_model.specs.Frames.{Kind, for_record, for_close, FrameState, waiting, reserved, left, pushed_onto}
 use Rattle.trace_model.specs.Fitting.{IsRising, tail_at, HaveRoom, IsFit, AreFit, FitsPage, NeedsFill}
@@ -70,7 +70,7 @@ cut-past from [] xs (suc i) past = refl
 cut-past from (cut ∷ cuts) xs zero past = absurd (omega arith)
 cut-past from (cut ∷ cuts) xs (suc i) past = cut-past cut cuts xs i (omega arith)
 
-pub tail_is : (h : List Action) → tail_of h ≡ tail_at (opens_of h) (reserved_records h)
+pub tail_is : (h : List HistoryEvent) → tail_of h ≡ tail_at (opens_of h) (reserved_records h)
 tail_is h = ap (λ (i : ℕ). get_or (fills_of h) i []) (let e = length-cut_from 0 (opens_of h) (reserved_records h) in let it : length (fills_of h) - 1 ≡ length (opens_of h) = omega arith in it)
 
 -- ---- what records take after others
@@ -106,33 +106,33 @@ fill_more (x ∷ xs) s moment moment' len = add_le (encoded_len x.len 0 true) _ 
 
 -- ---- what the frame on top wants
 
-pub wanted_record : (h : List Action) (moment len : ℕ) (below : List PushedFrame) → (writer_after h).stack ≡ record_frame moment len None ∷ below → next_reservation h ≡ Some (reservation_for moment len (reserved_records h))
+pub wanted_record : (h : List HistoryEvent) (moment len : ℕ) (below : List PushedFrame) → (writer_after h).stack ≡ record_frame moment len None ∷ below → next_reservation h ≡ Some (reservation_for moment len (reserved_records h))
 wanted_record h moment len below e = ap (λ (s : List PushedFrame). next_reservation_of s (reserved_records h)) e
 
-pub wanted_close : (h : List Action) (below : List PushedFrame) → (writer_after h).stack ≡ close_frame ∷ below → next_reservation h ≡ None
+pub wanted_close : (h : List HistoryEvent) (below : List PushedFrame) → (writer_after h).stack ≡ close_frame ∷ below → next_reservation h ≡ None
 wanted_close h below e = ap (λ (s : List PushedFrame). next_reservation_of s (reserved_records h)) e
 
-pub wanted_none : (h : List Action) → (writer_after h).stack ≡ [] → next_reservation h ≡ None
+pub wanted_none : (h : List HistoryEvent) → (writer_after h).stack ≡ [] → next_reservation h ≡ None
 wanted_none h e = ap (λ (s : List PushedFrame). next_reservation_of s (reserved_records h)) e
 
 -- ---- whether the reader's wish was found
 
-pub is_wished-push : (h : List Action) (moment len : ℕ) → is_wished (h ++ push moment len ∷ []) ≡ is_wished h
+pub is_wished-push : (h : List HistoryEvent) (moment len : ℕ) → is_wished (h ++ push moment len ∷ []) ≡ is_wished h
 is_wished-push h moment len = fold-append _ false h (push moment len ∷ [])
 
-pub is_wished-push_close : (h : List Action) → is_wished (h ++ push_close ∷ []) ≡ is_wished h
+pub is_wished-push_close : (h : List HistoryEvent) → is_wished (h ++ push_close ∷ []) ≡ is_wished h
 is_wished-push_close h = fold-append _ false h (push_close ∷ [])
 
-pub is_wished-open_fill : (h : List Action) → is_wished (h ++ open_fill ∷ []) ≡ false
+pub is_wished-open_fill : (h : List HistoryEvent) → is_wished (h ++ open_fill ∷ []) ≡ false
 is_wished-open_fill h = fold-append _ false h (open_fill ∷ [])
 
-pub is_wished-reserve : (h : List Action) → is_wished (h ++ reserve ∷ []) ≡ is_wished h
+pub is_wished-reserve : (h : List HistoryEvent) → is_wished (h ++ reserve ∷ []) ≡ is_wished h
 is_wished-reserve h = fold-append _ false h (reserve ∷ [])
 
-pub is_wished-leave : (h : List Action) (payload : Option (List ℕ)) → is_wished (h ++ leave payload ∷ []) ≡ is_wished h
+pub is_wished-leave : (h : List HistoryEvent) (payload : Option (List ℕ)) → is_wished (h ++ leave payload ∷ []) ≡ is_wished h
 is_wished-leave h payload = fold-append _ false h (leave payload ∷ [])
 
-pub is_wished-wished : (h : List Action) → is_wished (h ++ wished ∷ []) ≡ true
+pub is_wished-wished : (h : List HistoryEvent) → is_wished (h ++ wished ∷ []) ≡ true
 is_wished-wished h = fold-append _ false h (wished ∷ [])
 
 -- ---- the fills have room
@@ -166,33 +166,33 @@ room_opened size cuts xs room i = dite (dec_le i (length cuts))
     (λ e. subst (λ (l : List Reservation). fill_len l ≤ size) (sym (ap (λ (j : ℕ). get_or (cut_from 0 (cuts ++ length xs ∷ []) xs) j []) e ∙ opened_last 0 cuts xs)) (let z : 0 ≤ size = omega arith in z))
     (λ ne. room_past size (cuts ++ length xs ∷ []) xs i (omega (arith, length-append cuts (length xs ∷ [])))))
 
--- ---- each action was allowed
+-- ---- each event was allowed
 
-first_is : (a b : Action) (xs ys : List Action) → ◌≡◌ {A = List Action} (a ∷ xs) (b ∷ ys) → a ≡ b
+first_is : (a b : HistoryEvent) (xs ys : List HistoryEvent) → ◌≡◌ {A = List HistoryEvent} (a ∷ xs) (b ∷ ys) → a ≡ b
 first_is a b xs ys e = cc
 
-rest_is : (a b : Action) (xs ys : List Action) → ◌≡◌ {A = List Action} (a ∷ xs) (b ∷ ys) → xs ≡ ys
+rest_is : (a b : HistoryEvent) (xs ys : List HistoryEvent) → ◌≡◌ {A = List HistoryEvent} (a ∷ xs) (b ∷ ys) → xs ≡ ys
 rest_is a b xs ys e = cc
 
-not_nil : (front behind : List Action) (x : Action) → [] ≡ front ++ x ∷ behind → ⊥
+not_nil : (front behind : List HistoryEvent) (x : HistoryEvent) → [] ≡ front ++ x ∷ behind → ⊥
 not_nil [] behind x e = cc
 not_nil (y ∷ front) behind x e = cc
 
 -- an index in a list with one element more is the last one, or is an index of the list
-snoc_index : (h front behind : List Action) (a x : Action) → h ++ a ∷ [] ≡ front ++ x ∷ behind → ((h ≡ front) × (a ≡ x)) ⊎ ((rest : List Action) × (h ≡ front ++ x ∷ rest))
+snoc_index : (h front behind : List HistoryEvent) (a x : HistoryEvent) → h ++ a ∷ [] ≡ front ++ x ∷ behind → ((h ≡ front) × (a ≡ x)) ⊎ ((rest : List HistoryEvent) × (h ≡ front ++ x ∷ rest))
 snoc_index [] [] behind a x e = inl (refl, first_is a x [] behind e)
 snoc_index [] (y ∷ front) behind a x e = absurd (not_nil front behind x (rest_is a y [] (front ++ x ∷ behind) e))
-snoc_index (z ∷ h) [] behind a x e = inr (h, ap (λ (b : Action). b ∷ h) (first_is z x (h ++ a ∷ []) behind e))
+snoc_index (z ∷ h) [] behind a x e = inr (h, ap (λ (b : HistoryEvent). b ∷ h) (first_is z x (h ++ a ∷ []) behind e))
 snoc_index (z ∷ h) (y ∷ front) behind a x e = let here = first_is z y (h ++ a ∷ []) (front ++ x ∷ behind) e in
     ⊎_elim (λ (f, same). inl ((λ i. here i ∷ f i), same)) (λ (rest, is). inr (rest, λ i. here i ∷ is i)) (snoc_index h front behind a x (rest_is z y (h ++ a ∷ []) (front ++ x ∷ behind) e))
 
-pub fit_more : (size : ℕ) (h : List Action) (a : Action) → AreFit size h → IsFit size h a → AreFit size (h ++ a ∷ [])
-fit_more size h a fit new front behind x e = ⊎_elim (λ (f, same). subst (λ (g : List Action). IsFit size g x) f (subst (IsFit size h) same new)) (λ (rest, is). fit front rest x is) (snoc_index h front behind a x e)
+pub fit_more : (size : ℕ) (h : List HistoryEvent) (a : HistoryEvent) → AreFit size h → IsFit size h a → AreFit size (h ++ a ∷ [])
+fit_more size h a fit new front behind x e = ⊎_elim (λ (f, same). subst (λ (g : List HistoryEvent). IsFit size g x) f (subst (IsFit size h) same new)) (λ (rest, is). fit front rest x is) (snoc_index h front behind a x e)
 
 pub fit_none : (size : ℕ) → AreFit size []
 fit_none size front behind a e = absurd (not_nil front behind a e)
 
-pub is_packed : (size : ℕ) (h : List Action) → HaveRoom size (opens_of h) (reserved_records h) → AreFit size h → IsPacked h size
+pub is_packed : (size : ℕ) (h : List HistoryEvent) → HaveRoom size (opens_of h) (reserved_records h) → AreFit size h → IsPacked h size
 is_packed size h room fit = record {
   rooms = λ k low. room k;
   reserves = λ front behind r e. fit front behind reserve e r;
@@ -244,7 +244,7 @@ needs_reserved size cuts xs s found kind left rising needs = (tail_holds_reserve
 
 -- ---- so the fill may be opened
 
-fit_open_record : (size : ℕ) (h : List Action) (moment len : ℕ) (below : List PushedFrame) → (writer_after h).stack ≡ record_frame moment len None ∷ below → FitsPage size (for_record moment len)
+fit_open_record : (size : ℕ) (h : List HistoryEvent) (moment len : ℕ) (below : List PushedFrame) → (writer_after h).stack ≡ record_frame moment len None ∷ below → FitsPage size (for_record moment len)
     → (FitsBehind size (tail_at (opens_of h) (reserved_records h)) (reservation_for moment len (reserved_records h)) → ⊥)
     → IsFit size h open_fill
 fit_open_record size h moment len below stack fits needs = (
@@ -259,14 +259,14 @@ fit_open_record size h moment len below stack fits needs = (
         plus_none : (k : ℕ) → k ≤ size → k + 0 ≤ size
         plus_none k le = omega arith
 
-fit_open_close : (size : ℕ) (h : List Action) (below : List PushedFrame) → (writer_after h).stack ≡ close_frame ∷ below → tail_at (opens_of h) (reserved_records h) ≢ [] → IsFit size h open_fill
+fit_open_close : (size : ℕ) (h : List HistoryEvent) (below : List PushedFrame) → (writer_after h).stack ≡ close_frame ∷ below → tail_at (opens_of h) (reserved_records h) ≢ [] → IsFit size h open_fill
 fit_open_close size h below stack needs = (
   λ none. needs (sym (tail_is h) ∙ none),
   λ r is fits. none-some r (sym (wanted_close h below stack) ∙ is),
   λ is. subst (MayCloseTail h) (sym stack) tt,
 )
 
-fit_open_wished : (size : ℕ) (h : List Action) → (writer_after h).stack ≡ [] → tail_at (opens_of h) (reserved_records h) ≢ [] → IsTrue (is_wished h) → IsFit size h open_fill
+fit_open_wished : (size : ℕ) (h : List HistoryEvent) → (writer_after h).stack ≡ [] → tail_at (opens_of h) (reserved_records h) ≢ [] → IsTrue (is_wished h) → IsFit size h open_fill
 fit_open_wished size h stack needs found = (
   λ none. needs (sym (tail_is h) ∙ none),
   λ r is fits. none-some r (sym (wanted_none h stack) ∙ is),
@@ -274,7 +274,7 @@ fit_open_wished size h stack needs found = (
 )
 
 -- a frame on top of these opens the fill that it needs
-pub fit_open : (size : ℕ) (h : List Action) (kind : Kind) (state : FrameState) (below : List PushedFrame) → (writer_after h).stack ≡ pushed_onto kind state below → (state ≡ left → below ≡ []) → FitsPage size kind
+pub fit_open : (size : ℕ) (h : List HistoryEvent) (kind : Kind) (state : FrameState) (below : List PushedFrame) → (writer_after h).stack ≡ pushed_onto kind state below → (state ≡ left → below ≡ []) → FitsPage size kind
     → NeedsFill size (opens_of h) (reserved_records h) (is_wished h) kind state
     → IsFit size h open_fill
 fit_open size h (for_record moment len) waiting below stack alone fits needs = fit_open_record size h moment len below stack fits needs

@@ -5,7 +5,7 @@ use Rattle.std.proofs.lemmas.List.{length-replicate}
 use Rattle.std.proofs.lemmas.List.Elements.{All-from_recursion, All-append, All-cons, All-nil, All-same}
 use Rattle.trace_model.specs.Record.{Record, IsRecord}
 use Rattle.trace_model.specs.Words.{Word, short_data, long_data, padding, time_extend, time_stamp, IsWord, records_at, records_behind, Decodes, padded}
-use Rattle.trace_model.specs.History.{Action, push, push_close, open_fill, reserve, leave, wished, Reservation, PushedFrame, record_frame, close_frame, WriterState, reservation_for, records_with_payload, after_reserve, records_after_leave, after_action, reserved_records, settled_prefix, as_record, committed_records}
+use Rattle.trace_model.specs.History.{HistoryEvent, push, push_close, open_fill, reserve, leave, wished, Reservation, PushedFrame, record_frame, close_frame, WriterState, reservation_for, records_with_payload, after_reserve, records_after_leave, after_event, reserved_records, settled_prefix, as_record, committed_records}
 use Rattle.trace_model.proofs.Lengths.{slot_len-mod, length-padded}
 
 -- ---- committed records
@@ -50,19 +50,19 @@ records_after_leave-whole : (f : PushedFrame) (payload : Option (List ℕ)) (rec
 records_after_leave-whole (record_frame moment len number) payload records h = records_with_payload-whole number payload records h
 records_after_leave-whole close_frame payload records h = h
 
-after_action-whole : (stack : List PushedFrame) (records : List Reservation) (a : Action) → AllByRecursion IsWhole records → AllByRecursion IsWhole (after_action stack records a).records
-after_action-whole stack records (push moment len) h = h
-after_action-whole stack records push_close h = h
-after_action-whole stack records open_fill h = h
-after_action-whole [] records reserve h = h
-after_action-whole (f ∷ stack) records reserve h = after_reserve-whole f stack records h
-after_action-whole [] records (leave payload) h = h
-after_action-whole (f ∷ stack) records (leave payload) h = records_after_leave-whole f payload records h
-after_action-whole stack records wished h = h
+after_event-whole : (stack : List PushedFrame) (records : List Reservation) (a : HistoryEvent) → AllByRecursion IsWhole records → AllByRecursion IsWhole (after_event stack records a).records
+after_event-whole stack records (push moment len) h = h
+after_event-whole stack records push_close h = h
+after_event-whole stack records open_fill h = h
+after_event-whole [] records reserve h = h
+after_event-whole (f ∷ stack) records reserve h = after_reserve-whole f stack records h
+after_event-whole [] records (leave payload) h = h
+after_event-whole (f ∷ stack) records (leave payload) h = records_after_leave-whole f payload records h
+after_event-whole stack records wished h = h
 
-fold-whole : (w : WriterState) (history : List Action) → AllByRecursion IsWhole w.records → AllByRecursion IsWhole (fold (λ v a. after_action v.stack v.records a) w history).records
+fold-whole : (w : WriterState) (history : List HistoryEvent) → AllByRecursion IsWhole w.records → AllByRecursion IsWhole (fold (λ v a. after_event v.stack v.records a) w history).records
 fold-whole w [] h = h
-fold-whole w (a ∷ history) h = fold-whole (after_action w.stack w.records a) history (after_action-whole w.stack w.records a h)
+fold-whole w (a ∷ history) h = fold-whole (after_event w.stack w.records a) history (after_event-whole w.stack w.records a h)
 
 bytes-whole : (len : ℕ) (bytes : Option (List ℕ)) → len % 4 ≡ 0 → FillsWords bytes → length (unwrap_or bytes (replicate len 0)) % 4 ≡ 0
 unfolding FillsWords
@@ -73,7 +73,7 @@ as_record-whole : (records : List Reservation) → AllByRecursion IsWhole record
 as_record-whole [] h = tt
 as_record-whole (r ∷ records) h = (bytes-whole r.len r.bytes h.0.len h.0.bytes, as_record-whole records h.1)
 
-pub committed-IsRecord : (history : List Action) → All IsRecord (committed_records history)
+pub committed-IsRecord : (history : List HistoryEvent) → All IsRecord (committed_records history)
 committed-IsRecord history =
     let start : WriterState = record { stack = []; records = [] } in
     All-from_recursion IsRecord (committed_records history) (as_record-whole (reserved_records (settled_prefix history)) (fold-whole start (settled_prefix history) tt))

@@ -1,9 +1,9 @@
--- What each action asks of the fills before it, and what a frame that is about to begin a fill still needs:
--- the packing of records in pages, action by action.
+-- What each event asks of the fills before it, and what a frame that is about to begin a fill still needs:
+-- the packing of records in pages, event by event.
 -- After kernel/trace/ring_buffer.c (rb_reserve_next_event, rb_move_tail).
 use Rattle.std.specs.Prelude.{◌≡◌, ◌≢◌, ℕ, ◌≤◌, Bool, true, IsTrue, List, [], ◌∷◌, ◌++◌, length, Some, None, slice_index_or}
 use Rattle.trace_model.specs.Words.{encoded_len}
-use Rattle.trace_model.specs.History.{Action, push, push_close, open_fill, reserve, leave, wished, Reservation, writer_after, reservation_for}
+use Rattle.trace_model.specs.History.{HistoryEvent, push, push_close, open_fill, reserve, leave, wished, Reservation, writer_after, reservation_for}
 use Rattle.trace_model.specs.Packing.{cut_from, tail_of, fill_len, FitsBehind, next_reservation, MayCloseTail}
 use Rattle.trace_model.specs.Frames.{Kind, for_record, for_close, FrameState, waiting, reserved, left}
 
@@ -22,10 +22,10 @@ tail_at cuts records = slice_index_or (cut_from 0 cuts records) (length cuts) []
 abbrev pub HaveRoom : ℕ → List ℕ → List Reservation → Type 0
 HaveRoom size cuts records = (i : ℕ) → fill_len (slice_index_or (cut_from 0 cuts records) i []) ≤ size
 
--- ---- actions
+-- ---- events
 
--- what an action asks of the fills before it
-abbrev pub IsFit : ℕ → List Action → Action → Type 0
+-- what an event asks of the fills before it
+abbrev pub IsFit : ℕ → List HistoryEvent → HistoryEvent → Type 0
 IsFit size front (push moment len) = Unit {0}
 IsFit size front push_close = Unit {0}
 IsFit size front open_fill =
@@ -36,8 +36,10 @@ IsFit size front reserve = (r : Reservation) → next_reservation front ≡ Some
 IsFit size front (leave payload) = Unit {0}
 IsFit size front wished = Unit {0}
 
-abbrev pub AreFit : ℕ → List Action → Type 0
-AreFit size history = (front behind : List Action) (a : Action) → history ≡ front ++ a ∷ behind → IsFit size front a
+abbrev pub AreFit : ℕ → List HistoryEvent → Type 0
+AreFit size history = (front behind : List HistoryEvent) (a : HistoryEvent)
+    → history ≡ front ++ a ∷ behind
+    → IsFit size front a
 
 -- ---- frames
 

@@ -9,13 +9,13 @@ use Rattle.trace_model.specs.Words.{slot_len, padded}
 -- leaves the tail page. leave: of the frame on top, with the payload that it wrote, or without a record.
 -- open_fill and reserve are of the frame on top. wished: when the stack is empty, the outermost frame, which has
 -- left, found that the reader wants the tail page, and goes on to begin the next fill.
-pub data Action : Type 0 where
-  push : (moment len : ℕ) → Action
-  push_close : Action
-  open_fill : Action
-  reserve : Action
-  leave : (payload : Option (List ℕ)) → Action
-  wished : Action
+pub data HistoryEvent : Type 0 where
+  push : (moment len : ℕ) → HistoryEvent
+  push_close : HistoryEvent
+  open_fill : HistoryEvent
+  reserve : HistoryEvent
+  leave : (payload : Option (List ℕ)) → HistoryEvent
+  wished : HistoryEvent
 
 -- A record from its reservation on. Its bytes are open until its frame leaves.
 pub record Reservation : Type 0 where
@@ -79,47 +79,47 @@ abbrev pub records_after_leave : PushedFrame → Option (List ℕ) → List Rese
 records_after_leave (record_frame moment len number) payload records = records_with_payload number payload records
 records_after_leave close_frame payload records = records
 
--- what an action makes of it; if the stack is empty, reserve and leave do nothing
-abbrev pub after_action : List PushedFrame → List Reservation → Action → WriterState
-after_action stack records (push moment len) = record {
+-- what an event makes of it; if the stack is empty, reserve and leave do nothing
+abbrev pub after_event : List PushedFrame → List Reservation → HistoryEvent → WriterState
+after_event stack records (push moment len) = record {
   stack = record_frame moment len None ∷ stack;
   records = records;
 }
-after_action stack records push_close = record { stack = close_frame ∷ stack; records = records }
-after_action stack records open_fill = record { stack = stack; records = records }
-after_action [] records reserve = record { stack = []; records = records }
-after_action (f ∷ stack) records reserve = after_reserve f stack records
-after_action [] records (leave payload) = record { stack = []; records = records }
-after_action (f ∷ stack) records (leave payload) = record {
+after_event stack records push_close = record { stack = close_frame ∷ stack; records = records }
+after_event stack records open_fill = record { stack = stack; records = records }
+after_event [] records reserve = record { stack = []; records = records }
+after_event (f ∷ stack) records reserve = after_reserve f stack records
+after_event [] records (leave payload) = record { stack = []; records = records }
+after_event (f ∷ stack) records (leave payload) = record {
   stack = stack;
   records = records_after_leave f payload records;
 }
-after_action stack records wished = record { stack = stack; records = records }
+after_event stack records wished = record { stack = stack; records = records }
 
 -- what a history leaves, from nothing
-abbrev pub writer_after : List Action → WriterState
-writer_after history = fold (λ w a. after_action w.stack w.records a) record { stack = []; records = [] } history
+abbrev pub writer_after : List HistoryEvent → WriterState
+writer_after history = fold (λ w a. after_event w.stack w.records a) record { stack = []; records = [] } history
 
 -- all reserved records, the first reservation first; one's index here is its number
-abbrev pub reserved_records : List Action → List Reservation
+abbrev pub reserved_records : List HistoryEvent → List Reservation
 reserved_records history = (writer_after history).records
 
 -- the stack is empty
-abbrev pub is_settled : List Action → Bool
+abbrev pub is_settled : List HistoryEvent → Bool
 is_settled history = has_none (writer_after history).stack
   where
     has_none : List PushedFrame → Bool
     has_none [] = true
     has_none (f ∷ stack) = false
 
--- of the prefixes of at most n actions, the longest after which the stack is empty
-abbrev pub settled_prefix_within : ℕ → List Action → List Action
+-- of the prefixes of at most n events, the longest after which the stack is empty
+abbrev pub settled_prefix_within : ℕ → List HistoryEvent → List HistoryEvent
 settled_prefix_within zero history = []
 settled_prefix_within (suc n) history =
     if is_settled (take (suc n) history) then take (suc n) history else settled_prefix_within n history
 
 -- the longest prefix of a history after which the stack is empty
-abbrev pub settled_prefix : List Action → List Action
+abbrev pub settled_prefix : List HistoryEvent → List HistoryEvent
 settled_prefix history = settled_prefix_within (length history) history
 
 -- A reserved record as it is read. Until its frame has left, its bytes are taken as zeros; none of the
@@ -129,7 +129,7 @@ as_record r = record { moment = r.moment; bytes = unwrap_or r.bytes (replicate r
 
 -- The committed records: what was reserved up to the last moment at which no frame stood. One's index
 -- here is its number.
-abbrev pub committed_records : List Action → List Record
+abbrev pub committed_records : List HistoryEvent → List Record
 committed_records history = map as_record (reserved_records (settled_prefix history))
 
 -- a reservation is a record frame's that has no record yet
@@ -161,7 +161,7 @@ MayWish (f ∷ stack) = ⊥
 
 -- What may be done while the stack holds these frames. A push may come at any time; to reserve and to leave
 -- are of the frame on top, so there must be one.
-abbrev pub MayAct : List PushedFrame → Action → Type 0
+abbrev pub MayAct : List PushedFrame → HistoryEvent → Type 0
 MayAct stack (push moment len) = ⊤
 MayAct stack push_close = ⊤
 MayAct stack open_fill = MayOpen stack
@@ -169,7 +169,7 @@ MayAct stack reserve = MayReserve stack
 MayAct stack (leave payload) = MayLeave stack payload
 MayAct stack wished = MayWish stack
 
--- The discipline of the stack: each action is one that the stack after the actions before it allows.
-abbrev pub IsHistory : List Action → Type 0
-IsHistory history = (front behind : List Action) (a : Action) → history ≡ front ++ a ∷ behind
+-- The discipline of the stack: each event is one that the stack after the events before it allows.
+abbrev pub IsHistory : List HistoryEvent → Type 0
+IsHistory history = (front behind : List HistoryEvent) (a : HistoryEvent) → history ≡ front ++ a ∷ behind
     → MayAct (writer_after front).stack a

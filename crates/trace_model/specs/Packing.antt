@@ -4,10 +4,10 @@
 use Rattle.std.specs.Prelude.{◌≡◌, ◌≢◌, ℕ, ◌+◌, ◌-◌, ◌<◌, ◌≤◌, Bool, true, false, IsTrue, fold, List, [], ◌∷◌, ◌++◌, length, take, drop, map, Option, Some, None, slice_index_or}
 use Rattle.std.specs.List.{AllByRecursion}
 use Rattle.trace_model.specs.Words.{encoded_len, page_encoding}
-use Rattle.trace_model.specs.History.{Action, push, push_close, open_fill, reserve, leave, wished, Reservation, PushedFrame, record_frame, close_frame, writer_after, reserved_records, reservation_for, as_record}
+use Rattle.trace_model.specs.History.{HistoryEvent, push, push_close, open_fill, reserve, leave, wished, Reservation, PushedFrame, record_frame, close_frame, writer_after, reserved_records, reservation_for, as_record}
 
 -- how many records were reserved before each open, in order
-abbrev pub opens_behind : List Action → List Action → List ℕ
+abbrev pub opens_behind : List HistoryEvent → List HistoryEvent → List ℕ
 opens_behind front [] = []
 opens_behind front (push moment len ∷ behind) = opens_behind (front ++ push moment len ∷ []) behind
 opens_behind front (push_close ∷ behind) = opens_behind (front ++ push_close ∷ []) behind
@@ -17,7 +17,7 @@ opens_behind front (reserve ∷ behind) = opens_behind (front ++ reserve ∷ [])
 opens_behind front (leave payload ∷ behind) = opens_behind (front ++ leave payload ∷ []) behind
 opens_behind front (wished ∷ behind) = opens_behind (front ++ wished ∷ []) behind
 
-abbrev pub opens_of : List Action → List ℕ
+abbrev pub opens_of : List HistoryEvent → List ℕ
 opens_of history = opens_behind [] history
 
 -- a list cut at rising indexes, of which none is below from: one more sublist than there are cuts
@@ -26,11 +26,11 @@ cut_from from [] xs = drop from xs ∷ []
 cut_from from (cut ∷ cuts) xs = take (cut - from) (drop from xs) ∷ cut_from cut cuts xs
 
 -- The fills: the reserved records, cut at each open.
-abbrev pub fills_of : List Action → List (List Reservation)
+abbrev pub fills_of : List HistoryEvent → List (List Reservation)
 fills_of history = cut_from 0 (opens_of history) (reserved_records history)
 
 -- the records of the fill that is begun last
-abbrev pub tail_of : List Action → List Reservation
+abbrev pub tail_of : List HistoryEvent → List Reservation
 tail_of history = slice_index_or (fills_of history) (length (fills_of history) - 1) []
 
 -- how many bytes records take in one page, the first of them after a record of moment prev
@@ -64,14 +64,14 @@ next_reservation_of (record_frame moment len None ∷ stack) records = Some (res
 next_reservation_of (record_frame moment len (Some number) ∷ stack) records = None
 next_reservation_of (close_frame ∷ stack) records = None
 
-abbrev pub next_reservation : List Action → Option Reservation
+abbrev pub next_reservation : List HistoryEvent → Option Reservation
 next_reservation history = next_reservation_of (writer_after history).stack (reserved_records history)
 
 -- the reader's wish was found since the last fill was begun
-abbrev pub is_wished : List Action → Bool
+abbrev pub is_wished : List HistoryEvent → Bool
 is_wished history = fold wished_after false history
   where
-    wished_after : Bool → Action → Bool
+    wished_after : Bool → HistoryEvent → Bool
     wished_after found (push moment len) = found
     wished_after found push_close = found
     wished_after found open_fill = false
@@ -81,7 +81,7 @@ is_wished history = fold wished_after false history
 
 -- The tail page may be left without a record that needs the next one: for the close frame on top; or, if the
 -- stack is empty, for the reader, who wished for it.
-abbrev pub MayCloseTail : List Action → List PushedFrame → Type 0
+abbrev pub MayCloseTail : List HistoryEvent → List PushedFrame → Type 0
 MayCloseTail front [] = IsTrue (is_wished front)
 MayCloseTail front (record_frame moment len number ∷ stack) = ⊥
 MayCloseTail front (close_frame ∷ stack) = Unit {0}
@@ -89,21 +89,21 @@ MayCloseTail front (close_frame ∷ stack) = Unit {0}
 -- What was done is packed in pages of this size: each fill has room in one; what is reserved fits after
 -- its fill; and a fill is begun only after one that isn't empty, for a record that doesn't fit, by a close
 -- frame, or for the reader's wish.
-pub record IsPacked (history : List Action) (size : ℕ) : Type 0 where
+pub record IsPacked (history : List HistoryEvent) (size : ℕ) : Type 0 where
   pub rooms : (k : ℕ) → k < length (fills_of history) → fill_len (slice_index_or (fills_of history) k []) ≤ size
-  pub reserves : (front behind : List Action) (r : Reservation)
+  pub reserves : (front behind : List HistoryEvent) (r : Reservation)
       → history ≡ front ++ reserve ∷ behind
       → next_reservation front ≡ Some r
       → FitsBehind size (tail_of front) r
-  pub begins : (front behind : List Action)
+  pub begins : (front behind : List HistoryEvent)
       → history ≡ front ++ open_fill ∷ behind
       → tail_of front ≢ []
-  pub needed : (front behind : List Action) (r : Reservation)
+  pub needed : (front behind : List HistoryEvent) (r : Reservation)
       → history ≡ front ++ open_fill ∷ behind
       → next_reservation front ≡ Some r
       → FitsBehind size (tail_of front) r
       → ⊥
-  pub asked : (front behind : List Action)
+  pub asked : (front behind : List HistoryEvent)
       → history ≡ front ++ open_fill ∷ behind
       → next_reservation front ≡ None
       → MayCloseTail front (writer_after front).stack

@@ -3,7 +3,7 @@
 -- ring_buffer_per_cpu, rb_handle_head_page, rb_get_reader_page); docs/FORMATS.md, "The ring".
 use Rattle.std.specs.Prelude.{◌≡◌, ◌≢◌, ℕ, suc, ◌+◌, ◌-◌, ◌%◌, ◌<◌, ◌≤◌, ◌⊎◌, List, [], ◌∷◌, length, take, map, Some, slice_index_or, slice_get, slice_set}
 use Rattle.trace_model.specs.Record.{Record}
-use Rattle.trace_model.specs.History.{Action, Reservation, reserved_records, committed_records, as_record}
+use Rattle.trace_model.specs.History.{HistoryEvent, Reservation, reserved_records, committed_records, as_record}
 use Rattle.trace_model.specs.Packing.{opens_of, fills_of}
 use Rattle.trace_model.specs.Links.{Link, normal_link, header_link, update_link}
 use Rattle.trace_model.specs.Frames.{Frame, noted_fill, owned_update}
@@ -76,7 +76,7 @@ pub record Core : Type 0 where
   pub held : List PageRecords
   pub frames : List Frame
   pub open_pages : List ℕ
-  pub history : List Action
+  pub history : List HistoryEvent
   pub order : List ℕ
   pub spare : ℕ
   pub reader : Reader
@@ -155,11 +155,11 @@ pub record AreApart (n : ℕ) (order : List ℕ) (spare : ℕ) : Type 0 where
   pub spare_differs : (i : ℕ) → i < n → slice_index_or order i 0 ≢ spare
 
 -- how many records were reserved before a fill was begun; start is the number of the first fill
-abbrev pub first_of_fill : List Action → ℕ → ℕ → ℕ
+abbrev pub first_of_fill : List HistoryEvent → ℕ → ℕ → ℕ
 first_of_fill history start f = slice_index_or (0 ∷ opens_of history) (f - start) 0
 
 -- a fill as the history has it: its records, from its first number on
-abbrev pub fill_of : List Action → ℕ → ℕ → PageRecords
+abbrev pub fill_of : List HistoryEvent → ℕ → ℕ → PageRecords
 fill_of history start f = record {
   first = first_of_fill history start f;
   records = slice_index_or (fills_of history) (f - start) [];
@@ -171,13 +171,13 @@ HoldsFill n start c f = slice_index_or c.held (page_at n c.order f) empty_page �
 
 -- A taken page is a fill of the history: its number is that fill's, it has all its records and no others, as
 -- they are in the history, from its first number on.
-pub record IsFillOf (start : ℕ) (history : List Action) (t : Taken) : Type 0 where
+pub record IsFillOf (start : ℕ) (history : List HistoryEvent) (t : Taken) : Type 0 where
   pub from_start : start ≤ t.fill
   pub begun : t.fill < start + length (fills_of history)
   pub held : t.held ≡ fill_of history start t.fill
 
 -- What the reader took are such fills, and their numbers rise.
-pub record AreFillsOf (start : ℕ) (history : List Action) (taken : List Taken) : Type 0 where
+pub record AreFillsOf (start : ℕ) (history : List HistoryEvent) (taken : List Taken) : Type 0 where
   pub each : (k : ℕ) (t : Taken) → slice_get taken k ≡ Some t → IsFillOf start history t
   pub rising : (j k : ℕ) (earlier later : Taken)
       → j < k
@@ -190,7 +190,7 @@ abbrev pub IsTaken : Core → ℕ → Type 0
 IsTaken c f = (k : ℕ) × (t : Taken) × (slice_get c.reader.taken k ≡ Some t) × (t.fill ≡ f)
 
 -- the records in the fills below this one, as they are by now
-abbrev pub records_before_fill : List Action → ℕ → ℕ → List Record
+abbrev pub records_before_fill : List HistoryEvent → ℕ → ℕ → List Record
 records_before_fill history start f =
     map as_record (take (first_of_fill history start f) (reserved_records history))
 

@@ -4,7 +4,7 @@
 -- reads or writes one word of the ring at most, with what goes with it in the frame or in the reader.
 use Rattle.std.specs.Prelude.{◌≡◌, ◌≢◌, ℕ, suc, ◌+◌, ◌-◌, ◌%◌, ◌<◌, ◌≤◌, ◌⊎◌, true, if◌then◌else◌, ◌==◌, nat_lt, List, [], ◌∷◌, ◌++◌, length, map, Option, Some, None, drop, slice_index_or, slice_set}
 use Rattle.trace_model.specs.Words.{slot_len, encoded_len}
-use Rattle.trace_model.specs.History.{Action, push, push_close, open_fill, reserve, leave, wished, Reservation, reservation_for, reserved_records, records_with_payload}
+use Rattle.trace_model.specs.History.{HistoryEvent, push, push_close, open_fill, reserve, leave, wished, Reservation, reservation_for, reserved_records, records_with_payload}
 use Rattle.trace_model.specs.Packing.{tail_of, FitsBehind}
 use Rattle.trace_model.specs.Links.{Link, normal_link, header_link, update_link}
 use Rattle.trace_model.specs.Frames.{Kind, for_record, for_close, FrameState, waiting, reserved, left, number_of, Role, owner, helper, Phase, idle, looking, claiming, looking_next, marking, clearing, opening, releasing, wishing, Frame, Refusal, too_deep, too_long, late_moment, crowded, worn, no_frame, not_reserved}
@@ -42,9 +42,9 @@ pub data Answer : Type 0 where
 
 -- ---- what a step makes of the state
 
--- the state after an action of the frame on top
-abbrev pub with_action : Core → Action → Core
-with_action c action = record c { history = c.history ++ action ∷ [] }
+-- the state after a history event of the frame on top
+abbrev pub with_history_event : Core → HistoryEvent → Core
+with_history_event c history_event = record c { history = c.history ++ history_event ∷ [] }
 
 -- the frame on top goes on in this phase
 abbrev pub in_phase : Core → Frame → List Frame → Phase → Core
@@ -74,7 +74,8 @@ new_reservation c moment len = reservation_for moment len (reserved_records c.hi
 abbrev pub with_reservation : Core → Reservation → Core
 with_reservation c r =
     let tail : PageRecords = contents_of c (tail_page c) in
-    with_action (with_held c (tail_page c) record { first = tail.first; records = tail.records ++ r ∷ [] }) reserve
+    let with_record : PageRecords = record { first = tail.first; records = tail.records ++ r ∷ [] } in
+    with_history_event (with_held c (tail_page c) with_record) reserve
 
 -- the frame on top has reserved the record of this number
 abbrev pub in_reserved : Core → Frame → List Frame → ℕ → Core
@@ -198,32 +199,32 @@ pub record BeginsAgain (c : Core) (frame : Frame) (below : List Frame) (noted : 
 
 -- A load of the link into the position of the fill to open: the position is free, or its page is the head, or
 -- a frame below is moving the head.
-pub data LookStep (n : ℕ) (c : Core) (frame : Frame) (below : List Frame)
+pub data LoadLinkStep (n : ℕ) (c : Core) (frame : Frame) (below : List Frame)
     (noted : ℕ) (answer : Answer) (after : Core)
     : Type 0 where
-  look_late :
+  load_link_late :
       BeginsAgain c frame below noted answer after
-      → LookStep n c frame below noted answer after
+      → LoadLinkStep n c frame below noted answer after
   sees_free : (page : ℕ)
       → noted ≡ c.opened
       → link_into n c.links noted ≡ normal_link page noted
       → answer ≡ going
       → after ≡ in_phase c frame below (opening noted page)
-      → LookStep n c frame below noted answer after
+      → LoadLinkStep n c frame below noted answer after
   sees_header : (page lost : ℕ)
       → noted ≡ c.opened
       → lost + n ≡ noted
       → link_into n c.links noted ≡ header_link page lost
       → answer ≡ going
       → after ≡ in_phase c frame below (claiming noted page)
-      → LookStep n c frame below noted answer after
+      → LoadLinkStep n c frame below noted answer after
   sees_update : (page lost : ℕ)
       → noted ≡ c.opened
       → lost + n ≡ noted
       → link_into n c.links noted ≡ update_link page lost
       → answer ≡ going
       → after ≡ in_phase c frame below (looking_next helper noted page)
-      → LookStep n c frame below noted answer after
+      → LoadLinkStep n c frame below noted answer after
 
 -- the head, which is on this page as this fill, is lost: its HEADER is an UPDATE
 abbrev pub with_head_claimed : ℕ → Core → (noted page lost : ℕ) → Core
@@ -231,57 +232,57 @@ with_head_claimed n c noted page lost = record (with_link n c noted (update_link
 
 -- A compare and exchange of that link from HEADER to UPDATE: if it succeeds, the head is lost and the frame
 -- owns the UPDATE.
-pub data ClaimStep (n : ℕ) (c : Core) (frame : Frame) (below : List Frame)
+pub data ClaimHeadStep (n : ℕ) (c : Core) (frame : Frame) (below : List Frame)
     (noted page : ℕ) (answer : Answer) (after : Core)
     : Type 0 where
   claim_late :
       BeginsAgain c frame below noted answer after
-      → ClaimStep n c frame below noted page answer after
+      → ClaimHeadStep n c frame below noted page answer after
   claims : (lost : ℕ)
       → noted ≡ c.opened
       → lost + n ≡ noted
       → link_into n c.links noted ≡ header_link page lost
       → answer ≡ going
       → after ≡ in_phase (with_head_claimed n c noted page lost) frame below (looking_next owner noted page)
-      → ClaimStep n c frame below noted page answer after
+      → ClaimHeadStep n c frame below noted page answer after
   claim_fails :
       noted ≡ c.opened
       → ((lost : ℕ) → lost + n ≡ noted → link_into n c.links noted ≢ header_link page lost)
       → answer ≡ going
       → after ≡ in_phase c frame below (looking noted)
-      → ClaimStep n c frame below noted page answer after
+      → ClaimHeadStep n c frame below noted page answer after
 
 -- A load of the next link, that of the page which is passed: does it still wait for the HEADER?
-pub data NextStep (n : ℕ) (c : Core) (frame : Frame) (below : List Frame)
+pub data LoadNextStep (n : ℕ) (c : Core) (frame : Frame) (below : List Frame)
     (role : Role) (noted page : ℕ) (answer : Answer) (after : Core)
     : Type 0 where
-  next_late :
+  load_next_late :
       role ≡ helper
       → BeginsAgain c frame below noted answer after
-      → NextStep n c frame below role noted page answer after
+      → LoadNextStep n c frame below role noted page answer after
   sees_normal : (lost next : ℕ)
       → MayOpen role noted c.opened
       → lost + n ≡ noted
       → link_into n c.links (suc lost) ≡ normal_link next (suc lost)
       → answer ≡ going
       → after ≡ in_phase c frame below (marking role noted page next)
-      → NextStep n c frame below role noted page answer after
+      → LoadNextStep n c frame below role noted page answer after
   sees_other : (lost : ℕ)
       → MayOpen role noted c.opened
       → lost + n ≡ noted
       → ((next : ℕ) → link_into n c.links (suc lost) ≢ normal_link next (suc lost))
       → answer ≡ going
       → after ≡ in_phase c frame below (after_next role noted page)
-      → NextStep n c frame below role noted page answer after
+      → LoadNextStep n c frame below role noted page answer after
 
 -- A compare and exchange of the next link from NORMAL to HEADER, which succeeds or fails.
-pub data MarkStep (n : ℕ) (c : Core) (frame : Frame) (below : List Frame)
+pub data MarkHeadStep (n : ℕ) (c : Core) (frame : Frame) (below : List Frame)
     (role : Role) (noted page next : ℕ) (answer : Answer) (after : Core)
     : Type 0 where
   mark_late :
       role ≡ helper
       → BeginsAgain c frame below noted answer after
-      → MarkStep n c frame below role noted page next answer after
+      → MarkHeadStep n c frame below role noted page next answer after
   marks : (lost : ℕ)
       → MayOpen role noted c.opened
       → lost + n ≡ noted
@@ -289,17 +290,17 @@ pub data MarkStep (n : ℕ) (c : Core) (frame : Frame) (below : List Frame)
       → answer ≡ going
       → after
       ≡ in_phase (with_link n c (suc lost) (header_link next (suc lost))) frame below (after_next role noted page)
-      → MarkStep n c frame below role noted page next answer after
+      → MarkHeadStep n c frame below role noted page next answer after
   mark_fails : (lost : ℕ)
       → MayOpen role noted c.opened
       → lost + n ≡ noted
       → link_into n c.links (suc lost) ≢ normal_link next (suc lost)
       → answer ≡ going
       → after ≡ in_phase c frame below (after_next role noted page)
-      → MarkStep n c frame below role noted page next answer after
+      → MarkHeadStep n c frame below role noted page next answer after
 
 -- A compare and exchange of the link from UPDATE to NORMAL by the frame that owns it.
-pub data ClearStep (n : ℕ) (c : Core) (frame : Frame) (below : List Frame)
+pub data ClearUpdateStep (n : ℕ) (c : Core) (frame : Frame) (below : List Frame)
     (noted page : ℕ) (answer : Answer) (after : Core)
     : Type 0 where
   clears : (lost : ℕ)
@@ -307,50 +308,50 @@ pub data ClearStep (n : ℕ) (c : Core) (frame : Frame) (below : List Frame)
       → link_into n c.links noted ≡ update_link page lost
       → answer ≡ going
       → after ≡ in_phase (with_link n c noted (normal_link page noted)) frame below (opening noted page)
-      → ClearStep n c frame below noted page answer after
+      → ClearUpdateStep n c frame below noted page answer after
 
 -- The state in which the fill is begun: the writer holds its page, which is empty, and its first record will be
 -- the next one that is reserved.
 abbrev pub with_new_tail : Core → ℕ → Core
 with_new_tail c page =
     let empty : PageRecords = record { first = length (reserved_records c.history); records = [] } in
-    record (with_action (with_held c page empty) open_fill) {
+    record (with_history_event (with_held c page empty) open_fill) {
       opened = c.opened + 1;
       open_pages = c.open_pages ++ page ∷ [];
     }
 
 -- A store of the number of begun fills.
-pub data OpenStep (n : ℕ) (c : Core) (frame : Frame) (below : List Frame)
+pub data OpenFillStep (n : ℕ) (c : Core) (frame : Frame) (below : List Frame)
     (noted page : ℕ) (answer : Answer) (after : Core)
     : Type 0 where
   open_late :
       BeginsAgain c frame below noted answer after
-      → OpenStep n c frame below noted page answer after
+      → OpenFillStep n c frame below noted page answer after
   opens :
       noted ≡ c.opened
       → answer ≡ begin_answer frame.kind frame.state below
       → after ≡ after_begin frame.kind frame.state (with_new_tail c page) frame below
-      → OpenStep n c frame below noted page answer after
+      → OpenFillStep n c frame below noted page answer after
 
 -- the oldest fill that isn't closed is closed, and the writer lets its page go
 abbrev pub with_released : Core → Core
 with_released c = record c { done = c.done + 1; open_pages = drop 1 c.open_pages }
 
 -- A store of the number of closed fills; with the last one that is left to close, the frame looks for a wish.
-pub data ReleaseStep (c : Core) (frame : Frame) (below : List Frame) (answer : Answer) (after : Core)
+pub data ReleaseFillStep (c : Core) (frame : Frame) (below : List Frame) (answer : Answer) (after : Core)
     : Type 0 where
   releases :
       below ≡ []
       → c.done + 2 < c.opened
       → answer ≡ going
       → after ≡ with_released c
-      → ReleaseStep c frame below answer after
+      → ReleaseFillStep c frame below answer after
   releases_last :
       below ≡ []
       → c.done + 2 ≡ c.opened
       → answer ≡ going
       → after ≡ in_phase (with_released c) frame below wishing
-      → ReleaseStep c frame below answer after
+      → ReleaseFillStep c frame below answer after
 
 -- the reader wishes for the tail, which holds a record and isn't the last fill
 pub record IsGranted (n : ℕ) (c : Core) : Type 0 where
@@ -359,28 +360,28 @@ pub record IsGranted (n : ℕ) (c : Core) : Type 0 where
   pub numbers_left : c.opened + n < LINK_FILLS
 
 -- A load of the reader's wish: the frame closes the tail for it; or it closes what was begun meanwhile, or is gone.
-pub data WishStep (n : ℕ) (c : Core) (frame : Frame) (below : List Frame) (answer : Answer) (after : Core)
+pub data LoadWishStep (n : ℕ) (c : Core) (frame : Frame) (below : List Frame) (answer : Answer) (after : Core)
     : Type 0 where
   grants :
       below ≡ []
       → IsGranted n c
       → answer ≡ going
-      → after ≡ in_phase (with_action c wished) frame below (looking c.opened)
-      → WishStep n c frame below answer after
+      → after ≡ in_phase (with_history_event c wished) frame below (looking c.opened)
+      → LoadWishStep n c frame below answer after
   closes_more :
       below ≡ []
       → (IsGranted n c → ⊥)
       → c.done + 1 < c.opened
       → answer ≡ going
       → after ≡ in_phase c frame below releasing
-      → WishStep n c frame below answer after
+      → LoadWishStep n c frame below answer after
   goes_away :
       below ≡ []
       → (IsGranted n c → ⊥)
       → c.done + 1 ≡ c.opened
       → answer ≡ gone
       → after ≡ record c { frames = [] }
-      → WishStep n c frame below answer after
+      → LoadWishStep n c frame below answer after
 
 -- the step of a frame on top that has noted nothing
 abbrev pub IdleStep : ℕ → ℕ → Core → Frame → List Frame → FrameState → Answer → Core → Type 0
@@ -391,16 +392,18 @@ IdleStep n size c frame below left answer after = ⊥
 -- the step of the frame on top, in its phase
 abbrev pub FrameStep : ℕ → ℕ → Core → Frame → List Frame → Phase → Answer → Core → Type 0
 FrameStep n size c frame below idle answer after = IdleStep n size c frame below frame.state answer after
-FrameStep n size c frame below (looking noted) answer after = LookStep n c frame below noted answer after
-FrameStep n size c frame below (claiming noted page) answer after = ClaimStep n c frame below noted page answer after
+FrameStep n size c frame below (looking noted) answer after = LoadLinkStep n c frame below noted answer after
+FrameStep n size c frame below (claiming noted page) answer after =
+    ClaimHeadStep n c frame below noted page answer after
 FrameStep n size c frame below (looking_next role noted page) answer after =
-    NextStep n c frame below role noted page answer after
+    LoadNextStep n c frame below role noted page answer after
 FrameStep n size c frame below (marking role noted page next) answer after =
-    MarkStep n c frame below role noted page next answer after
-FrameStep n size c frame below (clearing noted page) answer after = ClearStep n c frame below noted page answer after
-FrameStep n size c frame below (opening noted page) answer after = OpenStep n c frame below noted page answer after
-FrameStep n size c frame below releasing answer after = ReleaseStep c frame below answer after
-FrameStep n size c frame below wishing answer after = WishStep n c frame below answer after
+    MarkHeadStep n c frame below role noted page next answer after
+FrameStep n size c frame below (clearing noted page) answer after =
+    ClearUpdateStep n c frame below noted page answer after
+FrameStep n size c frame below (opening noted page) answer after = OpenFillStep n c frame below noted page answer after
+FrameStep n size c frame below releasing answer after = ReleaseFillStep c frame below answer after
+FrameStep n size c frame below wishing answer after = LoadWishStep n c frame below answer after
 
 -- ---- the steps of the reader, phase by phase
 
@@ -409,29 +412,29 @@ abbrev pub reader_at : Core → ReaderPhase → ℕ → Core
 reader_at c phase hint = record c { reader = record c.reader { phase = phase; hint = hint } }
 
 -- A load of the link into the position of the hint.
-pub data LoadStep (n : ℕ) (c : Core) (answer : Answer) (after : Core) : Type 0 where
+pub data LoadHeadStep (n : ℕ) (c : Core) (answer : Answer) (after : Core) : Type 0 where
   loads_header : (page fill : ℕ)
       → link_into n c.links c.reader.hint ≡ header_link page fill
       → answer ≡ reading
       → after ≡ reader_at c (loading_done page fill) fill
-      → LoadStep n c answer after
+      → LoadHeadStep n c answer after
   loads_update : (page lost : ℕ)
       → link_into n c.links c.reader.hint ≡ update_link page lost
       → answer ≡ moving (suc lost)
       → after ≡ reader_at c loading_link (suc lost)
-      → LoadStep n c answer after
+      → LoadHeadStep n c answer after
   loads_owed : (page : ℕ)
       → link_into n c.links c.reader.hint ≡ normal_link page c.reader.hint
       → answer ≡ moving c.reader.hint
       → after ≡ reader_at c loading_link c.reader.hint
-      → LoadStep n c answer after
+      → LoadHeadStep n c answer after
   loads_passed : (page fill least : ℕ)
       → link_into n c.links c.reader.hint ≡ normal_link page fill
       → c.reader.hint < fill
       → least + n ≡ suc fill
       → answer ≡ reading
       → after ≡ reader_at c loading_link least
-      → LoadStep n c answer after
+      → LoadHeadStep n c answer after
 
 -- the reader goes on in this phase, and has seen how many fills are closed
 abbrev pub reader_saw : Core → ReaderPhase → Core
@@ -455,7 +458,7 @@ abbrev pub next_header : ℕ → Core → ℕ → Link
 next_header n c fill = header_link (page_at n c.order (suc fill)) (suc fill)
 
 -- A store of the spare's link.
-pub record StoreStep (n : ℕ) (c : Core) (page fill : ℕ) (answer : Answer) (after : Core) : Type 0 where
+pub record StoreSpareLinkStep (n : ℕ) (c : Core) (page fill : ℕ) (answer : Answer) (after : Core) : Type 0 where
   pub answer_is : answer ≡ reading
   pub after_is : after
       ≡ record (reader_at c (swapping page fill) c.reader.hint) { spare_link = next_header n c fill }
@@ -492,24 +495,24 @@ after_swap n c page fill = record c {
 }
 
 -- A compare and exchange of the link to the head from HEADER to NORMAL: the swap, which succeeds or fails.
-pub data SwapStep (n : ℕ) (c : Core) (page fill : ℕ) (answer : Answer) (after : Core) : Type 0 where
+pub data SwapHeadStep (n : ℕ) (c : Core) (page fill : ℕ) (answer : Answer) (after : Core) : Type 0 where
   swaps :
       link_into n c.links fill ≡ header_link page fill
       → answer ≡ swapped (taken_fill c page fill)
       → after ≡ after_swap n c page fill
-      → SwapStep n c page fill answer after
+      → SwapHeadStep n c page fill answer after
   swap_fails :
       link_into n c.links fill ≢ header_link page fill
       → answer ≡ reading
       → after ≡ reader_at c loading_link (suc fill)
-      → SwapStep n c page fill answer after
+      → SwapHeadStep n c page fill answer after
 
 -- the step of the reader, in its phase
 abbrev pub ReadStep : ℕ → Core → ReaderPhase → Answer → Core → Type 0
-ReadStep n c loading_link answer after = LoadStep n c answer after
+ReadStep n c loading_link answer after = LoadHeadStep n c answer after
 ReadStep n c (loading_done page fill) answer after = LoadDoneStep c page fill answer after
-ReadStep n c (storing_link page fill) answer after = StoreStep n c page fill answer after
-ReadStep n c (swapping page fill) answer after = SwapStep n c page fill answer after
+ReadStep n c (storing_link page fill) answer after = StoreSpareLinkStep n c page fill answer after
+ReadStep n c (swapping page fill) answer after = SwapHeadStep n c page fill answer after
 
 -- the reader wishes for the fill after those that it knows to be closed
 abbrev pub with_wish : Core → Core
@@ -557,7 +560,7 @@ pub data Step (n size : ℕ) (c : Core) (event : Event) (answer : Answer) (after
       → (IsTooLong size len → ⊥)
       → moment < MOMENT_LIMIT
       → answer ≡ pushed
-      → after ≡ with_action (with_frame c (for_record moment len)) (push moment len)
+      → after ≡ with_history_event (with_frame c (for_record moment len)) (push moment len)
       → Step n size c event answer after
   push_refused : (moment len : ℕ) (why : Refusal)
       → event ≡ pushes moment len
@@ -569,7 +572,7 @@ pub data Step (n size : ℕ) (c : Core) (event : Event) (answer : Answer) (after
       event ≡ pushes_close
       → HasRoom c
       → answer ≡ pushed
-      → after ≡ with_action (with_frame c for_close) push_close
+      → after ≡ with_history_event (with_frame c for_close) push_close
       → Step n size c event answer after
   close_refused :
       event ≡ pushes_close
@@ -614,7 +617,7 @@ pub data Step (n size : ℕ) (c : Core) (event : Event) (answer : Answer) (after
       event ≡ reads
       → ReadStep n c c.reader.phase answer after
       → Step n size c event answer after
-  wish_step :
+  store_wish_step :
       event ≡ wishes
       → answer ≡ wished_for c.reader.seen
       → after ≡ with_wish c

@@ -2,7 +2,7 @@
 -- happen to these counts. After kernel/trace/ring_buffer.c (rb_move_tail, rb_handle_head_page,
 -- rb_get_reader_page) and docs/FORMATS.md, "The ring".
 use Rattle.std.specs.Prelude.{◌≡◌, ℕ, ◌+◌, ◌<◌, ◌≤◌, List, [], ◌∷◌, ◌++◌, IsTrue, Option, Some, None}
-use Rattle.trace_model.specs.History.{Action, push, push_close, open_fill, reserve, leave, wished, is_settled}
+use Rattle.trace_model.specs.History.{HistoryEvent, push, push_close, open_fill, reserve, leave, wished, is_settled}
 
 -- head: the fills below it are taken or lost. done: those below it are closed, that is, released to
 -- the reader. opened: those below it are begun; the last of these is the tail.
@@ -33,36 +33,36 @@ window_after w lost_one = record { head = w.head + 1; done = w.done; opened = w.
 -- When each may happen, after this history: a fill is begun only if a position is free; one is closed
 -- only if it isn't the tail and each push has its leave; the head is taken only if it is closed, and lost
 -- only if it is closed and the ring is full.
-abbrev pub MayMove : ℕ → List Action → Window → WindowEvent → Type 0
+abbrev pub MayMove : ℕ → List HistoryEvent → Window → WindowEvent → Type 0
 MayMove n history w opened_one = w.opened < w.head + n
 MayMove n history w released_one = (w.done + 1 < w.opened) × IsTrue (is_settled history)
 MayMove n history w took_one = w.head < w.done
 MayMove n history w lost_one = (w.head < w.done) × (w.opened ≡ w.head + n)
 
 -- the event may happen, after this history, and makes the second window of the first
-pub record WindowStep (n : ℕ) (history : List Action) (before : Window) (event : WindowEvent) (after : Window)
+pub record WindowStep (n : ℕ) (history : List HistoryEvent) (before : Window) (event : WindowEvent) (after : Window)
     : Type 0 where
   pub may : MayMove n history before event
   pub after_is : after ≡ window_after before event
 
 -- What is done to a ring, in one order: what the frames do; and a fill is closed, taken by the reader, or lost to
--- a writer. That a fill is begun is an action of the frames, and an event of the window too.
+-- a writer. That a fill is begun is a history event of the frames, and an event of the window too.
 pub data RingEvent : Type 0 where
-  acts : Action → RingEvent
+  acts : HistoryEvent → RingEvent
   closes : RingEvent
   takes : RingEvent
   loses : RingEvent
 
--- the actions among the events
-abbrev pub actions_of : List RingEvent → List Action
-actions_of [] = []
-actions_of (acts a ∷ events) = a ∷ actions_of events
-actions_of (closes ∷ events) = actions_of events
-actions_of (takes ∷ events) = actions_of events
-actions_of (loses ∷ events) = actions_of events
+-- the history events among the events
+abbrev pub history_events_of : List RingEvent → List HistoryEvent
+history_events_of [] = []
+history_events_of (acts a ∷ events) = a ∷ history_events_of events
+history_events_of (closes ∷ events) = history_events_of events
+history_events_of (takes ∷ events) = history_events_of events
+history_events_of (loses ∷ events) = history_events_of events
 
--- the event of the window that an action is, if it is one
-abbrev pub window_event_of : Action → Option WindowEvent
+-- the event of the window that a history event is, if it is one
+abbrev pub window_event_of : HistoryEvent → Option WindowEvent
 window_event_of (push moment len) = None
 window_event_of push_close = None
 window_event_of open_fill = Some opened_one
@@ -71,7 +71,7 @@ window_event_of (leave payload) = None
 window_event_of wished = None
 
 -- nothing happens, or what may
-abbrev pub MayPass : ℕ → List Action → Window → Option WindowEvent → Type 0
+abbrev pub MayPass : ℕ → List HistoryEvent → Window → Option WindowEvent → Type 0
 MayPass n history w None = Unit {0}
 MayPass n history w (Some what) = MayMove n history w what
 
@@ -81,7 +81,7 @@ window_behind w None = w
 window_behind w (Some what) = window_after w what
 
 -- After a history, the events lead from one window to another.
-abbrev pub WindowRunFrom : ℕ → List Action → Window → List RingEvent → Window → Type 0
+abbrev pub WindowRunFrom : ℕ → List HistoryEvent → Window → List RingEvent → Window → Type 0
 WindowRunFrom n history before [] after = before ≡ after
 WindowRunFrom n history before (acts a ∷ events) after =
     MayPass n history before (window_event_of a)

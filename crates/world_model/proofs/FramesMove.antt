@@ -2,7 +2,7 @@
 use Rattle.std.proofs.Common.{◌≡◌, ℕ, List, [], ◌∷◌, refl, sym, ap, ◌∙◌, subst}
 use Rattle.trace_model.specs.Frames.{Kind, for_record, for_close, FrameState, waiting, reserved, left, Role, Phase, idle, looking, claiming, looking_next, marking, clearing, opening, releasing, wishing, Frame}
 use Rattle.trace_model.specs.Ring.{ReaderPhase, loading_link, loading_done, storing_link, swapping, Core}
-use Rattle.trace_model.specs.Steps.{Event, pushes, pushes_close, steps, ends, reads, wishes, Answer, closing_phase, frames_after_leave, with_new_tail, after_begin, BeginsAgain, ReserveStep, reserves, finds_nothing, is_crowded, is_worn, notes, LookStep, look_late, sees_free, sees_header, sees_update, ClaimStep, claim_late, claims, claim_fails, NextStep, next_late, sees_normal, sees_other, MarkStep, mark_late, marks, mark_fails, ClearStep, clears, OpenStep, open_late, opens, ReleaseStep, releases, releases_last, WishStep, grants, closes_more, goes_away, IdleStep, FrameStep, loads_header, loads_update, loads_owed, loads_passed, finds_none, finds_closed, swaps, swap_fails, ReadStep, Step, push_step, push_refused, close_step, close_refused, frame_step, frame_lacks, end_step, end_lacks, end_early, read_step, wish_step}
+use Rattle.trace_model.specs.Steps.{Event, pushes, pushes_close, steps, ends, reads, wishes, Answer, closing_phase, frames_after_leave, with_new_tail, after_begin, BeginsAgain, ReserveStep, reserves, finds_nothing, is_crowded, is_worn, notes, LoadLinkStep, load_link_late, sees_free, sees_header, sees_update, ClaimHeadStep, claim_late, claims, claim_fails, LoadNextStep, load_next_late, sees_normal, sees_other, MarkHeadStep, mark_late, marks, mark_fails, ClearUpdateStep, clears, OpenFillStep, open_late, opens, ReleaseFillStep, releases, releases_last, LoadWishStep, grants, closes_more, goes_away, IdleStep, FrameStep, loads_header, loads_update, loads_owed, loads_passed, finds_none, finds_closed, swaps, swap_fails, ReadStep, Step, push_step, push_refused, close_step, close_refused, frame_step, frame_lacks, end_step, end_lacks, end_early, read_step, store_wish_step}
 
 -- a step that pushes none
 pub data Moves (before after : List Frame) : Type 0 where
@@ -38,58 +38,58 @@ module _ (n size : ℕ) (c : Core) (frame : Frame) (below : List Frame) (answer 
   reserve_moves (is_worn needs room last a is) = leaves c _ refl is
   reserve_moves (notes needs room small a is) = to _ _ refl refl is
 
-  look_moves : (noted : ℕ) → LookStep n c frame below noted answer after → Moves c.frames after.frames
-  look_moves noted (look_late step) = again noted step
-  look_moves noted (sees_free page now at a is) = to _ _ refl refl is
-  look_moves noted (sees_header page lost now sum at a is) = to _ _ refl refl is
-  look_moves noted (sees_update page lost now sum at a is) = to _ _ refl refl is
+  load_link_moves : (noted : ℕ) → LoadLinkStep n c frame below noted answer after → Moves c.frames after.frames
+  load_link_moves noted (load_link_late step) = again noted step
+  load_link_moves noted (sees_free page now at a is) = to _ _ refl refl is
+  load_link_moves noted (sees_header page lost now sum at a is) = to _ _ refl refl is
+  load_link_moves noted (sees_update page lost now sum at a is) = to _ _ refl refl is
 
-  claim_moves : (noted page : ℕ) → ClaimStep n c frame below noted page answer after → Moves c.frames after.frames
-  claim_moves noted page (claim_late step) = again noted step
-  claim_moves noted page (claims lost now sum at a is) = to _ _ refl refl is
-  claim_moves noted page (claim_fails now other a is) = to _ _ refl refl is
+  claim_head_moves : (noted page : ℕ) → ClaimHeadStep n c frame below noted page answer after → Moves c.frames after.frames
+  claim_head_moves noted page (claim_late step) = again noted step
+  claim_head_moves noted page (claims lost now sum at a is) = to _ _ refl refl is
+  claim_head_moves noted page (claim_fails now other a is) = to _ _ refl refl is
 
-  next_moves : (role : Role) (noted page : ℕ) → NextStep n c frame below role noted page answer after → Moves c.frames after.frames
-  next_moves role noted page (next_late helps step) = again noted step
-  next_moves role noted page (sees_normal lost next on sum at a is) = to _ _ refl refl is
-  next_moves role noted page (sees_other lost on sum other a is) = to _ _ refl refl is
+  load_next_moves : (role : Role) (noted page : ℕ) → LoadNextStep n c frame below role noted page answer after → Moves c.frames after.frames
+  load_next_moves role noted page (load_next_late helps step) = again noted step
+  load_next_moves role noted page (sees_normal lost next on sum at a is) = to _ _ refl refl is
+  load_next_moves role noted page (sees_other lost on sum other a is) = to _ _ refl refl is
 
-  mark_moves : (role : Role) (noted page next : ℕ) → MarkStep n c frame below role noted page next answer after → Moves c.frames after.frames
-  mark_moves role noted page next (mark_late helps step) = again noted step
-  mark_moves role noted page next (marks lost on sum at a is) = to _ _ refl refl is
-  mark_moves role noted page next (mark_fails lost on sum other a is) = to _ _ refl refl is
+  mark_head_moves : (role : Role) (noted page next : ℕ) → MarkHeadStep n c frame below role noted page next answer after → Moves c.frames after.frames
+  mark_head_moves role noted page next (mark_late helps step) = again noted step
+  mark_head_moves role noted page next (marks lost on sum at a is) = to _ _ refl refl is
+  mark_head_moves role noted page next (mark_fails lost on sum other a is) = to _ _ refl refl is
 
-  clear_moves : (noted page : ℕ) → ClearStep n c frame below noted page answer after → Moves c.frames after.frames
-  clear_moves noted page (clears lost sum at a is) = to _ _ refl refl is
+  clear_update_moves : (noted page : ℕ) → ClearUpdateStep n c frame below noted page answer after → Moves c.frames after.frames
+  clear_update_moves noted page (clears lost sum at a is) = to _ _ refl refl is
 
-  open_moves : (noted page : ℕ) → OpenStep n c frame below noted page answer after → Moves c.frames after.frames
-  open_moves noted page (open_late step) = again noted step
-  open_moves noted page (opens now a is) = begins frame.kind frame.state (with_new_tail c page) is
+  open_fill_moves : (noted page : ℕ) → OpenFillStep n c frame below noted page answer after → Moves c.frames after.frames
+  open_fill_moves noted page (open_late step) = again noted step
+  open_fill_moves noted page (opens now a is) = begins frame.kind frame.state (with_new_tail c page) is
 
-  release_moves : ReleaseStep c frame below answer after → Moves c.frames after.frames
-  release_moves (releases alone more a is) = stays (ap (λ (d : Core). d.frames) is)
-  release_moves (releases_last alone last a is) = to _ _ refl refl is
+  release_fill_moves : ReleaseFillStep c frame below answer after → Moves c.frames after.frames
+  release_fill_moves (releases alone more a is) = stays (ap (λ (d : Core). d.frames) is)
+  release_fill_moves (releases_last alone last a is) = to _ _ refl refl is
 
   idle_moves : (state : FrameState) → IdleStep n size c frame below state answer after → Moves c.frames after.frames
   idle_moves waiting step = reserve_moves step
   idle_moves (reserved number) step = stays (ap (λ (d : Core). d.frames) step.1)
   idle_moves left step = absurd step
 
-  wish_moves : WishStep n c frame below answer after → Moves c.frames after.frames
-  wish_moves (grants alone granted a is) = to _ _ refl refl is
-  wish_moves (closes_more alone denied more a is) = to _ _ refl refl is
-  wish_moves (goes_away alone denied last a is) = pops frame below top (ap (λ (d : Core). d.frames) is ∙ sym alone)
+  load_wish_moves : LoadWishStep n c frame below answer after → Moves c.frames after.frames
+  load_wish_moves (grants alone granted a is) = to _ _ refl refl is
+  load_wish_moves (closes_more alone denied more a is) = to _ _ refl refl is
+  load_wish_moves (goes_away alone denied last a is) = pops frame below top (ap (λ (d : Core). d.frames) is ∙ sym alone)
 
   pub frame_moves : (phase : Phase) → FrameStep n size c frame below phase answer after → Moves c.frames after.frames
   frame_moves idle step = idle_moves frame.state step
-  frame_moves (looking noted) step = look_moves noted step
-  frame_moves (claiming noted page) step = claim_moves noted page step
-  frame_moves (looking_next role noted page) step = next_moves role noted page step
-  frame_moves (marking role noted page next) step = mark_moves role noted page next step
-  frame_moves (clearing noted page) step = clear_moves noted page step
-  frame_moves (opening noted page) step = open_moves noted page step
-  frame_moves releasing step = release_moves step
-  frame_moves wishing step = wish_moves step
+  frame_moves (looking noted) step = load_link_moves noted step
+  frame_moves (claiming noted page) step = claim_head_moves noted page step
+  frame_moves (looking_next role noted page) step = load_next_moves role noted page step
+  frame_moves (marking role noted page next) step = mark_head_moves role noted page next step
+  frame_moves (clearing noted page) step = clear_update_moves noted page step
+  frame_moves (opening noted page) step = open_fill_moves noted page step
+  frame_moves releasing step = release_fill_moves step
+  frame_moves wishing step = load_wish_moves step
 
 pub reads_stay : (n : ℕ) (c : Core) (answer : Answer) (after : Core) (phase : ReaderPhase) → ReadStep n c phase answer after → after.frames ≡ c.frames
 reads_stay n c answer after loading_link (loads_header page fill at a is) = ap (λ (d : Core). d.frames) is
@@ -122,4 +122,4 @@ step_moves n size c event answer after none (end_step payload frame below number
 step_moves n size c event answer after none (end_lacks payload e empty a is) = stays (ap (λ (d : Core). d.frames) is)
 step_moves n size c event answer after none (end_early payload frame below e top waits a is) = stays (ap (λ (d : Core). d.frames) is)
 step_moves n size c event answer after none (read_step e step) = stays (reads_stay n c answer after c.reader.phase step)
-step_moves n size c event answer after none (wish_step e a is) = stays (ap (λ (d : Core). d.frames) is)
+step_moves n size c event answer after none (store_wish_step e a is) = stays (ap (λ (d : Core). d.frames) is)

@@ -3,7 +3,7 @@ use Rattle.std.proofs.Common.{◌≡◌, ℕ, zero, suc, ◌-◌, List, [], ◌�
 use Rattle.trace_model.specs.Words.{slot_len, padded}
 use Rattle.trace_model.specs.Frames.{Kind, for_record, FrameState, waiting, reserved, left, Frame}
 use Rattle.trace_model.specs.Ring.{Core}
-use Rattle.trace_model.specs.Steps.{Event, pushes, pushes_close, steps, ends, reads, wishes, Answer, pushed, going, reserved_as, pending, full, gone, refused, reading, empty, moving, swapped, wished_for, Step, push_step, push_refused, close_step, close_refused, frame_step, frame_lacks, end_step, end_lacks, end_early, read_step, wish_step, Exchange}
+use Rattle.trace_model.specs.Steps.{Event, pushes, pushes_close, steps, ends, reads, wishes, Answer, pushed, going, reserved_as, pending, full, gone, refused, reading, empty, moving, swapped, wished_for, Step, push_step, push_refused, close_step, close_refused, frame_step, frame_lacks, end_step, end_lacks, end_early, read_step, store_wish_step, Exchange}
 use Rattle.script_model.specs.Script.{Command, begin_frame, step_frame, finish_frame, write, close, step_reader, take_page, wish, deliver}
 use Rattle.trace_model.proofs.Lengths.{slot_len-slot_len, length-padded}
 use Rattle.link_marks.specs.RingLaws.{MayAsk}
@@ -128,7 +128,7 @@ module _ (n size : ℕ) where
   push_fits event payload before answer core is_push fit (end_lacks bytes e stand a is) = absurd (subst (λ (ev : Event). IsPushOf ev payload) e is_push)
   push_fits event payload before answer core is_push fit (end_early bytes frame below e top waits a is) = absurd (subst (λ (ev : Event). IsPushOf ev payload) e is_push)
   push_fits event payload before answer core is_push fit (read_step e step) = absurd (subst (λ (ev : Event). IsPushOf ev payload) e is_push)
-  push_fits event payload before answer core is_push fit (wish_step e a is) = absurd (subst (λ (ev : Event). IsPushOf ev payload) e is_push)
+  push_fits event payload before answer core is_push fit (store_wish_step e a is) = absurd (subst (λ (ev : Event). IsPushOf ev payload) e is_push)
 
   pushes_fit : (event : Event) (payload : List ℕ) (before after : Lane) (x : Exchange) → IsPushOf event payload → HasPayloads before → PushesFrame n size event payload before x after → HasPayloads after
   pushes_fit event payload before after x is_push fit p = subst HasPayloads (sym p.after_is) (push_fits event payload before x.answer p.core is_push fit p.step)

@@ -2,15 +2,15 @@
 use Rattle.std.proofs.Common.{◌≡◌, ℕ, ◌+◌, ◌<◌, ◌≤◌, List, [], ◌∷◌, ◌++◌, length, refl, sym, ap, ◌∙◌, subst, ⊎_elim, arith, append_assoc, append-nil}
 use Rattle.std.specs.Prelude.{Contains}
 use Rattle.std.proofs.lemmas.List.{length-append}
-use Rattle.trace_model.specs.History.{Action}
-use Rattle.trace_model.specs.Window.{RingEvent, actions_of, Window, first_window, WindowRunFrom}
+use Rattle.trace_model.specs.History.{HistoryEvent}
+use Rattle.trace_model.specs.Window.{RingEvent, history_events_of, Window, first_window, WindowRunFrom}
 use Rattle.trace_model.specs.Ring.{Reader, Core, IsStart, window_of}
 use Rattle.trace_model.specs.Steps.{Exchange, Run}
 use Rattle.link_marks.specs.RingKept.{IsRingKept}
 use Rattle.link_marks.specs.ToldRuns.{fills_taken, numbers_of, IsToldBy}
 use Rattle.link_marks.proofs.RingsKept.{ring_step}
 use Rattle.link_marks.proofs.ToldSteps.{leads_step}
-use Rattle.link_marks.proofs.WindowRuns.{has_none, passed_by, lost_closed, actions-append, run-append, taken-append}
+use Rattle.link_marks.proofs.WindowRuns.{has_none, passed_by, lost_closed, history_events-append, run-append, taken-append}
 use Rattle.world_model.specs.RunEvents.{AreEventsOf, IsRunToldBy}
 
 -- each step has its events
@@ -19,19 +19,19 @@ run_events n size start c after [] r run = ([], (run, refl))
 run_events n size start c after (x ∷ exchanges) r (between, step, run) =
     let l = leads_step n size start c x.event x.answer between r.links r.stack r.history step in
     let (rest, more) = run_events n size start between after exchanges (ring_step n size start c x.event x.answer between r step) run in
-    (l.events ++ rest, (between, step, l.events, record { actions = l.actions; window = l.window; took = l.took }, rest, refl, more))
+    (l.events ++ rest, (between, step, l.events, record { history_events = l.history_events; window = l.window; took = l.took }, rest, refl, more))
 
 -- events, and the events from there on
 events_on : (n : ℕ) (c between after : Core) (own rest : List RingEvent) → AreEventsOf n c own between → AreEventsOf n between rest after → AreEventsOf n c (own ++ rest) after
 events_on n c between after own rest x y = record {
-  actions = y.actions ∙ ap (λ (h : List Action). h ++ actions_of rest) x.actions ∙ append_assoc c.history (actions_of own) (actions_of rest) ∙ ap (λ (h : List Action). c.history ++ h) (sym (actions-append own rest));
-  window = run-append n c.history (window_of c) (window_of between) (window_of after) own rest x.window (subst (λ (h : List Action). WindowRunFrom n h (window_of between) rest (window_of after)) x.actions y.window);
+  history_events = y.history_events ∙ ap (λ (h : List HistoryEvent). h ++ history_events_of rest) x.history_events ∙ append_assoc c.history (history_events_of own) (history_events_of rest) ∙ ap (λ (h : List HistoryEvent). c.history ++ h) (sym (history_events-append own rest));
+  window = run-append n c.history (window_of c) (window_of between) (window_of after) own rest x.window (subst (λ (h : List HistoryEvent). WindowRunFrom n h (window_of between) rest (window_of after)) x.history_events y.window);
   took = y.took ∙ ap (λ (l : List ℕ). l ++ fills_taken between.head rest) x.took ∙ append_assoc (numbers_of c.reader.taken) (fills_taken c.head own) (fills_taken between.head rest)
       ∙ ap (λ (l : List ℕ). numbers_of c.reader.taken ++ l) (sym (taken-append n c.history (window_of c) (window_of between) own rest x.window));
 }
 
 no_events : (n : ℕ) (c : Core) → AreEventsOf n c [] c
-no_events n c = record { actions = sym (append-nil c.history); window = refl; took = sym (append-nil (numbers_of c.reader.taken)) }
+no_events n c = record { history_events = sym (append-nil c.history); window = refl; took = sym (append-nil (numbers_of c.reader.taken)) }
 
 -- those of all steps are those of the run
 run_has : (n size : ℕ) (c after : Core) (exchanges : List Exchange) (events : List RingEvent) → IsRunToldBy n size c exchanges events after → AreEventsOf n c events after
@@ -43,8 +43,8 @@ pub run_tells : (n size start : ℕ) (from c : Core) (exchanges : List Exchange)
 run_tells n size start from c exchanges events s run = let d = run_has n size from c exchanges events run in
     let new : window_of from ≡ first_window start = λ i. record { head = s.head i; done = s.done i; opened = s.opened i } in
     let none : numbers_of from.reader.taken ≡ [] = ap (λ (r : Reader). numbers_of r.taken) s.reader in record {
-      actions = sym (d.actions ∙ ap (λ (h : List Action). h ++ actions_of events) s.history);
-      window = subst (λ (w : Window). WindowRunFrom n [] w events (window_of c)) new (subst (λ (h : List Action). WindowRunFrom n h (window_of from) events (window_of c)) s.history d.window);
+      history_events = sym (d.history_events ∙ ap (λ (h : List HistoryEvent). h ++ history_events_of events) s.history);
+      window = subst (λ (w : Window). WindowRunFrom n [] w events (window_of c)) new (subst (λ (h : List HistoryEvent). WindowRunFrom n h (window_of from) events (window_of c)) s.history d.window);
       took = sym (d.took ∙ ap (λ (l : List ℕ). l ++ fills_taken from.head events) none ∙ ap (λ (h : ℕ). fills_taken h events) s.head);
     }
 

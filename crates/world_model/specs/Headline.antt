@@ -3,7 +3,7 @@
 use Rattle.std.specs.Prelude.{◌≡◌, ℕ, suc, ◌<◌, ◌≤◌, ◌==◌, ◌↔◌, List, length, map, filter, Contains, Some}
 use Rattle.std.specs.List.{slice_get}
 use Rattle.trace_model.specs.Record.{Record}
-use Rattle.trace_model.specs.History.{Action, IsHistory, as_record, committed_records}
+use Rattle.trace_model.specs.History.{HistoryEvent, IsHistory, as_record, committed_records}
 use Rattle.trace_model.specs.Packing.{IsPacked}
 use Rattle.trace_model.specs.Partition.{Piece, IsPartition}
 use Rattle.trace_model.specs.Parcel.{Parcel, IsMissingOf, AreGenuine}
@@ -29,18 +29,18 @@ abbrev pub pieces_in : List Parcel → List Piece
 pieces_in parcels = map piece_in parcels
 
 -- The parcel is the whole of its fill: it has all of that fill's records and no others, under their own numbers.
-pub record IsWholeFill (history : List Action) (start : ℕ) (parcel : Parcel) : Type 0 where
+pub record IsWholeFill (history : List HistoryEvent) (start : ℕ) (parcel : Parcel) : Type 0 where
   pub first_is : parcel.first ≡ (fill_of history start parcel.fill).first
   pub records_are : parcel.records ≡ map as_record (fill_of history start parcel.fill).records
 
 -- the record of this number is in this fill of the history
-abbrev pub StandsIn : (history : List Action) (start fill number : ℕ) → Type 0
+abbrev pub StandsIn : (history : List HistoryEvent) (start fill number : ℕ) → Type 0
 StandsIn history start fill number =
     (first_of_fill history start fill ≤ number) × (number < first_of_fill history start (suc fill))
 
 -- The record of this number was overwritten unread before a fill: it is in one that was lost, after all
 -- that were taken before that fill.
-pub record IsOverwrittenBefore (history : List Action) (start : ℕ) (events : List RingEvent) (fill number : ℕ)
+pub record IsOverwrittenBefore (history : List HistoryEvent) (start : ℕ) (events : List RingEvent) (fill number : ℕ)
     : Type 0 where
   pub lost : ℕ
   pub was_lost : Contains (fills_lost start events) lost
@@ -78,7 +78,8 @@ IsOneOf parcels cpu parcel = Contains parcels parcel × (parcel.cpu ≡ cpu)
 -- What the parcels that were delivered to a collector make of a CPU's history: the collector has exactly the committed
 -- records that are in the fill of one of them, under their own numbers, and misses exactly the numbers that were
 -- overwritten unread before one of them.
-pub record IsExact (history : List Action) (start : ℕ) (events : List RingEvent) (cpu : ℕ) (delivered : List Parcel)
+pub record IsExact (history : List HistoryEvent) (start : ℕ) (events : List RingEvent) (cpu : ℕ)
+    (delivered : List Parcel)
     : Type 0 where
   pub has : (number : ℕ) (r : Record)
       → Has delivered cpu number r

@@ -1,6 +1,6 @@
 -- A run of a ring with the events of each of its steps. docs/FORMATS.md, "The ring".
 use Rattle.std.specs.Prelude.{◌≡◌, ℕ, List, [], ◌∷◌, ◌++◌}
-use Rattle.trace_model.specs.Window.{RingEvent, actions_of, WindowRunFrom}
+use Rattle.trace_model.specs.Window.{RingEvent, history_events_of, WindowRunFrom}
 use Rattle.trace_model.specs.Ring.{Core, window_of}
 use Rattle.trace_model.specs.Steps.{Exchange, Step}
 use Rattle.link_marks.specs.ToldRuns.{fills_taken, numbers_of}
@@ -8,7 +8,7 @@ use Rattle.link_marks.specs.ToldRuns.{fills_taken, numbers_of}
 -- These events are what happens from one state of a ring to another: what the frames did, in order; the window moves by
 -- them, each allowed in the state in which it is done; and the fills that they take are those that the reader took.
 pub record AreEventsOf (n : ℕ) (before : Core) (events : List RingEvent) (after : Core) : Type 0 where
-  pub actions : after.history ≡ before.history ++ actions_of events
+  pub history_events : after.history ≡ before.history ++ history_events_of events
   pub window : WindowRunFrom n before.history (window_of before) events (window_of after)
   pub took : numbers_of after.reader.taken ≡ numbers_of before.reader.taken ++ fills_taken before.head events
 

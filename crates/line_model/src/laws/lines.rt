@@ -1,7 +1,7 @@
 //! Laws over what lines make of a history.
 ghost use Rattle.std.specs.Prelude.{◌≡◌, ◌<◌, ℕ, List, length};
-ghost use Rattle.trace_model.specs.History.{Action};
-ghost use Rattle.trace_model.specs.Window.{Window, RingEvent, actions_of, WindowRun};
+ghost use Rattle.trace_model.specs.History.{HistoryEvent};
+ghost use Rattle.trace_model.specs.Window.{Window, RingEvent, history_events_of, WindowRun};
 ghost use Rattle.script_model.specs.Script.{Command};
 ghost use Rattle.line_model.specs.Lines.{IsMadeByLines};
 ghost use Rattle.line_model.specs.LineExamples.{OneWrite, RefusedBegin, BeginAndSteps, NestedFrames, DroppedWrite, RecordsOfThree};
@@ -19,7 +19,7 @@ pub fn lines_make_histories()
 
 /// What lines make of a history is, with the fills that are closed, taken and lost meanwhile, a run of the window.
 pub fn lines_are_window_runs()
-    ensures run { (n size start : ℕ) (lines : List Command) (history : List Action) →
+    ensures run { (n size start : ℕ) (lines : List Command) (history : List HistoryEvent) →
         IsMadeByLines n size start lines history →
-        (events : List RingEvent) × (w : Window) × WindowRun n start events w × (actions_of events ≡ history) }
+        (events : List RingEvent) × (w : Window) × WindowRun n start events w × (history_events_of events ≡ history) }
 {}

@@ -1,7 +1,7 @@
 //! Laws of what a ring's frames did, and of the partition of its records.
 ghost use Rattle.link_marks.specs.HistoryLaws.{AppendedIsOne, RecordNumbersFit, RecordsAreFew, RestIsUnread, RunsAreHistories, RunsArePacked, StepsAppend, TailIsTheRest, TakenAreFills, TakenHoldRecords, TakenPartitionCommitted};
 
-/// What the frames did is a history: each action is one that the stack allowed.
+/// What the frames did is a history: each event is one that the stack allowed.
 pub fn runs_are_histories()
     ensures histories { RunsAreHistories }
 {}

@@ -10,7 +10,7 @@ pub fn steps_move_window()
     ensures none { NothingHappens }
 {}
 
-/// Every run from a new ring is a run of its window, which states each action of the frames and each fill
+/// Every run from a new ring is a run of its window, which states each event of the frames and each fill
 /// that the reader took; a longer run goes on from there; and its counts only rise.
 pub fn runs_move_window()
     ensures runs { RunsMoveWindow }

@@ -17,7 +17,7 @@ pub enum Allot {
 impl WriterStack {
     ghost use Rattle.std.specs.Prelude.{◌≡◌, ℕ, ◌+◌, ◌-◌, ◌≤◌, ◌<◌, ◌↔◌, max, [], ◌∷◌, ◌++◌, List, Option, None, length, IsTrue, ◌⊎◌, IfSome, IfOk, IfErr, OnOk, OnErr, IsOk};
     ghost use Rattle.trace_model.specs.declared.limits.TheConstants.{MAX_FRAMES, MOMENT_LIMIT};
-    ghost use Rattle.trace_model.specs.History.{Action, reserve, leave};
+    ghost use Rattle.trace_model.specs.History.{HistoryEvent, reserve, leave};
     ghost use Rattle.page_image.specs.Contents.{Contents};
     ghost use Rattle.nested_writer.specs.Stack.{opened, tail_fill, next_number};
     ghost use Rattle.nested_writer.specs.Calls.{with_progress, after_leave, IsTop, HasLeft, IsUnchanged, WantsPage, NeedsPage, IsCrowded, IsWorn, ReservesRecord, HasRecordRoom, HasTopLeft, IsTopSlot};
@@ -101,7 +101,7 @@ impl WriterStack {
         ensures worn { result ≡ Err WriteFault.Worn ↔ ((IsCrowded self.old → ⊥) × IsWorn self.old) }
         ensures noted { result ≡ Ok Allot.NeedsPage ↔ ((IsCrowded self.old → ⊥) × (IsWorn self.old → ⊥)) }
         ensures after { IsAllotted self.old self.old.frames result self.new }
-        ensures answered { (start : ℕ) (history : List Action)
+        ensures answered { (start : ℕ) (history : List HistoryEvent)
             → IsStack start history self.old
             → IsAnswered self.old history self.old.frames result }
         ensures kept { SameFills self.old self.new }
@@ -202,7 +202,7 @@ impl WriterStack {
         ensures slot { (slot : Slot) × IsTopSlot self.new.frames slot × (slot.number ≡ result) }
         ensures after { (place : Place) × IsAllotted self.old self.old.frames (Ok (Allot.Fits place)) self.new }
         ensures stays { Stands self.new }
-        ensures answered { (start : ℕ) (history : List Action)
+        ensures answered { (start : ℕ) (history : List HistoryEvent)
             → IsStack start history self.old
             → (place : Place) × IsAnswered self.old history self.old.frames (Ok (Allot.Fits place)) }
         ensures kept { SameFills self.old self.new }
@@ -224,7 +224,7 @@ impl WriterStack {
             ↔ (NeedsPage self.old self.old.frames × (IsCrowded self.old → ⊥) × (IsWorn self.old → ⊥)) }
         ensures after { IsAllotted self.old self.old.frames result self.new }
         ensures stays { Stands self.new }
-        ensures answered { (start : ℕ) (history : List Action)
+        ensures answered { (start : ℕ) (history : List HistoryEvent)
             → IsStack start history self.old
             → IsAnswered self.old history self.old.frames result }
         ensures kept { SameFills self.old self.new }
@@ -262,7 +262,7 @@ impl WriterStack {
             ↔ (NeedsPage self.old self.old.frames × (IsCrowded self.old → ⊥) × (IsWorn self.old → ⊥)) }
         ensures after { IsAllotted self.old self.old.frames result self.new }
         ensures stays { Stands self.new }
-        ensures answered { (start : ℕ) (history : List Action)
+        ensures answered { (start : ℕ) (history : List HistoryEvent)
             → IsStack start history self.old
             → IsAnswered self.old history self.old.frames result }
         ensures kept { SameFills self.old self.new }
@@ -313,7 +313,7 @@ impl WriterStack {
             ↔ (NeedsPage self.old self.old.frames × (IsCrowded self.old → ⊥) × (IsWorn self.old → ⊥)) }
         ensures after { IsAllotted self.old self.old.frames result self.new }
         ensures stays { Stands self.new }
-        ensures answered { (start : ℕ) (history : List Action)
+        ensures answered { (start : ℕ) (history : List HistoryEvent)
             → IsStack start history self.old
             → IsAnswered self.old history self.old.frames result }
         ensures kept { SameFills self.old self.new }

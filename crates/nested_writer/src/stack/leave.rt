@@ -14,7 +14,7 @@ pub enum Ended {
 
 impl WriterStack {
     ghost use Rattle.std.specs.Prelude.{◌≡◌, ◌≢◌, ℕ, ◌≤◌, ◌<◌, ◌↔◌, [], ◌∷◌, ◌++◌, List, Some, length, IsTrue, OnOk, OnErr, IsOk, IfOk};
-    ghost use Rattle.trace_model.specs.History.{Action, wished};
+    ghost use Rattle.trace_model.specs.History.{HistoryEvent, wished};
     ghost use Rattle.trace_model.specs.Packing.{tail_of};
     ghost use Rattle.nested_writer.specs.Stack.{opened};
     ghost use Rattle.nested_writer.specs.Calls.{with_bottom, IsAtBottom, MayAddPage};
@@ -84,7 +84,7 @@ impl WriterStack {
     pub fn ask_close(&mut self) -> bool
         requires bottom { IsAtBottom self.old.frames }
         ensures asked { IsTrue result ↔ self.old.tail.bytes ≢ [] }
-        ensures holds_record { (start : ℕ) (history : List Action)
+        ensures holds_record { (start : ℕ) (history : List HistoryEvent)
             → IsStack start history self.old
             → (IsTrue result ↔ tail_of history ≢ []) }
         ensures yes { IsTrue result → self.new ≡ with_bottom self.old (Some (opened self.old)) }

@@ -7,7 +7,7 @@ use crate::stack::WriterStack;
 impl WriterStack {
     ghost use Rattle.std.specs.Prelude.{◌≡◌, ℕ, ◌≤◌, ◌↔◌, ◌⊎◌, [], List, length, Some, IsOk, IfOk, OnOk};
     ghost use Rattle.std.specs.Borrow.{sem};
-    ghost use Rattle.trace_model.specs.History.{Action};
+    ghost use Rattle.trace_model.specs.History.{HistoryEvent};
     ghost use Rattle.trace_model.specs.Words.{slot_len};
     ghost use Rattle.record_words.specs.declared.put.Place.{Place};
     ghost use Rattle.nested_writer.specs.declared.frame.Slot.{Slot};
@@ -71,7 +71,7 @@ impl WriterStack {
         ensures older { OnOk result ((last : Lent)
             → length (with_top self.old last).older ≡ length self.old.older) }
         ensures alone { OnOk result ((last : Lent) → self.old.older ≡ [] → (with_top self.old last).older ≡ []) }
-        ensures written { (start : ℕ) (history : List Action)
+        ensures written { (start : ℕ) (history : List HistoryEvent)
             → IsStack start history self.old
             → IfOk result (λ payload. (part : List ℕ)
             → length part ≡ length (lent_bytes payload.now)

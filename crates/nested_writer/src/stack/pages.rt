@@ -12,7 +12,7 @@ use trace_model::{FillNo, RecordNo};
 impl WriterStack {
     ghost use Rattle.std.specs.Prelude.{◌≡◌, ℕ, ◌+◌, ◌-◌, ◌≤◌, ◌<◌, [], ◌∷◌, ◌++◌, List, length, IsTrue};
     ghost use Rattle.trace_model.specs.declared.limits.TheConstants.{LINK_FILLS};
-    ghost use Rattle.trace_model.specs.History.{Action, open_fill, reserved_records, is_settled};
+    ghost use Rattle.trace_model.specs.History.{HistoryEvent, open_fill, reserved_records, is_settled};
     ghost use Rattle.trace_model.specs.Ring.{fill_of};
     ghost use Rattle.nested_writer.specs.Stack.{opened, tail_fill, next_number, blank_page};
     ghost use Rattle.nested_writer.specs.Calls.{with_tail, MayAddPage, IsAtBottom, IsCrowded, IsWorn};
@@ -31,7 +31,7 @@ impl WriterStack {
         requires needs { MayAddPage self.old self.old.frames }
         ensures page { self.new
             ≡ with_tail self.old (blank_page self.old.size (next_number self.old) (opened self.old)) }
-        ensures numbered { (start : ℕ) (history : List Action)
+        ensures numbered { (start : ℕ) (history : List HistoryEvent)
             → IsStack start history self.old
             → next_number self.old ≡ length (reserved_records history) }
         ensures stack { HasActed self.old (open_fill ∷ []) self.new }
@@ -57,16 +57,16 @@ impl WriterStack {
         ensures released { self.new ≡ record self.old { done = self.old.done + 1; older = self.new.older } }
         ensures stack { HasActed self.old [] self.new }
         ensures stays { Stands self.old → Stands self.new }
-        ensures written { (start : ℕ) (history : List Action)
+        ensures written { (start : ℕ) (history : List HistoryEvent)
             → IsStack start history self.old
             → IsWrittenPage self.old.size self.old.done (fill_of history start self.old.done) result }
-        ensures committed { (start : ℕ) (history : List Action)
+        ensures committed { (start : ℕ) (history : List HistoryEvent)
             → IsStack start history self.old
             → AreCommitted history result }
-        ensures holds_some { (start : ℕ) (history : List Action)
+        ensures holds_some { (start : ℕ) (history : List HistoryEvent)
             → IsStack start history self.old
             → 0 < result.count }
-        ensures settled { (start : ℕ) (history : List Action)
+        ensures settled { (start : ℕ) (history : List HistoryEvent)
             → IsStack start history self.old
             → IsTrue (is_settled history) }
         ensures kept { SameSeat self.old self.new }
@@ -90,13 +90,13 @@ impl WriterStack {
         requires none { self.frames ≡ [] }
         ensures tail { result ≡ self.tail }
         ensures alone { self.older ≡ [] }
-        ensures written { (start : ℕ) (history : List Action)
+        ensures written { (start : ℕ) (history : List HistoryEvent)
             → IsStack start history self
             → IsWrittenPage self.size self.done (fill_of history start self.done) result }
-        ensures committed { (start : ℕ) (history : List Action)
+        ensures committed { (start : ℕ) (history : List HistoryEvent)
             → IsStack start history self
             → AreCommitted history result }
-        ensures settled { (start : ℕ) (history : List Action)
+        ensures settled { (start : ℕ) (history : List HistoryEvent)
             → IsStack start history self
             → IsTrue (is_settled history) }
     {

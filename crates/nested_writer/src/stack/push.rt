@@ -26,7 +26,7 @@ fn cover(top: &Top, below: &mut VecDeque<Frame>)
 impl WriterStack {
     ghost use Rattle.std.specs.Prelude.{◌≡◌, ℕ, ◌+◌, ◌≤◌, ◌<◌, ◌↔◌, [], ◌∷◌, ◌++◌, List, Some, None, length, IsTrue, IsOk, OnOk, OnErr};
     ghost use Rattle.trace_model.specs.declared.limits.TheConstants.{MAX_FRAMES, MOMENT_LIMIT};
-    ghost use Rattle.trace_model.specs.History.{Action, push, push_close};
+    ghost use Rattle.trace_model.specs.History.{HistoryEvent, push, push_close};
     ghost use Rattle.trace_model.specs.Steps.{IsTooLong};
     ghost use Rattle.nested_writer.specs.Calls.{with_frame};
     ghost use Rattle.nested_writer.specs.Kept.{SamePages};
@@ -89,7 +89,7 @@ impl WriterStack {
             (self.new ≡ with_frame self.old (record { purpose = Record moment len; progress = Waiting None })) }
         ensures err { OnErr result (self.new ≡ self.old) }
         ensures stays { Stands self.old → Stands self.new }
-        ensures pushed { OnOk result ((start : ℕ) (history : List Action)
+        ensures pushed { OnOk result ((start : ℕ) (history : List HistoryEvent)
             → IsStack start history self.old
             → IsStack start (history ++ push moment len ∷ []) self.new) }
         ensures kept { SamePages self.old self.new }
@@ -114,7 +114,7 @@ impl WriterStack {
             (self.new ≡ with_frame self.old (record { purpose = Record moment len; progress = Waiting None })) }
         ensures err { OnErr result (self.new ≡ self.old) }
         ensures stays { Stands self.old → Stands self.new }
-        ensures pushed { OnOk result ((start : ℕ) (history : List Action)
+        ensures pushed { OnOk result ((start : ℕ) (history : List HistoryEvent)
             → IsStack start history self.old
             → IsStack start (history ++ push moment len ∷ []) self.new) }
         ensures kept { SamePages self.old self.new }
@@ -142,7 +142,7 @@ impl WriterStack {
             (self.new ≡ with_frame self.old (record { purpose = Close; progress = Waiting None })) }
         ensures err { OnErr result (self.new ≡ self.old) }
         ensures stays { Stands self.old → Stands self.new }
-        ensures pushed { OnOk result ((start : ℕ) (history : List Action)
+        ensures pushed { OnOk result ((start : ℕ) (history : List HistoryEvent)
             → IsStack start history self.old
             → IsStack start (history ++ push_close ∷ []) self.new) }
         ensures kept { SamePages self.old self.new }

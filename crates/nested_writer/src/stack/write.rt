@@ -16,7 +16,7 @@ impl WriterStack {
     ghost use Rattle.std.specs.Prelude.{◌≡◌, ◌≢◌, ℕ, ◌-◌, ◌≤◌, ◌<◌, ◌↔◌, max, [], ◌∷◌, ◌++◌, List, Some, length, IsTrue};
     ghost use Rattle.record_words.specs.declared.format.TheConstants.{EXTEND_FROM, SHORT_LIMIT};
     ghost use Rattle.trace_model.specs.declared.limits.TheConstants.{MOMENT_LIMIT};
-    ghost use Rattle.trace_model.specs.History.{Action, push, reserve, leave};
+    ghost use Rattle.trace_model.specs.History.{HistoryEvent, push, reserve, leave};
     ghost use Rattle.trace_model.specs.Words.{padded};
     ghost use Rattle.page_image.specs.Contents.{records_of_page};
     ghost use Rattle.nested_writer.specs.Allotted.{HasActed};

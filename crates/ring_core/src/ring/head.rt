@@ -16,7 +16,7 @@ impl Core {
     /// A load of the link into the position of the fill to open: it is free, or its page is the head, or a frame below
     /// is moving the head.
     #[inline(never)]
-    pub(crate) fn look(&mut self, noted: u64) -> Turned
+    pub(crate) fn load_link(&mut self, noted: u64) -> Turned
         requires ring { IsReachedCore self.old }
         requires top { self.old.stack.frames ≢ [] }
         requires phase { self.old.phase ≡ Looking noted }
@@ -42,7 +42,7 @@ impl Core {
 
     /// A compare and exchange of that link from HEADER to UPDATE, by which the head is lost.
     #[inline(never)]
-    pub(crate) fn claim(&mut self, noted: u64, page: u16) -> Turned
+    pub(crate) fn claim_head(&mut self, noted: u64, page: u16) -> Turned
         requires ring { IsReachedCore self.old }
         requires top { self.old.stack.frames ≢ [] }
         requires phase { self.old.phase ≡ Claiming noted page }
@@ -52,7 +52,7 @@ impl Core {
         if noted != self.frames.opened() {
             return self.begin_again();
         }
-        let phase = if self.claim_head(noted, page) {
+        let phase = if self.exchange_head(noted, page) {
             Phase::LookingNext {
                 role: Role::Owner,
                 noted,
@@ -66,7 +66,7 @@ impl Core {
 
     /// Sets the UPDATE in place of the HEADER, if that states that this page is the head, as the fill a round before
     /// the noted one.
-    fn claim_head(&mut self, noted: u64, page: u16) -> bool
+    fn exchange_head(&mut self, noted: u64, page: u16) -> bool
         ensures claimed { result ≡ true → (lost : ℕ) × ClaimsHead self.old noted page lost self.new }
         ensures kept { result ≡ false → (self.new ≡ self.old) × ((lost : ℕ) → HasHeader self.old noted page lost → ⊥) }
     {
@@ -78,7 +78,7 @@ impl Core {
 
     /// A load of the next link: does it still wait for the HEADER?
     #[inline(never)]
-    pub(crate) fn look_next(&mut self, role: Role, noted: u64, page: u16) -> Turned
+    pub(crate) fn load_next(&mut self, role: Role, noted: u64, page: u16) -> Turned
         requires ring { IsReachedCore self.old }
         requires top { self.old.stack.frames ≢ [] }
         requires phase { self.old.phase ≡ LookingNext role noted page }
@@ -104,7 +104,7 @@ impl Core {
 
     /// A compare and exchange of the next link from NORMAL to HEADER.
     #[inline(never)]
-    pub(crate) fn mark(&mut self, role: Role, noted: u64, page: u16, next: u16) -> Turned
+    pub(crate) fn mark_head(&mut self, role: Role, noted: u64, page: u16, next: u16) -> Turned
         requires ring { IsReachedCore self.old }
         requires top { self.old.stack.frames ≢ [] }
         requires phase { self.old.phase ≡ Marking role noted page next }
@@ -121,7 +121,7 @@ impl Core {
 
     /// A store of that link, from the frame's own UPDATE to NORMAL.
     #[inline(never)]
-    pub(crate) fn clear(&mut self, noted: u64, page: u16) -> Turned
+    pub(crate) fn clear_update(&mut self, noted: u64, page: u16) -> Turned
         requires ring { IsReachedCore self.old }
         requires top { self.old.stack.frames ≢ [] }
         requires phase { self.old.phase ≡ Clearing noted page }

@@ -15,7 +15,7 @@ impl Core {
 
     /// The page to open is taken from its home and is the tail from now on, unless another frame has begun the fill.
     #[inline(never)]
-    pub(crate) fn open(&mut self, noted: u64, page: u16) -> Turned
+    pub(crate) fn open_fill(&mut self, noted: u64, page: u16) -> Turned
         requires ring { IsReachedCore self.old }
         requires top { self.old.stack.frames ≢ [] }
         requires phase { self.old.phase ≡ Opening noted page }
@@ -37,14 +37,14 @@ impl Core {
         ensures payloads { KeepsPayloads self.old.stack self.new.stack }
     {
         match self.homes[page as usize].take() {
-            Some(blank) => self.frames.open(blank.into_body()),
+            Some(blank) => self.frames.open_fill(blank.into_body()),
             None => unreachable!(),
         }
     }
 
     /// The oldest fill that isn't closed is closed: its page goes home.
     #[inline(never)]
-    pub(crate) fn release(&mut self) -> Turned
+    pub(crate) fn release_fill(&mut self) -> Turned
         requires ring { IsReachedCore self.old }
         requires top { self.old.stack.frames ≢ [] }
         requires phase { self.old.phase ≡ Releasing }
@@ -52,7 +52,7 @@ impl Core {
         ensures payloads { KeepsPayloads self.old.stack self.new.stack }
     {
         let page = self.page_at(self.frames.done());
-        self.homes[page as usize] = Some(self.frames.release());
+        self.homes[page as usize] = Some(self.frames.release_fill());
         Turned::Going
     }
 

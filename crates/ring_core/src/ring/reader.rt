@@ -26,10 +26,10 @@ impl Core {
         ensures stack { self.new.stack ≡ self.old.stack }
     {
         match self.reader.phase {
-            ReaderPhase::LoadingLink => self.load_link(body),
+            ReaderPhase::LoadingLink => self.load_head(body),
             ReaderPhase::LoadingDone { page, fill } => self.load_done(page, fill, body),
-            ReaderPhase::StoringLink { page, fill } => self.store_link(page, fill, body),
-            ReaderPhase::Swapping { page, fill } => self.swap(page, fill, body),
+            ReaderPhase::StoringLink { page, fill } => self.store_spare_link(page, fill, body),
+            ReaderPhase::Swapping { page, fill } => self.swap_head(page, fill, body),
         }
     }
 
@@ -45,7 +45,7 @@ impl Core {
     }
 
     /// A load of the link into the position of the hint.
-    fn load_link(&mut self, body: Body) -> Answer
+    fn load_head(&mut self, body: Body) -> Answer
         requires ring { IsReachedCore self.old }
         requires phase { self.old.reader.phase ≡ LoadingLink }
         ensures step { Makes self.old model.reads result self.new }
@@ -93,7 +93,7 @@ impl Core {
     }
 
     /// A store of the link of the reader's page: it will lead to the fill after the one that is taken.
-    fn store_link(&mut self, page: u16, fill: u64, body: Body) -> Answer
+    fn store_spare_link(&mut self, page: u16, fill: u64, body: Body) -> Answer
         requires ring { IsReachedCore self.old }
         requires phase { self.old.reader.phase ≡ StoringLink page fill }
         ensures step { Makes self.old model.reads result self.new }
@@ -106,7 +106,7 @@ impl Core {
     }
 
     /// A compare and exchange of the link to the head from HEADER to NORMAL: the swap.
-    fn swap(&mut self, page: u16, fill: u64, body: Body) -> Answer
+    fn swap_head(&mut self, page: u16, fill: u64, body: Body) -> Answer
         requires ring { IsReachedCore self.old }
         requires size { length body ≡ self.old.stack.size }
         requires phase { self.old.reader.phase ≡ Swapping page fill }
@@ -165,7 +165,7 @@ impl Core {
     }
 
     /// The reader wishes for the fill after those that it knows to be closed.
-    pub(crate) fn make_wish(&mut self) -> Answer
+    pub(crate) fn store_wish(&mut self) -> Answer
         requires ring { IsReachedCore self.old }
         ensures step { Makes self.old model.wishes result self.new }
         ensures stack { self.new.stack ≡ self.old.stack }

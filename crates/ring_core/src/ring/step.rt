@@ -46,7 +46,7 @@ impl Core {
             Event::Step => self.step_top(),
             Event::End => self.end(),
             Event::Read(body) => self.read(body),
-            Event::Wish => self.make_wish(),
+            Event::Wish => self.store_wish(),
         }
     }
 
@@ -63,18 +63,18 @@ impl Core {
         }
         match self.frames.phase() {
             Phase::Idle => self.reserve(),
-            Phase::Looking { noted } => self.look(noted).answer(),
-            Phase::Claiming { noted, page } => self.claim(noted, page).answer(),
-            Phase::LookingNext { role, noted, page } => self.look_next(role, noted, page).answer(),
+            Phase::Looking { noted } => self.load_link(noted).answer(),
+            Phase::Claiming { noted, page } => self.claim_head(noted, page).answer(),
+            Phase::LookingNext { role, noted, page } => self.load_next(role, noted, page).answer(),
             Phase::Marking {
                 role,
                 noted,
                 page,
                 next,
-            } => self.mark(role, noted, page, next).answer(),
-            Phase::Clearing { noted, page } => self.clear(noted, page).answer(),
-            Phase::Opening { noted, page } => self.open(noted, page).answer(),
-            Phase::Releasing => self.release().answer(),
+            } => self.mark_head(role, noted, page, next).answer(),
+            Phase::Clearing { noted, page } => self.clear_update(noted, page).answer(),
+            Phase::Opening { noted, page } => self.open_fill(noted, page).answer(),
+            Phase::Releasing => self.release_fill().answer(),
             Phase::Wishing => self.load_wish().answer(),
         }
     }

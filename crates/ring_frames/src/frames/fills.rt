@@ -7,7 +7,7 @@ use trace_model::LINK_FILLS;
 
 impl Frames {
     ghost use Rattle.std.specs.Prelude.{◌≡◌, ◌≢◌, ℕ, List, [], length, IsTrue, false};
-    ghost use Rattle.trace_model.specs.History.{Action};
+    ghost use Rattle.trace_model.specs.History.{HistoryEvent};
     ghost use Rattle.trace_model.specs.Ring.{fill_of};
     ghost use Rattle.nested_writer.specs.Stack.{opened};
     ghost use Rattle.nested_writer.specs.IsStack.{IsStack};
@@ -21,7 +21,7 @@ impl Frames {
 
     /// The next fill, which the frame on top noted, is begun in this body, and the frame begins again.
     #[inline(always)]
-    pub fn open(&mut self, body: Body) -> Turned
+    pub fn open_fill(&mut self, body: Body) -> Turned
         requires frames { IsFrames self.old }
         requires top { self.old.stack.frames ≢ [] }
         requires phase { (page : ℕ) × (self.old.phase ≡ Opening (opened self.old.stack) page) }
@@ -35,7 +35,7 @@ impl Frames {
 
     /// The oldest fill that isn't closed is closed, and its page let go.
     #[inline(always)]
-    pub fn release(&mut self) -> Page
+    pub fn release_fill(&mut self) -> Page
         requires frames { IsFrames self.old }
         requires top { self.old.stack.frames ≢ [] }
         requires phase { self.old.phase ≡ Releasing }
@@ -50,7 +50,7 @@ impl Frames {
     /// The tail page, of a writer with no frame on its stack: all else that it wrote is closed.
     pub fn into_tail(self) -> Page
         requires none { self.stack.frames ≡ [] }
-        ensures written { (start : ℕ) (history : List Action)
+        ensures written { (start : ℕ) (history : List HistoryEvent)
             → IsStack start history self.stack
             → IsWrittenPage self.stack.size self.stack.done (fill_of history start self.stack.done) result }
     {

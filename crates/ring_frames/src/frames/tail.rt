@@ -10,7 +10,7 @@ impl Frames {
     ghost use Rattle.std.specs.Prelude.{◌≡◌, ◌≢◌, ℕ, [], ◌∷◌, List, Some, IfSome};
     ghost use Rattle.trace_model.specs.Steps as model;
     ghost use Rattle.trace_model.specs.Frames.{noted_fill};
-    ghost use Rattle.trace_model.specs.History.{Action};
+    ghost use Rattle.trace_model.specs.History.{HistoryEvent};
     ghost use Rattle.link_marks.specs.Seats.{PhaseIsPrivate};
     ghost use Rattle.nested_writer.specs.Stack.{opened};
     ghost use Rattle.nested_writer.specs.Ends.{MayEndTop, IsEnd};
@@ -77,7 +77,7 @@ impl Frames {
     /// The close frame on top, for which no page is needed, leaves.
     #[inline(never)]
     fn end_close(&mut self) -> Turned
-        requires stack { (start : ℕ) × (history : List Action) × IsStack start history self.old.stack }
+        requires stack { (start : ℕ) × (history : List HistoryEvent) × IsStack start history self.old.stack }
         requires through { MayEndTop self.old.stack.frames }
         ensures answer { told result ≡ left_answer self.old.below }
         ensures left { IsEnd self.old.stack self.old.stack.frames self.new.stack }

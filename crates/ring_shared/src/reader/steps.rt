@@ -25,10 +25,10 @@ impl Reader {
         ensures reader { IsReader self.new }
     {
         match self.at.phase {
-            ReaderPhase::LoadingLink => self.load_link(body),
+            ReaderPhase::LoadingLink => self.load_head(body),
             ReaderPhase::LoadingDone { page, fill } => self.load_done(page, fill, body),
-            ReaderPhase::StoringLink { page, fill } => self.store_link(page, fill, body),
-            ReaderPhase::Swapping { page, fill } => self.swap(page, fill, body),
+            ReaderPhase::StoringLink { page, fill } => self.store_spare_link(page, fill, body),
+            ReaderPhase::Swapping { page, fill } => self.swap_head(page, fill, body),
         }
     }
 
@@ -41,7 +41,7 @@ impl Reader {
     }
 
     /// A load of the link into the position of the hint.
-    fn load_link(&mut self, body: Body) -> Turn
+    fn load_head(&mut self, body: Body) -> Turn
         requires reader { IsReader self.old }
         requires again { self.old.empty_at ≡ None }
         requires phase { self.old.at.phase ≡ LoadingLink }
@@ -55,7 +55,7 @@ impl Reader {
         let hint = self.at.hint;
         let pages = self.order.len() as u64;
         let front = self.page_at(hint + pages - 1);
-        let Link { mark, page, fill } = self.seat.load_link(front);
+        let Link { mark, page, fill } = self.seat.load_head(front);
         match mark {
             Mark::Header => {
                 self.at.phase = ReaderPhase::LoadingDone { page, fill };
@@ -97,7 +97,7 @@ impl Reader {
     }
 
     /// A store of the link of the reader's page: it will lead to the fill after the one that is taken.
-    fn store_link(&mut self, page: u16, fill: u64, body: Body) -> Turn
+    fn store_spare_link(&mut self, page: u16, fill: u64, body: Body) -> Turn
         requires reader { IsReader self.old }
         requires again { self.old.empty_at ≡ None }
         requires phase { self.old.at.phase ≡ StoringLink page fill }
@@ -115,7 +115,7 @@ impl Reader {
     }
 
     /// A compare and exchange of the link to the head, this page as this fill, from HEADER to NORMAL: the swap.
-    fn swap(&mut self, page: u16, fill: u64, body: Body) -> Turn
+    fn swap_head(&mut self, page: u16, fill: u64, body: Body) -> Turn
         requires reader { IsReader self.old }
         requires size { length body ≡ self.old.shape.size }
         requires again { self.old.empty_at ≡ None }
@@ -129,7 +129,7 @@ impl Reader {
     {
         let pages = self.order.len() as u64;
         let front = self.page_at(fill + pages - 1);
-        let swapped = self.seat.swap(front, page, FillNo(fill), self.spare, body);
+        let swapped = self.seat.swap_head(front, page, FillNo(fill), self.spare, body);
         self.at.phase = ReaderPhase::LoadingLink;
         self.at.hint = fill + 1;
         match swapped {

@@ -26,7 +26,7 @@ impl Reader {
         ensures reader { IsReader self.new }
     {
         self.empty_at = None;
-        let took = self.look(body);
+        let took = self.take_by_steps(body);
         if let Take::Empty(done, _) = &took {
             self.empty_at = Some(*done);
         }
@@ -34,7 +34,7 @@ impl Reader {
     }
 
     /// The steps of a take.
-    fn look(&mut self, body: Body) -> Take
+    fn take_by_steps(&mut self, body: Body) -> Take
         requires reader { IsReader self.old }
         requires size { length body ≡ self.old.shape.size }
         requires again { self.old.empty_at ≡ None }

@@ -162,7 +162,7 @@ impl Writer {
         loop {
             match self.frames.phase() {
                 Phase::Releasing => {
-                    self.release();
+                    self.release_fill();
                 }
                 Phase::Wishing => return self.load_wish(),
                 _ => return Turned::Going,

@@ -30,7 +30,7 @@ impl Writer {
     /// A load of the link into the position of the fill to open, from the tail's word: it is free, or its page is the
     /// head, or a frame below is moving the head.
     #[inline(always)]
-    pub(crate) fn look(&mut self, noted: u64) -> Turned
+    pub(crate) fn load_link(&mut self, noted: u64) -> Turned
         requires writer { IsWriter self.old }
         requires top { self.old.frames.stack.frames ≢ [] }
         requires phase { self.old.frames.phase ≡ Looking noted }
@@ -58,7 +58,7 @@ impl Writer {
 
     /// A compare and exchange of that link from HEADER to UPDATE, by which the head is lost.
     #[inline(always)]
-    pub(crate) fn claim(&mut self, noted: u64, page: u16) -> Turned
+    pub(crate) fn claim_head(&mut self, noted: u64, page: u16) -> Turned
         requires writer { IsWriter self.old }
         requires top { self.old.frames.stack.frames ≢ [] }
         requires phase { self.old.frames.phase ≡ Claiming noted page }
@@ -85,7 +85,7 @@ impl Writer {
 
     /// A load of the next link, from the word of the page that is passed: does it still wait for the HEADER?
     #[inline(always)]
-    pub(crate) fn look_next(&mut self, role: Role, noted: u64, page: u16) -> Turned
+    pub(crate) fn load_next(&mut self, role: Role, noted: u64, page: u16) -> Turned
         requires writer { IsWriter self.old }
         requires top { self.old.frames.stack.frames ≢ [] }
         requires phase { self.old.frames.phase ≡ LookingNext role noted page }
@@ -112,7 +112,7 @@ impl Writer {
 
     /// A compare and exchange of the next link from NORMAL to HEADER.
     #[inline(always)]
-    pub(crate) fn mark(&mut self, role: Role, noted: u64, page: u16, next: u16) -> Turned
+    pub(crate) fn mark_head(&mut self, role: Role, noted: u64, page: u16, next: u16) -> Turned
         requires writer { IsWriter self.old }
         requires top { self.old.frames.stack.frames ≢ [] }
         requires phase { self.old.frames.phase ≡ Marking role noted page next }
@@ -124,13 +124,13 @@ impl Writer {
             return self.begin_again();
         }
         let behind = noted + 1 - self.frames.pages() as u64;
-        let _marked = self.seat.mark_next::<Brand>(page, next, FillNo(behind));
+        let _marked = self.seat.mark_head::<Brand>(page, next, FillNo(behind));
         self.frames.go_on(role.after_next(noted, page))
     }
 
     /// A compare and exchange of the link of the claim from the frame's own UPDATE to NORMAL, which is always done.
     #[inline(always)]
-    pub(crate) fn clear(&mut self, noted: u64, page: u16) -> Turned
+    pub(crate) fn clear_update(&mut self, noted: u64, page: u16) -> Turned
         requires writer { IsWriter self.old }
         requires top { self.old.frames.stack.frames ≢ [] }
         requires phase { self.old.frames.phase ≡ Clearing noted page }
@@ -139,7 +139,7 @@ impl Writer {
         ensures payloads { KeepsPayloads self.old.frames.stack self.new.frames.stack }
     {
         let front = self.pages[(noted - 1 - self.frames.done()) as usize];
-        let _cleared = self.seat.clear::<Brand>(front, page, FillNo(noted));
+        let _cleared = self.seat.clear_update::<Brand>(front, page, FillNo(noted));
         self.frames.go_on(Phase::Opening { noted, page })
     }
 }

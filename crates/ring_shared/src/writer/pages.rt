@@ -16,7 +16,7 @@ impl Writer {
 
     /// A store of the number of begun fills: the page to open is taken from its home, and is the tail from now on.
     #[inline(always)]
-    pub(crate) fn open(&mut self, noted: u64, page: u16) -> Turned
+    pub(crate) fn open_fill(&mut self, noted: u64, page: u16) -> Turned
         requires writer { IsWriter self.old }
         requires top { self.old.frames.stack.frames ≢ [] }
         requires phase { self.old.frames.phase ≡ Opening noted page }
@@ -27,14 +27,14 @@ impl Writer {
         if noted != self.frames.opened() {
             return self.begin_again();
         }
-        let body = self.seat.open::<Brand>(page, FillNo(noted));
+        let body = self.seat.open_fill::<Brand>(page, FillNo(noted));
         self.pages.push_back_reserved(page);
-        self.frames.open(body)
+        self.frames.open_fill(body)
     }
 
     /// A store of the number of closed fills: the oldest open fill is closed, and its page goes home.
     #[inline(always)]
-    pub(crate) fn release(&mut self) -> Turned
+    pub(crate) fn release_fill(&mut self) -> Turned
         requires writer { IsWriter self.old }
         requires top { self.old.frames.stack.frames ≢ [] }
         requires phase { self.old.frames.phase ≡ Releasing }
@@ -42,9 +42,9 @@ impl Writer {
         ensures nearer { IsNearer self.old self.new }
         ensures payloads { KeepsPayloads self.old.frames.stack self.new.frames.stack }
     {
-        let page = self.frames.release();
+        let page = self.frames.release_fill();
         match self.pages.pop_front() {
-            Some(number) => self.seat.release::<Brand>(number, page),
+            Some(number) => self.seat.release_fill::<Brand>(number, page),
             None => unreachable!(),
         }
         Turned::Going

@@ -55,18 +55,18 @@ impl Writer {
     {
         match self.frames.phase() {
             Phase::Idle => unreachable!(),
-            Phase::Looking { noted } => self.look(noted),
-            Phase::Claiming { noted, page } => self.claim(noted, page),
-            Phase::LookingNext { role, noted, page } => self.look_next(role, noted, page),
+            Phase::Looking { noted } => self.load_link(noted),
+            Phase::Claiming { noted, page } => self.claim_head(noted, page),
+            Phase::LookingNext { role, noted, page } => self.load_next(role, noted, page),
             Phase::Marking {
                 role,
                 noted,
                 page,
                 next,
-            } => self.mark(role, noted, page, next),
-            Phase::Clearing { noted, page } => self.clear(noted, page),
-            Phase::Opening { noted, page } => self.open(noted, page),
-            Phase::Releasing => self.release(),
+            } => self.mark_head(role, noted, page, next),
+            Phase::Clearing { noted, page } => self.clear_update(noted, page),
+            Phase::Opening { noted, page } => self.open_fill(noted, page),
+            Phase::Releasing => self.release_fill(),
             Phase::Wishing => self.load_wish(),
         }
     }

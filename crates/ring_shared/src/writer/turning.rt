@@ -14,53 +14,53 @@ impl Writer {
         requires top { IsReservingTop self.old.part.frames }
         ensures { TurnsOn self.old self.new }
     {
-        self.look_if_due();
-        self.claim_if_due();
-        self.look_next_if_due();
-        self.mark_if_due();
-        self.clear_if_due();
-        self.open_if_due();
+        self.load_link_if_due();
+        self.claim_head_if_due();
+        self.load_next_if_due();
+        self.mark_head_if_due();
+        self.clear_update_if_due();
+        self.open_fill_if_due();
     }
 
-    /// `look`, if that is due: the link into the position of the fill to open is loaded.
+    /// `load_link`, if that is due: the link into the position of the fill to open is loaded.
     #[inline(always)]
-    fn look_if_due(&mut self)
+    fn load_link_if_due(&mut self)
         requires writer { IsWriter self.old }
         requires top { IsReservingTop self.old.part.frames }
         ensures { TurnsOn self.old self.new }
     {
         if let Phase::Looking { noted } = self.frames.phase() {
-            self.look(noted);
+            self.load_link(noted);
         }
     }
 
-    /// `claim`, if that is due: the head is lost.
+    /// `claim_head`, if that is due: the head is lost.
     #[inline(always)]
-    fn claim_if_due(&mut self)
+    fn claim_head_if_due(&mut self)
         requires writer { IsWriter self.old }
         requires top { IsReservingTop self.old.part.frames }
         ensures { TurnsOn self.old self.new }
     {
         if let Phase::Claiming { noted, page } = self.frames.phase() {
-            self.claim(noted, page);
+            self.claim_head(noted, page);
         }
     }
 
-    /// `look_next`, if that is due: the link after the page that is passed is loaded.
+    /// `load_next`, if that is due: the link after the page that is passed is loaded.
     #[inline(always)]
-    fn look_next_if_due(&mut self)
+    fn load_next_if_due(&mut self)
         requires writer { IsWriter self.old }
         requires top { IsReservingTop self.old.part.frames }
         ensures { TurnsOn self.old self.new }
     {
         if let Phase::LookingNext { role, noted, page } = self.frames.phase() {
-            self.look_next(role, noted, page);
+            self.load_next(role, noted, page);
         }
     }
 
-    /// `mark`, if that is due: the next page becomes the head.
+    /// `mark_head`, if that is due: the next page becomes the head.
     #[inline(always)]
-    fn mark_if_due(&mut self)
+    fn mark_head_if_due(&mut self)
         requires writer { IsWriter self.old }
         requires top { IsReservingTop self.old.part.frames }
         ensures { TurnsOn self.old self.new }
@@ -72,31 +72,31 @@ impl Writer {
             next,
         } = self.frames.phase()
         {
-            self.mark(role, noted, page, next);
+            self.mark_head(role, noted, page, next);
         }
     }
 
-    /// `clear`, if that is due: the UPDATE of the claim is replaced.
+    /// `clear_update`, if that is due: the UPDATE of the claim is replaced.
     #[inline(always)]
-    fn clear_if_due(&mut self)
+    fn clear_update_if_due(&mut self)
         requires writer { IsWriter self.old }
         requires top { IsReservingTop self.old.part.frames }
         ensures { TurnsOn self.old self.new }
     {
         if let Phase::Clearing { noted, page } = self.frames.phase() {
-            self.clear(noted, page);
+            self.clear_update(noted, page);
         }
     }
 
-    /// `open`, if that is due: the page is the tail.
+    /// `open_fill`, if that is due: the page is the tail.
     #[inline(always)]
-    fn open_if_due(&mut self)
+    fn open_fill_if_due(&mut self)
         requires writer { IsWriter self.old }
         requires top { IsReservingTop self.old.part.frames }
         ensures { TurnsOn self.old self.new }
     {
         if let Phase::Opening { noted, page } = self.frames.phase() {
-            self.open(noted, page);
+            self.open_fill(noted, page);
         }
     }
 }

@@ -1,7 +1,7 @@
 //! Laws over histories of frames.
 ghost use Rattle.std.specs.Prelude.{List, All};
 ghost use Rattle.std.specs.List.{AllByRecursion};
-ghost use Rattle.trace_model.specs.History.{Action, IsHistory, HasItsBytes, committed_records, reserved_records, settled_prefix};
+ghost use Rattle.trace_model.specs.History.{HistoryEvent, IsHistory, HasItsBytes, committed_records, reserved_records, settled_prefix};
 ghost use Rattle.trace_model.specs.HistoryLaws.{CommittedIsPrefix};
 ghost use Rattle.trace_model.specs.Packing.{FillsSlot};
 ghost use Rattle.trace_model.specs.Record.{IsRecord};
@@ -10,7 +10,7 @@ ghost use Rattle.trace_model.specs.Sublist.{IsPrefix};
 /// The committed records are the first of the reserved ones, so that a record has one number from its
 /// reservation on: its index among the committed is its index among the reserved.
 pub fn committed_is_a_prefix()
-    ensures { (history : List Action)
+    ensures { (history : List HistoryEvent)
         → IsPrefix (reserved_records (settled_prefix history)) (reserved_records history) }
 {}
 
@@ -22,19 +22,19 @@ pub fn committed_records_stay()
 
 /// Each committed record of a history fills whole words.
 pub fn committed_records_are_records()
-    ensures { (history : List Action) → All IsRecord (committed_records history) }
+    ensures { (history : List HistoryEvent) → All IsRecord (committed_records history) }
 {}
 
 /// Of a history that keeps the discipline of the stack, each reserved record has as many bytes as its slot, those that
 /// are still open counted as zeros: so the writer reckons the length of each fill right.
 pub fn reserved_records_fill_slots()
-    ensures fill { (history : List Action) → IsHistory history
+    ensures fill { (history : List HistoryEvent) → IsHistory history
         → AllByRecursion FillsSlot (reserved_records history) }
 {}
 
 /// Of a history that keeps the discipline of the stack, each committed record has been written, by exactly
 /// as many bytes as its slot has.
 pub fn committed_records_are_written()
-    ensures { (history : List Action) → IsHistory history
+    ensures { (history : List HistoryEvent) → IsHistory history
         → All HasItsBytes (reserved_records (settled_prefix history)) }
 {}

@@ -1,5 +1,5 @@
 use Rattle.std.proofs.Common.{◌≡◌, [], ◌∷◌, List, None, sym, ap, ◌∙◌, subst, append-nil}
-use Rattle.trace_model.specs.History.{Action}
+use Rattle.trace_model.specs.History.{HistoryEvent}
 use Rattle.nested_writer.specs.declared.frame.Purpose.TheVariants.{Record}
 use Rattle.nested_writer.specs.declared.frame.Progress.TheVariants.{Left}
 use Rattle.nested_writer.specs.declared.frame.Frame.{Frame}
@@ -18,7 +18,7 @@ returns-clause-stack c = λ start history old.
     let none : s.frames ≡ [] = ap (λ (x : Stack). x.frames) c.self.view_is ∙ c.requires.none in
     let may : MayStand s c.args.moment c.args.len = subst (λ (x : Stack). MayStand x c.args.moment c.args.len) (sym c.self.view_is) c.requires.may in
     let left : Frame = record { purpose = Record c.args.moment c.args.len; progress = Left None } in
-    rw c.leave.ensures (subst (λ (g : List Action). IsStack start g (record s { frames = left ∷ c.self.inside.below.items })) (sym (append-nil history))
+    rw c.leave.ensures (subst (λ (g : List HistoryEvent). IsStack start g (record s { frames = left ∷ c.self.inside.below.items })) (sym (append-nil history))
     (subst (λ (fs : List Frame). IsStack start history (record s { frames = left ∷ fs })) (sym (none_below c.self.inside.top c.self.inside.below.items none)) (stands_again start history s c.args.moment c.args.len none may k)))
 
 pub returns-clause-stays : goal.returns-clause-stays

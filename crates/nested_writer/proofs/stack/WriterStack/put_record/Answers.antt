@@ -1,5 +1,5 @@
 use Rattle.std.proofs.Common.{◌≡◌, ℕ, ◌+◌, ◌-◌, ◌≤◌, max, Bool, true, List, [], ◌∷◌, ◌++◌, length, Some, sym, ap, ◌∙◌, subst, arith}
-use Rattle.trace_model.specs.History.{Action, push, reserve, leave, reserved_records}
+use Rattle.trace_model.specs.History.{HistoryEvent, push, reserve, leave, reserved_records}
 use Rattle.trace_model.specs.Packing.{opens_of, is_wished}
 use Rattle.trace_model.specs.Words.{padded, encoded_len}
 use Rattle.trace_model.proofs.Lengths.{length-padded}
@@ -52,8 +52,8 @@ returns-clause-stack c = λ start history old.
     let none : s.frames ≡ [] = fits.0 in
     let short : encoded_len (length payload) 0 true ≤ s.size = fits_page s.size (length payload) fits.1 in
     let done = written_at_once start history s c.args.moment payload tail' place none short fits.2 (omega (arith, put.longer, room)) (subst (λ (m : ℕ). IsPutWith s.tail tail' s.last_moment m (length payload) (padded payload) place) raised is) k in
-    let actions : List Action = push c.args.moment (length payload) ∷ reserve ∷ leave (Some payload) ∷ [] in
-    subst (λ (m : ℕ). IsStack start (history ++ actions) (record s { tail = tail'; last_moment = m })) (sym raised) done
+    let events : List HistoryEvent = push c.args.moment (length payload) ∷ reserve ∷ leave (Some payload) ∷ [] in
+    subst (λ (m : ℕ). IsStack start (history ++ events) (record s { tail = tail'; last_moment = m })) (sym raised) done
 
 pub returns-clause-stays : goal.returns-clause-stays
 unfolding Stands

@@ -22,16 +22,16 @@ index_mut-requires c =
     let is = subst (λ (x : CoreValue). x.phase ≡ Opening (opened x.stack) c.args.page) (sym c.self.view_is) c.requires.phase in
     omega (arith, page_low n size start v m core some c.args.page is, c.self.inside.homes.ok.0)
 
-pub open-requires-clause-frames : goal.open-requires-clause-frames
-open-requires-clause-frames c =
+pub open_fill-requires-clause-frames : goal.open_fill-requires-clause-frames
+open_fill-requires-clause-frames c =
     let (n, size, start, m, core) = subst IsReachedCore (sym c.self.view_is) c.requires.ring in
     (n, size, start, m, record { reached = core.reached; are = core.shows.frames })
 
-pub open-requires-clause-phase : goal.open-requires-clause-phase
-open-requires-clause-phase c = (c.args.page, subst (λ (x : CoreValue). x.phase ≡ Opening (opened x.stack) c.args.page) (sym c.self.view_is) c.requires.phase)
+pub open_fill-requires-clause-phase : goal.open_fill-requires-clause-phase
+open_fill-requires-clause-phase c = (c.args.page, subst (λ (x : CoreValue). x.phase ≡ Opening (opened x.stack) c.args.page) (sym c.self.view_is) c.requires.phase)
 
-pub open-requires-clause-size : goal.open-requires-clause-size
-open-requires-clause-size c =
+pub open_fill-requires-clause-size : goal.open_fill-requires-clause-size
+open_fill-requires-clause-size c =
     let v : CoreValue = core_of c.self.inside in
     let (n, size, start, m, core) = subst IsReachedCore (sym c.self.view_is) c.requires.ring in
     let some = subst (λ (x : CoreValue). x.stack.frames ≢ []) (sym c.self.view_is) c.requires.top in
@@ -46,8 +46,8 @@ returns-clause-makes c = λ n size start m old.
     let core : IsCore n size start v m = subst (λ (x : CoreValue). IsCore n size start x m) (sym c.self.view_is) old in
     let some = subst (λ (x : CoreValue). x.stack.frames ≢ []) (sym c.self.view_is) c.requires.top in
     let is = subst (λ (x : CoreValue). x.phase ≡ Opening (opened x.stack) c.args.page) (sym c.self.view_is) c.requires.phase in
-    subst (λ (x : Option Contents). IsStep n size start m steps (told c.open.result) (record (with_frames v c.open.new.self) { homes = slice_set v.homes c.args.page x })) (sym c.take.ensures.after)
-    (begun n size start v m core some c.args.page is (told c.open.result) c.open.new.self c.open.ensures.opens)
+    subst (λ (x : Option Contents). IsStep n size start m steps (told c.open_fill.result) (record (with_frames v c.open_fill.new.self) { homes = slice_set v.homes c.args.page x })) (sym c.take.ensures.after)
+    (begun n size start v m core some c.args.page is (told c.open_fill.result) c.open_fill.new.self c.open_fill.ensures.opens)
 
 pub unreachable-requires : goal.unreachable-requires
 unreachable-requires c =

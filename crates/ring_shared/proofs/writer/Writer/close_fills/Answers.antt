@@ -26,8 +26,8 @@ loop-self-init c =
       payloads = same_stack c.args.self.now.frames.stack c.args.self.now.frames.stack refl;
     }
 
-pub release-requires-clause-top : goal.release-requires-clause-top
-release-requires-clause-top c =
+pub release_fill-requires-clause-top : goal.release_fill-requires-clause-top
+release_fill-requires-clause-top c =
     let h = c.loop-self.invariant in
     let (frame, below, top) = h.some in
     let (next, at, leaves, goes) = h.closes frame below top in
@@ -43,28 +43,28 @@ load_wish-requires-clause-top c =
 pub loop-self-preserved : goal.loop-self-preserved
 loop-self-preserved c =
     let h = c.loop-self.invariant in
-    let old : WriterValue = c.loop-self.self in let new : WriterValue = c.release.new.self in let shape : Shape = c.args.self.now.shape in
-    let makes = c.release.ensures.makes in
+    let old : WriterValue = c.loop-self.self in let new : WriterValue = c.release_fill.new.self in let shape : Shape = c.args.self.now.shape in
+    let makes = c.release_fill.ensures.makes in
     let (frame, below, top) = h.some in
     let (next, at, leaves, goes) = h.closes frame below top in
-    let going = release_goes old h.writer (told c.release.result) new.part (some_stand old h.writer next below at) (ap phase_of (ap (λ (x : WriterValue). x.frames.phase) (sym c.self.view_is) ∙ (sym c.phase.ensures ∙ c.in-Releasing.is))) makes.call in
+    let going = release_goes old h.writer (told c.release_fill.result) new.part (some_stand old h.writer next below at) (ap phase_of (ap (λ (x : WriterValue). x.frames.phase) (sym c.self.view_is) ∙ (sym c.phase.ensures ∙ c.in-Releasing.is))) makes.call in
     record {
       writer = makes.writer;
-      ring = same_writer c.args.self.now old new (told c.release.result) h.ring makes;
+      ring = same_writer c.args.self.now old new (told c.release_fill.result) h.ring makes;
       some = h.some;
       closes = λ other others is. closes_then shape others c.args.self.now.part old.part new.part Rattle.ring_frames.specs.declared.phase.Turned.TheVariants.Going (h.closes other others is)
-          (subst (λ (x : Answer). IsCall shape old.part model.steps x new.part) going (call_in shape old new (told c.release.result) h.ring.0 makes));
-      payloads = kept_then c.args.self.now.frames.stack old.frames.stack new.frames.stack h.payloads c.release.ensures.payloads;
+          (subst (λ (x : Answer). IsCall shape old.part model.steps x new.part) going (call_in shape old new (told c.release_fill.result) h.ring.0 makes));
+      payloads = kept_then c.args.self.now.frames.stack old.frames.stack new.frames.stack h.payloads c.release_fill.ensures.payloads;
     }
 
 pub loop-self-smaller : goal.loop-self-smaller
 loop-self-smaller c =
     let h = c.loop-self.invariant in
-    let old : WriterValue = c.loop-self.self in let new : WriterValue = c.release.new.self in
+    let old : WriterValue = c.loop-self.self in let new : WriterValue = c.release_fill.new.self in
     let (frame, below, top) = h.some in
     let (next, at, leaves, goes) = h.closes frame below top in
     let (last, stands, still, more) = (loop-self-preserved c).closes frame below top in
-    c.release.ensures.nearer next below at (leaving_unnumbered next.kind next.state leaves)
+    c.release_fill.ensures.nearer next below at (leaving_unnumbered next.kind next.state leaves)
     (ap (length {A = Frame}) stands ∙ ap (length {A = Frame}) (sym at))
 
 pub returns-in-Wishing-clause-closes : goal.returns-in-Wishing-clause-closes

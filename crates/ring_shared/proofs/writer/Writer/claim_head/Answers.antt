@@ -1,0 +1,108 @@
+use Rattle.std.proofs.Common.{◌≡◌, ℕ, ◌+◌, ◌-◌, ◌≤◌, true, false, Some, refl, sym, ap, ◌∙◌, arith, subst}
+use Rattle.trace_model.specs.declared.limits.TheConstants.{MAX_PAGES}
+use Rattle.trace_model.specs.Frames.{claiming, noted_fill}
+use Rattle.trace_model.specs.Ring.{link_into}
+use Rattle.trace_model.specs.Steps as model
+use Rattle.ring_frames.specs.declared.phase.Phase.TheVariants.{Looking, LookingNext}
+use Rattle.ring_frames.specs.declared.phase.Role.TheVariants.{Owner}
+use Rattle.ring_frames.specs.declared.phase.Phase.{Phase}
+use Rattle.ring_frames.specs.declared.answer.Answer.TheVariants.{Going}
+use Rattle.ring_frames.specs.Phases.{told}
+use Rattle.ring_frames.specs.Value.{phase_of}
+use Rattle.ring_steps.specs.Views.{Writing}
+use Rattle.ring_steps.specs.Linking.{tail_in}
+use Rattle.ring_shared.specs.Value.{WriterValue}
+use Rattle.ring_shared.specs.Calls.{IsWriter, MakesSome}
+use Rattle.ring_shared.specs.contracts.writer.Writer.{the_view}
+use Rattle.ring_shared.proofs.Standing.{leads_nowhere, phase_shown}
+use Rattle.ring_shared.proofs.Called.{writer_seen, top_seen, phase_seen}
+use Rattle.ring_shared.proofs.Bounds.{opened_now, fits}
+use Rattle.ring_shared.proofs.GoingOn.{Moves, goes_on, as_called}
+use Rattle.ring_shared.proofs.LinkMoves.{claimed, not_claimed}
+use Rattle.ring_steps.specs.Ends.{passed_in}
+use Rattle.ring_shared.proofs.Nearing.{nearer_claiming}
+use Rattle.ring_shared.proofs.writer.Writer.claim_head.Goals.{then-claim_head, else-claim_head}
+use Rattle.ring_shared.proofs.writer.Writer.claim_head.Goals as goal
+
+pub overflow_sub-lost : goal.overflow_sub-lost
+overflow_sub-lost c =
+    let v : WriterValue = the_view c.self.inside in
+    let w : IsWriter v = writer_seen c.self.view_is c.requires.writer in
+    let pages : c.pages.result ≡ v.shape.pages = c.pages.ensures.pages ∙ w.frames_are.pages_is in
+    let most = c.pages.ensures.most in let few : v.shape.pages ≤ MAX_PAGES = omega arith in
+    let (round, low, seen) = fits v w (claiming c.args.noted c.args.page) (top_seen c.self.view_is c.requires.top)
+    (phase_seen c.self.view_is c.requires.phase) few in omega arith
+
+pub claim_head-requires-clause-due : goal.claim_head-requires-clause-due
+claim_head-requires-clause-due c = let v : WriterValue = the_view c.self.inside in leads_nowhere v.shape v.part
+
+pub claim_head-requires-clause-phase : goal.claim_head-requires-clause-phase
+claim_head-requires-clause-phase c =
+    let v : WriterValue = the_view c.self.inside in
+    let w : IsWriter v = writer_seen c.self.view_is c.requires.writer in
+    phase_shown v w (claiming v.part.opened c.args.page) (top_seen c.self.view_is c.requires.top)
+    (phase_seen c.self.view_is c.requires.phase
+    ∙ ap (λ noted. claiming noted c.args.page) (c.if-noted-opened.false ∙ c.opened.ensures.begun ∙ opened_now v w))
+
+pub claim_head-requires-clause-tail : goal.claim_head-requires-clause-tail
+claim_head-requires-clause-tail c = c.tail-tail.ensures ∙ ap (λ (x : WriterValue). tail_in x.part) (sym c.self.view_is)
+
+pub claim_head-requires-clause-lost : goal.claim_head-requires-clause-lost
+claim_head-requires-clause-lost c =
+    let v : WriterValue = the_view c.self.inside in
+    let w : IsWriter v = writer_seen c.self.view_is c.requires.writer in
+    let pages : c.pages.result ≡ v.shape.pages = c.pages.ensures.pages ∙ w.frames_are.pages_is in
+    let most = c.pages.ensures.most in let few : v.shape.pages ≤ MAX_PAGES = omega arith in
+    let (round, low, seen) = fits v w (claiming c.args.noted c.args.page) (top_seen c.self.view_is c.requires.top)
+    (phase_seen c.self.view_is c.requires.phase) few in
+    let now : c.args.noted ≡ v.part.opened = c.if-noted-opened.false ∙ c.opened.ensures.begun ∙ opened_now v w in omega arith
+
+pub claim_head-requires-clause-fits : goal.claim_head-requires-clause-fits
+claim_head-requires-clause-fits c =
+    let v : WriterValue = the_view c.self.inside in
+    let w : IsWriter v = writer_seen c.self.view_is c.requires.writer in
+    let pages : c.pages.result ≡ v.shape.pages = c.pages.ensures.pages ∙ w.frames_are.pages_is in
+    let most = c.pages.ensures.most in
+    (fits v w (claiming c.args.noted c.args.page) (top_seen c.self.view_is c.requires.top)
+    (phase_seen c.self.view_is c.requires.phase) (omega arith)).1
+
+pub returns-clause-makes : goal.returns-clause-makes
+returns-clause-makes c =
+    let v : WriterValue = the_view c.self.inside in
+    let w : IsWriter v = writer_seen c.self.view_is c.requires.writer in
+    let some = top_seen c.self.view_is c.requires.top in
+    let at : phase_of v.frames.phase ≡ claiming c.args.noted c.args.page = phase_seen c.self.view_is c.requires.phase in
+    let now : c.args.noted ≡ v.part.opened = c.if-noted-opened.false ∙ c.opened.ensures.begun ∙ opened_now v w in
+    let pages : c.pages.result ≡ v.shape.pages = c.pages.ensures.pages ∙ w.frames_are.pages_is in
+    let most = c.pages.ensures.most in let few : v.shape.pages ≤ MAX_PAGES = omega arith in
+    let round : v.shape.pages ≤ c.args.noted = (fits v w (claiming c.args.noted c.args.page) some at few).0 in
+    let lost : ℕ = c.args.noted - c.pages.result in
+    let sum : lost + v.shape.pages ≡ c.args.noted = omega arith in
+    let new : WriterValue = the_view record { seat = c.claim_head.new.self; frames = c.go_on.new.self; pages = c.self.inside.pages } in
+    let s = c.claim_head.ensures.step in
+    let here : c.args.noted ≡ s.core.opened = now ∙ ap (λ (p : Writing). p.opened) (sym s.before_is) in
+    let there = ap (link_into v.shape.pages s.core.links) now in
+    let goes : (p : Phase) → noted_fill (phase_of p) ≡ Some c.args.noted → c.if-claim_head.phase ≡ p → Moves v (claiming c.args.noted c.args.page) (phase_of p) s.core s.next → MakesSome v model.steps Going new =
+    λ p noted_is is moves. goes_on v new w some (claiming c.args.noted c.args.page) c.args.noted c.if-claim_head.phase p _ at refl noted_is is c.claim_head.ensures.shape c.claim_head.ensures.table refl c.go_on.ensures.goes_on s moves in
+    as_called v c.args.self.now new (told c.go_on.result) c.self.view_is (ap told c.go_on.ensures.answer)
+    (elim c.if-claim_head.branch [
+      | then-claim_head b ↦ goes (LookingNext Owner c.args.noted c.args.page) refl b.phase-is
+          (λ frame below step. claimed v.shape.pages s.core frame below model.going s.next c.args.noted c.args.page lost here sum (there ∙ s.seen.0 b.if-claim_head.true) step)
+      | else-claim_head b ↦ goes (Looking c.args.noted) refl b.phase-is
+          (λ frame below step. not_claimed v.shape.pages s.core frame below model.going s.next c.args.noted c.args.page lost here sum
+          (λ e. let truth : false ≡ true = sym b.if-claim_head.false ∙ s.seen.1 (sym there ∙ e) in cc) step)
+    ])
+
+pub returns-clause-nearer : goal.returns-clause-nearer
+returns-clause-nearer c =
+    let v : WriterValue = the_view c.self.inside in
+    let w : IsWriter v = writer_seen c.self.view_is c.requires.writer in
+    let x : WriterValue = c.args.self.now in
+    let m = returns-clause-makes c in
+    let pages : c.pages.result ≡ v.shape.pages = c.pages.ensures.pages ∙ w.frames_are.pages_is in
+    let most = c.pages.ensures.most in let few : v.shape.pages ≤ MAX_PAGES = omega arith in
+    let round : v.shape.pages ≤ c.args.noted = (fits v w (claiming c.args.noted c.args.page) (top_seen c.self.view_is c.requires.top) (phase_seen c.self.view_is c.requires.phase) few).0 in
+    let same = ap (λ (y : WriterValue). y.shape.pages) c.self.view_is in
+    let lost = c.claim_head.ensures.passed in
+    nearer_claiming x _ m.shape_is (subst (λ (y : WriterValue). y.passed ≤ passed_in c.claim_head.new.self) c.self.view_is c.claim_head.ensures.knows) _ c.args.noted c.args.page m
+    (phase_shown x c.requires.writer (claiming c.args.noted c.args.page) c.requires.top (ap phase_of c.requires.phase)) (omega arith)

@@ -1,8 +1,0 @@
-use Rattle.ring_shared.proofs.Turning.{turned_none, turned_once}
-use Rattle.ring_shared.proofs.writer.Writer.clear_if_due.Goals as goal
-
-pub returns-in-Clearing : goal.returns-in-Clearing
-returns-in-Clearing c = turned_once c.args.self.now c.clear.new.self c.requires.top c.clear.result c.clear.ensures.makes c.clear.ensures.nearer c.clear.ensures.payloads
-
-pub returns-in_default : goal.returns-in_default
-returns-in_default c = turned_none c.args.self.now c.requires.writer c.requires.top

@@ -1,0 +1,83 @@
+use Rattle.std.proofs.Common.{◌≡◌, ℕ, ◌-◌, List, slice_index_or, refl, sym, ap, ◌∙◌, arith, subst}
+use Rattle.std.proofs.lemmas.List.{get_or_read_under}
+use Rattle.trace_model.specs.Frames.{clearing}
+use Rattle.trace_model.specs.Steps as model
+use Rattle.ring_frames.specs.declared.phase.Phase.TheVariants.{Opening}
+use Rattle.ring_frames.specs.Value.{phase_of}
+use Rattle.ring_frames.specs.Phases.{told}
+use Rattle.ring_shared.specs.Value.{WriterValue}
+use Rattle.ring_shared.specs.Calls.{IsWriter}
+use Rattle.ring_shared.specs.contracts.writer.Writer.{the_view}
+use Rattle.ring_shared.proofs.Standing.{leads_nowhere, phase_shown}
+use Rattle.ring_shared.proofs.Called.{writer_seen, top_seen, phase_seen}
+use Rattle.ring_shared.proofs.Bounds.{done_now, count_now, noted_bounds}
+use Rattle.ring_shared.proofs.GoingOn.{goes_on, as_called}
+use Rattle.ring_shared.proofs.LinkMoves.{cleared}
+use Rattle.std.specs.Prelude.{◌≤◌}
+use Rattle.ring_steps.specs.Ends.{passed_in}
+use Rattle.ring_shared.proofs.Nearing.{nearer_quietly}
+use Rattle.ring_shared.proofs.writer.Writer.clear_update.Goals as goal
+
+pub overflow_sub-noted : goal.overflow_sub-noted
+overflow_sub-noted c =
+    let v : WriterValue = the_view c.self.inside in
+    let (low, high, room, numbers) = noted_bounds v (writer_seen c.self.view_is c.requires.writer) (clearing c.args.noted c.args.page)
+    (top_seen c.self.view_is c.requires.top)
+    (phase_seen c.self.view_is c.requires.phase) c.args.noted refl in omega arith
+
+pub overflow_sub-noted-2 : goal.overflow_sub-noted-2
+overflow_sub-noted-2 c =
+    let v : WriterValue = the_view c.self.inside in
+    let w : IsWriter v = writer_seen c.self.view_is c.requires.writer in
+    let (low, high, room, numbers) = noted_bounds v w (clearing c.args.noted c.args.page)
+    (top_seen c.self.view_is c.requires.top)
+    (phase_seen c.self.view_is c.requires.phase) c.args.noted refl in
+    let done = c.done.ensures ∙ done_now v w in omega arith
+
+pub index-front-requires : goal.index-front-requires
+index-front-requires c =
+    let v : WriterValue = the_view c.self.inside in
+    let w : IsWriter v = writer_seen c.self.view_is c.requires.writer in
+    let (low, high, room, numbers) = noted_bounds v w (clearing c.args.noted c.args.page)
+    (top_seen c.self.view_is c.requires.top)
+    (phase_seen c.self.view_is c.requires.phase) c.args.noted refl in
+    let done = c.done.ensures ∙ done_now v w in let count = count_now v w in let wide = c.self.inside.pages.ok.0 in omega arith
+
+pub clear_update-cleared-requires-clause-due : goal.clear_update-cleared-requires-clause-due
+clear_update-cleared-requires-clause-due c = let v : WriterValue = the_view c.self.inside in leads_nowhere v.shape v.part
+
+pub clear_update-cleared-requires-clause-phase : goal.clear_update-cleared-requires-clause-phase
+clear_update-cleared-requires-clause-phase c =
+    let v : WriterValue = the_view c.self.inside in
+    phase_shown v (writer_seen c.self.view_is c.requires.writer) (clearing c.args.noted c.args.page) (top_seen c.self.view_is c.requires.top)
+    (phase_seen c.self.view_is c.requires.phase)
+
+pub clear_update-cleared-requires-clause-front : goal.clear_update-cleared-requires-clause-front
+clear_update-cleared-requires-clause-front c =
+    let v : WriterValue = the_view c.self.inside in
+    let w : IsWriter v = writer_seen c.self.view_is c.requires.writer in
+    let (low, high, room, numbers) = noted_bounds v w (clearing c.args.noted c.args.page)
+    (top_seen c.self.view_is c.requires.top)
+    (phase_seen c.self.view_is c.requires.phase) c.args.noted refl in
+    let done = c.done.ensures ∙ done_now v w in let count = count_now v w in
+    get_or_read_under v.pages (c.args.noted - 1 - c.done.result) _ c.index-front.result.now 0 c.index-front.ensures (omega arith) refl
+    ∙ (ap (λ (pages : List ℕ). slice_index_or pages (c.args.noted - 1 - c.done.result) 0) (sym w.pages_are) ∙ ap (λ (d : ℕ). slice_index_or v.part.open_pages (c.args.noted - 1 - d) 0) done)
+
+pub returns-clause-makes : goal.returns-clause-makes
+returns-clause-makes c =
+    let v : WriterValue = the_view c.self.inside in
+    let w : IsWriter v = writer_seen c.self.view_is c.requires.writer in
+    let some = top_seen c.self.view_is c.requires.top in
+    let at : phase_of v.frames.phase ≡ clearing c.args.noted c.args.page = phase_seen c.self.view_is c.requires.phase in
+    let new : WriterValue = the_view record { seat = c.clear_update-cleared.new.self; frames = c.go_on.new.self; pages = c.self.inside.pages } in
+    let s = c.clear_update-cleared.ensures.step in
+    as_called v c.args.self.now new (told c.go_on.result) c.self.view_is (ap told c.go_on.ensures.answer)
+    (goes_on v new w some (clearing c.args.noted c.args.page) c.args.noted (Opening c.args.noted c.args.page) (Opening c.args.noted c.args.page) _ at refl refl refl c.clear_update-cleared.ensures.shape c.clear_update-cleared.ensures.table refl c.go_on.ensures.goes_on s
+    (λ frame below step. cleared v.shape.pages s.core frame below model.going s.next c.args.noted c.args.page step))
+
+pub returns-clause-nearer : goal.returns-clause-nearer
+returns-clause-nearer c =
+    let x : WriterValue = c.args.self.now in
+    let m = returns-clause-makes c in
+    nearer_quietly x _ m.shape_is (subst (λ (y : WriterValue). y.passed ≤ passed_in c.clear_update-cleared.new.self) c.self.view_is c.clear_update-cleared.ensures.knows) _
+    (clearing c.args.noted c.args.page) m (phase_shown x c.requires.writer (clearing c.args.noted c.args.page) c.requires.top (ap phase_of c.requires.phase)) tt

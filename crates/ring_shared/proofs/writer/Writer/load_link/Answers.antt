@@ -1,0 +1,74 @@
+use Rattle.std.proofs.Common.{◌≡◌, Some, refl, sym, ap, ◌∙◌, subst}
+use Rattle.trace_model.specs.Frames.{looking, noted_fill}
+use Rattle.trace_model.specs.Ring.{link_into}
+use Rattle.trace_model.specs.Steps as model
+use Rattle.link_marks.specs.declared.link.Mark.{Mark}
+use Rattle.link_marks.specs.declared.link.Mark.TheVariants.{Normal, Header, Update}
+use Rattle.link_marks.specs.ModelLinks.{mark_of, link_of}
+use Rattle.ring_steps.specs.Views.{Writing, writing_of}
+use Rattle.ring_frames.specs.declared.phase.Phase.TheVariants.{Opening, Claiming, LookingNext}
+use Rattle.ring_frames.specs.declared.phase.Role.TheVariants.{Helper}
+use Rattle.ring_frames.specs.declared.answer.Answer.TheVariants.{Going}
+use Rattle.ring_frames.specs.Phases.{told}
+use Rattle.ring_frames.specs.declared.phase.Phase.{Phase}
+use Rattle.ring_frames.specs.Value.{phase_of}
+use Rattle.ring_steps.specs.Linking.{tail_in}
+use Rattle.ring_shared.specs.Value.{WriterValue}
+use Rattle.ring_shared.specs.Calls.{IsWriter, MakesSome}
+use Rattle.ring_shared.specs.contracts.writer.Writer.{the_view}
+use Rattle.ring_shared.proofs.Standing.{leads_nowhere, phase_shown}
+use Rattle.ring_shared.proofs.Called.{writer_seen, top_seen, phase_seen}
+use Rattle.ring_shared.proofs.Bounds.{opened_now}
+use Rattle.ring_shared.proofs.GoingOn.{Moves, goes_on, as_called}
+use Rattle.ring_shared.proofs.LinkMoves.{found_at, looked}
+use Rattle.ring_shared.specs.Nearer.{IsNearer}
+use Rattle.ring_shared.proofs.Nearing.{nearer_looking}
+use Rattle.ring_shared.proofs.writer.Writer.load_link.Goals.{in-Normal, in-Header, in-Update}
+use Rattle.ring_shared.proofs.writer.Writer.load_link.Goals as goal
+
+pub load_link-link-requires-clause-due : goal.load_link-link-requires-clause-due
+load_link-link-requires-clause-due c = let v : WriterValue = the_view c.self.inside in leads_nowhere v.shape v.part
+
+pub load_link-link-requires-clause-phase : goal.load_link-link-requires-clause-phase
+load_link-link-requires-clause-phase c =
+    let v : WriterValue = the_view c.self.inside in
+    let w : IsWriter v = writer_seen c.self.view_is c.requires.writer in
+    phase_shown v w (looking v.part.opened) (top_seen c.self.view_is c.requires.top)
+    (phase_seen c.self.view_is c.requires.phase ∙ ap looking (c.if-noted-opened.false ∙ c.opened.ensures.begun ∙ opened_now v w))
+
+pub load_link-link-requires-clause-tail : goal.load_link-link-requires-clause-tail
+load_link-link-requires-clause-tail c = c.tail-tail.ensures ∙ ap (λ (x : WriterValue). tail_in x.part) (sym c.self.view_is)
+
+pub returns-clause-makes : goal.returns-clause-makes
+returns-clause-makes c =
+    let v : WriterValue = the_view c.self.inside in
+    let w : IsWriter v = writer_seen c.self.view_is c.requires.writer in
+    let some = top_seen c.self.view_is c.requires.top in
+    let at : phase_of v.frames.phase ≡ looking c.args.noted = phase_seen c.self.view_is c.requires.phase in
+    let now : c.args.noted ≡ v.part.opened = c.if-noted-opened.false ∙ c.opened.ensures.begun ∙ opened_now v w in
+    let new : WriterValue = the_view record { seat = c.load_link-link.new.self; frames = c.go_on.new.self; pages = c.self.inside.pages } in
+    let l = c.load_link-link.result in
+    let s = c.load_link-link.ensures.step in
+    let link : link_into v.shape.pages s.core.links c.args.noted ≡ link_of l = ap (link_into v.shape.pages s.core.links) now ∙ s.seen.1 in
+    let here : c.args.noted ≡ s.core.opened = now ∙ ap (λ (p : Writing). p.opened) (sym s.before_is) in
+    let found : (m : Mark) → l.mark ≡ m → Moves v (looking c.args.noted) (found_at (mark_of m) c.args.noted l.page) s.core s.next =
+    λ m e frame below step. subst (λ (k : Mark). writing_of s.next ≡ writing_of (model.in_phase s.core frame below (found_at (mark_of k) c.args.noted l.page))) e
+    (looked v.shape.pages s.core frame below model.going s.next c.args.noted (link_of l) here link step) in
+    let goes : (p : Phase) → noted_fill (phase_of p) ≡ Some c.args.noted → c.match-link.phase ≡ p → Moves v (looking c.args.noted) (phase_of p) s.core s.next → MakesSome v model.steps Going new =
+    λ p noted_is is moves. goes_on v new w some (looking c.args.noted) c.args.noted c.match-link.phase p _ at refl noted_is is c.load_link-link.ensures.shape c.load_link-link.ensures.table refl c.go_on.ensures.goes_on s moves in
+    as_called v c.args.self.now new (told c.go_on.result) c.self.view_is (ap told c.go_on.ensures.answer)
+    (elim c.match-link.branch [
+      | in-Normal b ↦ goes (Opening c.args.noted l.page) refl b.phase-is (found Normal b.in-Normal.is)
+      | in-Header b ↦ goes (Claiming c.args.noted l.page) refl b.phase-is (found Header b.in-Header.is)
+      | in-Update b ↦ goes (LookingNext Helper c.args.noted l.page) refl b.phase-is (found Update b.in-Update.is)
+    ])
+
+pub returns-clause-nearer : goal.returns-clause-nearer
+returns-clause-nearer c =
+    let v : WriterValue = the_view c.self.inside in
+    let w : IsWriter v = writer_seen c.self.view_is c.requires.writer in
+    let new : WriterValue = the_view record { seat = c.load_link-link.new.self; frames = c.go_on.new.self; pages = c.self.inside.pages } in
+    let s = c.load_link-link.ensures.step in
+    subst (λ (x : WriterValue). IsNearer x new) c.self.view_is
+    (nearer_looking v new c.load_link-link.ensures.shape c.load_link-link.ensures.knows c.args.noted _ model.going s
+    (phase_shown v w (looking c.args.noted) (top_seen c.self.view_is c.requires.top) (phase_seen c.self.view_is c.requires.phase)) s.seen.0)

@@ -1,0 +1,98 @@
+use Rattle.std.proofs.Common.{◌≡◌, ℕ, ◌+◌, ◌-◌, ◌≤◌, Some, refl, sym, ap, ◌∙◌, subst, arith}
+use Rattle.trace_model.specs.Links.{Link, normal_link}
+use Rattle.trace_model.specs.Frames.{Phase as ModelPhase, looking_next, noted_fill}
+use Rattle.trace_model.specs.Steps as model
+use Rattle.trace_model.specs.Steps.{MayOpen}
+use Rattle.link_marks.specs.declared.link.Mark.{Mark}
+use Rattle.link_marks.specs.ModelLinks.{mark_of, link_of}
+use Rattle.ring_steps.specs.Views.{Writing, writing_of}
+use Rattle.ring_frames.specs.declared.phase.Phase.TheVariants.{Marking}
+use Rattle.ring_frames.specs.declared.phase.Phase.{Phase}
+use Rattle.ring_frames.specs.declared.answer.Answer.TheVariants.{Going}
+use Rattle.ring_frames.specs.Phases.{told}
+use Rattle.ring_frames.specs.Value.{phase_of, role_of}
+use Rattle.ring_shared.specs.Value.{WriterValue}
+use Rattle.ring_shared.specs.Calls.{IsWriter, MakesSome}
+use Rattle.ring_shared.specs.contracts.writer.Writer.{the_view}
+use Rattle.ring_shared.proofs.Standing.{leads_nowhere, phase_shown}
+use Rattle.ring_shared.proofs.Called.{writer_seen, top_seen, phase_seen}
+use Rattle.ring_shared.proofs.Bounds.{opened_now, noted_bounds, advances}
+use Rattle.ring_shared.proofs.GoingOn.{Moves, goes_on, as_called}
+use Rattle.ring_shared.proofs.LinkMoves.{noted_after, says_normal, waits, is_passed}
+use Rattle.ring_steps.specs.Ends.{passed_in}
+use Rattle.ring_shared.proofs.Nearing.{nearer_quietly}
+use Rattle.ring_shared.proofs.writer.Writer.load_next.Goals.{in-Normal, in_default, in_default-via-in-Normal+else-link-behind, in_default-via-in_default}
+use Rattle.ring_shared.proofs.writer.Writer.load_next.Goals as goal
+
+pub overflow_add-behind : goal.overflow_add-behind
+overflow_add-behind c =
+    let v : WriterValue = the_view c.self.inside in
+    let (low, high, room, numbers) = noted_bounds v (writer_seen c.self.view_is c.requires.writer) (looking_next (role_of c.args.role) c.args.noted c.args.page)
+    (top_seen c.self.view_is c.requires.top)
+    (phase_seen c.self.view_is c.requires.phase) c.args.noted refl in omega arith
+
+pub overflow_sub-behind : goal.overflow_sub-behind
+overflow_sub-behind c =
+    let v : WriterValue = the_view c.self.inside in
+    let w : IsWriter v = writer_seen c.self.view_is c.requires.writer in
+    let pages : c.pages.result ≡ v.shape.pages = c.pages.ensures.pages ∙ w.frames_are.pages_is in
+    let round : v.shape.pages ≤ c.args.noted = advances v w (looking_next (role_of c.args.role) c.args.noted c.args.page) (top_seen c.self.view_is c.requires.top)
+    (phase_seen c.self.view_is c.requires.phase) in omega arith
+
+pub load_next-link-requires-clause-due : goal.load_next-link-requires-clause-due
+load_next-link-requires-clause-due c = let v : WriterValue = the_view c.self.inside in leads_nowhere v.shape v.part
+
+pub load_next-link-requires-clause-phase : goal.load_next-link-requires-clause-phase
+load_next-link-requires-clause-phase c =
+    let v : WriterValue = the_view c.self.inside in
+    let w : IsWriter v = writer_seen c.self.view_is c.requires.writer in
+    let some = top_seen c.self.view_is c.requires.top in
+    let at : phase_of v.frames.phase ≡ looking_next (role_of c.args.role) c.args.noted c.args.page = phase_seen c.self.view_is c.requires.phase in
+    let pages : c.pages.result ≡ v.shape.pages = c.pages.ensures.pages ∙ w.frames_are.pages_is in
+    let round : v.shape.pages ≤ c.args.noted = advances v w (looking_next (role_of c.args.role) c.args.noted c.args.page) some at in record {
+      role = role_of c.args.role;
+      noted = c.args.noted;
+      phase = phase_shown v w (looking_next (role_of c.args.role) c.args.noted c.args.page) some at;
+      goes_on = subst (MayOpen (role_of c.args.role) c.args.noted) (opened_now v w) (c.stops.ensures.goes_on c.if-stops.false);
+      behind_is = omega arith;
+    }
+
+pub returns-clause-makes : goal.returns-clause-makes
+returns-clause-makes c =
+    let v : WriterValue = the_view c.self.inside in
+    let w : IsWriter v = writer_seen c.self.view_is c.requires.writer in
+    let some = top_seen c.self.view_is c.requires.top in
+    let from : ModelPhase = looking_next (role_of c.args.role) c.args.noted c.args.page in
+    let at : phase_of v.frames.phase ≡ from = phase_seen c.self.view_is c.requires.phase in
+    let new : WriterValue = the_view record { seat = c.load_next-link.new.self; frames = c.go_on.new.self; pages = c.self.inside.pages } in
+    let s = c.load_next-link.ensures.step in
+    let on : MayOpen (role_of c.args.role) c.args.noted s.core.opened = subst (MayOpen (role_of c.args.role) c.args.noted)
+    (opened_now v w ∙ ap (λ (p : Writing). p.opened) (sym s.before_is)) (c.stops.ensures.goes_on c.if-stops.false) in
+    let pages : c.pages.result ≡ v.shape.pages = c.pages.ensures.pages ∙ w.frames_are.pages_is in
+    let round : v.shape.pages ≤ c.args.noted = advances v w from some at in
+    let behind : ℕ = c.args.noted + 1 - c.pages.result in
+    let sum : behind + v.shape.pages ≡ c.args.noted + 1 = omega arith in
+    let l = c.load_next-link.result in
+    let marked : Mark → Link = λ (m : Mark). record { mark = mark_of m; page = l.page; fill = l.fill } in
+    let goes : (p : Phase) → noted_fill (phase_of p) ≡ Some c.args.noted → c.match-link.phase ≡ p → Moves v from (phase_of p) s.core s.next → MakesSome v model.steps Going new =
+    λ p noted_is is moves. goes_on v new w some from c.args.noted c.match-link.phase p _ at refl noted_is is c.load_next-link.ensures.shape c.load_next-link.ensures.table refl c.go_on.ensures.goes_on s moves in
+    as_called v c.args.self.now new (told c.go_on.result) c.self.view_is (ap told c.go_on.ensures.answer)
+    (elim c.match-link.branch [
+      | in-Normal b ↦ goes (Marking c.args.role c.args.noted c.args.page l.page) refl b.phase-is
+          (λ frame below step. waits v.shape.pages s.core frame below model.going s.next (role_of c.args.role) c.args.noted c.args.page behind (link_of l) on sum s.seen
+          (ap marked b.in-Normal.is ∙ ap (normal_link l.page) b.if-link-behind.true) step)
+      | in_default b ↦ goes b.after_next-phase.result (ap noted_fill b.after_next-phase.ensures ∙ noted_after (role_of c.args.role) c.args.noted c.args.page) b.phase-is
+          (λ frame below step. subst (λ (p : ModelPhase). writing_of s.next ≡ writing_of (model.in_phase s.core frame below p)) (sym b.after_next-phase.ensures)
+          (is_passed v.shape.pages s.core frame below model.going s.next (role_of c.args.role) c.args.noted c.args.page behind (link_of l) on sum s.seen
+          (λ page e. elim b.in_default.branch [
+            | in_default-via-in-Normal+else-link-behind d ↦ d.if-link-behind.false (ap (λ (k : Link). k.fill) e)
+            | in_default-via-in_default d ↦ d.in_default.not-Normal (says_normal l.mark (ap (λ (k : Link). k.mark) e))
+          ]) step))
+    ])
+
+pub returns-clause-nearer : goal.returns-clause-nearer
+returns-clause-nearer c =
+    let x : WriterValue = c.args.self.now in
+    let m = returns-clause-makes c in
+    nearer_quietly x _ m.shape_is (subst (λ (y : WriterValue). y.passed ≤ passed_in c.load_next-link.new.self) c.self.view_is c.load_next-link.ensures.knows) _
+    (looking_next (role_of c.args.role) c.args.noted c.args.page) m (phase_shown x c.requires.writer (looking_next (role_of c.args.role) c.args.noted c.args.page) c.requires.top (ap phase_of c.requires.phase)) tt

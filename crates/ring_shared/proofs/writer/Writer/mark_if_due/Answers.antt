@@ -1,8 +1,0 @@
-use Rattle.ring_shared.proofs.Turning.{turned_none, turned_once}
-use Rattle.ring_shared.proofs.writer.Writer.mark_if_due.Goals as goal
-
-pub returns-in-Marking : goal.returns-in-Marking
-returns-in-Marking c = turned_once c.args.self.now c.mark.new.self c.requires.top c.mark.result c.mark.ensures.makes c.mark.ensures.nearer c.mark.ensures.payloads
-
-pub returns-in_default : goal.returns-in_default
-returns-in_default c = turned_none c.args.self.now c.requires.writer c.requires.top
