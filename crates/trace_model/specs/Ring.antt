@@ -2,6 +2,7 @@
 -- After Documentation/trace/ring-buffer-design.rst and kernel/trace/ring_buffer.c (struct
 -- ring_buffer_per_cpu, rb_handle_head_page, rb_get_reader_page); docs/FORMATS.md, "The ring".
 use Rattle.std.specs.Prelude.{◌≡◌, ◌≢◌, ℕ, suc, ◌+◌, ◌-◌, ◌%◌, ◌<◌, ◌≤◌, ◌⊎◌, List, [], ◌∷◌, length, take, map, Some, slice_index_or, slice_get, slice_set}
+use Rattle.trace_model.specs.declared.limits.TheConstants.{MIN_PAGES, MAX_PAGES, MIN_SIZE, MAX_SIZE}
 use Rattle.trace_model.specs.Record.{Record}
 use Rattle.trace_model.specs.History.{HistoryEvent, Reservation, reserved_records, committed_records, as_record}
 use Rattle.trace_model.specs.Packing.{opens_of, fills_of}
@@ -9,6 +10,14 @@ use Rattle.trace_model.specs.Links.{Link, normal_link, header_link, update_link}
 use Rattle.trace_model.specs.Frames.{Frame, noted_fill, owned_update}
 use Rattle.trace_model.specs.Window.{Window}
 use Rattle.trace_model.specs.Sublist.{IsPrefix}
+
+-- How many pages a ring may have, and of how many bytes of data: whole words.
+pub record HasRingLimits (pages size : ℕ) : Type 0 where
+  pub some_pages : MIN_PAGES ≤ pages
+  pub most_pages : pages ≤ MAX_PAGES
+  pub small : MIN_SIZE ≤ size
+  pub large : size ≤ MAX_SIZE
+  pub words : size % 4 ≡ 0
 
 -- ---- links and positions
 
