@@ -4,7 +4,7 @@ use Rattle.std.specs.Prelude.{if◌then◌else◌, nat_le}
 use Rattle.std.proofs.lemmas.Bool.{lt-leb, and_left}
 use Rattle.trace_model.specs.Record.{Record}
 use Rattle.trace_model.specs.Words.{padded}
-use Rattle.script_model.specs.Script.{write}
+use Rattle.text_model.specs.Script.{write}
 use Rattle.line_model.proofs.WrittenLines.{whole_lines_commit}
 use Rattle.line_model.proofs.WriterHistories.{none_formed}
 use Rattle.trace_model.specs.History.{HistoryEvent, push, reserve, leave}

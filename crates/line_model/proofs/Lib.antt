@@ -24,3 +24,5 @@ pub mod ExamplesMade
 -- what a replay makes
 pub mod RunCalls
 pub mod ReplayedLines
+-- what lines add
+pub mod AccountsMade

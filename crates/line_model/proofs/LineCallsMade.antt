@@ -4,7 +4,7 @@ use Rattle.trace_model.specs.History.{push}
 use Rattle.trace_model.specs.Window.{RingEvent, acts}
 use Rattle.trace_model.specs.Frames.{for_close, waiting, idle, Frame, Refusal}
 use Rattle.trace_model.specs.Steps.{pushes, pushes_close, pushed, refused, Exchange}
-use Rattle.script_model.specs.Script.{Command, begin_frame, step_frame, finish_frame, write, close, step_reader, take_page, wish, deliver}
+use Rattle.text_model.specs.Script.{Command, begin_frame, step_frame, finish_frame, write, close, step_reader, take_page, wish, deliver}
 use Rattle.world_model.specs.Lanes.{payloads_left}
 use Rattle.world_model.proofs.FramesMove.{Moves, stays, changes, pops}
 use Rattle.line_model.specs.Lines.{LineState, OpenFrame, first_state, frame_count, with_top_stepped, ReservesFirst, stays_on, TopPart, FinishPart, IsQuiet, LinePart}

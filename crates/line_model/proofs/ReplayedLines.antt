@@ -8,8 +8,8 @@ use mathlib.Core.Logic.{dite}
 use native.Mathlib.Decide.{ℕ_discrete}
 use Rattle.trace_model.specs.Window.{RingEvent}
 use Rattle.trace_model.proofs.Elements.{some_is}
-use Rattle.script_model.specs.Script.{Command, begin_frame, step_frame, finish_frame, write, close, step_reader, take_page, wish, deliver, Script}
-use Rattle.script_model.specs.ScriptLimits.{IsCommandWithin, IsWithinLimits}
+use Rattle.text_model.specs.Script.{Command, begin_frame, step_frame, finish_frame, write, close, step_reader, take_page, wish, deliver, Script}
+use Rattle.text_model.specs.ScriptLimits.{IsCommandWithin, IsWithinLimits}
 use Rattle.world_model.specs.Lanes.{Lane, IsNewLane, HasPayloads, LineRun}
 use Rattle.world_model.specs.World.{World, RunsLine, DeliversFill, delivers, lacks, Obeys, ObeysAll, WorldBehind}
 use Rattle.world_model.proofs.Lookups.{get_set_here, get_set_other}

@@ -4,7 +4,7 @@ use Rattle.std.specs.Prelude.{slice_index_or}
 use Rattle.trace_model.specs.History.{HistoryEvent, open_fill, reserve}
 use Rattle.trace_model.specs.Packing.{fill_len}
 use Rattle.trace_model.specs.Steps.{Exchange}
-use Rattle.script_model.specs.Script.{Command, begin_frame, step_frame, finish_frame, write, close, step_reader, take_page, wish, deliver}
+use Rattle.text_model.specs.Script.{Command, begin_frame, step_frame, finish_frame, write, close, step_reader, take_page, wish, deliver}
 use Rattle.link_marks.proofs.PackedRuns.{runs_packed}
 use Rattle.link_marks.proofs.RingsKept.{reached_kept, reached_further}
 use Rattle.world_model.specs.Lanes.{payloads_left}

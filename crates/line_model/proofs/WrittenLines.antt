@@ -10,7 +10,7 @@ use Rattle.trace_model.specs.History.{HistoryEvent, push, push_close, open_fill,
 use Rattle.trace_model.specs.Packing.{tail_of, IsPacked}
 use Rattle.trace_model.specs.Window.{Window, RingEvent, acts, closes, takes, loses, history_events_of, window_event_of, took_one, lost_one, window_after, window_behind, WindowRunFrom}
 use Rattle.trace_model.specs.Steps.{IsTooLong}
-use Rattle.script_model.specs.Script.{Command, begin_frame, step_frame, finish_frame, write, close, step_reader, take_page, wish, deliver}
+use Rattle.text_model.specs.Script.{Command, begin_frame, step_frame, finish_frame, write, close, step_reader, take_page, wish, deliver}
 use Rattle.trace_model.proofs.NextEvent.{writer_snoc, settled_at_rest}
 use Rattle.trace_model.proofs.HistoryPrefixes.{none_stands}
 use Rattle.trace_model.proofs.Committed.{whole_front}

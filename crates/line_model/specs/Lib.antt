@@ -1,3 +1,4 @@
+pub mod Accounts
 pub mod Lines
 pub mod WriterCalls
 pub mod CallEvents

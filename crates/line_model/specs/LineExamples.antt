@@ -1,7 +1,7 @@
 -- Examples of lines and of the histories that they make.
 use Rattle.std.specs.Prelude.{◌≡◌, ℕ, List, [], ◌∷◌, Some}
 use Rattle.trace_model.specs.History.{push, reserve, leave}
-use Rattle.script_model.specs.Script.{begin_frame, step_frame, finish_frame, write, close}
+use Rattle.text_model.specs.Script.{begin_frame, step_frame, finish_frame, write, close}
 use Rattle.line_model.specs.Lines.{IsMadeByLines}
 use Rattle.line_model.specs.WrittenRecords.{records_of_lines}
 

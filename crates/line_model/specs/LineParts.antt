@@ -4,7 +4,7 @@ use Rattle.trace_model.specs.History.{push}
 use Rattle.trace_model.specs.Frames.{for_record, Frame, Refusal}
 use Rattle.trace_model.specs.Window.{RingEvent, acts}
 use Rattle.trace_model.specs.Steps.{Answer, pushes, pushes_close, pushed, refused, Exchange}
-use Rattle.script_model.specs.Script.{Command, begin_frame, write, close}
+use Rattle.text_model.specs.Script.{Command, begin_frame, write, close}
 use Rattle.world_model.specs.Lanes.{event_on_top, payloads_left}
 use Rattle.line_model.specs.Lines.{LineState, first_state, FinishPart, LinePart, LineParts, FinishParts, IsMadeByLines}
 use Rattle.line_model.specs.WriterCalls.{Writer, first_writer, IsWriterCall, TopCalls, FinishCalls, LineCalls, LinesCalls, RestCalls}

@@ -4,8 +4,8 @@ use Rattle.std.specs.List.{slice_get}
 use Rattle.trace_model.specs.declared.limits.TheConstants.{LINK_FILLS}
 use Rattle.trace_model.specs.History.{committed_records}
 use Rattle.trace_model.specs.Steps.{Exchange}
-use Rattle.script_model.specs.Script.{Command, Script}
-use Rattle.script_model.specs.ScriptLimits.{IsCommandWithin, IsWithinLimits}
+use Rattle.text_model.specs.Script.{Command, Script}
+use Rattle.text_model.specs.ScriptLimits.{IsCommandWithin, IsWithinLimits}
 use Rattle.link_marks.specs.Reached.{IsReached}
 use Rattle.world_model.specs.Lanes.{Lane, HasPayloads, LineRun}
 use Rattle.world_model.specs.World.{World, WorldBehind, WorldOf}

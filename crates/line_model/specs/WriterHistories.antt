@@ -3,7 +3,7 @@ use Rattle.std.specs.Prelude.{◌≡◌, ℕ, ◌+◌, ◌≤◌, List, [], leng
 use Rattle.trace_model.specs.declared.limits.TheConstants.{MIN_PAGES, LINK_FILLS}
 use Rattle.trace_model.specs.History.{HistoryEvent, IsHistory, committed_records}
 use Rattle.trace_model.specs.Packing.{IsPacked}
-use Rattle.script_model.specs.Script.{Command}
+use Rattle.text_model.specs.Script.{Command}
 use Rattle.line_model.specs.WriterCalls.{Writer, first_writer, LinesCalls, RestCalls}
 use Rattle.line_model.specs.WrittenRecords.{AllWriteOrClose, records_of_lines}
 

@@ -1,5 +1,6 @@
 //! Laws over the definitions, as contracts of functions with empty bodies, by subject.
 
+pub mod accounts;
 pub mod calls;
 pub mod lines;
 pub mod records;

@@ -1,7 +1,7 @@
 -- Calls for the frame on top, one after the other; and the lines that are made of them.
 use Rattle.std.proofs.Common.{◌≡◌, ◌≢◌, ℕ, suc, ◌+◌, ◌-◌, ◌<◌, ◌≤◌, ◌⊎◌, ⊎_elim, Bool, true, false, List, [], ◌∷◌, ◌++◌, length, refl, sym, ap, ◌∙◌, subst, arith, length-append}
 use Rattle.trace_model.specs.Steps.{Event, pushes, Exchange}
-use Rattle.script_model.specs.Script.{begin_frame, step_frame, finish_frame}
+use Rattle.text_model.specs.Script.{begin_frame, step_frame, finish_frame}
 use Rattle.line_model.specs.WriterCalls.{Writer, IsWriterCall, TopCalls, StepsCalls, steps_top, FinishCalls, finishes_top, begins_frame, begins_none, WholeCalls, writes_frame, writes_none}
 use Rattle.line_model.proofs.PartsJoined.{top_calls_go_on}
 use Rattle.line_model.proofs.CallParts.{call_moves}

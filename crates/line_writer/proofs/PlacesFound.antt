@@ -10,8 +10,8 @@ use mathlib.Core.Logic.{dite}
 use native.Mathlib.Decide.{ℕ_discrete}
 use Rattle.trace_model.specs.declared.numbers.CpuId.{CpuId}
 use Rattle.trace_model.proofs.Elements.{some_is}
-use Rattle.script_model.specs.Script.{Command, begin_frame, step_frame, finish_frame, write, close, step_reader, take_page, wish, deliver}
-use Rattle.script_model.specs.ScriptLimits.{IsCommandWithin}
+use Rattle.text_model.specs.Script.{Command, begin_frame, step_frame, finish_frame, write, close, step_reader, take_page, wish, deliver}
+use Rattle.text_model.specs.ScriptLimits.{IsCommandWithin}
 use Rattle.world_model.proofs.Lookups.{get_set_here, get_set_other}
 use Rattle.line_model.specs.Lines.{writer_line, writer_lines}
 use Rattle.line_model.specs.ReplayedLines.{commands_of}

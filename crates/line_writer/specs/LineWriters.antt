@@ -3,7 +3,7 @@ use Rattle.std.specs.Prelude.{◌≡◌, ℕ, ◌<◌, List, [], ◌∷◌, leng
 use Rattle.trace_model.specs.declared.limits.TheConstants.{MAX_FRAMES}
 use Rattle.trace_model.specs.Frames.{Refusal}
 use Rattle.trace_model.specs.Steps.{Event, pushes, pushed, refused, Exchange}
-use Rattle.script_model.specs.Script.{Command}
+use Rattle.text_model.specs.Script.{Command}
 use Rattle.world_model.specs.Lanes.{FitFrames, event_on_top, payloads_left}
 use Rattle.line_model.specs.WriterCalls.{Writer, IsWriterCall, WholeCalls, LineCalls, LinesCalls, RestCalls}
 use Rattle.ring_steps.specs.Views.{Writing}

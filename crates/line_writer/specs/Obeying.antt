@@ -4,7 +4,7 @@ use Rattle.std.specs.List.{slice_get, AllZip}
 use Rattle.trace_model.specs.declared.limits.TheConstants.{LINK_FILLS}
 use Rattle.trace_model.specs.declared.numbers.FillNo.{FillNo}
 use Rattle.trace_model.specs.History.{committed_records}
-use Rattle.script_model.specs.Script.{Command}
+use Rattle.text_model.specs.Script.{Command}
 use Rattle.line_model.specs.Lines.{writer_lines, IsMadeByLines}
 use Rattle.line_model.specs.WrittenRecords.{AllWriteOrClose, records_of_lines}
 use Rattle.line_model.specs.ReplayedLines.{commands_of}

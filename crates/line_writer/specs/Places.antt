@@ -2,7 +2,7 @@
 use Rattle.std.specs.Prelude.{◌≡◌, ℕ, nat_eq, false, List, take, Option, Some, None}
 use Rattle.std.specs.List.{slice_get, AllZip}
 use Rattle.trace_model.specs.declared.numbers.CpuId.{CpuId}
-use Rattle.script_model.specs.Script.{Command}
+use Rattle.text_model.specs.Script.{Command}
 use Rattle.line_model.specs.Lines.{writer_line, writer_lines}
 use Rattle.line_model.specs.ReplayedLines.{commands_of}
 use Rattle.line_writer.specs.Obeying.{IsLineAt}

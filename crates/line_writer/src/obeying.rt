@@ -1,6 +1,6 @@
 //! A CPU's writer lines, obeyed one after the other.
 ghost use Rattle.std.specs.Prelude.{◌≡◌, ℕ, false, OnOk, IfErr};
-ghost use Rattle.script_model.specs.ScriptLimits.{IsCommandWithin};
+ghost use Rattle.text_model.specs.ScriptLimits.{IsCommandWithin};
 ghost use Rattle.line_model.specs.Lines.{writer_lines};
 ghost use Rattle.line_model.specs.ReplayedLines.{commands_of};
 ghost use Rattle.trace_script.specs.ScriptTypes.{shown_command};

@@ -1,13 +1,13 @@
 -- A text has one output: what a command gives for it are the same bytes, with the same exit status.
 use Rattle.std.proofs.Common.{◌≡◌, ℕ, Bool, List, inl, inr, sym, ap, subst, ◌∙◌}
 use Rattle.std.specs.List.{AllZip}
-use Rattle.text_model.specs.Script.{LineFault}
+use Rattle.text_model.specs.ScriptLines.{LineFault}
 use Rattle.text_model.specs.Printing.{printed_fault}
-use Rattle.script_model.specs.Script.{Script}
-use Rattle.script_model.specs.ScriptLimits.{IsWithinLimits}
-use Rattle.script_model.proofs.ParsedLimits.{ParsesScript-within}
-use Rattle.script_model.proofs.Readings.{same_ok, same_err, ok_is_no_err}
-use Rattle.script_model.proofs.ScriptReads.{script_reads, fault_reads}
+use Rattle.text_model.specs.Script.{Script}
+use Rattle.text_model.specs.ScriptLimits.{IsWithinLimits}
+use Rattle.text_model.proofs.ParsedLimits.{ParsesScript-within}
+use Rattle.text_model.proofs.Readings.{same_ok, same_err, ok_is_no_err}
+use Rattle.text_model.proofs.ScriptReads.{script_reads, fault_reads}
 use Rattle.world_model.specs.World.{World}
 use Rattle.world_model.specs.Printing.{printed_world}
 use Rattle.world_model.proofs.OneWorld.{one_world}

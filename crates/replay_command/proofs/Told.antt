@@ -5,7 +5,7 @@ use Rattle.std.specs.List.{slice_get, AllZip}
 use Rattle.trace_model.specs.Parcel.{Parcel}
 use Rattle.trace_model.specs.Collection.{IsSame}
 use Rattle.text_model.specs.Log.{LogLine}
-use Rattle.script_model.specs.Script.{Script}
+use Rattle.text_model.specs.Script.{Script}
 use Rattle.world_model.specs.Printing.{Shown, printed_world}
 use Rattle.collector_text.specs.Prints.{IsPrintOf}
 use Rattle.collector_text.proofs.OneText.{same_are_told}

@@ -1,9 +1,9 @@
 -- What the command `replay` prints for a text, with which exit status.
 use Rattle.std.specs.Prelude.{◌≡◌, ℕ, Bool, ◌⊎◌, List}
 use Rattle.std.specs.List.{AllZip}
-use Rattle.text_model.specs.Script.{LineFault}
+use Rattle.text_model.specs.ScriptLines.{LineFault}
 use Rattle.text_model.specs.Printing.{printed_fault}
-use Rattle.script_model.specs.Script.{Script, ParsesScript, FirstScriptFault}
+use Rattle.text_model.specs.Script.{Script, ParsesScript, FirstScriptFault}
 use Rattle.world_model.specs.World.{World, WorldOf}
 use Rattle.world_model.specs.Headline.{IsGenuineWorld}
 use Rattle.world_model.specs.Printing.{Shown, printed_world}

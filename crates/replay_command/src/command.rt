@@ -1,7 +1,7 @@
 //! The command `replay`: a script in, the printing of its world out.
 ghost use Rattle.std.specs.Prelude.{◌≡◌, ℕ, ◌∷◌, ◌++◌, [], List, false, IfOk, IfErr};
 ghost use Rattle.std.specs.List.{AllZip};
-ghost use Rattle.script_model.specs.Script.{ParsesScript};
+ghost use Rattle.text_model.specs.Script.{ParsesScript};
 ghost use Rattle.world_model.specs.Printing.{Shown, printed_world};
 ghost use Rattle.collector_text.specs.Prints.{IsPrintOf};
 ghost use Rattle.command_io.specs.CommandRun.{IsCommandRun};

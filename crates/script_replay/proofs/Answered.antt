@@ -7,8 +7,8 @@ use Rattle.std.proofs.lemmas.List.Elements.{Contains-append_cases}
 use Rattle.trace_model.specs.Parcel.{Parcel}
 use Rattle.trace_model.proofs.Collections.{same_back, same_same, same_parcels}
 use Rattle.trace_model.proofs.Joined.{joined_least}
-use Rattle.script_model.specs.Script.{Script}
-use Rattle.script_model.specs.ScriptLimits.{IsWithinLimits}
+use Rattle.text_model.specs.Script.{Script}
+use Rattle.text_model.specs.ScriptLimits.{IsWithinLimits}
 use Rattle.world_model.specs.World.{World}
 use Rattle.world_model.specs.Headline.{IsGenuineWorld}
 use Rattle.world_model.proofs.GenuineWorlds.{world_genuine, taken_agree}

@@ -8,7 +8,7 @@ use Rattle.trace_model.specs.Ring.{Core}
 use Rattle.trace_model.specs.Steps as model
 use Rattle.trace_model.specs.Steps.{steps, refused, Step, Exchange}
 use Rattle.text_model.specs.Log as text
-use Rattle.script_model.specs.Script.{step_frame, finish_frame}
+use Rattle.text_model.specs.Script.{step_frame, finish_frame}
 use Rattle.link_marks.specs.Reached.{IsReached}
 use Rattle.link_marks.specs.Ranks.{frame_limit}
 use Rattle.world_model.specs.Lanes.{Lane, lane_behind, event_on_top, FrameRun, IsGone, LacksFrame, lacks_to_step, steps_on, lacks_to_finish, finishes, LineRun}

@@ -2,7 +2,7 @@
 use Rattle.std.proofs.Common.{◌≡◌, ℕ, ◌<◌, List, length, Option, None, Some, get_or, sym, ap, ◌∙◌, subst}
 use Rattle.std.specs.Prelude.{Box, slice_set}
 use Rattle.std.proofs.lemmas.List.{get_or_default, get_or-set_same, get_or-set_other}
-use Rattle.script_model.specs.Script.{Script}
+use Rattle.text_model.specs.Script.{Script}
 use Rattle.script_replay.specs.Value.{LaneValue}
 use Rattle.script_replay.specs.Lanes.{IsNewLaneOf}
 use Rattle.script_replay.specs.Places.{in_place, lane_at, AreSameBut, IsLaneFrom, StandsFrom}

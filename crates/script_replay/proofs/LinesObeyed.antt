@@ -14,8 +14,8 @@ use Rattle.trace_model.proofs.Collections.{below_itself, below_below, below_both
 use Rattle.trace_model.proofs.Joined.{joined_left, joined_below}
 use Rattle.text_model.specs.Log as model
 use Rattle.text_model.specs.Log.{no_page, delivery_line}
-use Rattle.script_model.specs.Script.{Command, deliver, Script}
-use Rattle.script_model.specs.ScriptLimits.{IsWithinLimits, IsCommandWithin}
+use Rattle.text_model.specs.Script.{Command, deliver, Script}
+use Rattle.text_model.specs.ScriptLimits.{IsWithinLimits, IsCommandWithin}
 use Rattle.world_model.specs.Log.{log_of}
 use Rattle.world_model.specs.World.{World, parcels_of, IsFill, Brings, RunsLine, DeliversTaken, DeliversNothing, delivers, lacks}
 use Rattle.world_model.proofs.Lookups.{get_set_here, get_set_other}

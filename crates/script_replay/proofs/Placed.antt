@@ -9,8 +9,8 @@ use Rattle.std.proofs.lemmas.List.{length-replicate}
 use Rattle.std.proofs.lemmas.List.Elements.{All-contains, All-contains_itself, All-filter, All-map, All-replicate, Contains-get_or}
 use Rattle.trace_model.specs.Ring.{Reader}
 use Rattle.trace_model.specs.Parcel.{Parcel}
-use Rattle.script_model.specs.Script.{Command, begin_frame, step_frame, finish_frame, write, close, step_reader, take_page, wish, deliver, Script}
-use Rattle.script_model.specs.ScriptLimits.{IsWithinLimits, IsCommandWithin}
+use Rattle.text_model.specs.Script.{Command, begin_frame, step_frame, finish_frame, write, close, step_reader, take_page, wish, deliver, Script}
+use Rattle.text_model.specs.ScriptLimits.{IsWithinLimits, IsCommandWithin}
 use Rattle.link_marks.proofs.OneNewRing.{new_ring_is_one}
 use Rattle.link_marks.proofs.RingsKept.{reached_kept}
 use Rattle.world_model.specs.Lanes.{Lane, IsNewLane}

@@ -5,7 +5,7 @@ use Rattle.std.proofs.lemmas.List.Elements.{All-push}
 use Rattle.trace_model.specs.declared.limits.TheConstants.{MAX_PAGES}
 use Rattle.trace_model.specs.Ring.{Core}
 use Rattle.trace_model.specs.Steps.{reads, reading, Step, Exchange}
-use Rattle.script_model.specs.Script.{take_page}
+use Rattle.text_model.specs.Script.{take_page}
 use Rattle.link_marks.specs.Ranks.{reader_limit}
 use Rattle.world_model.specs.Lanes.{Lane, lane_behind, ReaderRun, IsAnswered}
 use Rattle.world_model.proofs.LineEnds.{reader_runs_short}

@@ -2,7 +2,7 @@
 use Rattle.std.specs.Prelude.{◌≡◌, ℕ, ◌%◌, ◌<◌, ◌≤◌, List, ◌++◌, length, map, IfSome}
 use Rattle.trace_model.specs.declared.limits.TheConstants.{MAX_PAGES, MIN_SIZE, MAX_SIZE, MAX_CPUS}
 use Rattle.trace_model.specs.Steps.{Exchange}
-use Rattle.script_model.specs.Script.{Command}
+use Rattle.text_model.specs.Script.{Command}
 use Rattle.world_model.specs.Lanes.{Lane, IsNewLane, HasPayloads, LineRun}
 use Rattle.world_model.specs.World.{parcel_of}
 use Rattle.world_model.specs.Log.{log_of}

@@ -1,6 +1,6 @@
 -- The lanes of a script's CPUs, each in its place.
 use Rattle.std.specs.Prelude.{◌≡◌, ◌≢◌, ℕ, List, Option, Some, None, Box, slice_index_or}
-use Rattle.script_model.specs.Script.{Script}
+use Rattle.text_model.specs.Script.{Script}
 use Rattle.world_model.specs.Lanes.{Lane, IsNewLane}
 use Rattle.script_replay.specs.Value.{LaneValue}
 use Rattle.script_replay.specs.Lanes.{IsLane, IsNewLaneOf}

@@ -6,8 +6,8 @@ use Rattle.trace_model.specs.History.{HistoryEvent, committed_records}
 use Rattle.trace_model.specs.Window.{RingEvent}
 use Rattle.trace_model.specs.Parcel.{Parcel}
 use Rattle.trace_model.specs.Collection.{Has, Misses, IsSame, IsLeastUpperBound}
-use Rattle.script_model.specs.Script.{Command, begin_frame, step_frame, finish_frame, write, close, step_reader, take_page, wish, deliver, Script}
-use Rattle.script_model.specs.ScriptLimits.{IsWithinLimits, IsCommandWithin}
+use Rattle.text_model.specs.Script.{Command, begin_frame, step_frame, finish_frame, write, close, step_reader, take_page, wish, deliver, Script}
+use Rattle.text_model.specs.ScriptLimits.{IsWithinLimits, IsCommandWithin}
 use Rattle.world_model.specs.Lanes.{Lane}
 use Rattle.world_model.specs.World.{World, WorldBehind, WorldOf}
 use Rattle.world_model.specs.Headline.{StandsIn, IsOverwrittenBefore, IsOneOf, IsGenuineWorld}

@@ -1,9 +1,9 @@
 //! The replay of a script over the rings of its CPUs: its lines are obeyed, one after the other.
 ghost use Rattle.std.specs.Prelude.{◌≡◌, ℕ, ◌++◌, [], ◌∷◌, List, length, All, IsOkUnless, IfOk, OnOk};
 ghost use Rattle.text_model.specs.Log as model;
-ghost use Rattle.script_model.specs.Script as model_script;
-ghost use Rattle.script_model.specs.Script.{deliver as delivers};
-ghost use Rattle.script_model.specs.ScriptLimits.{IsWithinLimits};
+ghost use Rattle.text_model.specs.Script as model_script;
+ghost use Rattle.text_model.specs.Script.{deliver as delivers};
+ghost use Rattle.text_model.specs.ScriptLimits.{IsWithinLimits};
 ghost use Rattle.world_model.specs.World.{World as WorldSeen};
 ghost use Rattle.world_model.specs.Headline.{IsGenuineWorld};
 ghost use Rattle.trace_script.specs.ScriptTypes.{shown_command, shown_line};

@@ -1,5 +1,13 @@
 pub mod TextLemmas
-pub mod ScriptLemmas
+pub mod Readings
+pub mod SettingLemmas
+pub mod FieldLimits
+pub mod FieldWords
+pub mod LineWrites
+pub mod CommandTable
 pub mod ParsedLimits
-pub mod ScriptTable
+pub mod StartLines
+pub mod ScriptLemmas
+pub mod ScriptReads
 pub mod ScriptWrites
+pub mod StartZero

@@ -9,7 +9,7 @@ use Rattle.std.proofs.lemmas.Fmt.{decimal_nonempty, length-decimal-le, digits_de
 use Rattle.std.proofs.lemmas.Str.{digit_value-digit_char}
 use Rattle.std.proofs.lemmas.Str.Parse.{IsNumeralModel, numerals_by_value, tells_all_ascii_digits}
 use Rattle.text_model.specs.Text.{is_decimal, is_hex, bytes_of_pairs, hex_text}
-use Rattle.text_model.specs.Script.{LineFault, decimal_in, payload_in}
+use Rattle.text_model.specs.ScriptLines.{LineFault, decimal_in, payload_in}
 
 -- the digits of std's words
 pub numerals : IsNumeralModel (λ ds. all_ascii_digits ds ≡ true) (digits_value 10)

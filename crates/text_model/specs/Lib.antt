@@ -1,5 +1,9 @@
 pub mod Text
+pub mod ScriptLines
+pub mod HeaderReading
+pub mod LineWriting
 pub mod Script
+pub mod ScriptLimits
 pub mod ScriptReading
 pub mod ScriptWriting
 pub mod Log

@@ -4,7 +4,7 @@ use Rattle.std.specs.Prelude.{ℕ, List, [], ◌∷◌, ◌++◌, flat_map, code
 use Rattle.std.specs.Fmt.{decimal}
 use Rattle.trace_model.specs.Record.{Record}
 use Rattle.text_model.specs.Text.{hex_text}
-use Rattle.text_model.specs.Script.{LineFault, fault_text}
+use Rattle.text_model.specs.ScriptLines.{LineFault, fault_text}
 use Rattle.text_model.specs.Log.{LogLine, refused, taken, empty, moving, asks, new_delivery, known_delivery, untaken_delivery}
 use Rattle.trace_model.specs.Frames.{Refusal, too_deep, too_long, late_moment, crowded, worn, no_frame, not_reserved}
 use Rattle.trace_model.specs.Faults.{Cause, cut, bad_length, time_overflow}

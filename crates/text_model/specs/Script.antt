@@ -1,141 +1,251 @@
--- What the lines of a script text and their fields spell, whichever commands there are; the lines of a header.
+-- The script text: what script a text spells as a whole, or which of its lines is the first at fault.
 -- After docs/FORMATS.md, "Script".
-use Rattle.std.specs.Prelude.{◌≡◌, ℕ, ◌+◌, ◌%◌, ⊤, Bool, false, not, ◌&&◌, if◌then◌else◌, ◌==◌, nat_lt, nat_le, List, [], ◌∷◌, ◌++◌, length, drop, filter, codes, bytes_eq, decimal, Result, Ok, Err}
-use Rattle.std.specs.List.{enumerate_from}
-use Rattle.std.specs.Str.{all_ascii_digits}
-use Rattle.std.specs.Str.Parse.{digits_value}
-use Rattle.text_model.specs.Text.{lines_of, fields_of, is_well_spaced, is_decimal, is_hex, hex_bytes}
-use Rattle.trace_model.specs.declared.limits.TheConstants.{MIN_PAGES, MAX_PAGES, MIN_SIZE, MAX_SIZE}
-use Rattle.text_model.specs.declared.script_limits.TheConstants.{SIZE_STEP}
+use Rattle.std.specs.Prelude.{◌≡◌, ℕ, ◌+◌, ◌-◌, ◌⊎◌, ⊤, Bool, IsTrue, false, ◌&&◌, if◌then◌else◌, nat_le, List, [], ◌∷◌, ◌++◌, length, codes, bytes_eq, Result, Ok, Err}
+use Rattle.trace_model.specs.declared.limits.TheConstants.{START_FILL, LINK_FILLS}
+use Rattle.text_model.specs.Text.{lines_of, fields_of, is_well_spaced}
+use Rattle.text_model.specs.ScriptLines.{LineFault, bad_line, out_of_range, ◌>>=◌, decimal_in, payload_in, number_below, cpu_in, Setting, pages_setting, size_setting, value_in, NumberedLine, significant_lines, GiveSettings, IsFaultySetting, IsMissingSetting}
+use Rattle.text_model.specs.declared.script_limits.TheConstants.{MIN_SCRIPT_CPUS, MAX_SCRIPT_CPUS, MIN_SCRIPT_COLLECTORS, MAX_SCRIPT_COLLECTORS, MIN_LINE_STEPS, MAX_LINE_STEPS}
 
--- What is wrong with a line. bad_line: its spaces, its word, that another line of the header is due, how
--- many fields it has, or a field that is to name a CPU and doesn't. bad_number, bad_hex: a field that is no
--- number, or no bytes. out_of_range: a number outside its limits.
-pub data LineFault : Type 0 where
-  bad_line : LineFault
-  bad_number : LineFault
-  bad_hex : LineFault
-  out_of_range : LineFault
+-- What a line of a script asks for, of a CPU's ring or of a collector. begin_frame: a record frame of this moment and
+-- payload is pushed. step_frame: the frame on top makes this many steps, or fewer if it is gone before.
+-- finish_frame: it makes steps until it is gone. write: both, a frame pushed and finished. close: a close frame, pushed
+-- and finished. step_reader: the reader makes this many steps, or fewer if its take is answered before. take_page: it
+-- makes steps until it answers. wish: the reader asks for the tail. deliver: the collector gets this fill of the CPU.
+pub data Command : Type 0 where
+  begin_frame : (cpu moment : ℕ) (payload : List ℕ) → Command
+  step_frame : (cpu count : ℕ) → Command
+  finish_frame : (cpu : ℕ) → Command
+  write : (cpu moment : ℕ) (payload : List ℕ) → Command
+  close : (cpu : ℕ) → Command
+  step_reader : (cpu count : ℕ) → Command
+  take_page : (cpu : ℕ) → Command
+  wish : (cpu : ℕ) → Command
+  deliver : (collector cpu fill : ℕ) → Command
 
--- the one after the other: the first fault is what counts
-infixl 10 ◌>>=◌
-abbrev pub ◌>>=◌ : {A B E : Type 0} → Result A E → (A → Result B E) → Result B E
-(Ok x) >>= f = f x
-(Err e) >>= f = Err e
+-- a script: the values of its header, the number of each ring's first fill, and its commands, each with the number
+-- of its line
+pub record Script : Type 0 where
+  pub pages : ℕ
+  pub size : ℕ
+  pub cpus : ℕ
+  pub collectors : ℕ
+  pub start : ℕ
+  pub commands : List (ℕ × Command)
 
--- the number that a field spells
-unfoldable pub decimal_in : List ℕ → Result ℕ LineFault
-decimal_in field = if is_decimal field then Ok (digits_value 10 field) else Err bad_number
+-- ---- commands
 
--- the bytes that a field spells
-unfoldable pub payload_in : List ℕ → Result (List ℕ) LineFault
-payload_in field = if is_hex field then Ok (hex_bytes field) else Err bad_hex
+-- the number of steps that a field spells
+unfoldable pub count_in : List ℕ → Result ℕ LineFault
+count_in field = decimal_in field >>= λ n.
+    if nat_le MIN_LINE_STEPS n && nat_le n MAX_LINE_STEPS then Ok n else Err out_of_range
 
--- the number that a field spells, which is to be below a limit
-unfoldable pub number_below : ℕ → List ℕ → Result ℕ LineFault
-number_below limit field = decimal_in field >>= λ n. if nat_lt n limit then Ok n else Err out_of_range
+-- what a record frame is made of: its CPU, its moment and its payload
+unfoldable pub record_in : ℕ → (ℕ → ℕ → List ℕ → Command) → (cpu moment payload : List ℕ) → Result Command LineFault
+record_in cpus command cpu_field moment_field payload_field = do
+  cpu ← cpu_in cpus cpu_field
+  moment ← decimal_in moment_field
+  payload ← payload_in payload_field
+  Ok (command cpu moment payload)
 
--- the letter that begins a CPU's name
-abbrev pub cpu_letter : ℕ
-cpu_letter = 99
+-- a command of a CPU alone
+unfoldable pub of_cpu : ℕ → (ℕ → Command) → List ℕ → Result Command LineFault
+of_cpu cpus command cpu_field = do
+  cpu ← cpu_in cpus cpu_field
+  Ok (command cpu)
 
--- the letter and one digit or more, and nothing else
-abbrev pub names_cpu : List ℕ → Bool
-names_cpu [] = false
-names_cpu (letter ∷ digits) = (letter == cpu_letter) && nat_lt 0 (length digits) && all_ascii_digits digits
+-- a command of a CPU and a number of steps
+unfoldable pub steps_in : ℕ → (ℕ → ℕ → Command) → (cpu count : List ℕ) → Result Command LineFault
+steps_in cpus command cpu_field count_field = do
+  cpu ← cpu_in cpus cpu_field
+  count ← count_in count_field
+  Ok (command cpu count)
 
--- the CPU that a field names, out of this number of CPUs
-unfoldable pub cpu_in : ℕ → List ℕ → Result ℕ LineFault
-cpu_in cpus field = if names_cpu field then number_below cpus (drop 1 field) else Err bad_line
+-- the fields of `d K cX F`, without the word
+unfoldable pub deliver_in : ℕ → ℕ → (collector cpu fill : List ℕ) → Result Command LineFault
+deliver_in cpus collectors collector_field cpu_field fill_field = do
+  collector ← number_below collectors collector_field
+  cpu ← cpu_in cpus cpu_field
+  fill ← decimal_in fill_field
+  Ok (deliver collector cpu fill)
 
--- a line of the header: its word, and the values that it may have, multiples of a step
-pub record Setting : Type 0 where
-  pub word : List ℕ
-  pub min : ℕ
-  pub max : ℕ
-  pub step : ℕ
+-- The command that fields spell, with these numbers of CPUs and collectors: `cX f`, `cX c`, `cX t`, `cX a`, `cX s K`,
+-- `cX r K`, `cX b T HEX`, `cX w T HEX` or `d K cX F`. Once the word and the number of fields fit, values are looked at
+-- from left to right.
+unfoldable pub command_of : ℕ → ℕ → List (List ℕ) → Result Command LineFault
+command_of cpus collectors (first ∷ second ∷ []) =
+    if bytes_eq second (codes "f") then of_cpu cpus finish_frame first
+    else (if bytes_eq second (codes "c") then of_cpu cpus close first
+    else (if bytes_eq second (codes "t") then of_cpu cpus take_page first
+    else (if bytes_eq second (codes "a") then of_cpu cpus wish first
+    else Err bad_line)))
+command_of cpus collectors (first ∷ second ∷ third ∷ []) =
+    if bytes_eq second (codes "s") then steps_in cpus step_frame first third
+    else (if bytes_eq second (codes "r") then steps_in cpus step_reader first third
+    else Err bad_line)
+command_of cpus collectors (first ∷ second ∷ third ∷ fourth ∷ []) =
+    if bytes_eq first (codes "d") then deliver_in cpus collectors second third fourth
+    else (if bytes_eq second (codes "b") then record_in cpus begin_frame first third fourth
+    else (if bytes_eq second (codes "w") then record_in cpus write first third fourth
+    else Err bad_line))
+command_of cpus collectors _ = Err bad_line
 
--- the pages of a ring
-abbrev pub pages_setting : Setting
-pages_setting = record { word = codes "pages"; min = MIN_PAGES; max = MAX_PAGES; step = 1 }
+-- fields that spell a record frame by this word
+abbrev pub SpellsRecord : ℕ → List ℕ → (cpu moment : ℕ) (payload : List ℕ) → List (List ℕ) → Type 0
+SpellsRecord cpus word cpu moment payload fields =
+    (x : List ℕ) × (t : List ℕ) × (hex : List ℕ)
+    × (fields ≡ x ∷ word ∷ t ∷ hex ∷ [])
+    × (cpu_in cpus x ≡ Ok cpu)
+    × (decimal_in t ≡ Ok moment)
+    × (payload_in hex ≡ Ok payload)
 
--- the data size of a page, in bytes
-abbrev pub size_setting : Setting
-size_setting = record { word = codes "size"; min = MIN_SIZE; max = MAX_SIZE; step = SIZE_STEP }
+-- fields that spell a command of a CPU alone by this word
+abbrev pub SpellsOfCpu : ℕ → List ℕ → (cpu : ℕ) → List (List ℕ) → Type 0
+SpellsOfCpu cpus word cpu fields = (x : List ℕ) × (fields ≡ x ∷ word ∷ []) × (cpu_in cpus x ≡ Ok cpu)
 
--- a value that this setting may have
-abbrev pub allowed_for : Setting → ℕ → Result ℕ LineFault
-allowed_for s n = if nat_le s.min n && nat_le n s.max && (n % s.step == 0) then Ok n else Err out_of_range
+-- fields that spell a number of steps by this word
+abbrev pub SpellsSteps : ℕ → List ℕ → (cpu count : ℕ) → List (List ℕ) → Type 0
+SpellsSteps cpus word cpu count fields =
+    (x : List ℕ) × (k : List ℕ)
+    × (fields ≡ x ∷ word ∷ k ∷ [])
+    × (cpu_in cpus x ≡ Ok cpu)
+    × (count_in k ≡ Ok count)
 
--- the value that a word and a number give to this setting
-unfoldable pub value_given : Setting → List ℕ → List ℕ → Result ℕ LineFault
-value_given s word number = if bytes_eq word s.word then (decimal_in number >>= allowed_for s) else Err bad_line
+-- The same by the commands: what fields spell each.
+abbrev pub SpellsCommand : ℕ → ℕ → Command → List (List ℕ) → Type 0
+SpellsCommand cpus collectors (begin_frame cpu moment payload) fields =
+    SpellsRecord cpus (codes "b") cpu moment payload fields
+SpellsCommand cpus collectors (step_frame cpu count) fields = SpellsSteps cpus (codes "s") cpu count fields
+SpellsCommand cpus collectors (finish_frame cpu) fields = SpellsOfCpu cpus (codes "f") cpu fields
+SpellsCommand cpus collectors (write cpu moment payload) fields =
+    SpellsRecord cpus (codes "w") cpu moment payload fields
+SpellsCommand cpus collectors (close cpu) fields = SpellsOfCpu cpus (codes "c") cpu fields
+SpellsCommand cpus collectors (step_reader cpu count) fields = SpellsSteps cpus (codes "r") cpu count fields
+SpellsCommand cpus collectors (take_page cpu) fields = SpellsOfCpu cpus (codes "t") cpu fields
+SpellsCommand cpus collectors (wish cpu) fields = SpellsOfCpu cpus (codes "a") cpu fields
+SpellsCommand cpus collectors (deliver collector cpu fill) fields =
+    (k : List ℕ) × (x : List ℕ) × (f : List ℕ)
+    × (fields ≡ codes "d" ∷ k ∷ x ∷ f ∷ [])
+    × (number_below collectors k ≡ Ok collector)
+    × (cpu_in cpus x ≡ Ok cpu)
+    × (decimal_in f ≡ Ok fill)
 
--- the value that fields give to this setting: two of them
-unfoldable pub value_of : Setting → List (List ℕ) → Result ℕ LineFault
-value_of s (word ∷ number ∷ []) = value_given s word number
-value_of s _ = Err bad_line
+-- the command that a line spells: its spaces are looked at first
+unfoldable pub command_in : ℕ → ℕ → List ℕ → Result Command LineFault
+command_in cpus collectors line =
+    if is_well_spaced (fields_of line) then command_of cpus collectors (fields_of line) else Err bad_line
 
--- the value that a line gives to this setting: its spaces are looked at first
-unfoldable pub value_in : Setting → List ℕ → Result ℕ LineFault
-value_in s line = if is_well_spaced (fields_of line) then value_of s (fields_of line) else Err bad_line
+-- ---- the header
 
--- the byte that begins a comment, `#`
-abbrev pub comment_mark : ℕ
-comment_mark = 35
+-- how many CPUs there are
+abbrev pub cpus_setting : Setting
+cpus_setting = record { word = codes "cpus"; min = MIN_SCRIPT_CPUS; max = MAX_SCRIPT_CPUS; step = 1 }
 
--- a significant line: it is neither empty nor a comment
-abbrev pub is_significant : List ℕ → Bool
-is_significant [] = false
-is_significant (b ∷ line) = not (b == comment_mark)
+-- how many collectors there are
+abbrev pub collectors_setting : Setting
+collectors_setting = record {
+  word = codes "collectors";
+  min = MIN_SCRIPT_COLLECTORS;
+  max = MAX_SCRIPT_COLLECTORS;
+  step = 1;
+}
 
--- a line with its number
-abbrev pub NumberedLine : Type 0
-NumberedLine = ℕ × List ℕ
+-- the lines of a header, in their order
+abbrev pub header_settings : List Setting
+header_settings = pages_setting ∷ size_setting ∷ cpus_setting ∷ collectors_setting ∷ []
 
--- the significant lines of a text, each with its number among all lines of the text, from 1
-abbrev pub significant_lines : List ℕ → List NumberedLine
-significant_lines text = filter (λ line. is_significant line.1) (enumerate_from 1 (lines_of text))
+-- the number of each ring's first fill, for rings of this many pages: it leaves a number for each page
+abbrev pub start_setting : ℕ → Setting
+start_setting pages = record { word = codes "start"; min = START_FILL; max = LINK_FILLS - 1 - pages; step = 1 }
 
--- these lines give these settings these values, one by one
-abbrev pub GiveSettings : List NumberedLine → List Setting → List ℕ → Type 0
-GiveSettings [] [] [] = ⊤
-GiveSettings (line ∷ lines) (s ∷ settings) (value ∷ values) =
-    (value_in s line.1 ≡ Ok value) × GiveSettings lines settings values
-GiveSettings _ _ _ = ⊥
+-- two fields, of which the first is the word of a start line
+abbrev pub are_of_start : List (List ℕ) → Bool
+are_of_start (word ∷ number ∷ []) = bytes_eq word (codes "start")
+are_of_start _ = false
 
--- Of these settings, the lines before this one give the first, and this one not the next.
-pub record IsFaultySetting (settings : List Setting) (lines : List NumberedLine)
-    (number : ℕ) (fault : LineFault)
-    : Type 0 where
+-- The line is a start line: its spaces, its word and its number of fields are those of one.
+unfoldable pub is_start_line : List ℕ → Bool
+is_start_line line = is_well_spaced (fields_of line) && are_of_start (fields_of line)
+
+-- the first of these lines, if there is one, is no start line
+abbrev pub BeginsNoStart : List NumberedLine → Type 0
+BeginsNoStart [] = ⊤
+BeginsNoStart (line ∷ lines) = is_start_line line.1 ≡ false
+
+-- What is between the four settings and the commands, for rings of this many pages: a start line with this value,
+-- or nothing, if the first fill is the default one.
+abbrev pub GivesStart : ℕ → List NumberedLine → ℕ → Type 0
+GivesStart pages [] start = start ≡ START_FILL
+GivesStart pages (line ∷ []) start = value_in (start_setting pages) line.1 ≡ Ok start
+GivesStart pages (line ∷ next ∷ lines) start = ⊥
+
+-- ---- the whole
+
+-- these lines spell these commands, one by one, and the numbers of the lines are the commands'
+abbrev pub SpellCommands : ℕ → ℕ → List NumberedLine → List (ℕ × Command) → Type 0
+SpellCommands cpus collectors [] [] = ⊤
+SpellCommands cpus collectors (line ∷ lines) (command ∷ commands) =
+    (command_in cpus collectors line.1 ≡ Ok command.1)
+    × (line.0 ≡ command.0)
+    × SpellCommands cpus collectors lines commands
+SpellCommands cpus collectors _ _ = ⊥
+
+-- Significant lines spell a script: a header, perhaps a start line, and then a command a line.
+pub record SpellScript (lines : List NumberedLine) (script : Script) : Type 0 where
+  pub header : List NumberedLine
+  pub start_line : List NumberedLine
+  pub behind : List NumberedLine
+  pub cut : lines ≡ header ++ (start_line ++ behind)
+  pub settings : GiveSettings header header_settings
+      (script.pages ∷ script.size ∷ script.cpus ∷ script.collectors ∷ [])
+  pub start : GivesStart script.pages start_line script.start
+  pub commands : SpellCommands script.cpus script.collectors behind script.commands
+
+-- The text spells this script.
+abbrev pub ParsesScript : List ℕ → Script → Type 0
+ParsesScript text script = SpellScript (significant_lines text) script
+
+-- The lines before this one are the header, and it is a start line whose value is at fault.
+pub record IsFaultyStart (lines : List NumberedLine) (number : ℕ) (fault : LineFault) : Type 0 where
   pub front : List NumberedLine
   pub line : List ℕ
   pub behind : List NumberedLine
   pub cut : lines ≡ front ++ (number, line) ∷ behind
-  pub given : List Setting
-  pub setting : Setting
-  pub others : List Setting
-  pub order : settings ≡ given ++ setting ∷ others
-  pub values : List ℕ
-  pub fits : GiveSettings front given values
-  pub fails : value_in setting line ≡ Err fault
+  pub script : Script
+  pub fits : SpellScript front script
+  pub at_its_place : length front ≡ length header_settings
+  pub is_start : IsTrue (is_start_line line)
+  pub fails : value_in (start_setting script.pages) line ≡ Err fault
 
--- Of these settings, the lines give the first, and not all.
-pub record IsMissingSetting (settings : List Setting) (lines : List NumberedLine) : Type 0 where
-  pub given : List Setting
-  pub setting : Setting
-  pub others : List Setting
-  pub order : settings ≡ given ++ setting ∷ others
-  pub values : List ℕ
-  pub fits : GiveSettings lines given values
+-- The lines before this one spell a script, and this one no command of it; and it isn't a start line at its
+-- place, right after the header.
+pub record IsFaultyCommand (lines : List NumberedLine) (number : ℕ) (fault : LineFault) : Type 0 where
+  pub front : List NumberedLine
+  pub line : List ℕ
+  pub behind : List NumberedLine
+  pub cut : lines ≡ front ++ (number, line) ∷ behind
+  pub script : Script
+  pub fits : SpellScript front script
+  pub no_start : length front ≡ length header_settings → is_start_line line ≡ false
+  pub fails : command_in script.cpus script.collectors line ≡ Err fault
 
--- the name of a fault
-abbrev pub fault_name : LineFault → List ℕ
-fault_name bad_line = codes "BadLine"
-fault_name bad_number = codes "BadNumber"
-fault_name bad_hex = codes "BadHex"
-fault_name out_of_range = codes "OutOfRange"
+-- The line of this number is the first of the text that is at fault, and this is what is wrong with
+-- it. If lines of the header are missing, it is the line after the last one.
+abbrev pub FirstScriptFault : List ℕ → ℕ → LineFault → Type 0
+FirstScriptFault text number fault =
+    IsFaultySetting header_settings (significant_lines text) number fault
+    ⊎ (IsMissingSetting header_settings (significant_lines text)
+    × (number ≡ length (lines_of text) + 1)
+    × (fault ≡ bad_line))
+    ⊎ IsFaultyStart (significant_lines text) number fault
+    ⊎ IsFaultyCommand (significant_lines text) number fault
 
--- how a fault of a line is printed, the end of the line aside
-abbrev pub fault_text : ℕ → LineFault → List ℕ
-fault_text number fault = codes "line " ++ decimal number ++ codes ": " ++ fault_name fault
+-- The one text has no start line after the four lines of its header, and the other has `start 0` there. All other
+-- significant lines are the same in both, and their numbers too.
+pub record AddsStartZero (text other : List ℕ) : Type 0 where
+  pub header : List NumberedLine
+  pub number : ℕ
+  pub behind : List NumberedLine
+  pub whole_header : length header ≡ length header_settings
+  pub no_start : BeginsNoStart behind
+  pub without : significant_lines text ≡ header ++ behind
+  pub with_zero : significant_lines other ≡ header ++ (number, codes "start 0") ∷ behind

@@ -1,4 +1,4 @@
-//! The definitions of texts: their lines, fields and settings, what is logged and what is printed.
+//! The definitions of all texts: a script and its lines, fields and settings; what is logged and what is printed.
 //!
 //! Pages and rings have no use for them; each subject has its definitions in a module of `specs/`, and
 //! the laws over them are the contracts of the functions of `laws`.
@@ -7,4 +7,7 @@
 pub mod laws;
 pub mod script_limits;
 
-pub use script_limits::{MAX_NUMBER_DIGITS, SIZE_STEP};
+pub use script_limits::{
+    MAX_LINE_STEPS, MAX_NUMBER_DIGITS, MAX_SCRIPT_COLLECTORS, MAX_SCRIPT_CPUS, MIN_LINE_STEPS,
+    MIN_SCRIPT_COLLECTORS, MIN_SCRIPT_CPUS, SIZE_STEP,
+};

@@ -5,7 +5,7 @@ use Rattle.trace_model.specs.declared.numbers.FillNo.{FillNo}
 use Rattle.trace_model.specs.declared.limits.TheConstants.{LINK_FILLS}
 use Rattle.trace_model.specs.History.{HistoryEvent, committed_records}
 use Rattle.trace_model.specs.Packing.{IsPacked}
-use Rattle.script_model.specs.Script.{Command, Script}
+use Rattle.text_model.specs.Script.{Command, Script}
 use Rattle.line_model.specs.Lines.{IsMadeByLines}
 use Rattle.line_model.specs.WrittenRecords.{AllWriteOrClose, records_of_lines}
 use Rattle.ring_steps.specs.declared.rule.Shape.{Shape}

@@ -5,7 +5,7 @@ use Rattle.trace_model.specs.declared.limits.TheConstants.{LINK_FILLS}
 use Rattle.trace_model.specs.History.{HistoryEvent, IsHistory, committed_records}
 use Rattle.trace_model.specs.Packing.{IsPacked}
 use Rattle.trace_model.specs.Ring.{Core}
-use Rattle.script_model.specs.Script.{Command, Script}
+use Rattle.text_model.specs.Script.{Command, Script}
 use Rattle.line_model.specs.Lines.{writer_lines, IsMadeByLines}
 use Rattle.line_model.specs.WrittenRecords.{AllWriteOrClose, records_of_lines}
 use Rattle.line_model.specs.ReplayedLines.{commands_of}

@@ -1,7 +1,7 @@
 -- The two threads of each ring, and what they leave.
 use Rattle.std.specs.Prelude.{◌≡◌, ℕ, suc, Bool, false, List, [], ◌∷◌, length, Some}
 use Rattle.std.specs.List.{slice_get}
-use Rattle.script_model.specs.Script.{Script}
+use Rattle.text_model.specs.Script.{Script}
 use Rattle.trace_script.specs.declared.replay_fault.ReplayFault.{ReplayFault}
 use Rattle.trace_script.specs.declared.replay_fault.ReplayFault.TheVariants.{GateShut}
 use Rattle.ring_shared.specs.Value.{WriterValue}

@@ -7,7 +7,7 @@ use Rattle.command_io.specs.declared.output.TheConstants.{THREAD_LINE}
 use Rattle.command_io.specs.declared.status.TheConstants.{END_FAILED}
 use Rattle.image_dump.specs.Dumps.{DumpGives}
 use Rattle.replay_command.specs.Commands.{ReplayGives}
-use Rattle.script_model.specs.Script.{Script}
+use Rattle.text_model.specs.Script.{Script}
 use Rattle.trace_cli.specs.Runs.{IsRunOutput, RunGives}
 
 -- what it may be then

@@ -1,7 +1,7 @@
 -- What the command `run` prints for a text, with which exit status.
 use Rattle.std.specs.Prelude.{◌≡◌, ℕ, ◌⊎◌, List}
 use Rattle.std.specs.List.{AllZip}
-use Rattle.script_model.specs.Script.{Script, ParsesScript}
+use Rattle.text_model.specs.Script.{Script, ParsesScript}
 use Rattle.run_audit.specs.Audit.{taken_in}
 use Rattle.threaded_run.specs.Runs.{IsRan}
 use Rattle.threaded_run.specs.declared.running.Ran.{Ran}

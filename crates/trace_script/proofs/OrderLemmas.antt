@@ -9,11 +9,11 @@ use Rattle.std.proofs.lemmas.List.Elements.{All-from_recursion, All-cons, All-ni
 use Rattle.std.proofs.lemmas.List.Splits.{slice_split_none, length-slice_split}
 use Rattle.std.proofs.lemmas.Slice.Eq.{bytes_eq-Decides}
 use Rattle.text_model.specs.Text.{fields_of, is_well_spaced, is_decimal, is_hex}
-use Rattle.text_model.specs.Script.{LineFault, bad_line, bad_number, bad_hex, out_of_range, decimal_in, payload_in, number_below, names_cpu, cpu_in}
-use Rattle.script_model.specs.declared.script_limits.TheConstants.{MIN_LINE_STEPS, MAX_LINE_STEPS}
-use Rattle.script_model.specs.Script.{Command, begin_frame, step_frame, finish_frame, write, close, step_reader, take_page, wish, deliver, count_in, command_of, command_in, SpellsCommand}
-use Rattle.script_model.proofs.Readings.{bind_ok, ok_is_no_err, chosen}
-use Rattle.script_model.proofs.CommandTable.{command_spelled}
+use Rattle.text_model.specs.ScriptLines.{LineFault, bad_line, bad_number, bad_hex, out_of_range, decimal_in, payload_in, number_below, names_cpu, cpu_in}
+use Rattle.text_model.specs.declared.script_limits.TheConstants.{MIN_LINE_STEPS, MAX_LINE_STEPS}
+use Rattle.text_model.specs.Script.{Command, begin_frame, step_frame, finish_frame, write, close, step_reader, take_page, wish, deliver, count_in, command_of, command_in, SpellsCommand}
+use Rattle.text_model.proofs.Readings.{bind_ok, ok_is_no_err, chosen}
+use Rattle.text_model.proofs.CommandTable.{command_spelled}
 use Rattle.trace_script.specs.declared.fault.LineFault as line
 use Rattle.trace_script.specs.declared.order.Order.{Order}
 use Rattle.trace_script.specs.declared.fields.Fields.{Fields}

@@ -9,7 +9,7 @@ use Rattle.std.proofs.lemmas.List.Folds.{list_all-append}
 use Rattle.std.proofs.lemmas.Slice.Eq.{bytes_eq-Decides}
 use Rattle.trace_model.specs.declared.numbers.NoMemory.{NoMemory}
 use Rattle.text_model.specs.Text.{is_hex, bytes_of_pairs}
-use Rattle.text_model.specs.Script.{bad_hex, payload_in}
+use Rattle.text_model.specs.ScriptLines.{bad_hex, payload_in}
 use Rattle.trace_script.specs.declared.payload.TheConstants.{HIGH_VALUES, LOW_VALUES}
 use Rattle.trace_script.specs.Decoding.{high_value, low_value, pair_value, ArePut, BeginsNoPair, PutsPairs}
 use Rattle.trace_script.specs.UsualLines.{IsPayloadCut}

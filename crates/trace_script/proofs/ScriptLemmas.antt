@@ -5,17 +5,17 @@ use Rattle.std.proofs.lemmas.List.{append-nil}
 use Rattle.std.proofs.lemmas.List.Splits.{length-slice_split}
 use Rattle.trace_model.specs.declared.limits.TheConstants.{START_FILL}
 use Rattle.text_model.specs.Text.{fields_of, is_well_spaced}
-use Rattle.text_model.specs.Script.{LineFault, NumberedLine, Setting, bad_line, bad_number, bad_hex, out_of_range, ◌>>=◌, value_given, value_of, value_in}
-use Rattle.text_model.specs.ScriptReading.{numbered_reading, significant_lines_after, end_line_after, setting_from, settings_from}
-use Rattle.text_model.proofs.ScriptLemmas.{settings_ok}
-use Rattle.script_model.specs.Script as model
-use Rattle.script_model.specs.Script.{Command, ParsesScript, SpellCommands, command_in, start_setting, are_of_start, is_start_line}
-use Rattle.script_model.specs.ScriptReading.{commands_from, start_given, start_from, script_from, script_in}
-use Rattle.script_model.specs.ScriptLimits.{IsWithinLimits}
-use Rattle.script_model.proofs.ParsedLimits.{ParsesScript-within}
-use Rattle.script_model.proofs.Readings.{ok_is_no_err}
-use Rattle.script_model.proofs.ScriptLemmas.{start_ok}
-use Rattle.script_model.proofs.ScriptReads.{script_reads, fault_reads}
+use Rattle.text_model.specs.ScriptLines.{LineFault, NumberedLine, Setting, bad_line, bad_number, bad_hex, out_of_range, ◌>>=◌, value_given, value_of, value_in}
+use Rattle.text_model.specs.HeaderReading.{numbered_reading, significant_lines_after, end_line_after, setting_from, settings_from}
+use Rattle.text_model.proofs.SettingLemmas.{settings_ok}
+use Rattle.text_model.specs.Script as model
+use Rattle.text_model.specs.Script.{Command, ParsesScript, SpellCommands, command_in, start_setting, are_of_start, is_start_line}
+use Rattle.text_model.specs.ScriptReading.{commands_from, start_given, start_from, script_from, script_in}
+use Rattle.text_model.specs.ScriptLimits.{IsWithinLimits}
+use Rattle.text_model.proofs.ParsedLimits.{ParsesScript-within}
+use Rattle.text_model.proofs.Readings.{ok_is_no_err}
+use Rattle.text_model.proofs.ScriptLemmas.{start_ok}
+use Rattle.text_model.proofs.ScriptReads.{script_reads, fault_reads}
 use Rattle.trace_script.specs.declared.fault.LineFault as line
 use Rattle.trace_script.specs.declared.fault.LineFault.TheVariants as faults
 use Rattle.trace_script.specs.declared.fault.ScriptFault as script

@@ -8,8 +8,8 @@ use Rattle.std.proofs.lemmas.List.Sums.{position_or_len_is}
 use Rattle.std.proofs.lemmas.List.Splits.{slice_split_first, slice_split-cons_yes, slice_split-cons_no}
 use Rattle.memchr.specs.Find.{IsFirstByte, is_byte}
 use Rattle.text_model.specs.Text.{lines_of, without_empty_end}
-use Rattle.text_model.specs.Script.{NumberedLine, is_significant}
-use Rattle.text_model.specs.ScriptReading.{significant_lines_after, end_line_after}
+use Rattle.text_model.specs.ScriptLines.{NumberedLine, is_significant}
+use Rattle.text_model.specs.HeaderReading.{significant_lines_after, end_line_after}
 
 same_some : (m n : ℕ) → Some m ≡ Some n → m ≡ n
 same_some m n h = cc

@@ -6,13 +6,13 @@ use Rattle.std.proofs.lemmas.List.{append-nil}
 use Rattle.std.proofs.lemmas.List.Elements.{All-append, All-cons}
 use Rattle.std.proofs.lemmas.List.Splits.{slice_split_at, slice_split_none}
 use Rattle.text_model.specs.Text.{lines_of, fields_of}
-use Rattle.text_model.specs.Script.{bad_line, decimal_in, names_cpu, cpu_in, is_significant}
-use Rattle.text_model.specs.ScriptReading.{numbered_reading, significant_lines_after}
-use Rattle.text_model.specs.ScriptWriting.{line_of}
-use Rattle.script_model.specs.Script.{Command, begin_frame, step_frame, finish_frame, write, close, step_reader, take_page, wish, deliver, count_in, SpellsCommand}
-use Rattle.script_model.specs.declared.script_limits.TheConstants.{MIN_LINE_STEPS, MAX_LINE_STEPS}
-use Rattle.script_model.proofs.CommandTable.{spelled_command}
-use Rattle.script_model.proofs.Readings.{ok_is_no_err, chosen}
+use Rattle.text_model.specs.ScriptLines.{bad_line, decimal_in, names_cpu, cpu_in, is_significant}
+use Rattle.text_model.specs.HeaderReading.{numbered_reading, significant_lines_after}
+use Rattle.text_model.specs.LineWriting.{line_of}
+use Rattle.text_model.specs.Script.{Command, begin_frame, step_frame, finish_frame, write, close, step_reader, take_page, wish, deliver, count_in, SpellsCommand}
+use Rattle.text_model.specs.declared.script_limits.TheConstants.{MIN_LINE_STEPS, MAX_LINE_STEPS}
+use Rattle.text_model.proofs.CommandTable.{spelled_command}
+use Rattle.text_model.proofs.Readings.{ok_is_no_err, chosen}
 use Rattle.trace_script.specs.declared.usual.UsualLine.{UsualLine}
 use Rattle.trace_script.specs.declared.values.NumberCut.{NumberCut}
 use Rattle.trace_script.specs.Kept.{shown_order, PutsNext}

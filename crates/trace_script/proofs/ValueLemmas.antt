@@ -11,9 +11,9 @@ use Rattle.std.proofs.Math.Seq.{split_at}
 use Rattle.std.proofs.lemmas.Str.{digit_value_digit}
 use Rattle.std.proofs.lemmas.Str.Parse.{digit_at, digits_value-take-le, digits_value_short}
 use Rattle.text_model.specs.Text.{is_decimal}
-use Rattle.text_model.specs.Script.{LineFault, bad_number, decimal_in, number_below, names_cpu, cpu_in}
+use Rattle.text_model.specs.ScriptLines.{LineFault, bad_number, decimal_in, number_below, names_cpu, cpu_in}
 use Rattle.text_model.proofs.TextLemmas.{numerals}
-use Rattle.script_model.proofs.Readings.{ok_is_no_err, chosen}
+use Rattle.text_model.proofs.Readings.{ok_is_no_err, chosen}
 
 -- ---- numbers
 no_number : (field : List ℕ) → is_decimal field ≡ false → decimal_in field ≡ Err bad_number

@@ -1,10 +1,10 @@
 -- The commands of a script as they are kept: an order each, and the payloads one after the other.
 use Rattle.std.specs.Prelude.{◌≡◌, ℕ, zero, suc, ◌-◌, ◌<◌, ◌≤◌, ⊤, List, [], ◌∷◌, ◌++◌, length, take, drop, Option, Some, None, Result, Ok, Err}
-use Rattle.text_model.specs.Script as text
-use Rattle.text_model.specs.Script.{NumberedLine}
-use Rattle.text_model.specs.ScriptReading.{numbered_reading}
-use Rattle.script_model.specs.Script as model
-use Rattle.script_model.specs.Script.{command_in, SpellCommands, begin_frame, step_frame, finish_frame, write, close, step_reader, take_page, wish, deliver}
+use Rattle.text_model.specs.ScriptLines as text
+use Rattle.text_model.specs.ScriptLines.{NumberedLine}
+use Rattle.text_model.specs.HeaderReading.{numbered_reading}
+use Rattle.text_model.specs.Script as model
+use Rattle.text_model.specs.Script.{command_in, SpellCommands, begin_frame, step_frame, finish_frame, write, close, step_reader, take_page, wish, deliver}
 use Rattle.trace_script.specs.declared.fault.LineFault.{LineFault}
 use Rattle.trace_script.specs.declared.order.Order.{Order}
 use Rattle.trace_script.specs.declared.order.Order.TheVariants.{Begin, Step, Finish, Write, Close, StepReader, Take, Wish, Deliver}

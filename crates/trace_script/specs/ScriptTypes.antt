@@ -1,9 +1,9 @@
 -- The script's Rust types, in the words of the definitions.
 use Rattle.std.specs.Prelude.{ℕ, List, [], ◌∷◌}
-use Rattle.text_model.specs.Script as text
-use Rattle.text_model.specs.Script.{pages_setting, size_setting}
-use Rattle.script_model.specs.Script as model
-use Rattle.script_model.specs.Script.{begin_frame, step_frame, finish_frame, write, close, step_reader, take_page, wish, deliver, cpus_setting, collectors_setting, start_setting}
+use Rattle.text_model.specs.ScriptLines as text
+use Rattle.text_model.specs.ScriptLines.{pages_setting, size_setting}
+use Rattle.text_model.specs.Script as model
+use Rattle.text_model.specs.Script.{begin_frame, step_frame, finish_frame, write, close, step_reader, take_page, wish, deliver, cpus_setting, collectors_setting, start_setting}
 use Rattle.trace_script.specs.declared.command.Command.{Command}
 use Rattle.trace_script.specs.declared.command.Command.TheVariants.{Begin, Step, Finish, Write, Close, StepReader, Take, Wish, Deliver}
 use Rattle.trace_script.specs.declared.command.ScriptLine.{ScriptLine}

@@ -1,8 +1,8 @@
 -- Lines that are read from a text's beginning up to their line feed.
 use Rattle.std.specs.Prelude.{◌≡◌, ℕ, ◌<◌, true, List, ◌∷◌, ◌++◌, length, Ok}
 use Rattle.text_model.specs.Text.{lines_of}
-use Rattle.text_model.specs.Script.{decimal_in, payload_in, cpu_in, is_significant}
-use Rattle.script_model.specs.Script.{Command, command_in}
+use Rattle.text_model.specs.ScriptLines.{decimal_in, payload_in, cpu_in, is_significant}
+use Rattle.text_model.specs.Script.{Command, command_in}
 use Rattle.trace_script.specs.declared.values.NumberCut.{NumberCut}
 use Rattle.trace_script.specs.declared.usual.UsualLine.{UsualLine}
 use Rattle.trace_script.specs.Kept.{shown_order}

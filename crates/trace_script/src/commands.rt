@@ -25,7 +25,7 @@ pub struct Commands {
 
 impl Model for Commands {
     ghost use Rattle.std.specs.Prelude.{ℕ, List, length};
-    ghost use Rattle.script_model.specs.Script.{Command as CommandSeen};
+    ghost use Rattle.text_model.specs.Script.{Command as CommandSeen};
     ghost use Rattle.trace_script.specs.Kept.{commands_kept, AreKept};
 
     ghost Value = { List (ℕ × CommandSeen) };

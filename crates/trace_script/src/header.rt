@@ -1,9 +1,9 @@
 //! The header of a script.
 ghost use Rattle.std.specs.Prelude.{◌≡◌, ◌≢◌, ◌<◌, ◌≤◌, ◌==◌, ◌%◌, ◌&&◌, nat_le, IfOk};
-ghost use Rattle.text_model.specs.Script.{value_given, value_in};
-ghost use Rattle.text_model.specs.ScriptReading.{significant_lines_after, end_line_after, setting_from, settings_from};
-ghost use Rattle.script_model.specs.Script.{header_settings, is_start_line};
-ghost use Rattle.script_model.specs.ScriptReading.{start_from};
+ghost use Rattle.text_model.specs.ScriptLines.{value_given, value_in};
+ghost use Rattle.text_model.specs.HeaderReading.{significant_lines_after, end_line_after, setting_from, settings_from};
+ghost use Rattle.text_model.specs.Script.{header_settings, is_start_line};
+ghost use Rattle.text_model.specs.ScriptReading.{start_from};
 ghost use Rattle.trace_script.specs.ScriptFaults.{Gives, GivesAt};
 ghost use Rattle.trace_script.specs.ScriptTypes.{setting_of, values_of};
 
@@ -11,10 +11,9 @@ use crate::fault::{LineFault, ScriptFault, reading_at};
 use crate::fields::{Fields, fields_of, is_well_spaced};
 use crate::lines::Lines;
 use crate::values::number_of;
-use script_model::{
-    MAX_SCRIPT_COLLECTORS, MAX_SCRIPT_CPUS, MIN_SCRIPT_COLLECTORS, MIN_SCRIPT_CPUS,
+use text_model::{
+    MAX_SCRIPT_COLLECTORS, MAX_SCRIPT_CPUS, MIN_SCRIPT_COLLECTORS, MIN_SCRIPT_CPUS, SIZE_STEP,
 };
-use text_model::SIZE_STEP;
 use trace_model::{LINK_FILLS, MAX_PAGES, MAX_SIZE, MIN_PAGES, MIN_SIZE, START_FILL};
 
 /// The values of a script's header.
@@ -112,7 +111,7 @@ impl Limits {
 }
 
 /// The value that a word and a number give to a setting.
-#[tactic(auto, unfolding(text_model::specs::Script::value_given))]
+#[tactic(auto, unfolding(text_model::specs::ScriptLines::value_given))]
 fn value_given(setting: Setting, word: &[u8], number: &[u8]) -> Result<u64, LineFault>
     ensures gives { Gives (λ value. value) result
         (value_given (setting_of setting) word.now number.now) }
@@ -163,7 +162,7 @@ fn read_setting(lines: &mut Lines, setting: Setting) -> Result<u64, ScriptFault>
 }
 
 /// The header, from the next significant lines.
-#[tactic(auto, unfolding(text_model::specs::ScriptReading::settings_from))]
+#[tactic(auto, unfolding(text_model::specs::HeaderReading::settings_from))]
 pub fn read_header(lines: &mut Lines) -> Result<Header, ScriptFault>
     ensures gives { GivesAt
         (λ header. (values_of header, significant_lines_after lines.new.passed lines.new.rest.now)) result
@@ -184,7 +183,7 @@ pub fn read_header(lines: &mut Lines) -> Result<Header, ScriptFault>
 }
 
 /// Whether a line is a start line: its spaces, its word and its number of fields are those of one.
-#[tactic(auto, unfolding(script_model::specs::Script::is_start_line))]
+#[tactic(auto, unfolding(text_model::specs::Script::is_start_line))]
 fn is_start_line(line: &[u8]) -> bool
     ensures { result ≡ is_start_line line.now }
 {

@@ -2,8 +2,8 @@
 ghost use Rattle.std.specs.Prelude.{◌≡◌, ◌+◌, ◌-◌, ◌^◌, ◌<◌, ◌≤◌, ◌==◌, ⊤, [], ◌∷◌, length, position, MatchOption};
 ghost use Rattle.std.specs.List.{slice_split};
 ghost use Rattle.text_model.specs.Text.{lines_of};
-ghost use Rattle.text_model.specs.Script.{is_significant};
-ghost use Rattle.text_model.specs.ScriptReading.{significant_lines_after, end_line_after};
+ghost use Rattle.text_model.specs.ScriptLines.{is_significant};
+ghost use Rattle.text_model.specs.HeaderReading.{significant_lines_after, end_line_after};
 
 use memchr::memchr;
 

@@ -2,7 +2,7 @@
 ghost use Rattle.std.specs.Prelude.{◌≡◌, ◌<◌, ◌≤◌, MatchOption};
 ghost use Rattle.std.specs.Char.{is_digit};
 ghost use Rattle.std.specs.List.{list_all};
-ghost use Rattle.text_model.specs.Script.{payload_in};
+ghost use Rattle.text_model.specs.ScriptLines.{payload_in};
 ghost use Rattle.trace_script.specs.Decoding.{high_value, low_value, pair_value, ArePut, PutsPairs};
 ghost use Rattle.trace_script.specs.Kept.{PutsPayload};
 ghost use Rattle.trace_script.specs.UsualLines.{IsPayloadCut};

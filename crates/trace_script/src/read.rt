@@ -1,8 +1,8 @@
 //! The reader of a script's text: line by line, in one pass.
 ghost use Rattle.std.specs.Prelude.{◌≡◌, [], length, IfOk, IfErr};
-ghost use Rattle.text_model.specs.ScriptReading.{numbered_reading, significant_lines_after};
-ghost use Rattle.script_model.specs.Script.{ParsesScript, command_in};
-ghost use Rattle.script_model.specs.ScriptReading.{commands_from, script_in};
+ghost use Rattle.text_model.specs.HeaderReading.{numbered_reading, significant_lines_after};
+ghost use Rattle.text_model.specs.Script.{ParsesScript, command_in};
+ghost use Rattle.text_model.specs.ScriptReading.{commands_from, script_in};
 ghost use Rattle.trace_script.specs.Kept.{PutsCommandAt, PutsNext, BeginAsCommands, LeavesLess};
 ghost use Rattle.trace_script.specs.ScriptFaults.{GivesAt, BeginsAsScript, TellsFirstFault};
 
@@ -113,7 +113,7 @@ fn read_commands(
 }
 
 /// The script that a text spells, as the plain reader of the definitions reads it.
-#[tactic(auto, unfolding(script_model::specs::ScriptReading::script_from))]
+#[tactic(auto, unfolding(text_model::specs::ScriptReading::script_from))]
 fn script_in(alloc: Global, text: &[u8]) -> Result<Script, ScriptFault>
     ensures gives { GivesAt (λ script. script) result (script_in text.now) }
     ensures memory { result ≡ Err ScriptFault.NoMemory → BeginsAsScript text.now }

@@ -16,8 +16,8 @@ pub struct Script {
 }
 
 impl Model for Script {
-    ghost use Rattle.script_model.specs.Script.{Script as ScriptSeen};
-    ghost use Rattle.script_model.specs.ScriptLimits.{IsWithinLimits};
+    ghost use Rattle.text_model.specs.Script.{Script as ScriptSeen};
+    ghost use Rattle.text_model.specs.ScriptLimits.{IsWithinLimits};
 
     ghost Value = { ScriptSeen };
 
@@ -43,8 +43,8 @@ impl Model for Script {
 impl Script {
     ghost use Rattle.std.specs.Prelude.{◌≡◌, ◌+◌, ◌%◌, ◌≤◌, ◌<◌};
     ghost use Rattle.trace_model.specs.declared.limits.TheConstants.{MIN_PAGES, MAX_PAGES, MIN_SIZE, MAX_SIZE, LINK_FILLS};
-    ghost use Rattle.script_model.specs.declared.script_limits.TheConstants.{MIN_SCRIPT_CPUS, MAX_SCRIPT_CPUS, MIN_SCRIPT_COLLECTORS, MAX_SCRIPT_COLLECTORS};
-    ghost use Rattle.script_model.specs.ScriptLimits.{IsWithinLimits};
+    ghost use Rattle.text_model.specs.declared.script_limits.TheConstants.{MIN_SCRIPT_CPUS, MAX_SCRIPT_CPUS, MIN_SCRIPT_COLLECTORS, MAX_SCRIPT_COLLECTORS};
+    ghost use Rattle.text_model.specs.ScriptLimits.{IsWithinLimits};
     ghost use Rattle.trace_script.specs.ScriptTypes.{script_of};
 
     /// The script of this header, first fill and commands.

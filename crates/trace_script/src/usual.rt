@@ -1,15 +1,15 @@
 //! The forms that nearly all lines of a long script have, each read in one pass up to its line feed. A line of another
 //! form, and one with a number of many digits or outside its limits, is left to the reader of any line.
 ghost use Rattle.std.specs.Prelude.{◌≡◌, ℕ, List, [], ◌∷◌, ◌++◌, Ok, IfSome, MatchOption};
-ghost use Rattle.text_model.specs.Script.{decimal_in, payload_in, cpu_in};
-ghost use Rattle.script_model.specs.Script.{count_in, SpellsCommand};
+ghost use Rattle.text_model.specs.ScriptLines.{decimal_in, payload_in, cpu_in};
+ghost use Rattle.text_model.specs.Script.{count_in, SpellsCommand};
 ghost use Rattle.trace_script.specs.Kept.{shown_order};
 ghost use Rattle.trace_script.specs.UsualLines.{BeginsWith, BeginsBehindCpu, IsUsual, IsUsualBehindCpu};
 
 use crate::order::Order;
 use crate::payload::payload_cut;
 use crate::values::{cpu_cut, number_cut};
-use script_model::{MAX_LINE_STEPS, MIN_LINE_STEPS};
+use text_model::{MAX_LINE_STEPS, MIN_LINE_STEPS};
 use trace_model::{CpuId, FillNo, Moment};
 
 /// What a line asks for, without its payload, and the text after the line.

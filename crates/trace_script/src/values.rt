@@ -3,14 +3,13 @@ ghost use Rattle.std.specs.Prelude.{◌≡◌, ◌≢◌, ◌+◌, ◌-◌, ◌*
 ghost use Rattle.std.specs.Int.{IsInRange};
 ghost use Rattle.std.specs.Char.{is_ascii_digit};
 ghost use Rattle.std.specs.List.{list_all};
-ghost use Rattle.text_model.specs.Script.{decimal_in, number_below, names_cpu, cpu_in};
-ghost use Rattle.script_model.specs.Script.{count_in};
+ghost use Rattle.text_model.specs.ScriptLines.{decimal_in, number_below, names_cpu, cpu_in};
+ghost use Rattle.text_model.specs.Script.{count_in};
 ghost use Rattle.trace_script.specs.ScriptFaults.{Gives};
 ghost use Rattle.trace_script.specs.UsualLines.{IsNumberCut, IsCpuCut};
 
 use crate::fault::LineFault;
-use script_model::{MAX_LINE_STEPS, MIN_LINE_STEPS};
-use text_model::MAX_NUMBER_DIGITS;
+use text_model::{MAX_LINE_STEPS, MAX_NUMBER_DIGITS, MIN_LINE_STEPS};
 use trace_model::CpuId;
 
 /// The number whose last digit is this, after the digits of another; None if the byte is no digit, or the number
@@ -123,7 +122,7 @@ pub fn cpu_cut(cpus: u32, text: &[u8]) -> Option<NumberCut<'_>>
 }
 
 /// The number that a field spells, which is to be below the limit.
-#[tactic(auto, unfolding(text_model::specs::Script::number_below))]
+#[tactic(auto, unfolding(text_model::specs::ScriptLines::number_below))]
 pub fn number_below(limit: u64, field: &[u8]) -> Result<u64, LineFault>
     ensures gives { Gives (λ n. n) result (number_below limit field.now) }
     ensures never_out_of_memory { result ≢ Err LineFault.NoMemory }
@@ -158,7 +157,7 @@ fn cpu_digits(field: &[u8]) -> Option<&[u8]>
 }
 
 /// The CPU, one of `cpus`, that a field names.
-#[tactic(auto, unfolding(text_model::specs::Script::cpu_in))]
+#[tactic(auto, unfolding(text_model::specs::ScriptLines::cpu_in))]
 pub fn cpu_of(cpus: u32, field: &[u8]) -> Result<CpuId, LineFault>
     ensures gives { Gives (λ cpu. cpu.0) result (cpu_in cpus field.now) }
     ensures never_out_of_memory { result ≢ Err LineFault.NoMemory }
@@ -171,7 +170,7 @@ pub fn cpu_of(cpus: u32, field: &[u8]) -> Result<CpuId, LineFault>
 }
 
 /// The number of steps that a field spells.
-#[tactic(auto, unfolding(script_model::specs::Script::count_in))]
+#[tactic(auto, unfolding(text_model::specs::Script::count_in))]
 pub fn count_of(field: &[u8]) -> Result<u64, LineFault>
     ensures gives { Gives (λ n. n) result (count_in field.now) }
     ensures never_out_of_memory { result ≢ Err LineFault.NoMemory }

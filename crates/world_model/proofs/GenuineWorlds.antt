@@ -11,8 +11,8 @@ use Rattle.trace_model.specs.Collection.{Agree, IsLeastUpperBound}
 use Rattle.trace_model.proofs.Joined.{below_agrees, joined_least}
 use Rattle.trace_model.proofs.Collections.{below_more}
 use Rattle.trace_model.proofs.Genuine.{genuine_agree}
-use Rattle.script_model.specs.Script.{Command, Script}
-use Rattle.script_model.specs.ScriptLimits.{IsWithinLimits}
+use Rattle.text_model.specs.Script.{Command, Script}
+use Rattle.text_model.specs.ScriptLimits.{IsWithinLimits}
 use Rattle.link_marks.specs.KeptPartition.{pieces_of}
 use Rattle.link_marks.proofs.RingsKept.{reached_kept}
 use Rattle.world_model.specs.World.{World, WorldBehind}

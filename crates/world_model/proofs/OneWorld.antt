@@ -12,8 +12,8 @@ use Rattle.trace_model.specs.Ring.{Taken, Core, IsStart, AreFillsOf}
 use Rattle.trace_model.specs.Parcel.{Parcel}
 use Rattle.trace_model.proofs.Elements.{some_is}
 use Rattle.text_model.specs.Log.{Delivery, new_page, known_page, no_page, delivery_line}
-use Rattle.script_model.specs.Script.{Command, begin_frame, step_frame, finish_frame, write, close, step_reader, take_page, wish, deliver, Script}
-use Rattle.script_model.specs.ScriptLimits.{IsWithinLimits}
+use Rattle.text_model.specs.Script.{Command, begin_frame, step_frame, finish_frame, write, close, step_reader, take_page, wish, deliver, Script}
+use Rattle.text_model.specs.ScriptLimits.{IsWithinLimits}
 use Rattle.link_marks.proofs.OneNewRing.{new_ring_is_one}
 use Rattle.link_marks.proofs.RingsKept.{reached_kept}
 use Rattle.world_model.specs.Lanes.{Lane, IsNewLane, LineRun}

@@ -12,7 +12,7 @@ use Rattle.trace_model.specs.Ring.{Core, IsStart, first_of_fill, fill_of}
 use Rattle.trace_model.specs.Steps.{Exchange}
 use Rattle.trace_model.specs.Window.{RingEvent}
 use Rattle.link_marks.specs.ToldRuns.{fills_taken, fills_lost, IsToldBy}
-use Rattle.script_model.specs.Script.{Script}
+use Rattle.text_model.specs.Script.{Script}
 use Rattle.world_model.specs.Lanes.{Lane}
 use Rattle.world_model.specs.World.{World}
 use Rattle.world_model.specs.RunEvents.{IsRunToldBy}

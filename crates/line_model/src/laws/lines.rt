@@ -2,7 +2,7 @@
 ghost use Rattle.std.specs.Prelude.{◌≡◌, ◌<◌, ℕ, List, length};
 ghost use Rattle.trace_model.specs.History.{HistoryEvent};
 ghost use Rattle.trace_model.specs.Window.{Window, RingEvent, history_events_of, WindowRun};
-ghost use Rattle.script_model.specs.Script.{Command};
+ghost use Rattle.text_model.specs.Script.{Command};
 ghost use Rattle.line_model.specs.Lines.{IsMadeByLines};
 ghost use Rattle.line_model.specs.LineExamples.{OneWrite, RefusedBegin, BeginAndSteps, NestedFrames, DroppedWrite, RecordsOfThree};
 

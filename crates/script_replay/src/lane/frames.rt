@@ -23,7 +23,7 @@ fn put_padded(slot: &mut [u8], payload: &[u8])
 
 impl<'a> Lane<'a> {
     ghost use Rattle.std.specs.Prelude.{◌≡◌, ◌≢◌, ℕ, ◌-◌, [], drop, length, OnOk};
-    ghost use Rattle.script_model.specs.Script.{step_frame, finish_frame};
+    ghost use Rattle.text_model.specs.Script.{step_frame, finish_frame};
     ghost use Rattle.script_replay.specs.Lanes.{IsLaneOf, MakesExchanges, HasLine};
     ghost use Rattle.script_replay.specs.Frames.{AsksTop, StepsOnce, FollowsFrame};
 

@@ -12,7 +12,7 @@ impl<'a> Lane<'a> {
     ghost use Rattle.std.specs.Prelude.{◌≡◌, ℕ, ◌+◌, ◌^◌, ◌<◌, ◌≤◌, None, IfOk, OnOk, length};
     ghost use Rattle.trace_model.specs.declared.limits.TheConstants.{MAX_CPUS};
     ghost use Rattle.page_image.specs.Contents.{IsPage, records_of_page};
-    ghost use Rattle.script_model.specs.Script.{step_reader, take_page, wish};
+    ghost use Rattle.text_model.specs.Script.{step_reader, take_page, wish};
     ghost use Rattle.script_replay.specs.Lanes.{IsLaneOf, MakesExchanges, HasLine};
     ghost use Rattle.script_replay.specs.Takes.{ReadsOnce, ReadsOn, Keeps, KeepsPage, MayKeep};
 

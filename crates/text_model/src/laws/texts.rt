@@ -1,7 +1,7 @@
 //! Laws over numbers and bytes as text.
 ghost use Rattle.std.specs.Prelude.{◌≡◌, ℕ, ◌^◌, ◌<◌, List, Ok, All, decimal};
 ghost use Rattle.text_model.specs.Text.{hex_text};
-ghost use Rattle.text_model.specs.Script.{decimal_in, payload_in};
+ghost use Rattle.text_model.specs.ScriptLines.{decimal_in, payload_in};
 
 /// A number's decimal text reads back as the number.
 pub fn number_reads_back()

@@ -1,7 +1,7 @@
 //! Laws over what a line of a script has with a ring.
 ghost use Rattle.std.specs.Prelude.{◌≡◌, ℕ, List, length};
 ghost use Rattle.trace_model.specs.Steps.{Exchange, Run};
-ghost use Rattle.script_model.specs.Script.{Command};
+ghost use Rattle.text_model.specs.Script.{Command};
 ghost use Rattle.link_marks.specs.RingLaws.{MayAsk};
 ghost use Rattle.world_model.specs.Lanes.{Lane, IsNewLane, HasPayloads, event_on_top, LineRun};
 ghost use Rattle.world_model.specs.LineEnds.{FrameRunsAreShort, ReaderRunsAreShort};

@@ -3,8 +3,8 @@ use Rattle.std.specs.Prelude.{Vec}
 use Rattle.std.specs.declared.alloc.Global.{Global}
 use Rattle.std.specs.List.{slice_get}
 use Rattle.std.proofs.lemmas.Option.{slice_get_read}
-use Rattle.script_model.specs.Script.{Command, Script}
-use Rattle.script_model.specs.ScriptLimits.{IsCommandWithin, IsWithinLimits}
+use Rattle.text_model.specs.Script.{Command, Script}
+use Rattle.text_model.specs.ScriptLimits.{IsCommandWithin, IsWithinLimits}
 use Rattle.trace_script.specs.ScriptTypes.{shown_command, shown_line}
 use Rattle.trace_script.specs.declared.command.ScriptLine.{ScriptLine}
 use Rattle.trace_model.specs.declared.numbers.CpuId.{CpuId}

@@ -1,7 +1,7 @@
 use Rattle.std.proofs.Common.{◌≡◌, ℕ, ◌<◌, List, length, get_or, Some, sym, subst, arith}
 use Rattle.std.specs.List.{slice_get, AllZip}
-use Rattle.script_model.specs.Script.{Command}
-use Rattle.script_model.specs.ScriptLimits.{IsCommandWithin}
+use Rattle.text_model.specs.Script.{Command}
+use Rattle.text_model.specs.ScriptLimits.{IsCommandWithin}
 use Rattle.trace_script.specs.ScriptTypes.{shown_line}
 use Rattle.line_model.specs.Lines.{writer_lines}
 use Rattle.line_model.specs.ReplayedLines.{commands_of}

@@ -1,6 +1,6 @@
 use Rattle.std.proofs.Common.{ℕ, ◌≤◌, List, length, ap, ◌∙◌, subst, arith}
 use Rattle.std.proofs.lemmas.List.{take_all}
-use Rattle.script_model.specs.Script.{Command}
+use Rattle.text_model.specs.Script.{Command}
 use Rattle.trace_script.specs.ScriptTypes.{shown_line}
 use Rattle.script_replay.specs.Replay.{IsAmid}
 use Rattle.script_replay.proofs.LinesObeyed.{first_amid, may_obey, one_more}

@@ -1,5 +1,5 @@
 use Rattle.std.proofs.Common.{ap, ◌∙◌}
-use Rattle.script_model.specs.Script.{command_of}
+use Rattle.text_model.specs.Script.{command_of}
 use Rattle.trace_script.specs.declared.fields.Fields.{Fields}
 use Rattle.trace_script.specs.ScriptFields.{fields_seen}
 use Rattle.trace_script.proofs.OrderLemmas.{no_fields}

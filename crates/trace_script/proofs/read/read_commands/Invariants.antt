@@ -1,7 +1,7 @@
 use Rattle.std.proofs.Common.{◌≡◌, ◌++◌, length, Ok}
-use Rattle.text_model.specs.Script.{◌>>=◌}
-use Rattle.text_model.specs.ScriptReading.{significant_lines_after}
-use Rattle.script_model.specs.ScriptReading.{commands_from}
+use Rattle.text_model.specs.ScriptLines.{◌>>=◌}
+use Rattle.text_model.specs.HeaderReading.{significant_lines_after}
+use Rattle.text_model.specs.ScriptReading.{commands_from}
 use Rattle.trace_script.specs.Kept.{commands_kept, AreKept, ReadAs}
 use Rattle.trace_script.proofs.read.read_commands.Given as goal
 

@@ -1,5 +1,5 @@
 use Rattle.std.proofs.Common.{[], ◌∷◌, codes, refl, arith}
-use Rattle.script_model.specs.Script.{deliver}
+use Rattle.text_model.specs.Script.{deliver}
 use Rattle.trace_script.proofs.ValueLemmas.{below_limit, both_with}
 use Rattle.trace_script.proofs.UsualLemmas.{begins_with, delivery_joined}
 use Rattle.trace_script.proofs.usual.delivery_line.Goals as goal

@@ -1,6 +1,6 @@
 use Rattle.std.proofs.Common.{◌≡◌, ℕ, List, Option, Some, length, sym, ◌∙◌, ap, arith}
 use Rattle.std.specs.List.{slice_get}
-use Rattle.script_model.specs.Script.{Command}
+use Rattle.text_model.specs.Script.{Command}
 use Rattle.trace_script.specs.Kept.{part, shown_order, start_of}
 use Rattle.trace_script.proofs.KeptLemmas.{length-commands_kept, command_at, payload_within}
 use Rattle.trace_script.proofs.commands.Commands.line.Goals as goal

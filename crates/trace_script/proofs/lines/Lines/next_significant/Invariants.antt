@@ -1,5 +1,5 @@
 use Rattle.std.proofs.Common.{◌≡◌, ◌≤◌, length}
-use Rattle.text_model.specs.ScriptReading.{significant_lines_after, end_line_after}
+use Rattle.text_model.specs.HeaderReading.{significant_lines_after, end_line_after}
 use Rattle.trace_script.proofs.lines.Lines.next_significant.Given as goal
 
 abbrev pub invariant-loop-line : goal.invariant-loop-line

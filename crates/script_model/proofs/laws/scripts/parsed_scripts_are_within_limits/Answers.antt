@@ -1,5 +1,0 @@
-use Rattle.script_model.proofs.ParsedLimits.{ParsesScript-within}
-use Rattle.script_model.proofs.laws.scripts.parsed_scripts_are_within_limits.Goals as goal
-
-pub returns : goal.returns
-returns c = ParsesScript-within

@@ -1,4 +1,0 @@
-pub mod Script
-pub mod ScriptLimits
-pub mod ScriptReading
-pub mod ScriptWriting
