@@ -10,6 +10,7 @@ use trace_model::RecordNo;
 impl Collector {
     ghost use Rattle.std.specs.Prelude.{◌≡◌, ◌≢◌, ℕ, ◌+◌, ◌-◌, ◌<◌, ◌≤◌, ◌↔◌, [], ◌∷◌, ◌++◌, length, IsTrue, MatchBool, Ok, IfOk, IfErr, OnOk, OnErr};
     ghost use Rattle.trace_model.specs.Collection.{Agree, IsBelow, IsSame};
+    ghost use Rattle.page_numbers.specs.Parcels.{as_parcel};
     ghost use Rattle.collector.specs.Adding.{FitsAt, IsLookedAt};
     ghost use Rattle.collector.specs.Faults.{IsAddFault};
     ghost use Rattle.collector.specs.declared.added.Added.TheVariants.{New, Known};
@@ -20,13 +21,13 @@ impl Collector {
     /// least number, and the collector stays as it was; the parcel is dropped. `NoMemory` is answered only if the
     /// parcel has or misses something that isn't here, and nothing is at odds.
     pub fn add(&mut self, parcel: Parcel) -> Result<Added, AddFault>
-        ensures new { result ≡ Ok New → self.new ≡ self.old ++ parcel ∷ [] }
+        ensures new { result ≡ Ok New → self.new ≡ self.old ++ as_parcel parcel ∷ [] }
         ensures known { result ≡ Ok Known → self.new ≡ self.old }
-        ensures known_exactly { IfOk result (λ added. (added ≡ Known) ↔ IsBelow (parcel ∷ []) self.old) }
-        ensures union { OnOk result (IsSame self.new (self.old ++ parcel ∷ [])) }
-        ensures agree { OnOk result (Agree (self.old ++ parcel ∷ [])) }
-        ensures fault { IfErr result (λ fault. IsAddFault (self.old ++ parcel ∷ []) fault) }
-        ensures no_memory { result ≡ Err NoMemory → IsBelow (parcel ∷ []) self.old → ⊥ }
+        ensures known_exactly { IfOk result (λ added. (added ≡ Known) ↔ IsBelow (as_parcel parcel ∷ []) self.old) }
+        ensures union { OnOk result (IsSame self.new (self.old ++ as_parcel parcel ∷ [])) }
+        ensures agree { OnOk result (Agree (self.old ++ as_parcel parcel ∷ [])) }
+        ensures fault { IfErr result (λ fault. IsAddFault (self.old ++ as_parcel parcel ∷ []) fault) }
+        ensures no_memory { result ≡ Err NoMemory → IsBelow (as_parcel parcel ∷ []) self.old → ⊥ }
         ensures refused { OnErr result (self.new ≡ self.old) }
     {
         if !self.would_grow(&parcel)? {
@@ -39,7 +40,7 @@ impl Collector {
     /// Whether all that a parcel has and misses is here already: whether adding it would change nothing. What is at
     /// odds with the kept parcels isn't here. No memory is asked for.
     pub fn holds(&self, parcel: &Parcel) -> bool
-        ensures { IsTrue result ↔ IsBelow (parcel.now ∷ []) self.now }
+        ensures { IsTrue result ↔ IsBelow (as_parcel parcel.now ∷ []) self.now }
     {
         let _kept = self.parcels();
         match self.would_grow(parcel) {
@@ -50,10 +51,10 @@ impl Collector {
 
     /// Whether a parcel that agrees with the kept ones adds something to them.
     fn would_grow(&self, parcel: &Parcel) -> Result<bool, AddFault>
-        ensures grows { IfOk result (λ grows. MatchBool grows (IsBelow (parcel.now ∷ []) self.now → ⊥)
-            (IsBelow (parcel.now ∷ []) self.now)) }
-        ensures agree { OnOk result (Agree (self.now ++ parcel.now ∷ [])) }
-        ensures fault { IfErr result (λ fault. IsAddFault (self.now ++ parcel.now ∷ []) fault) }
+        ensures grows { IfOk result (λ grows. MatchBool grows (IsBelow (as_parcel parcel.now ∷ []) self.now → ⊥)
+            (IsBelow (as_parcel parcel.now ∷ []) self.now)) }
+        ensures agree { OnOk result (Agree (self.now ++ as_parcel parcel.now ∷ [])) }
+        ensures fault { IfErr result (λ fault. IsAddFault (self.now ++ as_parcel parcel.now ∷ []) fault) }
         ensures at_odds { IfErr result (λ fault. fault ≢ NoMemory) }
     {
         let missing_grow = self.look_at_missing(parcel)?;
@@ -63,9 +64,9 @@ impl Collector {
 
     /// Looks whether a parcel's missing numbers have records here, and whether they add something.
     fn look_at_missing(&self, parcel: &Parcel) -> Result<bool, AddFault>
-        ensures seen { IfOk result (λ grows. IsLookedAt self.now parcel.now
-            (parcel.now.first - parcel.now.missed) parcel.now.first grows) }
-        ensures fault { IfErr result (λ fault. IsAddFault (self.now ++ parcel.now ∷ []) fault) }
+        ensures seen { IfOk result (λ grows. IsLookedAt self.now (as_parcel parcel.now)
+            (parcel.now.page.first - parcel.now.missed) parcel.now.page.first grows) }
+        ensures fault { IfErr result (λ fault. IsAddFault (self.now ++ as_parcel parcel.now ∷ []) fault) }
         ensures at_odds { IfErr result (λ fault. fault ≢ NoMemory) }
     {
         let cpu = parcel.cpu();
@@ -89,15 +90,15 @@ impl Collector {
     /// Looks whether a parcel's records, whose missing numbers fit, are at odds with what is here, and whether they add
     /// something.
     fn look_at_records(&self, parcel: &Parcel) -> Result<bool, AddFault>
-        requires { (n : ℕ) → parcel.now.first - parcel.now.missed ≤ n → n < parcel.now.first
-            → FitsAt self.now parcel.now parcel.now.cpu n }
-        ensures seen { IfOk result (λ grows. IsLookedAt self.now parcel.now
-            parcel.now.first (parcel.now.first + length parcel.now.records) grows) }
+        requires { (n : ℕ) → parcel.now.page.first - parcel.now.missed ≤ n → n < parcel.now.page.first
+            → FitsAt self.now (as_parcel parcel.now) parcel.now.cpu n }
+        ensures seen { IfOk result (λ grows. IsLookedAt self.now (as_parcel parcel.now)
+            parcel.now.page.first (parcel.now.page.first + length (as_parcel parcel.now).records) grows) }
         ensures agree { Agree self.now }
-        ensures fault { IfErr result (λ fault. IsAddFault (self.now ++ parcel.now ∷ []) fault) }
+        ensures fault { IfErr result (λ fault. IsAddFault (self.now ++ as_parcel parcel.now ∷ []) fault) }
         ensures at_odds { IfErr result (λ fault. fault ≢ NoMemory) }
     {
-        let kept = self.parcels();
+        let _kept = self.parcels();
         let cpu = parcel.cpu();
         let mut at = parcel.first().0;
         let end = at + parcel.count();
@@ -107,7 +108,7 @@ impl Collector {
             let until = stretch.end.min(end);
             match stretch.content {
                 Some(Content::Kept(index)) => {
-                    if let Some(number) = first_difference(parcel, &kept[index], at, until) {
+                    if let Some(number) = first_difference(parcel, self.parcel(index), at, until) {
                         return Err(AddFault::Clash(cpu, RecordNo(number)));
                     }
                 }

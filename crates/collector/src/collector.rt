@@ -18,18 +18,20 @@ pub struct Collector {
 impl Model for Collector {
     ghost use Rattle.std.specs.Prelude.{List};
     ghost use Rattle.trace_model.specs.Parcel.{Parcel as ParcelSeen};
+    ghost use Rattle.page_numbers.specs.Parcels.{as_parcels};
     ghost use Rattle.collector.specs.Index.{IsIndexed};
 
     ghost Value = { List ParcelSeen };
 
-    ghost view = { λ c. c.parcels.items };
+    ghost view = { λ c. as_parcels c.parcels.items };
 
-    ghost invariant = { λ c. IsIndexed c.parcels.items c.index };
+    ghost invariant = { λ c. IsIndexed (as_parcels c.parcels.items) c.index };
 }
 
 impl Collector {
     ghost use Rattle.std.specs.Prelude.{◌≡◌, ℕ, ◌+◌, ◌<◌, ◌≤◌, List, [], ◌∷◌, ◌++◌, length, take, slice_get, Some, IfOk, OnOk, OnErr};
     ghost use Rattle.trace_model.specs.Collection.{Agree};
+    ghost use Rattle.page_numbers.specs.Parcels.{as_parcel, as_parcels};
     ghost use Rattle.collector.specs.Sound.{AreSound};
     ghost use Rattle.collector.specs.Shown.{IsContentAt};
     ghost use Rattle.collector.specs.Index.{IsIndexed};
@@ -47,7 +49,7 @@ impl Collector {
     /// The kept parcels, in the order in which they were added. They agree, and the collector has and misses what
     /// they have and miss together.
     pub fn parcels(&self) -> &[Parcel]
-        ensures parcels { result.now ≡ self.now }
+        ensures parcels { as_parcels result.now ≡ self.now }
         ensures agree { Agree self.now }
         ensures sound { AreSound self.now }
     {
@@ -58,7 +60,7 @@ impl Collector {
     /// The kept parcel at an index.
     pub(crate) fn parcel(&self, index: usize) -> &Parcel
         requires { index < length self.now }
-        ensures { slice_get self.now index ≡ Some result.now }
+        ensures { slice_get self.now index ≡ Some (as_parcel result.now) }
     {
         &self.parcels[index]
     }
@@ -75,8 +77,8 @@ impl Collector {
 
     /// Keeps a parcel that agrees with those that are kept.
     pub(crate) fn keep(&mut self, parcel: Parcel) -> Result<(), NoMemory>
-        requires { Agree (self.old ++ parcel ∷ []) }
-        ensures kept { OnOk result (self.new ≡ self.old ++ parcel ∷ []) }
+        requires { Agree (self.old ++ as_parcel parcel ∷ []) }
+        ensures kept { OnOk result (self.new ≡ self.old ++ as_parcel parcel ∷ []) }
         ensures refused { OnErr result (self.new ≡ self.old) }
     {
         let first = parcel.first().0;

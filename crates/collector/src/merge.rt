@@ -86,16 +86,16 @@ impl Collector {
         ensures fault { IfErr result (λ fault. IsAddFault (self.now ++ other.now) fault) }
         ensures at_odds { IfErr result (λ fault. fault ≢ NoMemory) }
     {
-        let kept = self.parcels();
-        let others = other.parcels();
+        let _kept = self.parcels();
+        let _others = other.parcels();
         let mut at = 0;
         while at < u64::MAX {
             let both = self.beside_known(other, cpu, at);
             match both.beside {
                 Beside::Records(here, there) => {
                     if let Some(number) = first_difference(
-                        &kept[here],
-                        &others[there],
+                        self.parcel(here),
+                        other.parcel(there),
                         at,
                         both.end,
                     ) {

@@ -29,8 +29,8 @@ impl Collector {
         ensures sound { AreSound self.now }
         ensures others_sound { AreSound other.now }
     {
-        let kept = self.parcels();
-        let others = other.parcels();
+        let _kept = self.parcels();
+        let _others = other.parcels();
         let mut at = 0;
         while at < u64::MAX {
             let both = self.beside(other, cpu, at);
@@ -38,8 +38,8 @@ impl Collector {
                 Beside::Alike => {}
                 Beside::Records(here, there) => {
                     if let Some(_number) = first_difference(
-                        &kept[here],
-                        &others[there],
+                        self.parcel(here),
+                        other.parcel(there),
                         at,
                         both.end,
                     ) {

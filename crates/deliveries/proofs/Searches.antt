@@ -1,33 +1,41 @@
 -- A search by fill among parcels whose fills rise.
-use Rattle.std.proofs.Common.{◌≡◌, ◌≢◌, ℕ, ◌+◌, List, get_or, sym, ap, ◌∙◌, arith, ⊎_elim}
-use Rattle.std.specs.Prelude.{All}
+use Rattle.std.proofs.Common.{◌≡◌, ◌≢◌, ℕ, ◌+◌, ◌<◌, List, length, get_or, sym, ap, ◌∙◌, arith, ⊎_elim}
+use Rattle.std.specs.Prelude.{All, Contains}
 use Rattle.std.specs.Cmp.{ranked, nat_cmp_is}
 use Rattle.std.specs.Ordering.{nat_cmp, is_lt, ordering_index}
 use Rattle.std.specs.declared.cmp.Ordering.TheVariants.{Less, Equal, Greater}
 use Rattle.std.specs.List.Sorted.{IsNonDecreasingBy, IsPartitionPoint, IsSortedBy}
 use Rattle.std.proofs.lemmas.Cmp.{nat_cmp_total}
 use Rattle.std.proofs.lemmas.List.Sorted.{searchable_from_sorted}
-use Rattle.std.proofs.lemmas.Option.{slice_get-get_or}
 use Rattle.std.proofs.lemmas.Bool.{cases_lt}
+use Rattle.std.proofs.lemmas.List.{get_or-map, length-map}
+use Rattle.std.proofs.lemmas.List.Elements.{All-map}
 use Rattle.trace_model.specs.Parcel.{Parcel}
+use Rattle.page_numbers.specs.Parcels.{ParcelValue, as_parcel, as_parcels}
+use Rattle.page_numbers.proofs.AsParcels.{parcel_at}
 use Rattle.deliveries.specs.Deliveries.{AreRising}
 
-fills_sorted : (parcels : List Parcel) → AreRising parcels → IsSortedBy (λ a b. is_lt (nat_cmp a.fill b.fill)) parcels
+fills_sorted : (parcels : List ParcelValue) → AreRising (as_parcels parcels) → IsSortedBy (λ a b. is_lt (nat_cmp a.page.fill b.page.fill)) parcels
 fills_sorted parcels up = λ k d _ inside.
-    let rises = up k (k + 1) (get_or parcels k d) (get_or parcels (k + 1) d) (omega arith) (slice_get-get_or parcels k d (omega arith)) (slice_get-get_or parcels (k + 1) d inside) in
-    let greater = nat_cmp_is (get_or parcels (k + 1) d).fill (get_or parcels k d).fill Greater (omega arith) in
+    let rises = up k (k + 1) (as_parcel (get_or parcels k d)) (as_parcel (get_or parcels (k + 1) d)) (omega arith) (parcel_at parcels k d (omega arith)) (parcel_at parcels (k + 1) d inside) in
+    let greater = nat_cmp_is (get_or parcels (k + 1) d).page.fill (get_or parcels k d).page.fill Greater (omega arith) in
     ap is_lt (sym greater)
 
 -- the search found the parcel of this fill
-pub found_fill : (fill : ℕ) (parcels : List Parcel) (at : ℕ) (parcel : Parcel) → parcel ≡ get_or parcels at parcel → nat_cmp (get_or parcels at parcel).fill fill ≡ Equal → parcel.fill ≡ fill
+pub found_fill : (fill : ℕ) (parcels : List ParcelValue) (at : ℕ) (parcel : ParcelValue) → parcel ≡ get_or parcels at parcel → nat_cmp (get_or parcels at parcel).page.fill fill ≡ Equal → parcel.page.fill ≡ fill
 found_fill fill parcels at parcel is tied =
-    ap (λ (x : Parcel). x.fill) is ∙ ranked (get_or parcels at parcel).fill fill Equal (sym tied)
+    ap (λ (x : ParcelValue). x.page.fill) is ∙ ranked (get_or parcels at parcel).page.fill fill Equal (sym tied)
+
+-- it is among them
+pub found_among : (parcels : List ParcelValue) (at : ℕ) (parcel : ParcelValue) → at < length parcels → parcel ≡ get_or parcels at parcel → Contains (as_parcels parcels) (as_parcel parcel)
+found_among parcels at parcel within is =
+    (at, omega (arith, length-map parcels as_parcel), get_or-map as_parcel parcels at parcel (as_parcel parcel) within ∙ ap as_parcel (sym is))
 
 -- the search found no parcel of this fill
-pub found_nowhere : (fill : ℕ) (parcels : List Parcel) (i : ℕ) → AreRising parcels → (IsNonDecreasingBy (λ y. ordering_index (nat_cmp y.fill fill)) parcels → IsPartitionPoint (λ y. nat_cmp y.fill fill ≡ Less) (λ y. nat_cmp y.fill fill ≡ Greater) parcels i) → All (λ parcel. parcel.fill ≢ fill) parcels
-found_nowhere fill parcels i up search_says = λ k d inside e.
-    let parts = search_says (searchable_from_sorted nat_cmp_total (λ (x : Parcel). x.fill) parcels fill (fills_sorted parcels up)) in
+pub found_nowhere : (fill : ℕ) (parcels : List ParcelValue) (i : ℕ) → AreRising (as_parcels parcels) → (IsNonDecreasingBy (λ y. ordering_index (nat_cmp y.page.fill fill)) parcels → IsPartitionPoint (λ y. nat_cmp y.page.fill fill ≡ Less) (λ y. nat_cmp y.page.fill fill ≡ Greater) parcels i) → All (λ parcel. parcel.fill ≢ fill) (as_parcels parcels)
+found_nowhere fill parcels i up search_says = All-map (λ (parcel : Parcel). parcel.fill ≢ fill) as_parcel parcels (λ k d inside e.
+    let parts = search_says (searchable_from_sorted nat_cmp_total (λ (x : ParcelValue). x.page.fill) parcels fill (fills_sorted parcels up)) in
     ⊎_elim
-    (λ below. let less = ranked (get_or parcels k d).fill fill Less (sym (parts.0 k d (omega arith) below)) in omega arith)
-    (λ above. let greater = ranked (get_or parcels k d).fill fill Greater (sym (parts.1 k d above inside)) in omega arith)
-    (cases_lt k i)
+    (λ below. let less = ranked (get_or parcels k d).page.fill fill Less (sym (parts.0 k d (omega arith) below)) in omega arith)
+    (λ above. let greater = ranked (get_or parcels k d).page.fill fill Greater (sym (parts.1 k d above inside)) in omega arith)
+    (cases_lt k i))

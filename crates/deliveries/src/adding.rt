@@ -1,6 +1,7 @@
 //! A parcel is added to a collector.
 ghost use Rattle.std.specs.Prelude.{◌≡◌, ◌++◌, [], ◌∷◌, IfOk};
 ghost use Rattle.trace_model.specs.Collection.{Agree};
+ghost use Rattle.page_numbers.specs.Parcels.{as_parcel};
 ghost use Rattle.deliveries.specs.Deliveries.{Adds};
 
 use collector::{AddFault, Added, Collector};
@@ -20,8 +21,8 @@ fn refused(fault: AddFault) -> NoMemory
 
 /// Adds a parcel that is at odds with none.
 pub fn collect(collector: &mut Collector, parcel: &Parcel) -> Result<Added, NoMemory>
-    requires { Agree (collector.old ++ parcel.now ∷ []) }
-    ensures { IfOk result (λ added. Adds added collector.old parcel.now collector.new) }
+    requires { Agree (collector.old ++ as_parcel parcel.now ∷ []) }
+    ensures { IfOk result (λ added. Adds added collector.old (as_parcel parcel.now) collector.new) }
 {
     match collector.add(parcel.share()?) {
         Ok(added) => Ok(added),

@@ -1,5 +1,5 @@
 -- An answer and what the bytes are decide each other.
-use Rattle.std.proofs.Common.{◌≡◌, ◌⊎◌, inl, inr, ◌↔◌, ℕ, List, Result, Ok, Err, IfOk, IfErr, refl, ap, subst}
+use Rattle.std.proofs.Common.{◌≡◌, ◌↔◌, ℕ, List, Result, Ok, Err, IfOk, IfErr, MatchResult, refl, ap, subst}
 use Rattle.trace_model.specs.Faults.{cut, bad_length, time_overflow}
 use Rattle.trace_model.specs.Image.{too_short, bad_size, bad_count, bad_word}
 use Rattle.trace_model.specs.Parcel.{Parcel}
@@ -9,7 +9,12 @@ use Rattle.record_words.specs.declared.next.WordFault.TheVariants.{Cut, BadLengt
 use Rattle.page_image.specs.declared.image.ImageFault.TheVariants.{TooShort, BadSize, BadCount, Word, NoMemory as MemoryThere}
 use Rattle.page_numbers.specs.declared.fault.ParcelFault.{ParcelFault}
 use Rattle.page_numbers.specs.declared.fault.ParcelFault.TheVariants.{Image, NumberOverflow, MissedTooMany, MissedDiffers, BadCpu, NoMemory}
+use Rattle.page_numbers.specs.Parcels.{ParcelValue, as_parcel}
 use Rattle.page_numbers.specs.Faults.{parcel_fault, IsParcelFault}
+
+-- the bytes read as this parcel, whose page isn't looked at
+abbrev pub ReadAs : List ℕ → ParcelValue → Type 0
+ReadAs bytes parcel = DecodesParcel bytes (as_parcel parcel)
 
 -- a fault that is reported names the cause that is there
 cause_is : (bytes : List ℕ) (cause : ParcelCause) → IsParcelFault bytes (parcel_fault cause) → FirstParcelFault bytes cause
@@ -39,20 +44,21 @@ told_is bytes BadCpu cause f g = ap parcel_fault (FirstParcelFault-unique bytes 
 told_is bytes NoMemory cause f g = absurd (DecodesParcel-FirstParcelFault bytes f.0 cause f.1 g)
 
 -- if there is a cause, it is reported
-tells_cause : (bytes : List ℕ) (r : Result Parcel ParcelFault) (cause : ParcelCause) → IfOk r (DecodesParcel bytes) → IfErr r (IsParcelFault bytes) → FirstParcelFault bytes cause → r ≡ Err (parcel_fault cause)
-tells_cause bytes (Ok parcel) cause reads fault is = absurd (DecodesParcel-FirstParcelFault bytes parcel cause reads is)
+tells_cause : (bytes : List ℕ) (r : Result ParcelValue ParcelFault) (cause : ParcelCause) → IfOk r (ReadAs bytes) → IfErr r (IsParcelFault bytes) → FirstParcelFault bytes cause → r ≡ Err (parcel_fault cause)
+tells_cause bytes (Ok parcel) cause reads fault is = absurd (DecodesParcel-FirstParcelFault bytes (as_parcel parcel) cause reads is)
 tells_cause bytes (Err told) cause reads fault is = ap (λ (f : ParcelFault). Err f) (told_is bytes told cause fault is)
 
-pub fault-iff : (bytes : List ℕ) (r : Result Parcel ParcelFault) (cause : ParcelCause) → IfOk r (DecodesParcel bytes) → IfErr r (IsParcelFault bytes) → (r ≡ Err (parcel_fault cause)) ↔ FirstParcelFault bytes cause
+pub fault-iff : (bytes : List ℕ) (r : Result ParcelValue ParcelFault) (cause : ParcelCause) → IfOk r (ReadAs bytes) → IfErr r (IsParcelFault bytes) → (r ≡ Err (parcel_fault cause)) ↔ FirstParcelFault bytes cause
 fault-iff bytes r cause reads fault = (
-  λ e. cause_is bytes cause (subst (λ (x : Result Parcel ParcelFault). IfErr x (IsParcelFault bytes)) e fault),
+  λ e. cause_is bytes cause (subst (λ (x : Result ParcelValue ParcelFault). IfErr x (IsParcelFault bytes)) e fault),
   λ is. tells_cause bytes r cause reads fault is,
 )
 
 -- a parcel that the bytes read as is answered, unless memory is refused
-pub reading_told : (bytes : List ℕ) (r : Result Parcel ParcelFault) (parcel : Parcel) → IfOk r (DecodesParcel bytes) → IfErr r (IsParcelFault bytes) → DecodesParcel bytes parcel → (r ≡ Ok parcel) ⊎ (r ≡ Err NoMemory)
-reading_told bytes (Ok read) parcel reads fault is = inl (ap (λ (p : Parcel). Ok p) (DecodesParcel-unique bytes read parcel reads is))
-reading_told bytes (Err NoMemory) parcel reads fault is = inr refl
+pub reading_told : (bytes : List ℕ) (r : Result ParcelValue ParcelFault) (parcel : Parcel) → IfOk r (ReadAs bytes) → IfErr r (IsParcelFault bytes) → DecodesParcel bytes parcel
+    → MatchResult r (λ read. as_parcel read ≡ parcel) (λ fault. fault ≡ NoMemory)
+reading_told bytes (Ok read) parcel reads fault is = DecodesParcel-unique bytes (as_parcel read) parcel reads is
+reading_told bytes (Err NoMemory) parcel reads fault is = refl
 reading_told bytes (Err (Image TooShort)) parcel reads fault is = absurd (DecodesParcel-FirstParcelFault bytes parcel (bad_image too_short) is fault)
 reading_told bytes (Err (Image BadSize)) parcel reads fault is = absurd (DecodesParcel-FirstParcelFault bytes parcel (bad_image bad_size) is fault)
 reading_told bytes (Err (Image BadCount)) parcel reads fault is = absurd (DecodesParcel-FirstParcelFault bytes parcel (bad_image bad_count) is fault)

@@ -1,3 +1,4 @@
 mod Readings
 mod Answered
 mod Writing
+pub mod AsParcels

@@ -1,6 +1,6 @@
 -- From the parts of a parcel's bytes, as they are read, to its reading or its first fault.
-use Rattle.std.proofs.Common.{◌≡◌, ◌≢◌, ℕ, ◌<◌, List, drop, refl, sym, subst, arith}
-use Rattle.trace_model.specs.Image.{Missed}
+use Rattle.std.proofs.Common.{◌≡◌, ◌≢◌, ℕ, ◌<◌, List, drop, refl, sym, ap, subst, arith}
+use Rattle.trace_model.specs.Image.{Missed, DecodesImage}
 use Rattle.trace_model.specs.Parcel.{Parcel}
 use Rattle.trace_model.specs.ParcelBytes.{HasNumbers, HasImage}
 use Rattle.trace_model.specs.declared.limits.TheConstants.{MAX_CPUS}
@@ -9,12 +9,12 @@ use Rattle.page_image.specs.declared.image.ImageFault.{ImageFault}
 use Rattle.page_image.specs.declared.image.ImageFault.TheVariants.{TooShort, BadSize, BadCount, Word, NoMemory}
 use Rattle.page_image.specs.declared.image.Outline.{Outline}
 use Rattle.page_image.specs.Images.{missed_of, page_in, IsImageFault, IsOutlined}
-use Rattle.page_image.specs.Contents.{Contents}
+use Rattle.page_image.specs.Contents.{Contents, records_of_page}
 use Rattle.page_numbers.specs.declared.fault.ParcelFault.{ParcelFault}
 use Rattle.page_numbers.specs.declared.fault.ParcelFault.TheVariants.{Image as ImageIs, NumberOverflow, MissedTooMany, MissedDiffers, BadCpu, NoMemory as MemoryIs}
 use Rattle.page_numbers.specs.declared.numbers.Numbers.{Numbers}
 use Rattle.page_numbers.specs.Parcels.{parcel_of}
-use Rattle.page_numbers.specs.Written.{page_under}
+use Rattle.page_numbers.specs.Written.{page_under, IsPageRead}
 use Rattle.page_numbers.specs.Faults.{IsRefusedAs, fault_of_image, IsParcelFault}
 
 -- a fault of the image is one of the parcel
@@ -47,6 +47,17 @@ HasImage-outlined bytes cpu named numbers image outline image_is h named_is know
       size = outline.size;
       reads = is.reads;
     })
+
+-- and its page is the one of that parcel
+pub IsPageRead-outlined : (bytes : List ℕ) (numbers : Numbers) (image : List ℕ) (outline : Outline) → image ≡ drop 32 bytes → IsOutlined image outline → IsPageRead bytes (page_under (page_in image outline.time outline.size) numbers)
+IsPageRead-outlined bytes numbers image outline image_is is =
+    let page : Contents = page_in image outline.time outline.size in record {
+      time = outline.time;
+      size = outline.size;
+      told = missed_of outline.missed;
+      reads = subst (λ (b : List ℕ). DecodesImage b outline.time outline.size (missed_of outline.missed) (records_of_page page)) image_is is.reads;
+      page_is = ap (λ (b : List ℕ). page_under (page_in b outline.time outline.size) numbers) image_is;
+    }
 
 -- what is refused of the image is a fault of the bytes
 pub refused-fault : (bytes : List ℕ) (parcel : Parcel) (told : Missed) (fault : ParcelFault) → HasImage bytes parcel told → IsRefusedAs parcel told fault → IsParcelFault bytes fault

@@ -1,5 +1,5 @@
 -- The bytes of a parcel, part by part.
-use Rattle.std.proofs.Common.{◌≡◌, ℕ, ◌+◌, ◌-◌, ◌≤◌, List, ◌++◌, length, replicate, arith, length-append, Result, Ok, Err, IfOk, OnOk}
+use Rattle.std.proofs.Common.{◌≡◌, ℕ, ◌+◌, ◌-◌, ◌≤◌, List, ◌++◌, length, replicate, arith, length-append, Result, Ok, Err, IfOk, IfErr, OnOk}
 use Rattle.trace_model.specs.Image.{le64, commit_word, commit_of, stored_count, filled, image_of}
 use Rattle.trace_model.proofs.ImageParts.{length-le64}
 
@@ -22,3 +22,8 @@ contents_fit time contents missed size whole =
 pub each_told : {A E : Type 0} (r : Result A E) (P : A → Type 0) (Q R : Type 0) (S : A → Type 0) → IfOk r P → OnOk r Q → OnOk r R → ((x : A) → P x → Q → R → S x) → IfOk r S
 each_told (Ok x) P Q R S one two three then = then x one two three
 each_told (Err e) P Q R S one two three then = tt
+
+-- what holds of a fault, by what else does
+pub fault_told : {A E : Type 0} (r : Result A E) (P Q : E → Type 0) → IfErr r P → ((e : E) → P e → Q e) → IfErr r Q
+fault_told (Ok x) P Q one then = tt
+fault_told (Err e) P Q one then = then e one

@@ -1,9 +1,17 @@
--- What contracts see of a parcel: the model's parcel, whose records are those of its page.
-use Rattle.std.specs.Prelude.{◌≡◌, ℕ, List}
+-- What contracts see of a parcel: the page that it shares, under its numbers; and the model's parcel that this is.
+use Rattle.std.specs.Prelude.{◌≡◌, ℕ, List, map}
 use Rattle.std.specs.List.{enumerate_from}
 use Rattle.trace_model.specs.Record.{Record}
 use Rattle.trace_model.specs.Parcel.{Parcel}
-use Rattle.page_image.specs.Contents.{Contents, records_of_page, HaveSameData}
+use Rattle.trace_model.specs.ParcelBytes.{IsParcel}
+use Rattle.page_image.specs.Contents.{Contents, IsPage, records_of_page, HaveSameData}
+
+-- A parcel: its CPU, how many numbers are missing before its records, and its page, with the page's time, size and
+-- data.
+pub record ParcelValue : Type 0 where
+  pub cpu : ℕ
+  pub missed : ℕ
+  pub page : Contents
 
 -- the parcel that a page is, under this CPU and with this many numbers missing before its records
 abbrev pub parcel_of : ℕ → Contents → ℕ → Parcel
@@ -14,6 +22,18 @@ parcel_of cpu page missed = record {
   missed = missed;
   records = records_of_page page;
 }
+
+-- the model's parcel, which has the page's records and not the page
+abbrev pub as_parcel : ParcelValue → Parcel
+as_parcel parcel = parcel_of parcel.cpu parcel.page parcel.missed
+
+abbrev pub as_parcels : List ParcelValue → List Parcel
+as_parcels parcels = map as_parcel parcels
+
+-- What holds of each parcel: its page's data reads, its CPU is one, and its records have numbers.
+pub record IsParcelValue (parcel : ParcelValue) : Type 0 where
+  pub page_reads : IsPage parcel.page
+  pub sound : IsParcel (as_parcel parcel)
 
 -- the records of a parcel in their order, each under its number
 abbrev pub entries_of_parcel : Parcel → List (ℕ × Record)
@@ -28,7 +48,3 @@ pub record HaveSameRecords (parcel other : Parcel) : Type 0 where
 pub record AreAlike (page other : Contents) : Type 0 where
   pub first_is : page.first ≡ other.first
   pub data_is : HaveSameData page other
-
--- the parcel is this page
-abbrev pub IsOfPage : Parcel → Contents → Type 0
-IsOfPage parcel page = parcel ≡ parcel_of parcel.cpu page parcel.missed

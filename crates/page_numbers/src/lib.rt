@@ -6,7 +6,6 @@
 
 mod fault;
 pub mod laws;
-mod numbered;
 mod numbers;
 mod parcel;
 

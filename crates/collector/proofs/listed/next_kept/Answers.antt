@@ -1,5 +1,6 @@
 use Rattle.std.proofs.Common.{◌<◌, ⊎_elim, sym, subst, arith}
 use Rattle.std.proofs.lemmas.Bool.{cases_lt}
+use Rattle.page_numbers.specs.Parcels.{as_parcel}
 use Rattle.collector.specs.Shown.{IsContentAt}
 use Rattle.collector.specs.Listed.{GoOn}
 use Rattle.collector.proofs.Stretches.{shown_no_record}
@@ -10,7 +11,7 @@ pub returns-in-Some-clause-entries : goal.returns-in-Some-clause-entries
 returns-in-Some-clause-entries c =
     let ps = c.args.collector.now in
     subst (λ es. GoOn ps c.args.cpu.0 es c.loop-at.at c.stretch-stretch.result.end) (sym c.records_from.ensures)
-    (go_on ps c.stretch-stretch.ensures.agree c.args.cpu.0 c.in-Some.index c.loop-at.at c.stretch-stretch.result.end c.parcel.result.now c.parcel.ensures
+    (go_on ps c.stretch-stretch.ensures.agree c.args.cpu.0 c.in-Some.index c.loop-at.at c.stretch-stretch.result.end (as_parcel c.parcel.result.now) c.parcel.ensures
     (λ m from below. subst (IsContentAt ps c.args.cpu.0 m) c.in-Some.ensures.kept (c.stretch-stretch.ensures.shown m from below)))
 
 pub loop-at-preserved : goal.loop-at-preserved

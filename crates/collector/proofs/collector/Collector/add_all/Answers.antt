@@ -1,5 +1,7 @@
 use Rattle.std.proofs.Common.{◌≡◌, ◌<◌, List, length, take, get_or, Ok, sym, ap, ◌∙◌, subst, rules, arith}
 use Rattle.trace_model.specs.Parcel.{Parcel}
+use Rattle.page_numbers.specs.Parcels.{as_parcel}
+use Rattle.page_numbers.proofs.AsParcels.{parcel_is, as_many}
 use Rattle.collector.proofs.Merging.{next_same, kept_behind, next_merged, same_least, merged_goes_back}
 use Rattle.collector.proofs.collector.Collector.add_all.Goals as goal
 
@@ -7,13 +9,13 @@ pub loop-parcel-preserved : goal.loop-parcel-preserved
 loop-parcel-preserved c =
     let ps = c.args.self.now in
     let qs = c.args.other.now in
-    let q = c.in_ok-share.field-0 in
-    let item = c.parcel-item.result in
+    let q = as_parcel c.in_ok-share.field-0 in
+    let item = as_parcel c.parcel-item.result in
     let k = c.loop-parcel.parcel-index in
     let items = c.parcels-parcel-items.ensures.parcels in
-    let within : k < length qs = omega (arith, ap length items) in
-    let item_is : item ≡ get_or qs k item = c.parcel-item.is ∙ ap (λ (xs : List Parcel). get_or xs k item) items in
-    let q_is : q ≡ get_or qs k q = subst (λ (z : Parcel). z ≡ get_or qs k z) (sym c.in_ok-share.ensures) item_is in
+    let within : k < length qs = let many = as_many _ qs items in omega arith in
+    let item_is : item ≡ get_or qs k item = parcel_is _ qs k c.parcel-item.result items within c.parcel-item.is in
+    let q_is : q ≡ get_or qs k q = subst (λ (z : Parcel). z ≡ get_or qs k z) (ap as_parcel (sym c.in_ok-share.ensures)) item_is in
     record {
       same = next_same ps qs c.loop-parcel.self c.add.new.self k q within q_is c.loop-parcel.invariant.same c.in_ok-add.ensures.union;
       kept = next_merged ps qs c.loop-parcel.self c.add.new.self k q within q_is c.loop-parcel.invariant.kept
@@ -22,7 +24,7 @@ loop-parcel-preserved c =
 
 pub returns-clause-join : goal.returns-clause-join
 returns-clause-join c = same_least c.args.self.now c.args.other.now c.loop-parcel.self c.loop-parcel.parcel-index
-    (omega (arith, ap length c.parcels-parcel-items.ensures.parcels)) c.requires c.loop-parcel.invariant.same
+    (let many = as_many _ c.args.other.now c.parcels-parcel-items.ensures.parcels in omega arith) c.requires c.loop-parcel.invariant.same
 
 pub returns-in_err-share-clause-refused : goal.returns-in_err-share-clause-refused
 returns-in_err-share-clause-refused c =

@@ -1,13 +1,17 @@
-use Rattle.std.proofs.Common.{◌≡◌, ⊎_elim, ℕ, ◌<◌, ◌≤◌, List, length, get_or, Some, refl, ap, ◌∙◌, subst, arith}
-use Rattle.std.specs.List.{slice_get}
+use Rattle.std.proofs.Common.{⊎_elim, ℕ, ◌<◌, ◌≤◌, subst, arith}
 use Rattle.std.proofs.lemmas.Bool.{cases_lt}
-use Rattle.std.proofs.lemmas.Option.{slice_get_read}
-use Rattle.trace_model.specs.Parcel.{Parcel}
+use Rattle.page_numbers.specs.Parcels.{as_parcel}
 use Rattle.collector.specs.declared.beside.Beside.TheVariants.{Records}
 use Rattle.collector.specs.Beside.{IsBeside}
 use Rattle.collector.proofs.Looking.{in_within}
 use Rattle.collector.proofs.SideBySide.{records_clash, records_fit, odds_taken, alike_fit, one_fit, front_fits, fit_up_to}
 use Rattle.collector.proofs.collector.Collector.look_at_cpu.Goals as goal
+
+pub parcel-requires : goal.parcel-requires
+parcel-requires c =
+    let both = c.beside_known-both in
+    let here : IsBeside c.args.self.now c.args.other.now c.args.cpu.0 c.loop-at.at (Records c.in-Records.here c.in-Records.there) = subst (IsBeside c.args.self.now c.args.other.now c.args.cpu.0 c.loop-at.at) c.in-Records.is (both.ensures.shown c.loop-at.at (omega arith) (omega arith)) in
+    in_within c.args.self.now c.in-Records.here c.args.cpu.0 c.loop-at.at here.0
 
 pub returns-in-Some-clause-fault : goal.returns-in-Some-clause-fault
 returns-in-Some-clause-fault c =
@@ -18,12 +22,11 @@ returns-in-Some-clause-fault c =
     let both = c.beside_known-both in
     let i = c.in-Records.here in
     let j = c.in-Records.there in
-    let p = c.index-kept-here.result in
-    let q = c.index-others-there.result in
+    let p = as_parcel c.parcel.result.now in
+    let q = as_parcel c.parcel-in-Records.result.now in
     let shown : (m : ℕ) → at ≤ m → m < both.result.end → IsBeside ps qs cpu m (Records i j) = λ m a b. subst (IsBeside ps qs cpu m) c.in-Records.is (both.ensures.shown m a b) in
-    let here = shown at (omega arith) (omega arith) in
-    let p_is : slice_get ps i ≡ Some p = slice_get_read ps (length ps) i p refl (in_within ps i cpu at here.0) (c.index-kept-here.is ∙ ap (λ (xs : List Parcel). get_or xs i p) c.parcels-kept.ensures.parcels) in
-    let q_is : slice_get qs j ≡ Some q = slice_get_read qs (length qs) j q refl (in_within qs j cpu at here.1) (c.index-others-there.is ∙ ap (λ (xs : List Parcel). get_or xs j q) c.parcels-others.ensures.parcels) in
+    let p_is = c.parcel.ensures in
+    let q_is = c.parcel-in-Records.ensures in
     let n = c.in-Some.number in
     let within = c.in-Some.ensures.within in (
       records_clash ps qs i j cpu n p q both.ensures.agree both.ensures.others_agree p_is q_is (shown n within.0 within.1) c.in-Some.ensures.differ,
@@ -54,12 +57,11 @@ loop-at-preserved-in_default c =
     let both = c.beside_known-both in
     let i = c.in-Records.here in
     let j = c.in-Records.there in
-    let p = c.index-kept-here.result in
-    let q = c.index-others-there.result in
+    let p = as_parcel c.parcel.result.now in
+    let q = as_parcel c.parcel-in-Records.result.now in
     let shown : (m : ℕ) → at ≤ m → m < both.result.end → IsBeside ps qs cpu m (Records i j) = λ m a b. subst (IsBeside ps qs cpu m) c.in-Records.is (both.ensures.shown m a b) in
-    let here = shown at (omega arith) (omega arith) in
-    let p_is : slice_get ps i ≡ Some p = slice_get_read ps (length ps) i p refl (in_within ps i cpu at here.0) (c.index-kept-here.is ∙ ap (λ (xs : List Parcel). get_or xs i p) c.parcels-kept.ensures.parcels) in
-    let q_is : slice_get qs j ≡ Some q = slice_get_read qs (length qs) j q refl (in_within qs j cpu at here.1) (c.index-others-there.is ∙ ap (λ (xs : List Parcel). get_or xs j q) c.parcels-others.ensures.parcels) in
+    let p_is = c.parcel.ensures in
+    let q_is = c.parcel-in-Records.ensures in
     fit_up_to ps qs cpu at both.result.end both.result.next c.loop-at.invariant
     (λ n ge lt. records_fit ps qs i j cpu n p q both.ensures.agree both.ensures.others_agree p_is q_is (shown n ge lt) (c.in_default.ensures.none n ge lt))
     both.ensures.unknown

@@ -2,7 +2,7 @@ use Rattle.std.proofs.Common.{refl, sym, arith, rules}
 use Rattle.std.proofs.lemmas.Result.{err_from_is_err_and}
 use Rattle.trace_model.specs.Image.{none}
 use Rattle.page_numbers.specs.Parcels.{parcel_of}
-use Rattle.page_numbers.proofs.numbered.NumberedPage.of.Goals as goal
+use Rattle.page_numbers.proofs.parcel.Parcel.checked.Goals as goal
 
 pub returns-in_err-check_numbers-clause-refused : goal.returns-in_err-check_numbers-clause-refused
 returns-in_err-check_numbers-clause-refused c =

@@ -3,7 +3,7 @@ use Rattle.std.proofs.lemmas.Result.{err_from_is_err_and}
 use Rattle.page_image.specs.Images.{missed_of, page_in}
 use Rattle.page_numbers.specs.Parcels.{parcel_of}
 use Rattle.page_numbers.specs.Written.{page_under}
-use Rattle.page_numbers.proofs.numbered.NumberedPage.of_image.Goals as goal
+use Rattle.page_numbers.proofs.parcel.Parcel.of_image.Goals as goal
 
 pub returns-in_err-check_numbers-clause-refused : goal.returns-in_err-check_numbers-clause-refused
 returns-in_err-check_numbers-clause-refused c =
