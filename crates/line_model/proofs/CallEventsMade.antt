@@ -7,8 +7,10 @@ use Rattle.trace_model.specs.Packing.{tail_of, FitsBehind, next_reservation}
 use Rattle.trace_model.specs.Window.{Window, history_events_of, IsWindow, WindowEvent, opened_one, released_one, took_one, lost_one}
 use Rattle.trace_model.specs.Frames.{FrameState, waiting, reserved, left, number_of, Frame, pushed_onto, pushed_frames}
 use Rattle.trace_model.specs.Ring.{Core}
-use Rattle.trace_model.specs.Steps.{Event, pushes, pushes_close, steps, ends, reads, wishes, Answer, Exchange, after_leave, Step, push_step, push_refused, close_step, close_refused, frame_step, frame_lacks, end_step, end_lacks, end_early, read_step, store_wish_step}
+use Rattle.trace_model.specs.Steps.{Event, pushes, pushes_close, steps, ends, reads, wishes, Answer, Exchange, after_leave, Step}
+use Rattle.trace_model.proofs.StepCases.{StepCases, push_step, push_refused, close_step, close_refused, frame_step, frame_lacks, end_step, end_lacks, end_early, read_step, store_wish_step}
 use Rattle.trace_model.proofs.NextEvent.{settled_at_rest}
+use Rattle.trace_model.proofs.StepSound.{cases_of}
 use Rattle.link_marks.specs.RingKept.{IsRingKept}
 use Rattle.link_marks.specs.WindowLaws.{MovesWindow, WindowStays}
 use Rattle.link_marks.proofs.HistorySteps.{step_owed}
@@ -48,7 +50,7 @@ others_of (first ∷ others) = others
 
 module _ (n size : ℕ) (c : Core) (frame : Frame) (below : List Frame) (number : ℕ) (payload : List ℕ) (answer : Answer)
     (after : Core) (top : c.frames ≡ frame ∷ below) (at : frame.state ≡ reserved number) where
-  pub ends_make : Step n size c (ends payload) answer after → after ≡ after_leave c frame below (Some payload)
+  pub ends_make : StepCases n size c (ends payload) answer after → after ≡ after_leave c frame below (Some payload)
   ends_make (push_step moment len e few short early a is) = absurd (subst IsEnds e tt)
   ends_make (push_refused moment len why e denied a is) = absurd (subst IsEnds e tt)
   ends_make (close_step e few a is) = absurd (subst IsEnds e tt)
@@ -76,7 +78,7 @@ room_in : (n size start : ℕ) (c : Core) (event : Event) (answer : Answer) (aft
     → c.opened < after.opened
     → c.opened < c.done + n
 room_in n size start c event answer after r step grown =
-    by_window (step_owed n size start c event answer after r.links r.stack r.history step).window
+    by_window (step_owed n size start c event answer after r.links r.stack r.history (cases_of step)).window
   where
     by_window_event : (what : WindowEvent) → MovesWindow n c what after → c.opened < c.done + n
     by_window_event opened_one h = let low = h.step.may in let le = r.links.head_le in omega arith
@@ -217,7 +219,7 @@ module _ (n size start : ℕ) (c : Core) (x : Exchange) (after : Core) (r : IsRi
     by_state (reserved number) at more e =
         let step2 =
         as_event (frame ∷ below) (ends (padded top.payload)) on_top e (λ i. event_in (at i) (is.payloads_are i)) in
-        let after_is = ends_make n size c frame below number (padded top.payload) x.answer after on_top at step2 in
+        let after_is = ends_make n size c frame below number (padded top.payload) x.answer after on_top at (cases_of step2) in
         by_does (subst (Does n size (length c.frames - 1) c frame (top.payload ∷ others) _)
         (sym (ap writer_of after_is))
         (top_leaves n size (length c.frames - 1) c frame below

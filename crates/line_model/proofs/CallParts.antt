@@ -4,6 +4,7 @@ use Rattle.trace_model.specs.History.{HistoryEvent}
 use Rattle.trace_model.specs.Window.{RingEvent, acts, closes, takes, loses, history_events_of, released_one, took_one, lost_one, window_after}
 use Rattle.trace_model.specs.Frames.{for_record, for_close, Frame}
 use Rattle.trace_model.specs.Steps.{Exchange}
+use Rattle.trace_model.proofs.StepSound.{cases_of}
 use Rattle.link_marks.proofs.WindowRuns.{history_events-append}
 use Rattle.world_model.specs.Lanes.{event_on_top, payloads_left}
 use Rattle.world_model.proofs.FramesMove.{Moves, stays, changes, pops, PushesNone, step_moves}
@@ -83,7 +84,7 @@ call_moves n size start s x u payloads e call =
     subst (λ (v : Writer). Moves s.frames v.frames) call.after_is
     (subst (λ (v : Writer). Moves v.frames call.next.frames) call.before_is
     (step_moves n size call.core x.event x.answer call.next
-    (subst PushesNone (sym e) (pushes_none s.frames payloads)) call.step))
+    (subst PushesNone (sym e) (pushes_none s.frames payloads)) (cases_of call.step)))
 
 call_keeps : (n size start : ℕ) (s : Writer) (x : Exchange) (u : Writer) (payloads : List (List ℕ))
     → x.event ≡ event_on_top s.frames payloads

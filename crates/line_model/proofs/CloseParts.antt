@@ -5,7 +5,9 @@ use Rattle.trace_model.specs.History.{HistoryEvent, push_close}
 use Rattle.trace_model.specs.Window.{RingEvent, acts}
 use Rattle.trace_model.specs.Frames.{for_close, waiting, idle, Refusal}
 use Rattle.trace_model.specs.Ring.{Core}
-use Rattle.trace_model.specs.Steps.{Event, pushes, pushes_close, steps, ends, reads, wishes, Answer, pushed, refused, Step, push_step, push_refused, close_step, close_refused, frame_step, frame_lacks, end_step, end_lacks, end_early, read_step, store_wish_step}
+use Rattle.trace_model.specs.Steps.{Event, pushes, pushes_close, steps, ends, reads, wishes, Answer, pushed, refused, Step}
+use Rattle.trace_model.proofs.StepCases.{StepCases, push_step, push_refused, close_step, close_refused, frame_step, frame_lacks, end_step, end_lacks, end_early, read_step, store_wish_step}
+use Rattle.trace_model.proofs.StepSound.{cases_of}
 use Rattle.text_model.specs.Script.{close}
 use Rattle.line_model.specs.Lines.{LineState, frame_count, writes, writes_none, LinePart}
 use Rattle.line_model.specs.WriterCalls.{Writer, writer_of, IsWriterCall, TopCalls}
@@ -34,7 +36,7 @@ Closing s answer t = ((answer ≡ pushed) × (length s.frames < MAX_FRAMES) × (
     ⊎ ((why : Refusal) × (answer ≡ refused why) × (MAX_FRAMES ≤ length s.frames) × (t ≡ s))
 
 closing : (n size : ℕ) (c : Core) (answer : Answer) (after : Core)
-    → Step n size c pushes_close answer after
+    → StepCases n size c pushes_close answer after
     → Closing (writer_of c) answer (writer_of after)
 closing n size c answer after (push_step m l e few short early a is) = absurd (subst IsPushesClose e tt)
 closing n size c answer after (push_refused m l why e denied a is) = absurd (subst IsPushesClose e tt)
@@ -55,7 +57,7 @@ pub closing_of : (n size start : ℕ) (answer : Answer) (s u : Writer)
 closing_of n size start answer s u call =
     subst (λ (v : Writer). Closing s answer v) call.after_is
     (subst (λ (v : Writer). Closing v answer (writer_of call.next)) call.before_is
-    (closing n size call.core answer call.next call.step))
+    (closing n size call.core answer call.next (cases_of call.step)))
 
 pub closes_make : ClosesMake
 closes_make n size start cpu answer s u payloads calls t lefts p agrees call =

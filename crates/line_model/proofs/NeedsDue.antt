@@ -2,7 +2,9 @@
 use Rattle.std.proofs.Common.{◌≡◌, ℕ, List, [], ◌∷◌, refl, sym, subst}
 use Rattle.trace_model.specs.Frames.{Kind, for_record, for_close, FrameState, waiting, reserved, left, Phase, idle, looking, claiming, looking_next, marking, clearing, opening, releasing, wishing, Frame, Refusal, too_deep, too_long, late_moment, crowded, worn, no_frame, not_reserved}
 use Rattle.trace_model.specs.Ring.{ReaderPhase, loading_link, loading_done, storing_link, swapping, Core}
-use Rattle.trace_model.specs.Steps.{Event, Answer, pushed, going, reserved_as, pending, full, gone, refused, reading, empty, moving, swapped, wished_for, leave_answer, begin_answer, end_answer, PushRefused, all_stand, has_no_room, comes_late, BeginsAgain, IdleStep, reserves, finds_nothing, is_crowded, is_worn, notes, load_link_late, sees_free, sees_header, sees_update, claim_late, claims, claim_fails, load_next_late, sees_normal, sees_other, mark_late, marks, mark_fails, clears, open_late, opens, releases, releases_last, grants, closes_more, goes_away, FrameStep, loads_header, loads_update, loads_owed, loads_passed, finds_none, finds_closed, swaps, swap_fails, ReadStep, Step, push_step, push_refused, close_step, close_refused, frame_step, frame_lacks, end_step, end_lacks, end_early, read_step, store_wish_step}
+use Rattle.trace_model.specs.Steps.{Event, Answer, pushed, going, reserved_as, pending, full, gone, refused, reading, empty, moving, swapped, wished_for, leave_answer, begin_answer, end_answer, Step}
+use Rattle.trace_model.proofs.StepCases.{StepCases, PushRefused, all_stand, has_no_room, comes_late, BeginsAgain, IdleStep, reserves, finds_nothing, is_crowded, is_worn, notes, load_link_late, sees_free, sees_header, sees_update, claim_late, claims, claim_fails, load_next_late, sees_normal, sees_other, mark_late, marks, mark_fails, clears, open_late, opens, releases, releases_last, grants, closes_more, goes_away, FrameStep, loads_header, loads_update, loads_owed, loads_passed, finds_none, finds_closed, swaps, swap_fails, ReadStep, push_step, push_refused, close_step, close_refused, frame_step, frame_lacks, end_step, end_lacks, end_early, read_step, store_wish_step}
+use Rattle.trace_model.proofs.StepSound.{cases_of}
 use Rattle.link_marks.specs.AnswerLaws.{IsInNeed}
 use Rattle.line_model.specs.SingleFrames.{RefusedFramesNeedPages}
 
@@ -106,7 +108,7 @@ module _ (n size : ℕ) (c : Core) where
   read_due (swapping page fill) answer after (swaps at a is) = due answer _ a tt
   read_due (swapping page fill) answer after (swap_fails at a is) = due answer _ a tt
 
-  step_due : (event : Event) (answer : Answer) (after : Core) → Step n size c event answer after → Due answer
+  step_due : (event : Event) (answer : Answer) (after : Core) → StepCases n size c event answer after → Due answer
   step_due event answer after (push_step moment len e few fits early a is) = due answer _ a tt
   step_due event answer after (push_refused moment len why e denied a is) =
       due answer _ a (push_due moment len why denied)
@@ -124,6 +126,6 @@ module _ (n size : ℕ) (c : Core) where
 
 pub refused_frames_need_pages : RefusedFramesNeedPages
 refused_frames_need_pages n size c event answer after step = (
-  λ e. subst (Due n size c) e (step_due n size c event answer after step),
-  λ e. subst (Due n size c) e (step_due n size c event answer after step),
+  λ e. subst (Due n size c) e (step_due n size c event answer after (cases_of step)),
+  λ e. subst (Due n size c) e (step_due n size c event answer after (cases_of step)),
 )

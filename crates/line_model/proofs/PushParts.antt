@@ -5,7 +5,9 @@ use Rattle.trace_model.specs.History.{HistoryEvent, push}
 use Rattle.trace_model.specs.Window.{RingEvent, acts}
 use Rattle.trace_model.specs.Frames.{for_record, waiting, idle, Refusal}
 use Rattle.trace_model.specs.Ring.{Core}
-use Rattle.trace_model.specs.Steps.{Event, pushes, pushes_close, steps, ends, reads, wishes, Answer, pushed, refused, IsTooLong, PushRefused, all_stand, has_no_room, comes_late, Step, push_step, push_refused, close_step, close_refused, frame_step, frame_lacks, end_step, end_lacks, end_early, read_step, store_wish_step}
+use Rattle.trace_model.specs.Steps.{Event, pushes, pushes_close, steps, ends, reads, wishes, Answer, pushed, refused, IsTooLong, Step}
+use Rattle.trace_model.proofs.StepCases.{StepCases, PushRefused, all_stand, has_no_room, comes_late, push_step, push_refused, close_step, close_refused, frame_step, frame_lacks, end_step, end_lacks, end_early, read_step, store_wish_step}
+use Rattle.trace_model.proofs.StepSound.{cases_of}
 use Rattle.text_model.specs.Script.{begin_frame, write}
 use Rattle.line_model.specs.Lines.{LineState, frame_count, IsRefusedPush, IsQuiet, IsPush, begins, begins_none, writes, writes_none, LinePart}
 use Rattle.line_model.specs.WriterCalls.{Writer, writer_of, IsWriterCall}
@@ -77,7 +79,7 @@ module _ (n size : ℕ) (c : Core) (moment len : ℕ) (answer : Answer) (after :
   none_refuse m l em el few short early (inr (inl long)) = short (subst (IsTooLong size) (sym el) long)
   none_refuse m l em el few short early (inr (inr tardy)) = omega arith
 
-  pushing : Step n size c (pushes moment len) answer after
+  pushing : StepCases n size c (pushes moment len) answer after
       → Pushing size (writer_of c) moment len answer (writer_of after)
   pushing (push_step m l e few short early a is) =
       let em : m ≡ moment = sym (ap moment_of e) in let el : l ≡ len = sym (ap len_of e) in
@@ -100,7 +102,7 @@ pub pushing_of : (n size start moment len : ℕ) (answer : Answer) (s u : Writer
 pushing_of n size start moment len answer s u call =
     subst (λ (v : Writer). Pushing size s moment len answer v) call.after_is
     (subst (λ (v : Writer). Pushing size v moment len answer (writer_of call.next)) call.before_is
-    (pushing n size call.core moment len answer call.next call.step))
+    (pushing n size call.core moment len answer call.next (cases_of call.step)))
 
 module _ (n size : ℕ) (payloads : List (List ℕ)) (s : Writer) (p : LineState) (agrees : Agrees n p payloads s)
     (moment : ℕ) (payload : List ℕ) where

@@ -3,6 +3,7 @@ use Rattle.std.proofs.Common.{◌≡◌, ◌≢◌, ℕ, suc, ◌-◌, ◌≤◌
 use Rattle.trace_model.specs.Frames.{Frame, Refusal}
 use Rattle.trace_model.specs.Ring.{Core}
 use Rattle.trace_model.specs.Steps.{Event, pushes, pushes_close, reads, wishes, Answer, pushed, refused, Step, Exchange}
+use Rattle.trace_model.proofs.StepSound.{cases_of}
 use Rattle.text_model.specs.Script.{begin_frame, step_frame, finish_frame, write, close, step_reader, take_page, wish, deliver}
 use Rattle.link_marks.specs.Reached.{IsReached}
 use Rattle.link_marks.specs.Seats.{IsOfReader}
@@ -164,7 +165,7 @@ module _ (n size start : ℕ) where
       → Step n size c event answer after
       → writer_of after ≡ writer_of c
   reader_stays c event answer after of step =
-      let w = reader_leaves_writer n size c event answer after of step in
+      let w = reader_leaves_writer n size c event answer after of (cases_of step) in
       (λ i. record { frames = w.frames i; history = w.history i; done = w.done i; opened = w.opened i })
 
   all_left : (frames : List Frame) (payloads : List (List ℕ))

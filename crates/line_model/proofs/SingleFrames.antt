@@ -22,6 +22,7 @@ use Rattle.line_model.specs.CallEvents.{Makes, goes_on, begins, has_reserved, le
 use Rattle.line_model.specs.SingleFrames.{push_of, IsServed, AreServed, SingleFramesAreServed}
 use Rattle.line_model.proofs.FewFills.{fills_are_few}
 use Rattle.line_model.proofs.StepsMake.{steps_make}
+use Rattle.trace_model.proofs.StepSound.{cases_of}
 use Rattle.line_model.proofs.CallEventsMade.{first_of, ends_make}
 use Rattle.line_model.proofs.PushParts.{Pushing, pushing_of}
 use Rattle.line_model.proofs.CloseParts.{Closing, closing_of}
@@ -159,12 +160,12 @@ module _ (n size start records : ℕ) (c : Core) (x : Exchange) (after : Core) (
       (as_event payloads frame steps top e (ap (λ (s : FrameState). event_in s payloads) at)))
   by_state [] frame (reserved number) at top e stage =
       let is = ends_make n size c frame [] number (padded []) x.answer after top at
-      (as_event [] frame (ends (padded [])) top e (ap (λ (s : FrameState). event_in s []) at)) in
+      (cases_of (as_event [] frame (ends (padded [])) top e (ap (λ (s : FrameState). event_in s []) at))) in
       subst (IsAlone records) (sym (ap writer_of is)) (waits_no_more _ refl (λ z. cc))
   by_state (payload ∷ payloads) frame (reserved number) at top e stage =
       let is = ends_make n size c frame [] number (padded payload) x.answer after top at
-      (as_event (payload ∷ payloads) frame (ends (padded payload)) top e
-      (ap (λ (s : FrameState). event_in s (payload ∷ payloads)) at)) in
+      (cases_of (as_event (payload ∷ payloads) frame (ends (padded payload)) top e
+      (ap (λ (s : FrameState). event_in s (payload ∷ payloads)) at))) in
       subst (IsAlone records) (sym (ap writer_of is)) (waits_no_more _ refl (λ z. cc))
   by_state payloads frame left at top e stage =
       left_on frame at (steps_make n size start c frame [] x.answer after kept top (inr at)

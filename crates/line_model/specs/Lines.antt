@@ -221,10 +221,7 @@ LinePart n size (write cpu moment payload) before events after =
     before events after
 LinePart n size (close cpu) before events after =
     WholePart n size push_close [] (IsRefusedClose before) before events after
-LinePart n size (step_reader cpu count) before events after = IsQuiet n before events after
-LinePart n size (take_page cpu) before events after = IsQuiet n before events after
-LinePart n size (wish cpu) before events after = IsQuiet n before events after
-LinePart n size (deliver collector cpu fill) before events after = IsQuiet n before events after
+LinePart n size _ before events after = IsQuiet n before events after
 
 -- one part for each line, joined
 abbrev pub LineParts : (n size : ℕ) → List Command → LineState → List RingEvent → LineState → Type 0
@@ -251,10 +248,7 @@ writer_line cpu (step_frame at count) = nat_eq at cpu
 writer_line cpu (finish_frame at) = nat_eq at cpu
 writer_line cpu (write at moment payload) = nat_eq at cpu
 writer_line cpu (close at) = nat_eq at cpu
-writer_line cpu (step_reader at count) = false
-writer_line cpu (take_page at) = false
-writer_line cpu (wish at) = false
-writer_line cpu (deliver collector at fill) = false
+writer_line cpu _ = false
 
 -- the `b`, `s`, `f`, `w` and `c` lines of a CPU, in order
 abbrev pub writer_lines : ℕ → List Command → List Command

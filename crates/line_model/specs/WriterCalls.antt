@@ -117,10 +117,7 @@ LineCalls n size start (write cpu moment payload) before payloads after lefts =
     WholeCalls n size start (pushes moment (length payload)) payload before payloads after lefts
 LineCalls n size start (close cpu) before payloads after lefts =
     WholeCalls n size start pushes_close [] before payloads after lefts
-LineCalls n size start (step_reader cpu count) before payloads after lefts = NoCalls before payloads after lefts
-LineCalls n size start (take_page cpu) before payloads after lefts = NoCalls before payloads after lefts
-LineCalls n size start (wish cpu) before payloads after lefts = NoCalls before payloads after lefts
-LineCalls n size start (deliver collector cpu fill) before payloads after lefts = NoCalls before payloads after lefts
+LineCalls n size start _ before payloads after lefts = NoCalls before payloads after lefts
 
 -- the calls of lines, one line after the other
 abbrev pub LinesCalls : (n size start : ℕ) → List Command → Writer → List (List ℕ) → Writer → List (List ℕ) → Type 0

@@ -22,44 +22,24 @@ record_of last moment payload = record { moment = max moment last; bytes = padde
 
 -- what one line adds to the records
 abbrev pub records_of_line : (size last : ℕ) → Command → List Record
-records_of_line size last (begin_frame cpu moment payload) = []
-records_of_line size last (step_frame cpu count) = []
-records_of_line size last (finish_frame cpu) = []
 records_of_line size last (write cpu moment payload) =
     if is_recorded size moment (length payload) then record_of last moment payload ∷ [] else []
-records_of_line size last (close cpu) = []
-records_of_line size last (step_reader cpu count) = []
-records_of_line size last (take_page cpu) = []
-records_of_line size last (wish cpu) = []
-records_of_line size last (deliver collector cpu fill) = []
+records_of_line size last _ = []
 
 -- The records of the `w` lines that are neither too long nor too late, in order, moments raised.
 abbrev pub records_of_lines : (size last : ℕ) → List Command → List Record
 records_of_lines size last [] = []
-records_of_lines size last (begin_frame cpu moment payload ∷ lines) = records_of_lines size last lines
-records_of_lines size last (step_frame cpu count ∷ lines) = records_of_lines size last lines
-records_of_lines size last (finish_frame cpu ∷ lines) = records_of_lines size last lines
 records_of_lines size last (write cpu moment payload ∷ lines) =
     if is_recorded size moment (length payload)
     then record_of last moment payload ∷ records_of_lines size (max moment last) lines
     else records_of_lines size last lines
-records_of_lines size last (close cpu ∷ lines) = records_of_lines size last lines
-records_of_lines size last (step_reader cpu count ∷ lines) = records_of_lines size last lines
-records_of_lines size last (take_page cpu ∷ lines) = records_of_lines size last lines
-records_of_lines size last (wish cpu ∷ lines) = records_of_lines size last lines
-records_of_lines size last (deliver collector cpu fill ∷ lines) = records_of_lines size last lines
+records_of_lines size last (_ ∷ lines) = records_of_lines size last lines
 
 -- a `w` or a `c` line
 abbrev pub WritesOrCloses : Command → Type 0
-WritesOrCloses (begin_frame cpu moment payload) = ⊥
-WritesOrCloses (step_frame cpu count) = ⊥
-WritesOrCloses (finish_frame cpu) = ⊥
 WritesOrCloses (write cpu moment payload) = ⊤
 WritesOrCloses (close cpu) = ⊤
-WritesOrCloses (step_reader cpu count) = ⊥
-WritesOrCloses (take_page cpu) = ⊥
-WritesOrCloses (wish cpu) = ⊥
-WritesOrCloses (deliver collector cpu fill) = ⊥
+WritesOrCloses _ = ⊥
 
 abbrev pub AllWriteOrClose : List Command → Type 0
 AllWriteOrClose [] = ⊤

@@ -7,6 +7,7 @@ use Rattle.trace_model.specs.Frames.{Kind, for_record, for_close, FrameState, wa
 use Rattle.trace_model.specs.Ring.{Core}
 use Rattle.trace_model.specs.Steps.{Event, steps, ends, Exchange, frames_after_leave}
 use Rattle.trace_model.proofs.Lengths.{slot_len_ge, length-padded}
+use Rattle.trace_model.proofs.StepSound.{cases_of}
 use Rattle.link_marks.specs.FrameOutcomes.{IsLeaving, Leaving, leaves_on, is_gone}
 use Rattle.link_marks.specs.KeptStack.{IsForRecord, MayBeIn, FramesAgree}
 use Rattle.link_marks.specs.WriterRanks.{writer_limit, writer_rank}
@@ -345,7 +346,7 @@ module _ (old : LineWriter) (is : IsLineWriter old) (slot : Slot)
       let core_top : c.core.frames ≡ t.frame ∷ t.below = ap (λ (p : Writing). p.frames) c.before_is ∙ t.top in
       let h : HasEnded c.core t.frame t.below c.answer c.next.frames =
       end_answers w.shape.pages w.shape.size c.core bytes t.frame t.below t.number c.answer c.next core_top t.state_is
-      c.step in
+      (cases_of c.step) in
       let behind : v.part.frames ≡ frames_after_leave c.core t.frame t.below =
       ap (λ (p : Writing). p.frames) (sym c.after_is) ∙ h.frames_are in
       let stage : stage_on_top v.part.frames ≡ 0 =

@@ -6,7 +6,9 @@ use Rattle.trace_model.specs.declared.limits.TheConstants.{LINK_FILLS}
 use Rattle.trace_model.specs.Frames.{Kind, for_record, for_close, FrameState, waiting, reserved, left, Phase, idle, looking, claiming, looking_next, marking, clearing, opening, releasing, wishing, Frame, Refusal, too_deep, too_long, late_moment, crowded, worn, no_frame, not_reserved}
 use Rattle.trace_model.specs.Links.{Link, normal_link, update_link}
 use Rattle.trace_model.specs.Ring.{link_into, page_at, ReaderPhase, loading_link, loading_done, storing_link, swapping, Taken, Core}
-use Rattle.trace_model.specs.Steps.{Event, Answer, pushed, going, reserved_as, pending, full, gone, refused, reading, empty, moving, swapped, wished_for, leave_answer, begin_answer, BeginsAgain, reserves, finds_nothing, is_crowded, is_worn, notes, load_link_late, sees_free, sees_header, sees_update, claim_late, claims, claim_fails, load_next_late, sees_normal, sees_other, mark_late, marks, mark_fails, clears, open_late, opens, releases, releases_last, grants, closes_more, goes_away, IdleStep, FrameStep, PushRefused, all_stand, has_no_room, comes_late, end_answer, Step, push_step, push_refused, close_step, close_refused, frame_step, frame_lacks, end_step, end_lacks, end_early, read_step, store_wish_step, loads_header, loads_update, loads_owed, loads_passed, finds_none, finds_closed, swaps, swap_fails, ReadStep}
+use Rattle.trace_model.specs.Steps.{Event, Answer, pushed, going, reserved_as, pending, full, gone, refused, reading, empty, moving, swapped, wished_for, leave_answer, begin_answer, end_answer, Step}
+use Rattle.trace_model.proofs.StepCases.{StepCases, BeginsAgain, reserves, finds_nothing, is_crowded, is_worn, notes, load_link_late, sees_free, sees_header, sees_update, claim_late, claims, claim_fails, load_next_late, sees_normal, sees_other, mark_late, marks, mark_fails, clears, open_late, opens, releases, releases_last, grants, closes_more, goes_away, IdleStep, FrameStep, PushRefused, all_stand, has_no_room, comes_late, push_step, push_refused, close_step, close_refused, frame_step, frame_lacks, end_step, end_lacks, end_early, read_step, store_wish_step, loads_header, loads_update, loads_owed, loads_passed, finds_none, finds_closed, swaps, swap_fails, ReadStep}
+use Rattle.trace_model.proofs.StepSound.{cases_of}
 use Rattle.link_marks.specs.KeptLinks.{Stands, LinkKept, is_normal, is_header, is_update, ReaderKept}
 use Rattle.link_marks.specs.RingKept.{IsRingKept}
 use Rattle.link_marks.specs.AnswerLaws.{ArePassed, IsInTheWay}
@@ -103,7 +105,7 @@ module _ (n size : ℕ) (c : Core) (none : ℕ → Type 0) (way : ℕ → Type 0
   ended_true [] = tt
   ended_true (next ∷ below) = tt
 
-  pub step_true : (event : Event) (answer : Answer) (after : Core) → (ReadStep n c c.reader.phase answer after → IsTrueOf answer) → Step n size c event answer after → IsTrueOf answer
+  pub step_true : (event : Event) (answer : Answer) (after : Core) → (ReadStep n c c.reader.phase answer after → IsTrueOf answer) → StepCases n size c event answer after → IsTrueOf answer
   step_true event answer after reads (push_step moment len e few fits early a is) = says answer pushed a tt
   step_true event answer after reads (push_refused moment len why e refuses a is) = says answer (refused why) a (push_true moment len why refuses)
   step_true event answer after reads (close_step e few a is) = says answer pushed a tt
@@ -130,7 +132,7 @@ read_any n c (swapping page fill) answer after (swaps at a is) = says n 0 c _ _ 
 read_any n c (swapping page fill) answer after (swap_fails at a is) = says n 0 c _ _ _ answer reading a tt
 
 pub refusal_true : (n size : ℕ) (c : Core) (event : Event) (answer : Answer) (after : Core) → Step n size c event answer after → Says n c (λ d. Unit {0}) (λ f. Unit {0}) (λ t. Unit {0}) answer
-refusal_true n size c event answer after step = step_true n size c (λ d. Unit {0}) (λ f. Unit {0}) (λ t. Unit {0}) event answer after (read_any n c c.reader.phase answer after) step
+refusal_true n size c event answer after step = step_true n size c (λ d. Unit {0}) (λ f. Unit {0}) (λ t. Unit {0}) event answer after (read_any n c c.reader.phase answer after) (cases_of step)
 
 pub crowded_right : (n size : ℕ) (c : Core) (event : Event) (after : Core) → Step n size c event (refused crowded) after → c.opened ≡ c.done + n
 crowded_right n size c event after step = refusal_true n size c event (refused crowded) after step
@@ -210,7 +212,7 @@ module _ (n size start : ℕ) (c : Core) (r : IsRingKept n size start c) where
   read_true (swapping page fill) answer after facts (swap_fails at a is) = says n 0 c (NoneSaid after) (WaySaid after) (TookSaid after) answer reading a tt
 
   pub all_true : (event : Event) (answer : Answer) (after : Core) → Step n size c event answer after → Says n c (NoneSaid after) (WaySaid after) (TookSaid after) answer
-  all_true event answer after step = step_true n size c (NoneSaid after) (WaySaid after) (TookSaid after) event answer after (read_true c.reader.phase answer after r.links.reader) step
+  all_true event answer after step = step_true n size c (NoneSaid after) (WaySaid after) (TookSaid after) event answer after (read_true c.reader.phase answer after r.links.reader) (cases_of step)
 
 pub empty_right : (n size start : ℕ) (c : Core) (event : Event) (done : ℕ) (after : Core) → IsRingKept n size start c → Step n size c event (empty done) after
     → (c.head ≡ done) × (c.done ≡ done) × ArePassed n start c done × (after.reader.taken ≡ c.reader.taken) × (after.reader.seen ≡ done) × (after.head ≡ done)

@@ -4,7 +4,8 @@ use Rattle.trace_model.specs.History.{HistoryEvent, push, push_close, open_fill,
 use Rattle.trace_model.specs.Packing.{opens_of}
 use Rattle.trace_model.specs.Frames.{Kind, for_record, for_close, FrameState, waiting, reserved, left, Phase, idle, looking, claiming, looking_next, marking, clearing, opening, releasing, wishing, Frame, pushed_onto, pushed_frames}
 use Rattle.trace_model.specs.Ring.{PageRecords, ReaderPhase, loading_link, loading_done, storing_link, swapping, Core, page_at, AreApart}
-use Rattle.trace_model.specs.Steps.{Event, Answer, tail_page, after_leave, held_with_payload, own_number, with_new_tail, after_begin, BeginsAgain, IdleStep, ReserveStep, reserves, finds_nothing, is_crowded, is_worn, notes, load_link_late, sees_free, sees_header, sees_update, claim_late, claims, claim_fails, load_next_late, sees_normal, sees_other, mark_late, marks, mark_fails, clears, OpenFillStep, open_late, opens, releases, releases_last, grants, closes_more, goes_away, FrameStep, Step, push_step, push_refused, close_step, close_refused, frame_step, frame_lacks, end_step, end_lacks, end_early, read_step, store_wish_step, LoadHeadStep, loads_header, loads_update, loads_owed, loads_passed, LoadDoneStep, finds_none, finds_closed, SwapHeadStep, swaps, swap_fails, ReadStep, after_swap}
+use Rattle.trace_model.specs.Steps.{Event, Answer, tail_page, after_leave, held_with_payload, own_number, with_new_tail, after_begin, Step, after_swap}
+use Rattle.trace_model.proofs.StepCases.{StepCases, BeginsAgain, IdleStep, ReserveStep, reserves, finds_nothing, is_crowded, is_worn, notes, load_link_late, sees_free, sees_header, sees_update, claim_late, claims, claim_fails, load_next_late, sees_normal, sees_other, mark_late, marks, mark_fails, clears, OpenFillStep, open_late, opens, releases, releases_last, grants, closes_more, goes_away, FrameStep, push_step, push_refused, close_step, close_refused, frame_step, frame_lacks, end_step, end_lacks, end_early, read_step, store_wish_step, LoadHeadStep, loads_header, loads_update, loads_owed, loads_passed, LoadDoneStep, finds_none, finds_closed, SwapHeadStep, swaps, swap_fails, ReadStep}
 use Rattle.trace_model.proofs.NextEvent.{opened_stack}
 use Rattle.trace_model.proofs.NextRecords.{records_snoc, records_reserved, records_left_by}
 use Rattle.trace_model.proofs.FillCuts.{opens_of-push, opens_of-push_close, opens_of-reserve, opens_of-leave, opens_of-wished, opens_of-open_fill}
@@ -144,7 +145,7 @@ contents_pushed : (n start : ℕ) (c after : Core) (frames : List Frame) (histor
 contents_pushed n start c after frames history_event t cuts records is = subst (ContentsKept n start) (sym is)
     (same_pages n start c.order c.held (opens_of c.history) (opens_of (c.history ++ history_event ∷ [])) (reserved_records c.history) (reserved_records (c.history ++ history_event ∷ [])) c.head c.opened cuts records t)
 
-pub contents_step : (n size start : ℕ) (c : Core) (event : Event) (answer : Answer) (after : Core) → LinksKept n c → StackKept c → HistoryKept n start c → ContentsKept n start c → OpenPagesKept n c → Step n size c event answer after → ContentsKept n start after
+pub contents_step : (n size start : ℕ) (c : Core) (event : Event) (answer : Answer) (after : Core) → LinksKept n c → StackKept c → HistoryKept n start c → ContentsKept n start c → OpenPagesKept n c → StepCases n size c event answer after → ContentsKept n start after
 contents_step n size start c event answer after k s h t o (push_step moment len e few fits early a is) = contents_pushed n start c after _ (push moment len) t (opens_of-push c.history moment len) (records_snoc c.history (push moment len)) is
 contents_step n size start c event answer after k s h t o (push_refused moment len why e refused a is) = subst (ContentsKept n start) (sym is) t
 contents_step n size start c event answer after k s h t o (close_step e few a is) = contents_pushed n start c after _ push_close t (opens_of-push_close c.history) (records_snoc c.history push_close) is

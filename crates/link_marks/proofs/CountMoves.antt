@@ -4,7 +4,9 @@ use Rattle.trace_model.specs.History.{is_settled}
 use Rattle.trace_model.specs.Frames.{Kind, for_record, for_close, FrameState, waiting, reserved, left, Role, Phase, idle, looking, claiming, looking_next, marking, clearing, opening, releasing, wishing, Frame}
 use Rattle.trace_model.specs.Ring.{ReaderPhase, loading_link, loading_done, storing_link, swapping, Core, window_of}
 use Rattle.trace_model.specs.Window.{Window, WindowEvent, opened_one, released_one, took_one, lost_one, WindowStep}
-use Rattle.trace_model.specs.Steps.{Event, Answer, with_new_tail, after_begin, taken_fill, BeginsAgain, ReserveStep, reserves, finds_nothing, is_crowded, is_worn, notes, LoadLinkStep, load_link_late, sees_free, sees_header, sees_update, ClaimHeadStep, claim_late, claims, claim_fails, LoadNextStep, load_next_late, sees_normal, sees_other, MarkHeadStep, mark_late, marks, mark_fails, ClearUpdateStep, clears, OpenFillStep, open_late, opens, ReleaseFillStep, releases, releases_last, LoadWishStep, grants, closes_more, goes_away, IdleStep, FrameStep, loads_header, loads_update, loads_owed, loads_passed, finds_none, finds_closed, swaps, swap_fails, ReadStep, Step, push_step, push_refused, close_step, close_refused, frame_step, frame_lacks, end_step, end_lacks, end_early, read_step, store_wish_step}
+use Rattle.trace_model.specs.Steps.{Event, Answer, with_new_tail, after_begin, taken_fill, Step}
+use Rattle.trace_model.proofs.StepCases.{StepCases, BeginsAgain, ReserveStep, reserves, finds_nothing, is_crowded, is_worn, notes, LoadLinkStep, load_link_late, sees_free, sees_header, sees_update, ClaimHeadStep, claim_late, claims, claim_fails, LoadNextStep, load_next_late, sees_normal, sees_other, MarkHeadStep, mark_late, marks, mark_fails, ClearUpdateStep, clears, OpenFillStep, open_late, opens, ReleaseFillStep, releases, releases_last, LoadWishStep, grants, closes_more, goes_away, IdleStep, FrameStep, loads_header, loads_update, loads_owed, loads_passed, finds_none, finds_closed, swaps, swap_fails, ReadStep, push_step, push_refused, close_step, close_refused, frame_step, frame_lacks, end_step, end_lacks, end_early, read_step, store_wish_step}
+use Rattle.trace_model.proofs.StepSound.{cases_of}
 use Rattle.link_marks.specs.KeptLinks.{LinksKept}
 use Rattle.link_marks.specs.WindowLaws.{HeadIsTaken, HeadIsLost, LossesNeedAFullRing, ClosesNeedNoFrame}
 use Rattle.link_marks.proofs.LinkFills.{header_tells, header_inside, fill_at}
@@ -112,7 +114,7 @@ module _ (n : ℕ) (c : Core) (answer : Answer) (after : Core) (k : LinksKept n 
       let told = header_tells n c.links c.order c.head c.frames g page fill link (same ∙ at) in
       inr (inl (taken_fill c page fill, a, told.0 ∙ told.1, ap (λ (s : Core). s.head) is))
 
-moves : (n size : ℕ) (c : Core) (event : Event) (answer : Answer) (after : Core) → LinksKept n c → Step n size c event answer after → HeadMoves n c answer after
+moves : (n size : ℕ) (c : Core) (event : Event) (answer : Answer) (after : Core) → LinksKept n c → StepCases n size c event answer after → HeadMoves n c answer after
 moves n size c event answer after k (push_step moment len e few short early a is) = rests n c answer after k _ refl is
 moves n size c event answer after k (push_refused moment len why e refusal a is) = rests n c answer after k _ refl is
 moves n size c event answer after k (close_step e few a is) = rests n c answer after k _ refl is
@@ -126,11 +128,11 @@ moves n size c event answer after k (read_step e step) = read_moves n c answer a
 moves n size c event answer after k (store_wish_step e a is) = rests n c answer after k _ refl is
 
 pub losses_need_a_full_ring : LossesNeedAFullRing
-losses_need_a_full_ring n size start c event answer after r step = moves n size c event answer after r.links step
+losses_need_a_full_ring n size start c event answer after r step = moves n size c event answer after r.links (cases_of step)
 
 pub closes_need_no_frame : ClosesNeedNoFrame
 closes_need_no_frame n size start c event answer after r step =
-    ⊎_elim (λ same. inl (ap (λ (w : Window). w.done) same.0)) (λ one. by_what one.0 one.1.step) (step_owed n size start c event answer after r.links r.stack r.history step).window
+    ⊎_elim (λ same. inl (ap (λ (w : Window). w.done) same.0)) (λ one. by_what one.0 one.1.step) (step_owed n size start c event answer after r.links r.stack r.history (cases_of step)).window
   where
     by_what : (what : WindowEvent) → WindowStep n c.history (window_of c) what (window_of after) → DoneMoves c after
     by_what opened_one w = inl (ap (λ (v : Window). v.done) w.after_is)

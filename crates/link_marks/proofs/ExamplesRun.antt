@@ -6,9 +6,8 @@ use Rattle.trace_model.specs.Ring.{PageRecords, Core, IsStart, link_into, loadin
 use Rattle.trace_model.specs.History.{committed_records}
 use Rattle.trace_model.specs.Steps.{Exchange, Run}
 use Rattle.link_marks.specs.Examples.{at, all, four, IsExample, first_record, FirstRecord, nested_writer, NestedWriter, inner_reserves_first, InnerReservesFirst, halted_head_move, HaltedHeadMove, helpers_at_the_head, HelpersAtTheHead, late_swap, LateSwap, wish_answered, WishAnswered, wish_waits_for_the_outermost, WishWaitsForTheOutermost}
-use Rattle.link_marks.proofs.StepFunction.{Ran, run_of}
+use Rattle.link_marks.proofs.RunFunction.{Ran, run_of, event_in, answer_in, Gives, run_sound}
 use Rattle.link_marks.proofs.OneNewRing.{same_ring}
-use Rattle.link_marks.proofs.StepFunctionSound.{event_in, answer_in, Gives, run_sound}
 
 abbrev nothing : PageRecords
 nothing = record { first = 0; records = [] }

@@ -10,7 +10,9 @@ use Rattle.trace_model.specs.Fitting.{tail_at, NeedsFill}
 use Rattle.trace_model.specs.Links.{Mark, normal, header, update, Link, header_link}
 use Rattle.trace_model.specs.Frames.{Kind, for_record, for_close, FrameState, waiting, reserved, left, number_of, Role, owner, helper, Phase, idle, looking, claiming, looking_next, marking, clearing, opening, releasing, wishing, Frame, pushed_frames}
 use Rattle.trace_model.specs.Ring.{link_into, Core}
-use Rattle.trace_model.specs.Steps.{pushes, pushes_close, steps, ends, reads, wishes, Answer, NeedsPage, closing_phase, in_phase, after_leave, after_next, with_link, with_new_tail, after_begin, BeginsAgain, IdleStep, ReserveStep, reserves, finds_nothing, is_crowded, is_worn, notes, LoadLinkStep, load_link_late, sees_free, sees_header, sees_update, ClaimHeadStep, claim_late, claims, claim_fails, LoadNextStep, load_next_late, sees_normal, sees_other, MarkHeadStep, mark_late, marks, mark_fails, ClearUpdateStep, clears, OpenFillStep, open_late, opens, ReleaseFillStep, releases, releases_last, LoadWishStep, grants, closes_more, goes_away, FrameStep, push_step, push_refused, close_step, close_refused, frame_step, frame_lacks, end_step, end_lacks, end_early, read_step, store_wish_step}
+use Rattle.trace_model.specs.Steps.{pushes, pushes_close, steps, ends, reads, wishes, Answer, NeedsPage, closing_phase, in_phase, after_leave, after_next, with_link, with_new_tail, after_begin}
+use Rattle.trace_model.proofs.EventSteps.{top_step, top_ends}
+use Rattle.trace_model.proofs.StepCases.{BeginsAgain, IdleStep, ReserveStep, reserves, finds_nothing, is_crowded, is_worn, notes, LoadLinkStep, load_link_late, sees_free, sees_header, sees_update, ClaimHeadStep, claim_late, claims, claim_fails, LoadNextStep, load_next_late, sees_normal, sees_other, MarkHeadStep, mark_late, marks, mark_fails, ClearUpdateStep, clears, OpenFillStep, open_late, opens, ReleaseFillStep, releases, releases_last, LoadWishStep, grants, closes_more, goes_away, FrameStep, push_step, push_refused, close_step, close_refused, frame_step, frame_lacks, end_step, end_lacks, end_early, read_step, store_wish_step}
 use Rattle.trace_model.proofs.NextRecords.{records_snoc}
 use Rattle.trace_model.proofs.FillCuts.{opens_of-open_fill, opened_last}
 use Rattle.trace_model.proofs.PackedHistories.{tail_is, fit_open}
@@ -303,48 +305,19 @@ module _ (n size start : ℕ) (c : Core) (frame : Frame) (below : List Frame) (r
   frame_lowers wishing answer after same none stays step = load_wish_lowers answer after same stays step
 
 pub steps_lower : StepsComeToAnEnd
-steps_lower n size start c frame below answer after r top none (frame_step f b e at step) stays =
-    let heads = cc_top top at in
-    frame_lowers n size start c f b r at f.phase answer after refl (subst (λ (x : Frame). number_of x.state ≡ None) (sym heads) none) stays step
-  where
-    cc_top : {f : Frame} {b : List Frame} → c.frames ≡ frame ∷ below → c.frames ≡ f ∷ b → f ≡ frame
-    cc_top {f = f} {b = b} one other = let same : frame ∷ below ≡ f ∷ b = sym one ∙ other in let heads : frame ≡ f = cc in sym heads
-steps_lower n size start c frame below answer after r top none (frame_lacks e at a is) stays = absurd (let wrong : ◌≡◌ {A = List Frame} [] (frame ∷ below) = sym at ∙ top in cc)
-steps_lower n size start c frame below answer after r top none (push_step moment len e few short early a is) stays = absurd (let w : steps ≡ pushes moment len = e in cc)
-steps_lower n size start c frame below answer after r top none (push_refused moment len why e refused a is) stays = absurd (let w : steps ≡ pushes moment len = e in cc)
-steps_lower n size start c frame below answer after r top none (close_step e few a is) stays = absurd (let w : steps ≡ pushes_close = e in cc)
-steps_lower n size start c frame below answer after r top none (close_refused e many a is) stays = absurd (let w : steps ≡ pushes_close = e in cc)
-steps_lower n size start c frame below answer after r top none (end_step payload f b number moment len e at own kind fits a is) stays = absurd (let w : steps ≡ ends payload = e in cc)
-steps_lower n size start c frame below answer after r top none (end_lacks payload e at a is) stays = absurd (let w : steps ≡ ends payload = e in cc)
-steps_lower n size start c frame below answer after r top none (end_early payload f b e at lacks a is) stays = absurd (let w : steps ≡ ends payload = e in cc)
-steps_lower n size start c frame below answer after r top none (read_step e step) stays = absurd (let w : steps ≡ reads = e in cc)
-steps_lower n size start c frame below answer after r top none (store_wish_step e a is) stays = absurd (let w : steps ≡ wishes = e in cc)
+steps_lower n size start c frame below answer after r top none step stays =
+    frame_lowers n size start c frame below r top frame.phase answer after refl none stays (top_step frame below frame.phase top refl step)
 
 pub ends_lower : EndsComeToAnEnd
-ends_lower n size start c frame below number payload answer after r top own (end_step p f b m moment len e at f_own kind fits a is) stays =
-    let same : frame ∷ below ≡ f ∷ b = sym top ∙ at in
-    let heads : frame ≡ f = cc in
-    let resting = idle_of frame.kind frame.state own (top_agrees c frame below r.stack top).0 in
-    leaves n size start c f b r at after idle (Some p) (ap (λ (x : Frame). x.phase) (sym heads) ∙ resting)
-    (subst (λ (x : FrameState). 13 < idle_rank c x) (sym (ap (λ (x : Frame). x.state) (sym heads) ∙ own)) (omega arith)) stays is
+ends_lower n size start c frame below number payload answer after r top own step stays =
+    let end = top_ends payload frame below number top own step in
+    leaves n size start c frame below r top after idle (Some payload) (idle_of frame.kind frame.state own (top_agrees c frame below r.stack top).0)
+    (subst (λ (x : FrameState). 13 < idle_rank c x) (sym own) (omega arith)) stays end.after_is
   where
     idle_of : (kind : Kind) (state : FrameState) → state ≡ reserved number → MayBeIn kind state frame.phase → frame.phase ≡ idle
     idle_of kind waiting at may = absurd cc
     idle_of kind (reserved m) at may = may.1
     idle_of kind left at may = absurd cc
-ends_lower n size start c frame below number payload answer after r top own (end_lacks p e at a is) stays = absurd (let wrong : ◌≡◌ {A = List Frame} [] (frame ∷ below) = sym at ∙ top in cc)
-ends_lower n size start c frame below number payload answer after r top own (end_early p f b e at lacks a is) stays =
-    let same : frame ∷ below ≡ f ∷ b = sym top ∙ at in
-    let heads : frame ≡ f = cc in
-    absurd (none_some (sym lacks ∙ ap (λ (x : Frame). number_of x.state) (sym heads) ∙ ap number_of own))
-ends_lower n size start c frame below number payload answer after r top own (push_step moment len e few short early a is) stays = absurd (let w : ends payload ≡ pushes moment len = e in cc)
-ends_lower n size start c frame below number payload answer after r top own (push_refused moment len why e refused a is) stays = absurd (let w : ends payload ≡ pushes moment len = e in cc)
-ends_lower n size start c frame below number payload answer after r top own (close_step e few a is) stays = absurd (let w : ends payload ≡ pushes_close = e in cc)
-ends_lower n size start c frame below number payload answer after r top own (close_refused e many a is) stays = absurd (let w : ends payload ≡ pushes_close = e in cc)
-ends_lower n size start c frame below number payload answer after r top own (frame_step f b e at step) stays = absurd (let w : ends payload ≡ steps = e in cc)
-ends_lower n size start c frame below number payload answer after r top own (frame_lacks e at a is) stays = absurd (let w : ends payload ≡ steps = e in cc)
-ends_lower n size start c frame below number payload answer after r top own (read_step e step) stays = absurd (let w : ends payload ≡ reads = e in cc)
-ends_lower n size start c frame below number payload answer after r top own (store_wish_step e a is) stays = absurd (let w : ends payload ≡ wishes = e in cc)
 
 -- ---- the limit
 

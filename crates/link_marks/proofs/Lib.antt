@@ -40,8 +40,7 @@ pub mod RecordCounts
 -- where a reserved record is, and what its end writes
 pub mod Payloads
 -- the step as a function: it gives the steps and no others; the head and the count of closed fills move by it
-pub mod StepFunction
-pub mod StepFunctionSound
+pub mod RunFunction
 pub mod ProgressSteps
 pub mod StepsGiven
 pub mod StepsDetermined

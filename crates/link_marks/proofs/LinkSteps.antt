@@ -4,7 +4,8 @@ use Rattle.trace_model.specs.History.{HistoryEvent, push, push_close, wished, re
 use Rattle.trace_model.specs.Links.{Link, normal_link, header_link}
 use Rattle.trace_model.specs.Frames.{Kind, for_record, for_close, FrameState, waiting, reserved, left, Role, owner, helper, Phase, idle, looking, claiming, looking_next, marking, clearing, opening, releasing, wishing, Frame, owned_update}
 use Rattle.trace_model.specs.Ring.{Core, links_with}
-use Rattle.trace_model.specs.Steps.{Event, Answer, with_link, in_phase, after_leave, with_new_tail, after_next, BeginsAgain, ReserveStep, reserves, finds_nothing, is_crowded, is_worn, notes, LoadLinkStep, load_link_late, sees_free, sees_header, sees_update, ClaimHeadStep, claim_late, claims, claim_fails, LoadNextStep, load_next_late, sees_normal, sees_other, MarkHeadStep, mark_late, marks, mark_fails, ClearUpdateStep, clears, OpenFillStep, open_late, opens, ReleaseFillStep, releases, releases_last, LoadWishStep, grants, closes_more, goes_away, IdleStep, FrameStep, Step, push_step, push_refused, close_step, close_refused, frame_step, frame_lacks, end_step, end_lacks, end_early, read_step, store_wish_step}
+use Rattle.trace_model.specs.Steps.{Event, Answer, with_link, in_phase, after_leave, with_new_tail, after_next, Step}
+use Rattle.trace_model.proofs.StepCases.{StepCases, BeginsAgain, ReserveStep, reserves, finds_nothing, is_crowded, is_worn, notes, LoadLinkStep, load_link_late, sees_free, sees_header, sees_update, ClaimHeadStep, claim_late, claims, claim_fails, LoadNextStep, load_next_late, sees_normal, sees_other, MarkHeadStep, mark_late, marks, mark_fails, ClearUpdateStep, clears, OpenFillStep, open_late, opens, ReleaseFillStep, releases, releases_last, LoadWishStep, grants, closes_more, goes_away, IdleStep, FrameStep, push_step, push_refused, close_step, close_refused, frame_step, frame_lacks, end_step, end_lacks, end_early, read_step, store_wish_step}
 use Rattle.link_marks.specs.KeptLinks.{Stands, PhaseKept, FramesKept, LinksKept}
 use Rattle.link_marks.specs.KeptStack.{MayBeIn, FramesAgree, StackKept}
 use Rattle.link_marks.proofs.Positions.{link_here}
@@ -168,7 +169,7 @@ pushed_kept n c after kind history_event k is = subst (LinksKept n) (sym is)
 pub reserved_rests : (c : Core) (frame : Frame) (below : List Frame) (number : ℕ) → StackKept c → c.frames ≡ frame ∷ below → frame.state ≡ reserved number → frame.phase ≡ idle
 reserved_rests c frame below number stack top state = (subst (λ (s : FrameState). MayBeIn frame.kind s frame.phase) state (subst FramesAgree top stack.agree).0).1
 
-pub step_kept : (n size : ℕ) (c : Core) (event : Event) (answer : Answer) (after : Core) → LinksKept n c → StackKept c → Step n size c event answer after → LinksKept n after
+pub step_kept : (n size : ℕ) (c : Core) (event : Event) (answer : Answer) (after : Core) → LinksKept n c → StackKept c → StepCases n size c event answer after → LinksKept n after
 step_kept n size c event answer after k stack (push_step moment len e few fits early a is) = pushed_kept n c after (for_record moment len) (push moment len) k is
 step_kept n size c event answer after k stack (push_refused moment len why e refused a is) = subst (LinksKept n) (sym is) k
 step_kept n size c event answer after k stack (close_step e few a is) = pushed_kept n c after for_close push_close k is

@@ -7,7 +7,8 @@ use mathlib.Core.Logic.{dite}
 use native.Mathlib.Decide.{ℕ_discrete}
 use Rattle.trace_model.specs.Frames.{Kind, for_record, for_close, FrameState, waiting, reserved, left, Phase, idle, looking, claiming, looking_next, marking, clearing, opening, releasing, wishing, Frame}
 use Rattle.trace_model.specs.Ring.{ReaderPhase, loading_link, loading_done, storing_link, swapping, Core, page_at}
-use Rattle.trace_model.specs.Steps.{Event, Answer, tail_page, with_new_tail, after_begin, BeginsAgain, IdleStep, ReserveStep, reserves, finds_nothing, is_crowded, is_worn, notes, load_link_late, sees_free, sees_header, sees_update, claim_late, claims, claim_fails, load_next_late, sees_normal, sees_other, mark_late, marks, mark_fails, clears, open_late, opens, releases, releases_last, grants, closes_more, goes_away, FrameStep, Step, push_step, push_refused, close_step, close_refused, frame_step, frame_lacks, end_step, end_lacks, end_early, read_step, store_wish_step, loads_header, loads_update, loads_owed, loads_passed, finds_none, finds_closed, swaps, swap_fails, ReadStep, after_swap}
+use Rattle.trace_model.specs.Steps.{Event, Answer, tail_page, with_new_tail, after_begin, Step, after_swap}
+use Rattle.trace_model.proofs.StepCases.{StepCases, BeginsAgain, IdleStep, ReserveStep, reserves, finds_nothing, is_crowded, is_worn, notes, load_link_late, sees_free, sees_header, sees_update, claim_late, claims, claim_fails, load_next_late, sees_normal, sees_other, mark_late, marks, mark_fails, clears, open_late, opens, releases, releases_last, grants, closes_more, goes_away, FrameStep, push_step, push_refused, close_step, close_refused, frame_step, frame_lacks, end_step, end_lacks, end_early, read_step, store_wish_step, loads_header, loads_update, loads_owed, loads_passed, finds_none, finds_closed, swaps, swap_fails, ReadStep}
 use Rattle.link_marks.specs.KeptLinks.{PhaseKept, ReaderKept, LinksKept}
 use Rattle.link_marks.specs.KeptContents.{OpenPagesAt, OpenPagesKept}
 use Rattle.link_marks.proofs.LinkFills.{header_tells, fill_at}
@@ -111,7 +112,7 @@ pages_read n c (swapping page fill) answer after k facts o (swaps at a is) =
     subst (OpenPagesKept n) (sym (is ∙ ap (after_swap n c page) here)) (pages_kept n c.order c.open_pages c.done c.opened o c.head c.spare (omega arith) k.opened_le)
 pages_read n c (swapping page fill) answer after k facts o (swap_fails at a is) = subst (OpenPagesKept n) (sym is) o
 
-pub open_pages_step : (n size : ℕ) (c : Core) (event : Event) (answer : Answer) (after : Core) → LinksKept n c → OpenPagesKept n c → Step n size c event answer after → OpenPagesKept n after
+pub open_pages_step : (n size : ℕ) (c : Core) (event : Event) (answer : Answer) (after : Core) → LinksKept n c → OpenPagesKept n c → StepCases n size c event answer after → OpenPagesKept n after
 open_pages_step n size c event answer after k o (push_step moment len e few fits early a is) = subst (OpenPagesKept n) (sym is) o
 open_pages_step n size c event answer after k o (push_refused moment len why e refused a is) = subst (OpenPagesKept n) (sym is) o
 open_pages_step n size c event answer after k o (close_step e few a is) = subst (OpenPagesKept n) (sym is) o

@@ -12,7 +12,8 @@ use Rattle.trace_model.specs.Packing.{opens_of, FitsBehind, is_wished}
 use Rattle.trace_model.specs.Fitting.{tail_at, IsFit, FitsPage, NeedsFill}
 use Rattle.trace_model.specs.Frames.{Kind, for_record, for_close, FrameState, waiting, reserved, left, Role, owner, helper, Phase, idle, looking, claiming, looking_next, marking, clearing, opening, releasing, wishing, Frame, pushed_onto, pushed_frames, noted_fill}
 use Rattle.trace_model.specs.Ring.{ReaderPhase, loading_link, loading_done, storing_link, swapping, Core, IsStart}
-use Rattle.trace_model.specs.Steps.{Event, Answer, IsTooLong, NeedsPage, closing_phase, in_phase, after_leave, after_next, frames_after_leave, own_number, with_new_tail, after_begin, BeginsAgain, IdleStep, ReserveStep, reserves, finds_nothing, is_crowded, is_worn, notes, load_link_late, sees_free, sees_header, sees_update, claim_late, claims, claim_fails, load_next_late, sees_normal, sees_other, mark_late, marks, mark_fails, clears, OpenFillStep, open_late, opens, releases, releases_last, grants, closes_more, goes_away, FrameStep, Step, push_step, push_refused, close_step, close_refused, frame_step, frame_lacks, end_step, end_lacks, end_early, read_step, store_wish_step, loads_header, loads_update, loads_owed, loads_passed, finds_none, finds_closed, swaps, swap_fails, ReadStep}
+use Rattle.trace_model.specs.Steps.{Event, Answer, IsTooLong, NeedsPage, closing_phase, in_phase, after_leave, after_next, frames_after_leave, own_number, with_new_tail, after_begin, Step}
+use Rattle.trace_model.proofs.StepCases.{StepCases, BeginsAgain, IdleStep, ReserveStep, reserves, finds_nothing, is_crowded, is_worn, notes, load_link_late, sees_free, sees_header, sees_update, claim_late, claims, claim_fails, load_next_late, sees_normal, sees_other, mark_late, marks, mark_fails, clears, OpenFillStep, open_late, opens, releases, releases_last, grants, closes_more, goes_away, FrameStep, push_step, push_refused, close_step, close_refused, frame_step, frame_lacks, end_step, end_lacks, end_early, read_step, store_wish_step, loads_header, loads_update, loads_owed, loads_passed, finds_none, finds_closed, swaps, swap_fails, ReadStep}
 use Rattle.trace_model.proofs.NextEvent.{opened_stack}
 use Rattle.trace_model.proofs.NextRecords.{records_snoc, records_reserved, records_left_by}
 use Rattle.trace_model.proofs.FillCuts.{opens_of-push, opens_of-push_close, opens_of-reserve, opens_of-leave, opens_of-wished, opens_of-open_fill}
@@ -231,7 +232,7 @@ packs_pushed : (size : ℕ) (c after : Core) (kind : Kind) (a : HistoryEvent) �
 packs_pushed size c after kind a q fits cuts records found allowed is = subst (PackedKept size) (sym is)
     (acts_by size c.history a c.opened c.frames (record { kind = kind; state = waiting; phase = idle } ∷ c.frames) cuts (ap (map plain) records) found allowed q (fits, (λ noted. absurd (none_some noted)), q.needs))
 
-pub packs_step : (n size start : ℕ) (c : Core) (event : Event) (answer : Answer) (after : Core) → LinksKept n c → StackKept c → HistoryKept n start c → ContentsKept n start c → PackedKept size c → Step n size c event answer after → PackedKept size after
+pub packs_step : (n size start : ℕ) (c : Core) (event : Event) (answer : Answer) (after : Core) → LinksKept n c → StackKept c → HistoryKept n start c → ContentsKept n start c → PackedKept size c → StepCases n size c event answer after → PackedKept size after
 packs_step n size start c event answer after k s h t q (push_step moment len e few fits early a is) = packs_pushed size c after (for_record moment len) (push moment len) q (fits_page size len fits) (opens_of-push c.history moment len) (records_snoc c.history (push moment len)) (is_wished-push c.history moment len) tt is
 packs_step n size start c event answer after k s h t q (push_refused moment len why e refused a is) = subst (PackedKept size) (sym is) q
 packs_step n size start c event answer after k s h t q (close_step e few a is) = packs_pushed size c after for_close push_close q tt (opens_of-push_close c.history) (records_snoc c.history push_close) (is_wished-push_close c.history) tt is

@@ -7,9 +7,9 @@ use Rattle.std.specs.List.{slice_get}
 use Rattle.std.proofs.lemmas.Option.{slice_get_within}
 use Rattle.trace_model.specs.Record.{Record}
 use Rattle.trace_model.specs.History.{HistoryEvent, Reservation, PushedFrame, writer_after, reserved_records, as_record}
-use Rattle.trace_model.specs.Packing.{opens_of, cut_from, fills_of}
+use Rattle.trace_model.specs.Packing.{opens_of, cut_from, fills_of, first_of_fill}
 use Rattle.trace_model.specs.Partition.{Piece, IsPartition, first_of}
-use Rattle.trace_model.specs.Ring.{PageRecords, Taken, first_of_fill, IsFillOf, AreFillsOf}
+use Rattle.trace_model.specs.Ring.{PageRecords, Taken, IsFillOf, AreFillsOf}
 use Rattle.trace_model.specs.Fitting.{IsRising}
 use Rattle.link_marks.specs.KeptPartition.{covered_total, piece_of, pieces_of, PartitionAt}
 use Rattle.trace_model.proofs.NextRecords.{records_snoc}

@@ -1,11 +1,12 @@
 -- Each step keeps the taken fills and the lost ones a partition of the records.
 use Rattle.std.proofs.Common.{◌≡◌, ℕ, ◌+◌, ◌-◌, ◌≤◌, List, [], ◌∷◌, ◌++◌, length, get_or, Some, None, refl, sym, ap, ◌∙◌, subst, arith, length-append}
 use Rattle.trace_model.specs.History.{HistoryEvent, push, push_close, open_fill, reserve, leave, wished, Reservation, reserved_records}
-use Rattle.trace_model.specs.Packing.{opens_of}
+use Rattle.trace_model.specs.Packing.{opens_of, first_of_fill}
 use Rattle.trace_model.specs.Fitting.{IsRising}
 use Rattle.trace_model.specs.Frames.{Kind, for_record, for_close, FrameState, waiting, reserved, left, Phase, idle, looking, claiming, looking_next, marking, clearing, opening, releasing, wishing, Frame}
-use Rattle.trace_model.specs.Ring.{ReaderPhase, loading_link, loading_done, storing_link, swapping, Core, page_at, first_of_fill}
-use Rattle.trace_model.specs.Steps.{Event, Answer, with_new_tail, after_begin, BeginsAgain, reserves, finds_nothing, is_crowded, is_worn, notes, load_link_late, sees_free, sees_header, sees_update, claim_late, claims, claim_fails, load_next_late, sees_normal, sees_other, mark_late, marks, mark_fails, clears, open_late, opens, releases, releases_last, grants, closes_more, goes_away, IdleStep, FrameStep, Step, push_step, push_refused, close_step, close_refused, frame_step, frame_lacks, end_step, end_lacks, end_early, read_step, store_wish_step, loads_header, loads_update, loads_owed, loads_passed, finds_none, finds_closed, swaps, swap_fails, ReadStep, taken_fill, contents_of}
+use Rattle.trace_model.specs.Ring.{ReaderPhase, loading_link, loading_done, storing_link, swapping, Core, page_at}
+use Rattle.trace_model.specs.Steps.{Event, Answer, with_new_tail, after_begin, Step, taken_fill, contents_of}
+use Rattle.trace_model.proofs.StepCases.{StepCases, BeginsAgain, reserves, finds_nothing, is_crowded, is_worn, notes, load_link_late, sees_free, sees_header, sees_update, claim_late, claims, claim_fails, load_next_late, sees_normal, sees_other, mark_late, marks, mark_fails, clears, open_late, opens, releases, releases_last, grants, closes_more, goes_away, IdleStep, FrameStep, push_step, push_refused, close_step, close_refused, frame_step, frame_lacks, end_step, end_lacks, end_early, read_step, store_wish_step, loads_header, loads_update, loads_owed, loads_passed, finds_none, finds_closed, swaps, swap_fails, ReadStep}
 use Rattle.link_marks.specs.KeptLinks.{PhaseKept, ReaderKept, LinksKept}
 use Rattle.link_marks.specs.KeptHistory.{HistoryKept}
 use Rattle.link_marks.specs.KeptContents.{ContentsKept, ClosedKept}
@@ -117,7 +118,7 @@ partition_read n start c (swapping page fill) answer after k t facts q (swaps at
     refl q)
 partition_read n start c (swapping page fill) answer after k t facts q (swap_fails at a is) = subst (PartitionKept start) (sym is) q
 
-pub partition_step : (n size start : ℕ) (c : Core) (event : Event) (answer : Answer) (after : Core) → LinksKept n c → HistoryKept n start c → ContentsKept n start c → ClosedKept start c → PartitionKept start c → Step n size c event answer after → PartitionKept start after
+pub partition_step : (n size start : ℕ) (c : Core) (event : Event) (answer : Answer) (after : Core) → LinksKept n c → HistoryKept n start c → ContentsKept n start c → ClosedKept start c → PartitionKept start c → StepCases n size c event answer after → PartitionKept start after
 partition_step n size start c event answer after k h t z q (push_step moment len e few fits early a is) = subst (PartitionKept start) (sym is) (partition_acts n start c k t z q (push moment len))
 partition_step n size start c event answer after k h t z q (push_refused moment len why e refused a is) = subst (PartitionKept start) (sym is) q
 partition_step n size start c event answer after k h t z q (close_step e few a is) = subst (PartitionKept start) (sym is) (partition_acts n start c k t z q push_close)

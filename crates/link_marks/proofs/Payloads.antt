@@ -10,7 +10,9 @@ use Rattle.trace_model.specs.History.{Reservation, PushedFrame, writer_after, re
 use Rattle.trace_model.specs.Packing.{opens_of, cut_from}
 use Rattle.trace_model.specs.Frames.{Kind, for_record, for_close, FrameState, waiting, reserved, left, number_of, Phase, Frame, pushed_onto, pushed_frames}
 use Rattle.trace_model.specs.Ring.{PageRecords, empty_page, Core, page_at}
-use Rattle.trace_model.specs.Steps.{Event, pushes, pushes_close, steps, ends, reads, wishes, push_step, push_refused, close_step, close_refused, frame_step, frame_lacks, end_step, end_lacks, end_early, read_step, store_wish_step, contents_of, held_with_payload, own_number}
+use Rattle.trace_model.specs.Steps.{Event, pushes, pushes_close, steps, ends, reads, wishes, contents_of, held_with_payload, own_number}
+use Rattle.trace_model.proofs.EventSteps.{top_ends}
+use Rattle.trace_model.proofs.StepCases.{push_step, push_refused, close_step, close_refused, frame_step, frame_lacks, end_step, end_lacks, end_early, read_step, store_wish_step}
 use Rattle.trace_model.proofs.FillOfNumber.{LiesIn, lies_in, get_in_fill, ends_before}
 use Rattle.trace_model.proofs.Committed.{committed_len}
 use Rattle.trace_model.proofs.OpenNumbers.{IsOpenAt, HasNumber, AreOpen, open_at, numbers_open, numbers_uncommitted}
@@ -200,22 +202,9 @@ own_is : (kind : Kind) (state : FrameState) (moment len number : ℕ) → kind �
 own_is kind state moment len number kind_is state_is = (λ i. own_number (kind_is i) (state_is i))
 
 pub ends_write_one_page : EndsWriteOnePage
-ends_write_one_page n size start c payload answer after frame below number r top is (push_step moment len e few fits early a after_is) ended = absurd (cc)
-ends_write_one_page n size start c payload answer after frame below number r top is (push_refused moment len why e refused a after_is) ended = absurd (cc)
-ends_write_one_page n size start c payload answer after frame below number r top is (close_step e few a after_is) ended = absurd (cc)
-ends_write_one_page n size start c payload answer after frame below number r top is (close_refused e many a after_is) ended = absurd (cc)
-ends_write_one_page n size start c payload answer after frame below number r top is (frame_step frame' below' e top' step) ended = absurd (cc)
-ends_write_one_page n size start c payload answer after frame below number r top is (frame_lacks e none a after_is) ended = absurd (cc)
-ends_write_one_page n size start c payload answer after frame below number r top is (end_step payload' frame' below' number' moment len e top' state kind slot a after_is) ended =
-    let same : frame ≡ frame' = same_top frame frame' below below' (sym top ∙ top') in
-    let has : frame'.state ≡ reserved number = ap (λ (f : Frame). f.state) (sym same) ∙ is in
+ends_write_one_page n size start c payload answer after frame below number r top is step ended =
+    let end = top_ends payload frame below number top is step in
     writes n size start c payload after number r
     (lies_open n size start c r number (stands_with c.frames 0 number frame r.stack.agree (ap (λ (fs : List Frame). slice_get fs 0) top) is))
-    (ap (λ (x : Core). x.held) after_is
-    ∙ ap (λ (o : Option ℕ). map (held_with_payload o (Some payload')) c.held) (own_is frame'.kind frame'.state moment len number kind has)
-    ∙ ap (λ (p : List ℕ). map (held_with_payload (Some number) (Some p)) c.held) (sym (same_payload payload payload' e)))
-ends_write_one_page n size start c payload answer after frame below number r top is (end_lacks payload' e none a after_is) ended = absurd (no_top frame below (sym top ∙ none))
-ends_write_one_page n size start c payload answer after frame below number r top is (end_early payload' frame' below' e top' none a after_is) ended =
-    absurd (none_some (sym none ∙ ap (λ (f : Frame). number_of f.state) (sym (same_top frame frame' below below' (sym top ∙ top'))) ∙ ap number_of is))
-ends_write_one_page n size start c payload answer after frame below number r top is (read_step e step) ended = absurd (cc)
-ends_write_one_page n size start c payload answer after frame below number r top is (store_wish_step e a after_is) ended = absurd (cc)
+    (ap (λ (x : Core). x.held) end.after_is
+    ∙ ap (λ (o : Option ℕ). map (held_with_payload o (Some payload)) c.held) (own_is frame.kind frame.state end.moment end.len number end.kind_is is))

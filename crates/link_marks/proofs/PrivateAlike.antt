@@ -3,10 +3,11 @@ use Rattle.std.proofs.Common.{◌≡◌, ℕ, List, [], ◌∷◌, length, Optio
 use Rattle.trace_model.specs.History.{push, push_close, reserved_records}
 use Rattle.trace_model.specs.Frames.{Kind, for_record, for_close, FrameState, waiting, reserved, left, owner, helper, Phase, idle, looking, claiming, looking_next, marking, clearing, opening, releasing, wishing, Frame, Refusal}
 use Rattle.trace_model.specs.Ring.{Core}
-use Rattle.trace_model.specs.Steps.{Event, pushes, pushes_close, steps, ends, reads, wishes, Answer, with_history_event, with_frame, in_phase, in_reserved, with_reservation, NeedsPage, after_leave, after_begin, BeginsAgain, reserves, finds_nothing, is_crowded, is_worn, notes, load_link_late, sees_free, sees_header, sees_update, claim_late, claims, claim_fails, load_next_late, sees_normal, sees_other, mark_late, marks, mark_fails, open_late, opens, IdleStep, FrameStep, PushRefused, all_stand, has_no_room, comes_late, Step, push_step, push_refused, close_step, close_refused, frame_step, frame_lacks, end_step, end_lacks, end_early, read_step, store_wish_step}
+use Rattle.trace_model.specs.Steps.{Event, pushes, pushes_close, steps, ends, reads, wishes, Answer, with_history_event, with_frame, in_phase, in_reserved, with_reservation, NeedsPage, after_leave, after_begin, Step, step_of}
+use Rattle.trace_model.proofs.StepCases.{StepCases, BeginsAgain, reserves, finds_nothing, is_crowded, is_worn, notes, load_link_late, sees_free, sees_header, sees_update, claim_late, claims, claim_fails, load_next_late, sees_normal, sees_other, mark_late, marks, mark_fails, open_late, opens, IdleStep, FrameStep, PushRefused, all_stand, has_no_room, comes_late, push_step, push_refused, close_step, close_refused, frame_step, frame_lacks, end_step, end_lacks, end_early, read_step, store_wish_step}
+use Rattle.trace_model.proofs.StepSound.{cases_of}
+use Rattle.trace_model.proofs.StepIs.{step_by}
 use Rattle.link_marks.specs.Seats.{WriterStays, PhaseIsPrivate, TopIsPrivate, IsPrivate}
-use Rattle.link_marks.proofs.StepFunction.{gives, step_of}
-use Rattle.link_marks.proofs.StepsDetermined.{step_is}
 
 -- the second state, with the writer's part of the first
 abbrev with_part : Core → Core → Core
@@ -110,7 +111,7 @@ module _ (n size : ℕ) (c other : Core) where
     frame_same releasing own step = absurd own
     frame_same wishing own step = absurd own
 
-  step_same : (event : Event) (answer : Answer) (after : Core) → IsPrivate c event → Step n size c event answer after → Made (Step n size d event answer) after
+  step_same : (event : Event) (answer : Answer) (after : Core) → IsPrivate c event → StepCases n size c event answer after → Made (StepCases n size d event answer) after
   step_same event answer after own (push_step moment len e few short early a is) = (
     with_history_event (with_frame d (for_record moment len)) (push moment len),
     push_step moment len e few short early a refl,
@@ -155,11 +156,11 @@ pub record IsAlike (n size : ℕ) (d : Core) (event : Event) (answer : Answer) (
 
 pub private_alike : (n size : ℕ) (c d : Core) (event : Event) (answer : Answer) (after : Core) → WriterStays c d → IsPrivate c event → Step n size c event answer after → IsAlike n size d event answer after
 private_alike n size c d event answer after part own step =
-    let (next, made, same) = step_same n size c d event answer after own step in
-    subst (λ (x : Core). IsAlike n size x event answer after) (part_is c d part) record { next = next; private = own_same n size c d event own; step = made; same = same }
+    let (next, made, same) = step_same n size c d event answer after own (cases_of step) in
+    subst (λ (x : Core). IsAlike n size x event answer after) (part_is c d part) record { next = next; private = own_same n size c d event own; step = step_by made; same = same }
 
 -- so the function that computes a step gives it there
-pub private_computed : (n size : ℕ) (c d : Core) (event : Event) (answer : Answer) (after : Core) → WriterStays c d → IsPrivate c event → Step n size c event answer after → (next : Core) × (step_of n size d event ≡ gives answer next) × WriterStays after next
+pub private_computed : (n size : ℕ) (c d : Core) (event : Event) (answer : Answer) (after : Core) → WriterStays c d → IsPrivate c event → Step n size c event answer after → (next : Core) × (step_of n size d event ≡ Some (answer, next)) × WriterStays after next
 private_computed n size c d event answer after part own step =
     let alike = private_alike n size c d event answer after part own step in
-    (alike.next, step_is n size d event answer alike.next alike.step, alike.same)
+    (alike.next, alike.step.is, alike.same)

@@ -5,7 +5,10 @@ use Rattle.trace_model.specs.History.{HistoryEvent, Reservation}
 use Rattle.trace_model.specs.Links.{normal_link}
 use Rattle.trace_model.specs.Frames.{Frame}
 use Rattle.trace_model.specs.Ring.{PageRecords, empty_page, Taken, page_at, link_into, links_with, ReaderPhase, loading_link, loading_done, storing_link, swapping, Reader, Core}
-use Rattle.trace_model.specs.Steps.{Event, Answer, swapped, tail_page, held_with_payload, next_header, reader_after, after_swap, ReadStep, loads_header, loads_update, loads_owed, loads_passed, finds_none, finds_closed, swaps, swap_fails, Step, push_step, push_refused, close_step, close_refused, frame_step, frame_lacks, end_step, end_lacks, end_early, read_step, store_wish_step, Exchange}
+use Rattle.trace_model.specs.Steps.{Event, Answer, swapped, tail_page, held_with_payload, next_header, reader_after, after_swap, Step, Exchange}
+use Rattle.trace_model.proofs.StepCases.{StepCases, ReadStep, loads_header, loads_update, loads_owed, loads_passed, finds_none, finds_closed, swaps, swap_fails, push_step, push_refused, close_step, close_refused, frame_step, frame_lacks, end_step, end_lacks, end_early, read_step, store_wish_step}
+use Rattle.trace_model.proofs.StepSound.{cases_of}
+use Rattle.trace_model.proofs.StepIs.{step_by}
 use Rattle.link_marks.specs.KeptLinks.{ReaderKept, LinksKept}
 use Rattle.link_marks.specs.KeptContents.{OpenPagesKept}
 use Rattle.link_marks.specs.RingKept.{IsRingKept}
@@ -118,9 +121,9 @@ module _ (n : ℕ) (c : Core) (answer : Answer) (after : Core) where
 
 module _ (n size start : ℕ) (c : Core) (r : IsRingKept n size start c) where
   abbrev StepsOf : Event → Answer → Core → Core → Type 0
-  StepsOf event answer from to = Step n size from event answer to
+  StepsOf event answer from to = StepCases n size from event answer to
 
-  step_alike : (event : Event) (answer : Answer) (after : Core) → IsOfReader event → Step n size c event answer after → IsReading n c (StepsOf event answer) after
+  step_alike : (event : Event) (answer : Answer) (after : Core) → IsOfReader event → StepCases n size c event answer after → IsReading n c (StepsOf event answer) after
   step_alike event answer after reads (push_step moment len e few short early a is) = absurd (subst IsOfReader e reads)
   step_alike event answer after reads (push_refused moment len why e refused a is) = absurd (subst IsOfReader e reads)
   step_alike event answer after reads (close_step e few a is) = absurd (subst IsOfReader e reads)
@@ -152,15 +155,15 @@ module _ (n size start : ℕ) (c : Core) (r : IsRingKept n size start c) where
   one_meets : (own : Event) (own_answer : Answer) (between : Core) (event : Event) (answer : Answer) (after : Core) → IsPrivate c own → Step n size c own own_answer between → IsOfReader event → Step n size c event answer after
       → (both : Core) × Meets own own_answer between event answer after both
   one_meets own own_answer between event answer after may step reads read =
-      let m = step_alike event answer after reads read in
-      let result = private_result n size c own own_answer between may step in
+      let m = step_alike event answer after reads (cases_of read) in
+      let result = private_result n size c own own_answer between may (cases_of step) in
       let is = changes_privately c between result in
       let holds : HeadHolds n c between.held = λ closed. result_pages n size start c r between result (page_at n c.order c.head) (λ i low. open_not_head n c r.links r.open_pages i low closed) in (
         read_state m.words m.turned between,
         (
           subst (λ (d : Core). IsPrivate d own) (sym m.after_is) (private_read m.words m.turned c own may),
-          subst (λ (d : Core). Step n size d own own_answer (read_state m.words m.turned between)) (sym m.after_is) (private_step_there n size m.words m.turned c m.alike own own_answer between may step),
-          subst (λ (d : Core). Step n size d event answer (read_state m.words m.turned d)) (sym is) (m.again between.frames between.history between.held holds),
+          subst (λ (d : Core). Step n size d own own_answer (read_state m.words m.turned between)) (sym m.after_is) (step_by (private_step_there n size m.words m.turned c m.alike own own_answer between may (cases_of step))),
+          subst (λ (d : Core). Step n size d event answer (read_state m.words m.turned d)) (sym is) (step_by (m.again between.frames between.history between.held holds)),
         ),
       )
 

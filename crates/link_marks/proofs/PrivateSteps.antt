@@ -6,7 +6,9 @@ use Rattle.trace_model.specs.History.{HistoryEvent, push, push_close, Reservatio
 use Rattle.trace_model.specs.Links.{Link}
 use Rattle.trace_model.specs.Frames.{Kind, for_record, for_close, FrameState, waiting, reserved, left, owner, helper, Phase, idle, looking, claiming, looking_next, marking, clearing, opening, releasing, wishing, Frame, Refusal}
 use Rattle.trace_model.specs.Ring.{PageRecords, empty_page, Reader, Core}
-use Rattle.trace_model.specs.Steps.{Event, pushes, pushes_close, steps, ends, reads, wishes, Answer, with_history_event, with_frame, in_phase, in_reserved, with_reservation, tail_page, held_with_payload, own_number, closing_phase, NeedsPage, after_leave, after_begin, BeginsAgain, reserves, finds_nothing, is_crowded, is_worn, notes, load_link_late, sees_free, sees_header, sees_update, claim_late, claims, claim_fails, load_next_late, sees_normal, sees_other, mark_late, marks, mark_fails, open_late, opens, IdleStep, FrameStep, PushRefused, all_stand, has_no_room, comes_late, Step, push_step, push_refused, close_step, close_refused, frame_step, frame_lacks, end_step, end_lacks, end_early, read_step, store_wish_step}
+use Rattle.trace_model.specs.Steps.{Event, pushes, pushes_close, steps, ends, reads, wishes, Answer, with_history_event, with_frame, in_phase, in_reserved, with_reservation, tail_page, held_with_payload, own_number, closing_phase, NeedsPage, after_leave, after_begin, Step}
+use Rattle.trace_model.proofs.StepCases.{StepCases, BeginsAgain, reserves, finds_nothing, is_crowded, is_worn, notes, load_link_late, sees_free, sees_header, sees_update, claim_late, claims, claim_fails, load_next_late, sees_normal, sees_other, mark_late, marks, mark_fails, open_late, opens, IdleStep, FrameStep, PushRefused, all_stand, has_no_room, comes_late, push_step, push_refused, close_step, close_refused, frame_step, frame_lacks, end_step, end_lacks, end_early, read_step, store_wish_step}
+use Rattle.trace_model.proofs.StepSound.{cases_of}
 use Rattle.link_marks.specs.Seats.{PhaseIsPrivate, TopIsPrivate, IsPrivate, WordsStay}
 
 -- ---- what a private step makes of the state
@@ -66,7 +68,7 @@ module _ (n size : ℕ) (c : Core) (frame : Frame) (below : List Frame) (answer 
   frame_result releasing own step = absurd own
   frame_result wishing own step = absurd own
 
-pub private_result : (n size : ℕ) (c : Core) (event : Event) (answer : Answer) (after : Core) → IsPrivate c event → Step n size c event answer after → PrivateResult c after
+pub private_result : (n size : ℕ) (c : Core) (event : Event) (answer : Answer) (after : Core) → IsPrivate c event → StepCases n size c event answer after → PrivateResult c after
 private_result n size c event answer after own (push_step moment len e few short early a is) = pushed_one (for_record moment len) (push moment len) is
 private_result n size c event answer after own (push_refused moment len why e refused a is) = stays is
 private_result n size c event answer after own (close_step e few a is) = pushed_one for_close push_close is
@@ -92,7 +94,7 @@ changes_privately c after (goes_on frame below phase is) = subst (IsPrivateOf c)
 changes_privately c after (leaves frame below payload top is) = subst (IsPrivateOf c) (sym is) refl
 
 pub private_touches_no_word : (n size : ℕ) (c : Core) (event : Event) (answer : Answer) (after : Core) → IsPrivate c event → Step n size c event answer after → WordsStay c after
-private_touches_no_word n size c event answer after own step = let is = changes_privately c after (private_result n size c event answer after own step) in record {
+private_touches_no_word n size c event answer after own step = let is = changes_privately c after (private_result n size c event answer after own (cases_of step)) in record {
   links = ap (λ (d : Core). d.links) is;
   spare_link = ap (λ (d : Core). d.spare_link) is;
   done = ap (λ (d : Core). d.done) is;
@@ -195,7 +197,7 @@ module _ (n size : ℕ) (words : ReaderWords) (turned : List PageRecords → Lis
     frame_there releasing own step = absurd own
     frame_there wishing own step = absurd own
 
-  pub private_step_there : (event : Event) (answer : Answer) (after : Core) → IsPrivate c event → Step n size c event answer after → Step n size (there c) event answer (there after)
+  pub private_step_there : (event : Event) (answer : Answer) (after : Core) → IsPrivate c event → StepCases n size c event answer after → StepCases n size (there c) event answer (there after)
   private_step_there event answer after own (push_step moment len e few short early a is) = push_step moment len e few short early a (ap there is)
   private_step_there event answer after own (push_refused moment len why e refused a is) = push_refused moment len why e (refused_there moment len why refused) a (ap there is)
   private_step_there event answer after own (close_step e few a is) = close_step e few a (ap there is)

@@ -7,7 +7,8 @@ use native.Mathlib.Decide.{ℕ_discrete}
 use Rattle.trace_model.specs.Links.{Link, normal_link, header_link, update_link}
 use Rattle.trace_model.specs.Frames.{Kind, for_record, for_close, FrameState, waiting, reserved, left, Role, owner, helper, Phase, idle, looking, claiming, looking_next, marking, clearing, opening, releasing, wishing, Frame}
 use Rattle.trace_model.specs.Ring.{ReaderPhase, loading_link, loading_done, storing_link, swapping, Core, IsStart, link_into, links_with, page_at}
-use Rattle.trace_model.specs.Steps.{Event, Answer, in_phase, closing_phase, after_leave, after_begin, with_new_tail, after_next, BeginsAgain, ReserveStep, reserves, finds_nothing, is_crowded, is_worn, notes, LoadLinkStep, load_link_late, sees_free, sees_header, sees_update, ClaimHeadStep, claim_late, claims, claim_fails, LoadNextStep, load_next_late, sees_normal, sees_other, MarkHeadStep, mark_late, marks, mark_fails, ClearUpdateStep, clears, OpenFillStep, open_late, opens, ReleaseFillStep, releases, releases_last, LoadWishStep, grants, closes_more, goes_away, IdleStep, FrameStep, LoadHeadStep, loads_header, loads_update, loads_owed, loads_passed, LoadDoneStep, finds_none, finds_closed, SwapHeadStep, swaps, swap_fails, ReadStep, Step, push_step, push_refused, close_step, close_refused, frame_step, frame_lacks, end_step, end_lacks, end_early, read_step, store_wish_step}
+use Rattle.trace_model.specs.Steps.{Event, Answer, in_phase, closing_phase, after_leave, after_begin, with_new_tail, after_next, Step}
+use Rattle.trace_model.proofs.StepCases.{StepCases, BeginsAgain, ReserveStep, reserves, finds_nothing, is_crowded, is_worn, notes, LoadLinkStep, load_link_late, sees_free, sees_header, sees_update, ClaimHeadStep, claim_late, claims, claim_fails, LoadNextStep, load_next_late, sees_normal, sees_other, MarkHeadStep, mark_late, marks, mark_fails, ClearUpdateStep, clears, OpenFillStep, open_late, opens, ReleaseFillStep, releases, releases_last, LoadWishStep, grants, closes_more, goes_away, IdleStep, FrameStep, LoadHeadStep, loads_header, loads_update, loads_owed, loads_passed, LoadDoneStep, finds_none, finds_closed, SwapHeadStep, swaps, swap_fails, ReadStep, push_step, push_refused, close_step, close_refused, frame_step, frame_lacks, end_step, end_lacks, end_early, read_step, store_wish_step}
 use Rattle.link_marks.specs.KeptLinks.{PhaseKept, LinkKept, is_normal, is_header, is_update, ReaderKept, LinksKept}
 use Rattle.link_marks.specs.KeptProgress.{IsMarked, PhaseAdvances, FramesAdvance, ProgressKept}
 use Rattle.link_marks.proofs.Positions.{link_here}
@@ -243,7 +244,7 @@ module _ (n : ℕ) (c : Core) (k : LinksKept n c) (r : ProgressKept n c) where
 
 -- ---- the whole
 
-pub progress_step : (n size : ℕ) (c : Core) (event : Event) (answer : Answer) (after : Core) → LinksKept n c → ProgressKept n c → Step n size c event answer after → ProgressKept n after
+pub progress_step : (n size : ℕ) (c : Core) (event : Event) (answer : Answer) (after : Core) → LinksKept n c → ProgressKept n c → StepCases n size c event answer after → ProgressKept n after
 progress_step n size c event answer after k r (push_step moment len e few short early a is) = subst (ProgressKept n) (sym is) record { room = r.room; advance = (tt, r.advance) }
 progress_step n size c event answer after k r (push_refused moment len why e refused a is) = subst (ProgressKept n) (sym is) r
 progress_step n size c event answer after k r (close_step e few a is) = subst (ProgressKept n) (sym is) record { room = r.room; advance = (tt, r.advance) }

@@ -6,7 +6,8 @@ use native.Mathlib.Decide.{ℕ_discrete}
 use Rattle.trace_model.specs.Links.{Link, normal_link, header_link, update_link}
 use Rattle.trace_model.specs.Frames.{Frame, Phase}
 use Rattle.trace_model.specs.Ring.{ReaderPhase, loading_link, loading_done, storing_link, swapping, Reader, Core, link_into, links_with, page_at, AreApart}
-use Rattle.trace_model.specs.Steps.{Answer, reader_at, reader_saw, with_wish, next_header, LoadHeadStep, loads_header, loads_update, loads_owed, loads_passed, LoadDoneStep, finds_none, finds_closed, StoreSpareLinkStep, SwapHeadStep, swaps, swap_fails, ReadStep, after_swap}
+use Rattle.trace_model.specs.Steps.{Answer, reader_at, reader_saw, with_wish, next_header, after_swap}
+use Rattle.trace_model.proofs.StepCases.{LoadHeadStep, loads_header, loads_update, loads_owed, loads_passed, LoadDoneStep, finds_none, finds_closed, StoreSpareLinkStep, SwapHeadStep, swaps, swap_fails, ReadStep}
 use Rattle.link_marks.specs.KeptLinks.{PhaseKept, LinkKept, is_normal, is_header, is_update, HasSeen, ReaderKept, FitsRing, LinksKept}
 use Rattle.link_marks.proofs.Positions.{link_here, link_else, link_turn, page_turn, page_here, page_else}
 use Rattle.link_marks.proofs.FramePhases.{normal_ne_update, normal_ne_header, header_ne_update, relink_phase, map_frames}

@@ -6,7 +6,9 @@ use native.Mathlib.Decide.{ℕ_discrete}
 use Rattle.trace_model.specs.Links.{Link, normal_link, header_link, update_link}
 use Rattle.trace_model.specs.Frames.{Kind, for_record, for_close, FrameState, waiting, reserved, left, owner, Phase, idle, looking, claiming, looking_next, marking, clearing, opening, releasing, wishing, Frame, owned_update}
 use Rattle.trace_model.specs.Ring.{link_into, links_with, page_at, ReaderPhase, loading_link, loading_done, storing_link, swapping, Core}
-use Rattle.trace_model.specs.Steps.{Event, steps, reads, Answer, with_new_tail, after_begin, BeginsAgain, reserves, finds_nothing, is_crowded, is_worn, notes, load_link_late, sees_free, sees_header, sees_update, claim_late, claims, claim_fails, load_next_late, sees_normal, sees_other, mark_late, marks, mark_fails, clears, open_late, opens, releases, releases_last, grants, closes_more, goes_away, IdleStep, FrameStep, Step, push_step, push_refused, close_step, close_refused, frame_step, frame_lacks, end_step, end_lacks, end_early, read_step, store_wish_step, loads_header, loads_update, loads_owed, loads_passed, finds_none, finds_closed, swaps, swap_fails, ReadStep, Exchange, Run}
+use Rattle.trace_model.specs.Steps.{Event, steps, reads, Answer, with_new_tail, after_begin, Step, Exchange, Run}
+use Rattle.trace_model.proofs.StepCases.{StepCases, BeginsAgain, reserves, finds_nothing, is_crowded, is_worn, notes, load_link_late, sees_free, sees_header, sees_update, claim_late, claims, claim_fails, load_next_late, sees_normal, sees_other, mark_late, marks, mark_fails, clears, open_late, opens, releases, releases_last, grants, closes_more, goes_away, IdleStep, FrameStep, push_step, push_refused, close_step, close_refused, frame_step, frame_lacks, end_step, end_lacks, end_early, read_step, store_wish_step, loads_header, loads_update, loads_owed, loads_passed, finds_none, finds_closed, swaps, swap_fails, ReadStep}
+use Rattle.trace_model.proofs.StepSound.{cases_of}
 use Rattle.link_marks.specs.KeptLinks.{PhaseKept, LinkKept, is_normal, is_header, is_update, ReaderKept, LinksKept}
 use Rattle.link_marks.specs.RingKept.{IsRingKept}
 use Rattle.link_marks.specs.LinkLaws.{age_of, IsHeaderSet, IsClaimed, IsCleared}
@@ -119,7 +121,7 @@ relinks_read n c event (swapping page fill) answer after k reads_is facts (swaps
     ∙ ap (λ (f : ℕ). links_with n (links_with n c.links f (normal_link c.spare (f + n))) (suc f) (header_link (page_at n c.order (suc f)) (suc f))) here)
 relinks_read n c event (swapping page fill) answer after k reads_is facts (swap_fails at a is) = stays n c event after _ is refl
 
-pub relinks_step : (n size : ℕ) (c : Core) (event : Event) (answer : Answer) (after : Core) → LinksKept n c → Step n size c event answer after → Relinks n c event after
+pub relinks_step : (n size : ℕ) (c : Core) (event : Event) (answer : Answer) (after : Core) → LinksKept n c → StepCases n size c event answer after → Relinks n c event after
 relinks_step n size c event answer after k (push_step moment len e few fits early a is) = stays n c event after _ is refl
 relinks_step n size c event answer after k (push_refused moment len why e refused a is) = stays n c event after c is refl
 relinks_step n size c event answer after k (close_step e few a is) = stays n c event after _ is refl
@@ -178,7 +180,7 @@ turn_of n c event after f some wide (swaps_head page next by head at behind is) 
     (λ ne'. stands_still (outer ∙ set_else n c.links f c.head first ne')))
 
 pub turn_step : (n size : ℕ) (c : Core) (event : Event) (answer : Answer) (after : Core) (f : ℕ) → LinksKept n c → Step n size c event answer after → Turn n c event after f
-turn_step n size c event answer after f k step = turn_of n c event after f (let two = k.some_pages in omega arith) k.positions (relinks_step n size c event answer after k step)
+turn_step n size c event answer after f k step = turn_of n c event after f (let two = k.some_pages in omega arith) k.positions (relinks_step n size c event answer after k (cases_of step))
 
 -- ---- ages
 

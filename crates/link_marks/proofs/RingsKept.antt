@@ -4,10 +4,10 @@ use Rattle.std.specs.List.{slice_get}
 use Rattle.std.proofs.lemmas.List.{take-append-drop, map-append}
 use Rattle.trace_model.specs.Record.{Record}
 use Rattle.trace_model.specs.History.{HistoryEvent, Reservation, reserved_records, settled_prefix, as_record, committed_records}
-use Rattle.trace_model.specs.Packing.{opens_of, fills_of}
+use Rattle.trace_model.specs.Packing.{opens_of, fills_of, first_of_fill}
 use Rattle.trace_model.specs.Links.{Link}
 use Rattle.trace_model.specs.Frames.{Frame, owned_update}
-use Rattle.trace_model.specs.Ring.{PageRecords, ReaderPhase, loading_link, loading_done, storing_link, swapping, Reader, Core, IsStart, AreApart, IsRing, IsBehindHead, told, moved, IsAtHead, marked, owed, Moves, IsMoved, IsSwapReady, IsTaken, first_of_fill, page_at}
+use Rattle.trace_model.specs.Ring.{PageRecords, ReaderPhase, loading_link, loading_done, storing_link, swapping, Reader, Core, IsStart, AreApart, IsRing, IsBehindHead, told, moved, IsAtHead, marked, owed, Moves, IsMoved, IsSwapReady, IsTaken, page_at}
 use Rattle.trace_model.specs.Steps.{Event, Answer, Step, Exchange, Run}
 use Rattle.trace_model.specs.Sublist.{IsPrefix}
 use Rattle.link_marks.specs.KeptLinks.{Stands, MoversDiffer, PhaseKept, FramesKept, LinkKept, is_normal, is_header, is_update, ReaderKept}
@@ -32,6 +32,7 @@ use Rattle.link_marks.proofs.PartitionSteps.{partition_step, settled}
 use Rattle.link_marks.proofs.PartitionLemmas.{partition_rest, take_map}
 use Rattle.link_marks.specs.KeptPartition.{PartitionAt, pieces_of}
 use Rattle.trace_model.specs.Partition.{IsPartition}
+use Rattle.trace_model.proofs.StepSound.{cases_of}
 use Rattle.link_marks.proofs.PageChanges.{page_below}
 use Rattle.link_marks.proofs.NewRing.{start_kept, start_history, start_open_pages}
 
@@ -165,16 +166,16 @@ taken_partition n size start c r = (map as_record (drop c.reader.expected (take 
 
 pub ring_step : (n size start : ℕ) (c : Core) (event : Event) (answer : Answer) (after : Core) → IsRingKept n size start c → Step n size c event answer after → IsRingKept n size start after
 ring_step n size start c event answer after r step = record {
-  links = step_kept n size c event answer after r.links r.stack step;
-  stack = stack_step n size c event answer after r.stack step;
-  progress = progress_step n size c event answer after r.links r.progress step;
-  history = (step_owed n size start c event answer after r.links r.stack r.history step).kept;
-  contents = contents_step n size start c event answer after r.links r.stack r.history r.contents r.open_pages step;
-  open_pages = open_pages_step n size c event answer after r.links r.open_pages step;
-  other_pages = other_pages_step n size start c event answer after r.links r.stack r.history r.contents r.open_pages r.other_pages step;
-  packed = packs_step n size start c event answer after r.links r.stack r.history r.contents r.packed step;
-  closed = closed_step n size start c event answer after r.links r.stack r.history r.contents r.closed step;
-  partition = partition_step n size start c event answer after r.links r.history r.contents r.closed r.partition step;
+  links = step_kept n size c event answer after r.links r.stack (cases_of step);
+  stack = stack_step n size c event answer after r.stack (cases_of step);
+  progress = progress_step n size c event answer after r.links r.progress (cases_of step);
+  history = (step_owed n size start c event answer after r.links r.stack r.history (cases_of step)).kept;
+  contents = contents_step n size start c event answer after r.links r.stack r.history r.contents r.open_pages (cases_of step);
+  open_pages = open_pages_step n size c event answer after r.links r.open_pages (cases_of step);
+  other_pages = other_pages_step n size start c event answer after r.links r.stack r.history r.contents r.open_pages r.other_pages (cases_of step);
+  packed = packs_step n size start c event answer after r.links r.stack r.history r.contents r.packed (cases_of step);
+  closed = closed_step n size start c event answer after r.links r.stack r.history r.contents r.closed (cases_of step);
+  partition = partition_step n size start c event answer after r.links r.history r.contents r.closed r.partition (cases_of step);
 }
 
 -- a run with one more step after it

@@ -8,8 +8,10 @@ use Rattle.trace_model.specs.History.{Reservation, PushedFrame, records_with_pay
 use Rattle.trace_model.specs.Frames.{Kind, for_record, for_close, FrameState, waiting, reserved, left, Frame, pushed_onto, pushed_frames}
 use Rattle.trace_model.specs.Ring.{PageRecords, empty_page, page_at, link_into, ReaderPhase, loading_link, loading_done, storing_link, swapping, Core}
 use Rattle.trace_model.specs.Links.{header_link}
-use Rattle.trace_model.specs.Steps.{Event, Answer, tail_page, held_with_payload, own_number, ReadStep, loads_header, loads_update, loads_owed, loads_passed, finds_none, finds_closed, swaps, swap_fails, Step, push_step, push_refused, close_step, close_refused, frame_step, frame_lacks, end_step, end_lacks, end_early, read_step, store_wish_step}
+use Rattle.trace_model.specs.Steps.{Event, Answer, tail_page, held_with_payload, own_number, Step}
+use Rattle.trace_model.proofs.StepCases.{StepCases, ReadStep, loads_header, loads_update, loads_owed, loads_passed, finds_none, finds_closed, swaps, swap_fails, push_step, push_refused, close_step, close_refused, frame_step, frame_lacks, end_step, end_lacks, end_early, read_step, store_wish_step}
 use Rattle.trace_model.proofs.Committed.{committed_len, committed_prefix, Behind}
+use Rattle.trace_model.proofs.StepSound.{cases_of}
 use Rattle.link_marks.specs.KeptLinks.{ReaderKept, LinksKept}
 use Rattle.link_marks.specs.KeptContents.{OpenPagesKept}
 use Rattle.link_marks.specs.RingKept.{IsRingKept}
@@ -62,7 +64,7 @@ module _ (n : ℕ) (c : Core) (k : LinksKept n c) (o : OpenPagesKept n c) where
       ∙ get_or-set_other c.held c.spare (get_or c.open_pages i 0) empty_page empty_page (open_not_spare i low))
   read_pages (swapping page fill) answer after facts (swap_fails at a is) = subst (OpenPagesHold c) (sym is) (λ i low. refl)
 
-pub reader_leaves_open_pages : (n size start : ℕ) (c : Core) (event : Event) (answer : Answer) (after : Core) → IsRingKept n size start c → IsOfReader event → Step n size c event answer after → OpenPagesHold c after
+pub reader_leaves_open_pages : (n size start : ℕ) (c : Core) (event : Event) (answer : Answer) (after : Core) → IsRingKept n size start c → IsOfReader event → StepCases n size c event answer after → OpenPagesHold c after
 reader_leaves_open_pages n size start c event answer after r reads (push_step moment len e few short early a is) = absurd (subst IsOfReader e reads)
 reader_leaves_open_pages n size start c event answer after r reads (push_refused moment len why e refused a is) = absurd (subst IsOfReader e reads)
 reader_leaves_open_pages n size start c event answer after r reads (close_step e few a is) = absurd (subst IsOfReader e reads)
@@ -114,4 +116,4 @@ module _ (n size start : ℕ) (c : Core) (r : IsRingKept n size start c) where
       ∙ untouched number payload (get_or c.held page empty_page) (λ k e. let closed = r.other_pages page other in let low = number_behind frame below top k e in omega arith))
 
 pub private_leaves_other_pages : (n size start : ℕ) (c : Core) (event : Event) (answer : Answer) (after : Core) → IsRingKept n size start c → IsPrivate c event → Step n size c event answer after → OtherPagesHold c after
-private_leaves_other_pages n size start c event answer after r own step = result_pages n size start c r after (private_result n size c event answer after own step)
+private_leaves_other_pages n size start c event answer after r own step = result_pages n size start c r after (private_result n size c event answer after own (cases_of step))

@@ -3,7 +3,9 @@
 use Rattle.std.proofs.Common.{◌≡◌, ℕ, List, [], ◌∷◌, Option, Some, None, refl, sym, ap, ◌∙◌, subst}
 use Rattle.trace_model.specs.Frames.{Kind, for_record, for_close, FrameState, waiting, reserved, left, Phase, idle, looking, claiming, looking_next, marking, clearing, opening, releasing, wishing, Frame, Refusal}
 use Rattle.trace_model.specs.Ring.{ReaderPhase, loading_link, loading_done, storing_link, swapping, Core}
-use Rattle.trace_model.specs.Steps.{Event, Answer, NeedsPage, with_new_tail, after_leave, after_begin, BeginsAgain, reserves, finds_nothing, is_crowded, is_worn, notes, load_link_late, sees_free, sees_header, sees_update, claim_late, claims, claim_fails, load_next_late, sees_normal, sees_other, mark_late, marks, mark_fails, clears, open_late, opens, releases, releases_last, IsGranted, grants, closes_more, goes_away, IdleStep, FrameStep, loads_header, loads_update, loads_owed, loads_passed, finds_none, finds_closed, swaps, swap_fails, ReadStep, PushRefused, all_stand, has_no_room, comes_late, Step, push_step, push_refused, close_step, close_refused, frame_step, frame_lacks, end_step, end_lacks, end_early, read_step, store_wish_step}
+use Rattle.trace_model.specs.Steps.{Event, Answer, NeedsPage, with_new_tail, after_leave, after_begin, IsGranted, Step}
+use Rattle.trace_model.proofs.StepCases.{StepCases, BeginsAgain, reserves, finds_nothing, is_crowded, is_worn, notes, load_link_late, sees_free, sees_header, sees_update, claim_late, claims, claim_fails, load_next_late, sees_normal, sees_other, mark_late, marks, mark_fails, clears, open_late, opens, releases, releases_last, grants, closes_more, goes_away, IdleStep, FrameStep, loads_header, loads_update, loads_owed, loads_passed, finds_none, finds_closed, swaps, swap_fails, ReadStep, PushRefused, all_stand, has_no_room, comes_late, push_step, push_refused, close_step, close_refused, frame_step, frame_lacks, end_step, end_lacks, end_early, read_step, store_wish_step}
+use Rattle.trace_model.proofs.StepSound.{cases_of}
 use Rattle.link_marks.specs.Seats.{IsOfReader, ReaderPart, seen_by, WriterPart, written_by, WriterStays, ReaderStays}
 
 -- ---- the writer reads nothing of the reader's part
@@ -74,7 +76,7 @@ module _ (n size : ℕ) (part : ReaderPart) where
     frame_seen wishing (closes_more alone denied more a is) = closes_more alone (λ g. denied (granted_before c g)) more a (ap (seen_by part) is)
     frame_seen wishing (goes_away alone denied last a is) = goes_away alone (λ g. denied (granted_before c g)) last a (ap (seen_by part) is)
 
-pub writer_reads_no_reader : (n size : ℕ) (c : Core) (event : Event) (answer : Answer) (after : Core) (part : ReaderPart) → (IsOfReader event → ⊥) → Step n size c event answer after → Step n size (seen_by part c) event answer (seen_by part after)
+pub writer_reads_no_reader : (n size : ℕ) (c : Core) (event : Event) (answer : Answer) (after : Core) (part : ReaderPart) → (IsOfReader event → ⊥) → StepCases n size c event answer after → StepCases n size (seen_by part c) event answer (seen_by part after)
 writer_reads_no_reader n size c event answer after part writes (push_step moment len e few short early a is) = push_step moment len e few short early a (ap (seen_by part) is)
 writer_reads_no_reader n size c event answer after part writes (push_refused moment len why e refused a is) = push_refused moment len why e (refused_seen n size part c moment len why refused) a (ap (seen_by part) is)
 writer_reads_no_reader n size c event answer after part writes (close_step e few a is) = close_step e few a (ap (seen_by part) is)
@@ -144,7 +146,7 @@ module _ (n size : ℕ) where
     frame_side wishing (closes_more alone denied more a is) = ap reader_side is
     frame_side wishing (goes_away alone denied last a is) = ap reader_side is
 
-  step_side : (c : Core) (event : Event) (answer : Answer) (after : Core) → (IsOfReader event → ⊥) → Step n size c event answer after → reader_side after ≡ reader_side c
+  step_side : (c : Core) (event : Event) (answer : Answer) (after : Core) → (IsOfReader event → ⊥) → StepCases n size c event answer after → reader_side after ≡ reader_side c
   unfolding reader_side
   step_side c event answer after writes (push_step moment len e few short early a is) = ap reader_side is
   step_side c event answer after writes (push_refused moment len why e refused a is) = ap reader_side is
@@ -160,7 +162,7 @@ module _ (n size : ℕ) where
 
 pub writer_leaves_reader : (n size : ℕ) (c : Core) (event : Event) (answer : Answer) (after : Core) → (IsOfReader event → ⊥) → Step n size c event answer after → ReaderStays c after
 unfolding reader_side
-writer_leaves_reader n size c event answer after writes step = let same = step_side n size c event answer after writes step in record {
+writer_leaves_reader n size c event answer after writes step = let same = step_side n size c event answer after writes (cases_of step) in record {
   order = ap (λ (s : ReaderSide). s.part.order) same;
   spare = ap (λ (s : ReaderSide). s.part.spare) same;
   spare_link = ap (λ (s : ReaderSide). s.part.spare_link) same;
@@ -184,7 +186,7 @@ read_leaves n c (storing_link page fill) answer after step = stays c _ after ref
 read_leaves n c (swapping page fill) answer after (swaps at a is) = stays c _ after refl refl refl refl refl is
 read_leaves n c (swapping page fill) answer after (swap_fails at a is) = stays c _ after refl refl refl refl refl is
 
-pub reader_leaves_writer : (n size : ℕ) (c : Core) (event : Event) (answer : Answer) (after : Core) → IsOfReader event → Step n size c event answer after → WriterStays c after
+pub reader_leaves_writer : (n size : ℕ) (c : Core) (event : Event) (answer : Answer) (after : Core) → IsOfReader event → StepCases n size c event answer after → WriterStays c after
 reader_leaves_writer n size c event answer after reads (push_step moment len e few short early a is) = absurd (subst IsOfReader e reads)
 reader_leaves_writer n size c event answer after reads (push_refused moment len why e refused a is) = absurd (subst IsOfReader e reads)
 reader_leaves_writer n size c event answer after reads (close_step e few a is) = absurd (subst IsOfReader e reads)
@@ -211,7 +213,7 @@ module _ (n : ℕ) (part : WriterPart) (c : Core) (answer : Answer) (after : Cor
   read_beside (swapping page fill) (swaps at a is) = swaps at a (ap (written_by part) is)
   read_beside (swapping page fill) (swap_fails at a is) = swap_fails at a (ap (written_by part) is)
 
-pub reader_reads_no_writer : (n size : ℕ) (c : Core) (event : Event) (answer : Answer) (after : Core) (part : WriterPart) → IsOfReader event → Step n size c event answer after → Step n size (written_by part c) event answer (written_by part after)
+pub reader_reads_no_writer : (n size : ℕ) (c : Core) (event : Event) (answer : Answer) (after : Core) (part : WriterPart) → IsOfReader event → StepCases n size c event answer after → StepCases n size (written_by part c) event answer (written_by part after)
 reader_reads_no_writer n size c event answer after part reads (push_step moment len e few short early a is) = absurd (subst IsOfReader e reads)
 reader_reads_no_writer n size c event answer after part reads (push_refused moment len why e refused a is) = absurd (subst IsOfReader e reads)
 reader_reads_no_writer n size c event answer after part reads (close_step e few a is) = absurd (subst IsOfReader e reads)

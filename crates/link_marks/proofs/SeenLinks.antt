@@ -6,7 +6,9 @@ use Rattle.trace_model.specs.declared.limits.TheConstants.{MAX_PAGES}
 use Rattle.trace_model.specs.Links.{Link, normal_link, header_link, update_link}
 use Rattle.trace_model.specs.Frames.{Kind, for_record, for_close, FrameState, waiting, reserved, left, Role, owner, helper, Phase, idle, looking, claiming, looking_next, marking, clearing, opening, releasing, wishing, Frame}
 use Rattle.trace_model.specs.Ring.{Core, link_into, page_at, links_with, ReaderPhase, loading_link, loading_done, storing_link, swapping}
-use Rattle.trace_model.specs.Steps.{Event, Answer, closing_phase, frames_after_leave, after_next, after_begin, with_new_tail, BeginsAgain, IdleStep, reserves, finds_nothing, is_crowded, is_worn, notes, FrameStep, load_link_late, sees_free, sees_header, sees_update, claim_late, claims, claim_fails, load_next_late, sees_normal, sees_other, mark_late, marks, mark_fails, clears, open_late, opens, releases, releases_last, grants, closes_more, goes_away, ReadStep, loads_header, loads_update, loads_owed, loads_passed, finds_none, finds_closed, swaps, swap_fails, Step, push_step, push_refused, close_step, close_refused, frame_step, frame_lacks, end_step, end_lacks, end_early, read_step, store_wish_step, Exchange, Run}
+use Rattle.trace_model.specs.Steps.{Event, Answer, closing_phase, frames_after_leave, after_next, after_begin, with_new_tail, Step, Exchange, Run}
+use Rattle.trace_model.proofs.StepCases.{StepCases, BeginsAgain, IdleStep, reserves, finds_nothing, is_crowded, is_worn, notes, FrameStep, load_link_late, sees_free, sees_header, sees_update, claim_late, claims, claim_fails, load_next_late, sees_normal, sees_other, mark_late, marks, mark_fails, clears, open_late, opens, releases, releases_last, grants, closes_more, goes_away, ReadStep, loads_header, loads_update, loads_owed, loads_passed, finds_none, finds_closed, swaps, swap_fails, push_step, push_refused, close_step, close_refused, frame_step, frame_lacks, end_step, end_lacks, end_early, read_step, store_wish_step}
+use Rattle.trace_model.proofs.StepSound.{cases_of}
 use Rattle.link_marks.specs.KeptLinks.{PhaseKept, FramesKept, LinkKept, is_normal, is_header, is_update, LinksKept}
 use Rattle.link_marks.specs.Reached.{IsReached}
 use Rattle.link_marks.specs.SeenLinks.{HasSeenLink, HaveSeenLinks, FramesHaveSeenLinks}
@@ -164,7 +166,7 @@ module _ (n : ℕ) (c : Core) (k : LinksKept n c) where
   read_sees (swapping page fill) answer after all (swaps at a is) = become n after _ is (all_moved n c.links _ c.order c.head (c.head + 1) c.done c.opened (passes_head n c _ k) c.frames k.frames all)
   read_sees (swapping page fill) answer after all (swap_fails at a is) = become n after _ is all
 
-  step_sees : (size : ℕ) (event : Event) (answer : Answer) (after : Core) → FramesSee n c → Step n size c event answer after → FramesSee n after
+  step_sees : (size : ℕ) (event : Event) (answer : Answer) (after : Core) → FramesSee n c → StepCases n size c event answer after → FramesSee n after
   step_sees size event answer after all (push_step moment len e few short early a is) = become n after _ is (tt, all)
   step_sees size event answer after all (push_refused moment len why e refused a is) = become n after c is all
   step_sees size event answer after all (close_step e few a is) = become n after _ is (tt, all)
@@ -181,7 +183,7 @@ run_sees : (n size start : ℕ) (before after : Core) (exchanges : List Exchange
 run_sees n size start before after [] reached all run = subst (FramesSee n) run all
 run_sees n size start before after (x ∷ exchanges) reached all (between, step, run) =
     run_sees n size start between after exchanges (reached_further n size start before x.event x.answer between reached step)
-    (step_sees n before (reached_kept n size start before reached).links size x.event x.answer between all step) run
+    (step_sees n before (reached_kept n size start before reached).links size x.event x.answer between all (cases_of step)) run
 
 reached_sees : (n size start : ℕ) (c : Core) → IsReached n size start c → FramesSee n c
 reached_sees n size start c r =

@@ -6,9 +6,9 @@ use Rattle.std.proofs.lemmas.List.{length-map}
 use Rattle.std.specs.List.{slice_get}
 use Rattle.trace_model.specs.Record.{Record}
 use Rattle.trace_model.specs.History.{Reservation, reserved_records, as_record, committed_records}
-use Rattle.trace_model.specs.Packing.{opens_of, fills_of, tail_of}
+use Rattle.trace_model.specs.Packing.{opens_of, fills_of, tail_of, first_of_fill}
 use Rattle.trace_model.specs.Partition.{IsPartition, covered_count, first_from}
-use Rattle.trace_model.specs.Ring.{PageRecords, Taken, Core, IsTaken, first_of_fill}
+use Rattle.trace_model.specs.Ring.{PageRecords, Taken, Core, IsTaken}
 use Rattle.trace_model.proofs.FillCuts.{length-cut_from}
 use Rattle.trace_model.proofs.FillFirsts.{first_below, fill_behind}
 use Rattle.link_marks.specs.KeptPartition.{piece_of, pieces_of, covered_total}

@@ -5,7 +5,8 @@ use Rattle.std.proofs.lemmas.Bool.{cond_both}
 use Rattle.trace_model.specs.declared.limits.TheConstants.{MAX_FRAMES}
 use Rattle.trace_model.specs.Frames.{Kind, for_record, for_close, FrameState, waiting, reserved, left, Role, owner, helper, Phase, idle, looking, claiming, looking_next, marking, clearing, opening, releasing, wishing, Frame}
 use Rattle.trace_model.specs.Ring.{ReaderPhase, loading_link, loading_done, storing_link, swapping, Core, IsStart}
-use Rattle.trace_model.specs.Steps.{Event, Answer, closing_phase, after_leave, frames_after_leave, after_next, after_begin, BeginsAgain, reserves, finds_nothing, is_crowded, is_worn, notes, load_link_late, sees_free, sees_header, sees_update, claim_late, claims, claim_fails, load_next_late, sees_normal, sees_other, mark_late, marks, mark_fails, clears, open_late, opens, releases, releases_last, grants, closes_more, goes_away, IdleStep, FrameStep, loads_header, loads_update, loads_owed, loads_passed, finds_none, finds_closed, swaps, swap_fails, ReadStep, Step, push_step, push_refused, close_step, close_refused, frame_step, frame_lacks, end_step, end_lacks, end_early, read_step, store_wish_step}
+use Rattle.trace_model.specs.Steps.{Event, Answer, closing_phase, after_leave, frames_after_leave, after_next, after_begin, Step}
+use Rattle.trace_model.proofs.StepCases.{StepCases, BeginsAgain, reserves, finds_nothing, is_crowded, is_worn, notes, load_link_late, sees_free, sees_header, sees_update, claim_late, claims, claim_fails, load_next_late, sees_normal, sees_other, mark_late, marks, mark_fails, clears, open_late, opens, releases, releases_last, grants, closes_more, goes_away, IdleStep, FrameStep, loads_header, loads_update, loads_owed, loads_passed, finds_none, finds_closed, swaps, swap_fails, ReadStep, push_step, push_refused, close_step, close_refused, frame_step, frame_lacks, end_step, end_lacks, end_early, read_step, store_wish_step}
 use Rattle.link_marks.specs.KeptStack.{IsForRecord, MayBeIn, FramesAgree, StackAt, StackKept}
 use Rattle.link_marks.specs.RingKept.{IsRingKept}
 use Rattle.link_marks.proofs.FramePhases.{none_some}
@@ -150,7 +151,7 @@ stack_top c frame below top q = subst (StackAt c.done c.opened) top q
 pub top_agrees : (c : Core) (frame : Frame) (below : List Frame) → c.frames ≡ frame ∷ below → StackKept c → FramesAgree (frame ∷ below)
 top_agrees c frame below top q = subst FramesAgree top q.agree
 
-pub stack_step : (n size : ℕ) (c : Core) (event : Event) (answer : Answer) (after : Core) → StackKept c → Step n size c event answer after → StackKept after
+pub stack_step : (n size : ℕ) (c : Core) (event : Event) (answer : Answer) (after : Core) → StackKept c → StepCases n size c event answer after → StackKept after
 stack_step n size c event answer after q (push_step moment len e few fits early a is) = stack_pushed c after _ (for_record moment len) few q refl is
 stack_step n size c event answer after q (push_refused moment len why e refused a is) = subst StackKept (sym is) q
 stack_step n size c event answer after q (close_step e few a is) = stack_pushed c after _ for_close few q refl is

@@ -4,9 +4,12 @@ use Rattle.trace_model.specs.History.{HistoryEvent, push, push_close, open_fill,
 use Rattle.trace_model.specs.Packing.{tail_of}
 use Rattle.trace_model.specs.Frames.{Kind, for_record, for_close, FrameState, waiting, reserved, left, number_of, Phase, idle, looking, claiming, looking_next, marking, clearing, opening, releasing, wishing, Role, owner, helper, noted_fill, owned_update, Frame, Refusal, too_deep, not_reserved, crowded, worn}
 use Rattle.trace_model.specs.Ring.{ReaderPhase, loading_link, loading_done, storing_link, swapping, Core}
-use Rattle.trace_model.specs.Steps.{Event, pushes, pushes_close, steps, ends, reads, wishes, Answer, going, reserved_as, gone, refused, MayOpen, IsGranted, with_new_tail, after_begin, begin_answer, leave_answer, BeginsAgain, reserves, finds_nothing, is_crowded, is_worn, notes, IdleStep, load_link_late, sees_free, sees_header, sees_update, claim_late, claims, claim_fails, load_next_late, sees_normal, sees_other, mark_late, marks, mark_fails, clears, open_late, opens, releases, releases_last, grants, closes_more, goes_away, FrameStep, push_step, push_refused, close_step, close_refused, frame_step, frame_lacks, end_step, end_lacks, end_early, read_step, store_wish_step, loads_header, loads_update, loads_owed, loads_passed, finds_none, finds_closed, swaps, swap_fails, ReadStep}
+use Rattle.trace_model.specs.Steps.{Event, pushes, pushes_close, steps, ends, reads, wishes, Answer, going, reserved_as, gone, refused, MayOpen, IsGranted, with_new_tail, after_begin, begin_answer, leave_answer}
+use Rattle.trace_model.proofs.StepSound.{cases_of}
+use Rattle.trace_model.proofs.StepCases.{StepCases, BeginsAgain, reserves, finds_nothing, is_crowded, is_worn, notes, IdleStep, load_link_late, sees_free, sees_header, sees_update, claim_late, claims, claim_fails, load_next_late, sees_normal, sees_other, mark_late, marks, mark_fails, clears, open_late, opens, releases, releases_last, grants, closes_more, goes_away, FrameStep, push_step, push_refused, close_step, close_refused, frame_step, frame_lacks, end_step, end_lacks, end_early, read_step, store_wish_step, loads_header, loads_update, loads_owed, loads_passed, finds_none, finds_closed, swaps, swap_fails, ReadStep}
 use Rattle.link_marks.specs.KeptStack.{MayBeIn}
 use Rattle.link_marks.specs.Appended.{PushAppends, is_pushed, isnt_pushed, EndAppends, TopEndAppends, IsOpening, IsRefusedPage, RecordAppends, record_reserved, record_refused, record_opens, record_goes_on, HasWhatItWants, tail_is_empty, was_faster, CloseAppends, close_refused as refused_close, close_opens, close_leaves, close_goes_on, Grants, LeftAppends, left_opens, left_grants, left_stays, FrameAppends, TopAppends, Appends}
+use Rattle.link_marks.specs.RingKept.{IsRingKept}
 use Rattle.link_marks.specs.HistoryLaws.{StepsAppend, AppendedIsOne}
 use Rattle.link_marks.proofs.FramePhases.{none_some}
 use Rattle.link_marks.proofs.HistorySteps.{top_agrees}
@@ -174,28 +177,31 @@ told_end payload frame below answer none a = by frame.state none
     by (reserved number) e = absurd (none_some (sym e))
     by left e = (a, refl)
 
-pub steps_append : StepsAppend
-steps_append n size start c event answer after kept (push_step moment len e few short early a is) = (push moment len ∷ [], ap (λ (d : Core). d.history) is, subst (λ (x : Event). Appends n c x answer (push moment len ∷ [])) (sym e) (is_pushed a refl))
-steps_append n size start c event answer after kept (push_refused moment len why e refuses a is) = ([], same c after is, subst (λ (x : Event). Appends n c x answer []) (sym e) (isnt_pushed why a refl))
-steps_append n size start c event answer after kept (close_step e few a is) = (push_close ∷ [], ap (λ (d : Core). d.history) is, subst (λ (x : Event). Appends n c x answer (push_close ∷ [])) (sym e) (is_pushed a refl))
-steps_append n size start c event answer after kept (close_refused e many a is) = ([], same c after is, subst (λ (x : Event). Appends n c x answer []) (sym e) (isnt_pushed too_deep a refl))
-steps_append n size start c event answer after kept (frame_step frame below e top step) =
+case_appends : (n size start : ℕ) (c : Core) (event : Event) (answer : Answer) (after : Core) → IsRingKept n size start c → StepCases n size c event answer after → (appended : List HistoryEvent) × (after.history ≡ c.history ++ appended) × Appends n c event answer appended
+case_appends n size start c event answer after kept (push_step moment len e few short early a is) = (push moment len ∷ [], ap (λ (d : Core). d.history) is, subst (λ (x : Event). Appends n c x answer (push moment len ∷ [])) (sym e) (is_pushed a refl))
+case_appends n size start c event answer after kept (push_refused moment len why e refuses a is) = ([], same c after is, subst (λ (x : Event). Appends n c x answer []) (sym e) (isnt_pushed why a refl))
+case_appends n size start c event answer after kept (close_step e few a is) = (push_close ∷ [], ap (λ (d : Core). d.history) is, subst (λ (x : Event). Appends n c x answer (push_close ∷ [])) (sym e) (is_pushed a refl))
+case_appends n size start c event answer after kept (close_refused e many a is) = ([], same c after is, subst (λ (x : Event). Appends n c x answer []) (sym e) (isnt_pushed too_deep a refl))
+case_appends n size start c event answer after kept (frame_step frame below e top step) =
     let (history_events, is, by) = told_frame n size c below answer after frame.kind frame.state frame.phase (top_agrees c frame below kept.stack top).0 step in
     (history_events, is, subst (λ (x : Event). Appends n c x answer history_events) (sym e) (subst (λ (fs : List Frame). TopAppends n c fs answer history_events) (sym top) by))
-steps_append n size start c event answer after kept (frame_lacks e none a is) =
+case_appends n size start c event answer after kept (frame_lacks e none a is) =
     ([], same c after is, subst (λ (x : Event). Appends n c x answer []) (sym e) (subst (λ (fs : List Frame). TopAppends n c fs answer []) (sym none) (a, refl)))
-steps_append n size start c event answer after kept (end_step payload frame below number moment len e top has kind slot a is) = (
+case_appends n size start c event answer after kept (end_step payload frame below number moment len e top has kind slot a is) = (
   leave (Some payload) ∷ [],
   ap (λ (d : Core). d.history) is,
   subst (λ (x : Event). Appends n c x answer (leave (Some payload) ∷ [])) (sym e)
       (subst (λ (fs : List Frame). TopEndAppends payload fs answer (leave (Some payload) ∷ [])) (sym top) (subst (λ (s : FrameState). EndAppends payload s below answer (leave (Some payload) ∷ [])) (sym has) (a, refl))),
 )
-steps_append n size start c event answer after kept (end_lacks payload e none a is) =
+case_appends n size start c event answer after kept (end_lacks payload e none a is) =
     ([], same c after is, subst (λ (x : Event). Appends n c x answer []) (sym e) (subst (λ (fs : List Frame). TopEndAppends payload fs answer []) (sym none) (a, refl)))
-steps_append n size start c event answer after kept (end_early payload frame below e top none a is) =
+case_appends n size start c event answer after kept (end_early payload frame below e top none a is) =
     ([], same c after is, subst (λ (x : Event). Appends n c x answer []) (sym e) (subst (λ (fs : List Frame). TopEndAppends payload fs answer []) (sym top) (told_end payload frame below answer none a)))
-steps_append n size start c event answer after kept (read_step e step) = ([], read_same n c after c.reader.phase answer step, subst (λ (x : Event). Appends n c x answer []) (sym e) refl)
-steps_append n size start c event answer after kept (store_wish_step e a is) = ([], ap (λ (d : Core). d.history) is ∙ sym (append-nil c.history), subst (λ (x : Event). Appends n c x answer []) (sym e) refl)
+case_appends n size start c event answer after kept (read_step e step) = ([], read_same n c after c.reader.phase answer step, subst (λ (x : Event). Appends n c x answer []) (sym e) refl)
+case_appends n size start c event answer after kept (store_wish_step e a is) = ([], ap (λ (d : Core). d.history) is ∙ sym (append-nil c.history), subst (λ (x : Event). Appends n c x answer []) (sym e) refl)
+
+pub steps_append : StepsAppend
+steps_append n size start c event answer after kept step = case_appends n size start c event answer after kept (cases_of step)
 
 -- ---- one list
 

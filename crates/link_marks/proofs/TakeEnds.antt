@@ -5,7 +5,9 @@ use mathlib.Core.Logic.{dite}
 use native.Mathlib.Decide.{dec_le}
 use Rattle.trace_model.specs.Links.{normal_link}
 use Rattle.trace_model.specs.Ring.{ReaderPhase, loading_link, loading_done, storing_link, swapping, Core}
-use Rattle.trace_model.specs.Steps.{pushes, pushes_close, steps, ends, reads, wishes, Answer, reading, moving, empty, LoadHeadStep, loads_header, loads_update, loads_owed, loads_passed, LoadDoneStep, finds_none, finds_closed, SwapHeadStep, swaps, swap_fails, ReadStep, push_step, push_refused, close_step, close_refused, frame_step, frame_lacks, end_step, end_lacks, end_early, read_step, store_wish_step}
+use Rattle.trace_model.specs.Steps.{pushes, pushes_close, steps, ends, reads, wishes, Answer, reading, moving, empty}
+use Rattle.trace_model.proofs.EventSteps.{reader_step}
+use Rattle.trace_model.proofs.StepCases.{LoadHeadStep, loads_header, loads_update, loads_owed, loads_passed, LoadDoneStep, finds_none, finds_closed, SwapHeadStep, swaps, swap_fails, ReadStep, push_step, push_refused, close_step, close_refused, frame_step, frame_lacks, end_step, end_lacks, end_early, read_step, store_wish_step}
 use Rattle.link_marks.specs.KeptLinks.{ReaderKept, LinksKept}
 use Rattle.link_marks.specs.Ranks.{distance, reader_phase_rank, reader_rank, TakesComeToAnAnswer, TakesAreNearTheirAnswer}
 use Rattle.link_marks.proofs.LinkFills.{header_tells, normal_tells, fill_at}
@@ -68,17 +70,7 @@ module _ (n size : ℕ) (c : Core) (k : LinksKept n c) where
   read_lowers (swapping page fill) answer after goes same facts step = swap_head_lowers page fill answer after goes same facts.0.fill_is step
 
 pub takes_lower : TakesComeToAnAnswer
-takes_lower n size start c after r (read_step e step) = read_lowers n size c r.links c.reader.phase reading after refl refl r.links.reader step
-takes_lower n size start c after r (push_step moment len e few short early a is) = absurd (let w : reads ≡ pushes moment len = e in cc)
-takes_lower n size start c after r (push_refused moment len why e refused a is) = absurd (let w : reads ≡ pushes moment len = e in cc)
-takes_lower n size start c after r (close_step e few a is) = absurd (let w : reads ≡ pushes_close = e in cc)
-takes_lower n size start c after r (close_refused e many a is) = absurd (let w : reads ≡ pushes_close = e in cc)
-takes_lower n size start c after r (frame_step f b e at step) = absurd (let w : reads ≡ steps = e in cc)
-takes_lower n size start c after r (frame_lacks e at a is) = absurd (let w : reads ≡ steps = e in cc)
-takes_lower n size start c after r (end_step payload f b number moment len e at own kind fits a is) = absurd (let w : reads ≡ ends payload = e in cc)
-takes_lower n size start c after r (end_lacks payload e at a is) = absurd (let w : reads ≡ ends payload = e in cc)
-takes_lower n size start c after r (end_early payload f b e at lacks a is) = absurd (let w : reads ≡ ends payload = e in cc)
-takes_lower n size start c after r (store_wish_step e a is) = absurd (let w : reads ≡ wishes = e in cc)
+takes_lower n size start c after r step = read_lowers n size c r.links c.reader.phase reading after refl refl r.links.reader (reader_step step)
 
 phase_le : (n : ℕ) (c : Core) (phase : ReaderPhase) → reader_phase_rank n c phase ≤ 4 * n + 14
 phase_le n c loading_link = let low = min-le_right (c.head + 1 - c.reader.hint) (n + 2) in omega arith

@@ -5,7 +5,9 @@ use Rattle.trace_model.proofs.NextEvent.{settled_at_rest}
 use Rattle.trace_model.specs.Frames.{Kind, for_record, for_close, FrameState, waiting, reserved, left, Phase, idle, looking, claiming, looking_next, marking, clearing, opening, releasing, wishing, Frame}
 use Rattle.trace_model.specs.Window.{first_window, released_one, window_after, RingEvent, acts, closes, takes, loses, history_events_of, window_event_of, window_behind, MayPass, WindowRunFrom}
 use Rattle.trace_model.specs.Ring.{ReaderPhase, loading_link, loading_done, storing_link, swapping, Reader, Core, IsStart, window_of}
-use Rattle.trace_model.specs.Steps.{Event, Answer, with_new_tail, after_begin, BeginsAgain, reserves, finds_nothing, is_crowded, is_worn, notes, IdleStep, load_link_late, sees_free, sees_header, sees_update, claim_late, claims, claim_fails, load_next_late, sees_normal, sees_other, mark_late, marks, mark_fails, clears, open_late, opens, releases, releases_last, grants, closes_more, goes_away, FrameStep, Step, push_step, push_refused, close_step, close_refused, frame_step, frame_lacks, end_step, end_lacks, end_early, read_step, store_wish_step, loads_header, loads_update, loads_owed, loads_passed, finds_none, finds_closed, swaps, swap_fails, ReadStep, taken_fill, Exchange, Run}
+use Rattle.trace_model.specs.Steps.{Event, Answer, with_new_tail, after_begin, Step, taken_fill, Exchange, Run}
+use Rattle.trace_model.proofs.StepCases.{StepCases, BeginsAgain, reserves, finds_nothing, is_crowded, is_worn, notes, IdleStep, load_link_late, sees_free, sees_header, sees_update, claim_late, claims, claim_fails, load_next_late, sees_normal, sees_other, mark_late, marks, mark_fails, clears, open_late, opens, releases, releases_last, grants, closes_more, goes_away, FrameStep, push_step, push_refused, close_step, close_refused, frame_step, frame_lacks, end_step, end_lacks, end_early, read_step, store_wish_step, loads_header, loads_update, loads_owed, loads_passed, finds_none, finds_closed, swaps, swap_fails, ReadStep}
+use Rattle.trace_model.proofs.StepSound.{cases_of}
 use Rattle.link_marks.specs.KeptLinks.{PhaseKept, ReaderKept, LinksKept}
 use Rattle.link_marks.specs.KeptStack.{StackKept}
 use Rattle.link_marks.specs.KeptHistory.{HistoryKept}
@@ -122,7 +124,7 @@ leads_read n c (swapping page fill) answer after k facts (swaps at a is) =
     }
 leads_read n c (swapping page fill) answer after k facts (swap_fails at a is) = subst (Leads n c) (sym is) (no_event n c _ refl refl refl)
 
-pub leads_step : (n size start : ℕ) (c : Core) (event : Event) (answer : Answer) (after : Core) → LinksKept n c → StackKept c → HistoryKept n start c → Step n size c event answer after → Leads n c after
+pub leads_step : (n size start : ℕ) (c : Core) (event : Event) (answer : Answer) (after : Core) → LinksKept n c → StackKept c → HistoryKept n start c → StepCases n size c event answer after → Leads n c after
 leads_step n size start c event answer after k s h (push_step moment len e few fits early a is) = subst (Leads n c) (sym is) (does n c _ (push moment len) tt refl refl refl)
 leads_step n size start c event answer after k s h (push_refused moment len why e refused a is) = subst (Leads n c) (sym is) (no_event n c c refl refl refl)
 leads_step n size start c event answer after k s h (close_step e few a is) = subst (Leads n c) (sym is) (does n c _ push_close tt refl refl refl)
@@ -148,7 +150,7 @@ leads_on n c between after x y = record {
 
 pub leads_run : (n size start : ℕ) (c after : Core) (exchanges : List Exchange) → IsRingKept n size start c → Run n size c exchanges after → Leads n c after
 leads_run n size start c after [] r run = subst (Leads n c) run (no_event n c c refl refl refl)
-leads_run n size start c after (x ∷ exchanges) r (between, step, run) = leads_on n c between after (leads_step n size start c x.event x.answer between r.links r.stack r.history step)
+leads_run n size start c after (x ∷ exchanges) r (between, step, run) = leads_on n c between after (leads_step n size start c x.event x.answer between r.links r.stack r.history (cases_of step))
     (leads_run n size start between after exchanges (ring_step n size start c x.event x.answer between r step) run)
 
 -- events that describe a state, and those that lead on from there, describe the later one

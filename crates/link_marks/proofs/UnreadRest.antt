@@ -3,9 +3,9 @@ use Rattle.std.proofs.Common.{◌≡◌, ℕ, ◌+◌, ◌-◌, ◌≤◌, List,
 use Rattle.std.proofs.lemmas.List.{take-append-drop, map-append, drop-drop, length-map, length-drop, take_all}
 use Rattle.trace_model.specs.Record.{Record}
 use Rattle.trace_model.specs.History.{Reservation, writer_after, reserved_records, settled_prefix, as_record, committed_records}
-use Rattle.trace_model.specs.Packing.{opens_of}
+use Rattle.trace_model.specs.Packing.{opens_of, first_of_fill}
 use Rattle.trace_model.specs.Partition.{IsPartition}
-use Rattle.trace_model.specs.Ring.{Core, first_of_fill}
+use Rattle.trace_model.specs.Ring.{Core}
 use Rattle.trace_model.specs.Frames.{pushed_frames}
 use Rattle.trace_model.proofs.NextEvent.{settled_at_rest}
 use Rattle.trace_model.proofs.Committed.{committed_prefix, committed_len-settled}

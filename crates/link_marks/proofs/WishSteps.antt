@@ -7,7 +7,10 @@ use Rattle.trace_model.specs.History.{HistoryEvent, Reservation}
 use Rattle.trace_model.specs.Packing.{tail_of}
 use Rattle.trace_model.specs.Frames.{Kind, for_record, for_close, FrameState, waiting, reserved, left, Phase, idle, looking, claiming, looking_next, marking, clearing, opening, releasing, wishing, Frame}
 use Rattle.trace_model.specs.Ring.{ReaderPhase, loading_link, loading_done, storing_link, swapping, Core, window_of}
-use Rattle.trace_model.specs.Steps.{Event, Answer, gone, empty, IsGranted, with_new_tail, frames_after_leave, after_begin, BeginsAgain, reserves, finds_nothing, is_crowded, is_worn, notes, load_link_late, sees_free, sees_header, sees_update, claim_late, claims, claim_fails, load_next_late, sees_normal, sees_other, mark_late, marks, mark_fails, clears, open_late, opens, releases, releases_last, grants, closes_more, goes_away, IdleStep, FrameStep, loads_header, loads_update, loads_owed, loads_passed, finds_none, finds_closed, swaps, swap_fails, ReadStep, Step, push_step, push_refused, close_step, close_refused, frame_step, frame_lacks, end_step, end_lacks, end_early, read_step, store_wish_step, Exchange, Run}
+use Rattle.trace_model.specs.Steps.{Event, Answer, gone, empty, IsGranted, with_new_tail, frames_after_leave, after_begin, Step, Exchange, Run}
+use Rattle.trace_model.proofs.EventSteps.{reader_wishes}
+use Rattle.trace_model.proofs.StepCases.{StepCases, BeginsAgain, reserves, finds_nothing, is_crowded, is_worn, notes, load_link_late, sees_free, sees_header, sees_update, claim_late, claims, claim_fails, load_next_late, sees_normal, sees_other, mark_late, marks, mark_fails, clears, open_late, opens, releases, releases_last, grants, closes_more, goes_away, IdleStep, FrameStep, loads_header, loads_update, loads_owed, loads_passed, finds_none, finds_closed, swaps, swap_fails, ReadStep, push_step, push_refused, close_step, close_refused, frame_step, frame_lacks, end_step, end_lacks, end_early, read_step, store_wish_step}
+use Rattle.trace_model.proofs.StepSound.{cases_of}
 use Rattle.link_marks.specs.RingKept.{IsRingKept}
 use Rattle.link_marks.specs.WishLaws.{WishesAreHeld, GoneHasLooked, WishesAreAnswered, WishedTailsAreClosed, WishBehindEmptyLosesNone}
 use Rattle.link_marks.proofs.RingsKept.{run_snoc, ring_step, ring_run}
@@ -18,17 +21,7 @@ use Rattle.link_marks.proofs.Tails.{tail_over}
 -- ---- the wish is stored
 
 pub wishes_held : WishesAreHeld
-wishes_held n size start c answer after r (push_step moment len e few fits early a is) = absurd (cc)
-wishes_held n size start c answer after r (push_refused moment len why e refused a is) = absurd (cc)
-wishes_held n size start c answer after r (close_step e few a is) = absurd (cc)
-wishes_held n size start c answer after r (close_refused e many a is) = absurd (cc)
-wishes_held n size start c answer after r (frame_step frame below e top step) = absurd (cc)
-wishes_held n size start c answer after r (frame_lacks e none a is) = absurd (cc)
-wishes_held n size start c answer after r (end_step payload frame below number moment len e top state kind slot a is) = absurd (cc)
-wishes_held n size start c answer after r (end_lacks payload e none a is) = absurd (cc)
-wishes_held n size start c answer after r (end_early payload frame below e top none a is) = absurd (cc)
-wishes_held n size start c answer after r (read_step e step) = absurd (cc)
-wishes_held n size start c answer after r (store_wish_step e a is) = (a, is, r.links.seen_le)
+wishes_held n size start c answer after r step = let made = reader_wishes step in (made.0, made.1, r.links.seen_le)
 
 -- ---- the last frame leaves
 
@@ -110,7 +103,7 @@ read_stays n c (storing_link page fill) answer after step = (ap (λ (x : Core). 
 read_stays n c (swapping page fill) answer after (swaps at a is) = (ap (λ (x : Core). x.frames) is, ap (λ (x : Core). x.wish) is)
 read_stays n c (swapping page fill) answer after (swap_fails at a is) = (ap (λ (x : Core). x.frames) is, ap (λ (x : Core). x.wish) is)
 
-looked_step : (n size : ℕ) (c : Core) (event : Event) (answer : Answer) (after : Core) (frame : Frame) (below : List Frame) → c.frames ≡ frame ∷ below → Step n size c event answer after → after.frames ≡ [] → HasLooked n c below frame.phase answer
+looked_step : (n size : ℕ) (c : Core) (event : Event) (answer : Answer) (after : Core) (frame : Frame) (below : List Frame) → c.frames ≡ frame ∷ below → StepCases n size c event answer after → after.frames ≡ [] → HasLooked n c below frame.phase answer
 looked_step n size c event answer after frame below top (push_step moment len e few fits early a is) none = absurd (some_stands _ c.frames (sym (ap (λ (x : Core). x.frames) is) ∙ none))
 looked_step n size c event answer after frame below top (push_refused moment len why e refused a is) none = absurd (some_stands frame below (sym top ∙ sym (ap (λ (x : Core). x.frames) is) ∙ none))
 looked_step n size c event answer after frame below top (close_step e few a is) none = absurd (some_stands _ c.frames (sym (ap (λ (x : Core). x.frames) is) ∙ none))
@@ -136,7 +129,7 @@ denied_why n c denied asks = ⊎_elim (λ none. inl none)
     (tail_cases (tail_of c.history))
 
 pub gone_has_looked : GoneHasLooked
-gone_has_looked n size c event answer after frame below top step none = let l = looked_step n size c event answer after frame below top step none in
+gone_has_looked n size c event answer after frame below top step none = let l = looked_step n size c event answer after frame below top (cases_of step) none in
     (l.alone, l.looked, l.is_gone, λ asks. denied_why n c l.denied (asks ∙ l.closed))
 
 -- ---- the wish is answered
@@ -187,7 +180,7 @@ frame_wish n size c frame below wishing answer after (closes_more alone denied m
 frame_wish n size c frame below wishing answer after (goes_away alone denied last a is) = wish_is c after _ is refl
 
 -- the wish stays, or is the one after what the reader has seen
-wish_moves : (n size : ℕ) (c : Core) (event : Event) (answer : Answer) (after : Core) → Step n size c event answer after → (after.wish ≡ c.wish) ⊎ (after.wish ≡ c.reader.seen + 1)
+wish_moves : (n size : ℕ) (c : Core) (event : Event) (answer : Answer) (after : Core) → StepCases n size c event answer after → (after.wish ≡ c.wish) ⊎ (after.wish ≡ c.reader.seen + 1)
 wish_moves n size c event answer after (push_step moment len e few fits early a is) = inl (wish_is c after _ is refl)
 wish_moves n size c event answer after (push_refused moment len why e refused a is) = inl (wish_is c after _ is refl)
 wish_moves n size c event answer after (close_step e few a is) = inl (wish_is c after _ is refl)
@@ -214,7 +207,7 @@ module _ (n size start : ℕ) (c : Core) where
   pending_gone : (s : Core) (event : Event) (answer : Answer) (after : Core) → IsPending c s → Step n size s event answer after → s.frames ≢ [] → after.frames ≡ [] → (tail_of s.history ≡ []) ⊎ (LINK_FILLS ≤ s.opened + n)
   pending_gone s event answer after p step stand none =
       let (frame, below, top) = frames_of s.frames stand in
-      let l = looked_step n size s event answer after frame below top step none in
+      let l = looked_step n size s event answer after frame below top (cases_of step) none in
       let last = l.closed in let closed = p.closed in let asks = p.asks in
       denied_why n s l.denied (omega arith)
 
@@ -226,7 +219,7 @@ module _ (n size start : ℕ) (c : Core) where
       dite (ℕ_discrete after.done c.done)
       (λ same. inl record {
         closed = same;
-        asks = ⊎_elim (λ stays. stays ∙ asks) (λ new. omega arith) (wish_moves n size s event answer after step);
+        asks = ⊎_elim (λ stays. stays ∙ asks) (λ new. omega arith) (wish_moves n size s event answer after (cases_of step));
       })
       (λ more. inr (omega arith))
 
@@ -252,7 +245,7 @@ module _ (n size start : ℕ) (c : Core) where
       (λ pending. none_or_some between.frames
       (λ gone. absurd (
       let (frame, below, top) = frames_of s.frames stand in
-      let l = looked_step n size s x.event x.answer between frame below top step gone in
+      let l = looked_step n size s x.event x.answer between frame below top (cases_of step) gone in
       let last = l.closed in let closed = p.closed in let behind = r.links.done_lt in
       let rises = counts_rise n size start c s front r before in let opens = rises.2 in
       ⊎_elim (λ empty. tail_run s front r before (omega arith) some empty) (λ full. omega arith) (pending_gone s x.event x.answer between p step stand gone)))

@@ -2,9 +2,9 @@
 use Rattle.std.proofs.Common.{◌≡◌, ℕ, ◌+◌, ◌-◌, ◌<◌, ◌≤◌, List, [], length, get_or, sym, ap, ◌∙◌, subst, arith}
 use Rattle.std.specs.List.{slice_get}
 use Rattle.trace_model.specs.History.{Reservation, reserved_records}
-use Rattle.trace_model.specs.Packing.{opens_of, cut_from, tail_of}
+use Rattle.trace_model.specs.Packing.{opens_of, cut_from, tail_of, first_of_fill}
 use Rattle.trace_model.specs.Frames.{Frame}
-use Rattle.trace_model.specs.Ring.{PageRecords, page_at, first_of_fill}
+use Rattle.trace_model.specs.Ring.{PageRecords, page_at}
 use Rattle.trace_model.specs.Steps.{contents_of}
 use Rattle.trace_model.proofs.PackedHistories.{tail_is}
 use Rattle.link_marks.specs.KeptContents.{cut_fill}

@@ -7,7 +7,9 @@ use Rattle.trace_model.specs.Packing.{tail_of}
 use Rattle.trace_model.specs.Links.{header_link}
 use Rattle.trace_model.specs.Frames.{Kind, for_record, for_close, FrameState, waiting, reserved, left, number_of, Role, owner, helper, Phase, idle, looking, claiming, looking_next, marking, clearing, opening, releasing, wishing, Frame}
 use Rattle.trace_model.specs.Ring.{Core}
-use Rattle.trace_model.specs.Steps.{pushes, pushes_close, steps, ends, reads, wishes, Answer, closing_phase, in_phase, after_leave, after_next, with_link, with_new_tail, with_released, after_begin, BeginsAgain, IdleStep, ReserveStep, reserves, finds_nothing, is_crowded, is_worn, notes, LoadLinkStep, load_link_late, sees_free, sees_header, sees_update, ClaimHeadStep, claim_late, claims, claim_fails, LoadNextStep, load_next_late, sees_normal, sees_other, MarkHeadStep, mark_late, marks, mark_fails, ClearUpdateStep, clears, OpenFillStep, open_late, opens, ReleaseFillStep, releases, releases_last, LoadWishStep, grants, closes_more, goes_away, FrameStep, push_step, push_refused, close_step, close_refused, frame_step, frame_lacks, end_step, end_lacks, end_early, read_step, store_wish_step}
+use Rattle.trace_model.specs.Steps.{pushes, pushes_close, steps, ends, reads, wishes, Answer, closing_phase, in_phase, after_leave, after_next, with_link, with_new_tail, with_released, after_begin}
+use Rattle.trace_model.proofs.EventSteps.{top_step}
+use Rattle.trace_model.proofs.StepCases.{BeginsAgain, IdleStep, ReserveStep, reserves, finds_nothing, is_crowded, is_worn, notes, LoadLinkStep, load_link_late, sees_free, sees_header, sees_update, ClaimHeadStep, claim_late, claims, claim_fails, LoadNextStep, load_next_late, sees_normal, sees_other, MarkHeadStep, mark_late, marks, mark_fails, ClearUpdateStep, clears, OpenFillStep, open_late, opens, ReleaseFillStep, releases, releases_last, LoadWishStep, grants, closes_more, goes_away, FrameStep, push_step, push_refused, close_step, close_refused, frame_step, frame_lacks, end_step, end_lacks, end_early, read_step, store_wish_step}
 use Rattle.link_marks.specs.KeptLinks.{LinksKept}
 use Rattle.link_marks.specs.KeptStack.{MayBeIn}
 use Rattle.link_marks.specs.RingKept.{IsRingKept}
@@ -211,23 +213,8 @@ module _ (n size start : ℕ) (c : Core) (frame : Frame) (below : List Frame) (r
     frame_lowers wishing answer after same none stays step = load_wish_lowers answer after same stays step
 
 pub writer_steps_lower : WriterStepsComeToAnEnd
-writer_steps_lower n size start c frame below answer after passed knows r top none (frame_step f b e at step) stays more behind past =
-    let same : frame ∷ below ≡ f ∷ b = sym top ∙ at in
-    let heads : frame ≡ f = cc in
-    frame_lowers n size start c f b r at passed knows
-    (subst (λ (x : Frame). (noted : ℕ) → x.phase ≡ looking noted → noted ≡ c.opened → passed ≤ c.head) heads behind)
-    (subst (λ (x : Frame). (noted page : ℕ) → x.phase ≡ claiming noted page → noted ≡ c.opened → noted < knows + n) heads past)
-    f.phase answer after refl (subst (λ (x : Frame). number_of x.state ≡ None) heads none) stays step
-writer_steps_lower n size start c frame below answer after passed knows r top none (frame_lacks e at a is) stays more behind past = absurd (let wrong : ◌≡◌ {A = List Frame} [] (frame ∷ below) = sym at ∙ top in cc)
-writer_steps_lower n size start c frame below answer after passed knows r top none (push_step moment len e few short early a is) stays more behind past = absurd (let w : steps ≡ pushes moment len = e in cc)
-writer_steps_lower n size start c frame below answer after passed knows r top none (push_refused moment len why e refused a is) stays more behind past = absurd (let w : steps ≡ pushes moment len = e in cc)
-writer_steps_lower n size start c frame below answer after passed knows r top none (close_step e few a is) stays more behind past = absurd (let w : steps ≡ pushes_close = e in cc)
-writer_steps_lower n size start c frame below answer after passed knows r top none (close_refused e many a is) stays more behind past = absurd (let w : steps ≡ pushes_close = e in cc)
-writer_steps_lower n size start c frame below answer after passed knows r top none (end_step payload f b number moment len e at own kind fits a is) stays more behind past = absurd (let w : steps ≡ ends payload = e in cc)
-writer_steps_lower n size start c frame below answer after passed knows r top none (end_lacks payload e at a is) stays more behind past = absurd (let w : steps ≡ ends payload = e in cc)
-writer_steps_lower n size start c frame below answer after passed knows r top none (end_early payload f b e at lacks a is) stays more behind past = absurd (let w : steps ≡ ends payload = e in cc)
-writer_steps_lower n size start c frame below answer after passed knows r top none (read_step e step) stays more behind past = absurd (let w : steps ≡ reads = e in cc)
-writer_steps_lower n size start c frame below answer after passed knows r top none (store_wish_step e a is) stays more behind past = absurd (let w : steps ≡ wishes = e in cc)
+writer_steps_lower n size start c frame below answer after passed knows r top none step stays more behind past =
+    frame_lowers n size start c frame below r top passed knows behind past frame.phase answer after refl none stays (top_step frame below frame.phase top refl step)
 
 -- ---- the limit
 

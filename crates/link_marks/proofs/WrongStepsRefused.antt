@@ -13,8 +13,7 @@ use Rattle.link_marks.specs.WrongSteps.{to_free_positions, with_head_lost, to_op
 use Rattle.link_marks.proofs.FramePhases.{none_some}
 use Rattle.link_marks.proofs.RingsKept.{ring_start, ring_step, ring_run, is_ring}
 use Rattle.link_marks.proofs.PackedRuns.{runs_packed}
-use Rattle.link_marks.proofs.StepFunction.{run_of}
-use Rattle.link_marks.proofs.StepFunctionSound.{event_in, answer_in, Gives, run_sound}
+use Rattle.link_marks.proofs.RunFunction.{run_of, event_in, answer_in, Gives, run_sound}
 use Rattle.link_marks.proofs.ExamplesRun.{two_pages, four_pages, two_start, four_start, last_from}
 
 -- where the state is no ring, no step makes it

@@ -4,9 +4,9 @@ use Rattle.std.specs.Prelude.{◌≡◌, ◌≢◌, ℕ, ◌+◌, ◌-◌, ◌*�
 use Rattle.trace_model.specs.declared.limits.TheConstants.{MAX_SIZE}
 use Rattle.trace_model.specs.Record.{Record}
 use Rattle.trace_model.specs.History.{HistoryEvent, IsHistory, Reservation, reserved_records, as_record, committed_records}
-use Rattle.trace_model.specs.Packing.{fills_of, tail_of, IsPacked}
+use Rattle.trace_model.specs.Packing.{fills_of, tail_of, IsPacked, first_of_fill}
 use Rattle.trace_model.specs.Partition.{IsPartition}
-use Rattle.trace_model.specs.Ring.{Taken, Core, first_of_fill, AreFillsOf}
+use Rattle.trace_model.specs.Ring.{Taken, Core, AreFillsOf}
 use Rattle.trace_model.specs.Steps.{Event, Answer, Step}
 use Rattle.link_marks.specs.KeptPartition.{pieces_of, HaveFirsts}
 use Rattle.link_marks.specs.RingKept.{IsRingKept}

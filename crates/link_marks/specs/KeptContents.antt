@@ -1,9 +1,9 @@
 -- What each step of a ring keeps of its pages and their records.
 use Rattle.std.specs.Prelude.{◌≡◌, ◌≢◌, ℕ, ◌+◌, ◌-◌, ◌<◌, ◌≤◌, List, [], ◌∷◌, length, slice_index_or}
 use Rattle.trace_model.specs.History.{HistoryEvent, Reservation, reserved_records, settled_prefix}
-use Rattle.trace_model.specs.Packing.{opens_of, cut_from}
+use Rattle.trace_model.specs.Packing.{opens_of, cut_from, first_of_fill}
 use Rattle.trace_model.specs.Fitting.{IsRising}
-use Rattle.trace_model.specs.Ring.{PageRecords, empty_page, Core, page_at, first_of_fill}
+use Rattle.trace_model.specs.Ring.{PageRecords, empty_page, Core, page_at}
 
 -- a fill as the cuts give it: its records, from its first number on
 abbrev pub cut_fill : ℕ → List ℕ → List Reservation → ℕ → PageRecords

@@ -3,7 +3,8 @@ use Rattle.std.specs.Prelude.{◌≡◌, ℕ, ◌+◌, ◌<◌, ◌≤◌, List,
 use Rattle.std.specs.List.{slice_get}
 use Rattle.trace_model.specs.History.{HistoryEvent, reserved_records, as_record}
 use Rattle.trace_model.specs.Partition.{Piece, IsPartition, covered_count, first_of}
-use Rattle.trace_model.specs.Ring.{Taken, Core, first_of_fill, AreFillsOf}
+use Rattle.trace_model.specs.Packing.{first_of_fill}
+use Rattle.trace_model.specs.Ring.{Taken, Core, AreFillsOf}
 
 -- a taken fill as a piece: what was lost before it, and its records
 abbrev pub piece_of : Taken → Piece

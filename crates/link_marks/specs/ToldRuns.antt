@@ -7,18 +7,16 @@ use Rattle.trace_model.specs.Ring.{Taken, Core, window_of}
 -- the fills that the events take, from this head on, in order
 abbrev pub fills_taken : ℕ → List RingEvent → List ℕ
 fills_taken head [] = []
-fills_taken head (acts a ∷ events) = fills_taken head events
-fills_taken head (closes ∷ events) = fills_taken head events
 fills_taken head (takes ∷ events) = head ∷ fills_taken (head + 1) events
 fills_taken head (loses ∷ events) = fills_taken (head + 1) events
+fills_taken head (_ ∷ events) = fills_taken head events
 
 -- the fills that they lose
 abbrev pub fills_lost : ℕ → List RingEvent → List ℕ
 fills_lost head [] = []
-fills_lost head (acts a ∷ events) = fills_lost head events
-fills_lost head (closes ∷ events) = fills_lost head events
 fills_lost head (takes ∷ events) = fills_lost (head + 1) events
 fills_lost head (loses ∷ events) = head ∷ fills_lost (head + 1) events
+fills_lost head (_ ∷ events) = fills_lost head events
 
 abbrev pub numbers_of : List Taken → List ℕ
 numbers_of taken = map (λ t. t.fill) taken

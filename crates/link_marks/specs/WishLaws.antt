@@ -1,9 +1,9 @@
 -- The laws of the reader's wish, as statements: each is a clause of a function of src/laws/wishes.rt.
 use Rattle.std.specs.Prelude.{◌≡◌, ◌≢◌, ℕ, ◌+◌, ◌<◌, ◌≤◌, ◌⊎◌, List, [], ◌∷◌, length}
 use Rattle.trace_model.specs.declared.limits.TheConstants.{LINK_FILLS}
-use Rattle.trace_model.specs.Packing.{tail_of}
+use Rattle.trace_model.specs.Packing.{tail_of, first_of_fill}
 use Rattle.trace_model.specs.Frames.{reserved, wishing, Frame}
-use Rattle.trace_model.specs.Ring.{Core, first_of_fill}
+use Rattle.trace_model.specs.Ring.{Core}
 use Rattle.trace_model.specs.Steps.{Event, ends, wishes, Answer, gone, full, empty, wished_for, IsGranted, Step, Exchange, Run}
 use Rattle.link_marks.specs.RingKept.{IsRingKept}
 use Rattle.link_marks.specs.WindowLaws.{HeadIsLost}

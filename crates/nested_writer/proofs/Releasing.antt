@@ -5,10 +5,10 @@ use Rattle.std.proofs.lemmas.List.{take_all, take-map, drop-map}
 use Rattle.std.proofs.lemmas.List.Elements.{All-nil, All-head, All-tail, All-take, All-drop}
 use Rattle.trace_model.specs.Record.{Record}
 use Rattle.trace_model.specs.History.{HistoryEvent, Reservation, HasItsBytes, as_record, writer_after, reserved_records, is_settled, settled_prefix, committed_records, IsHistory}
-use Rattle.trace_model.specs.Packing.{opens_of, cut_from, tail_of, is_wished}
+use Rattle.trace_model.specs.Packing.{opens_of, cut_from, tail_of, is_wished, first_of_fill}
 use Rattle.trace_model.specs.Fitting.{tail_at}
 use Rattle.trace_model.specs.Frames.{FrameState, left, pushed_onto, pushed_of}
-use Rattle.trace_model.specs.Ring.{first_of_fill, fill_of}
+use Rattle.trace_model.specs.Ring.{fill_of}
 use Rattle.trace_model.specs.OpenPages.{IsOf, AreOf, HoldsRecords}
 use Rattle.trace_model.proofs.Committed.{whole_front}
 use Rattle.trace_model.proofs.CommittedWritten.{committed-IsWritten}

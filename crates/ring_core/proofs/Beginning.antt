@@ -9,6 +9,8 @@ use Rattle.trace_model.specs.History.{Reservation, records_with_payload}
 use Rattle.trace_model.specs.Frames.{Kind, for_record, for_close, FrameState, waiting, reserved, left, Phase as ModelPhase, idle, opening, Frame}
 use Rattle.trace_model.specs.Ring.{Core, PageRecords, page_at, empty_page}
 use Rattle.trace_model.specs.Steps as model
+use Rattle.trace_model.proofs.StepCases as cases
+use Rattle.trace_model.proofs.StepIs.{step_by}
 use Rattle.link_marks.specs.KeptLinks.{PhaseKept}
 use Rattle.link_marks.specs.RingKept.{IsRingKept}
 use Rattle.link_marks.proofs.FrameChanges.{top_kept}
@@ -107,7 +109,7 @@ module _ (n size start : ℕ) (v : CoreValue) (c : Core) (core : IsCore n size s
       let same : after ≡ private_state tail after.frames after.history after.held = changes_privately tail after (begin_result tail top.frame.kind top.frame.state top.frame top.below top.is_top) in
       let held : after.held ≡ tail.held = begin_holds tail top.frame.kind top.frame.state top.frame top.below in
       stepped n size start v value c model.steps result answer after core
-      (model.frame_step top.frame top.below refl top.is_top (subst (λ (p : ModelPhase). model.FrameStep n size c top.frame top.below p answer after) (sym (top.phase_is ∙ ap phase_of is)) (model.opens (sym s.frames.opened_is) refl refl)))
+      (step_by (cases.frame_step top.frame top.below refl top.is_top (subst (λ (p : ModelPhase). cases.FrameStep n size c top.frame top.below p answer after) (sym (top.phase_is ∙ ap phase_of is)) (cases.opens (sym s.frames.opened_is) refl refl))))
       tells
       (subst (HasStateOf n size start value) (sym same) record {
         frames = subst (AreFrames n size start new) same are;

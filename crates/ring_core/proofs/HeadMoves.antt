@@ -7,6 +7,7 @@ use Rattle.trace_model.specs.Frames as model
 use Rattle.trace_model.specs.Frames.{Frame, noted_fill}
 use Rattle.trace_model.specs.Ring.{Core, link_into, links_with}
 use Rattle.trace_model.specs.Steps as model_steps
+use Rattle.trace_model.proofs.StepCases as cases
 use Rattle.trace_model.specs.Steps.{MayOpen}
 use Rattle.link_marks.specs.declared.link.Mark.{Mark}
 use Rattle.link_marks.specs.declared.link.Mark.TheVariants.{Normal, Header, Update}
@@ -79,7 +80,7 @@ links_shown n size start v c f l s = λ i. links_with (sym s.positions i) (s.lin
 module _ (n size start : ℕ) (v : CoreValue) (c : Core) (core : IsCore n size start v c) (some : v.stack.frames ≢ []) where
   -- It goes on in another phase, for the same fill.
   goes : (phase : model.Phase) (to : Phase) (o : ℕ) → phase_of v.phase ≡ phase → noted_fill phase ≡ Some o → noted_fill (phase_of to) ≡ Some o
-      → ((frame : Frame) (below : List Frame) → model_steps.FrameStep n size c frame below phase model_steps.going (model_steps.in_phase c frame below (phase_of to)))
+      → ((frame : Frame) (below : List Frame) → cases.FrameStep n size c frame below phase model_steps.going (model_steps.in_phase c frame below (phase_of to)))
       → IsStep n size start c model_steps.steps Going (record v { phase = to })
   goes phase to o at was is step =
       let t = topped n size start (frames_of v) c core.shows.frames some in let frame : Frame = t.frame in let below : List Frame = t.below in
@@ -88,7 +89,7 @@ module _ (n size start : ℕ) (v : CoreValue) (c : Core) (core : IsCore n size s
 
   -- It sets a link, and goes on in another phase.
   sets : (phase : model.Phase) (to : Phase) (o f head : ℕ) (l : Link) → phase_of v.phase ≡ phase → noted_fill phase ≡ Some o → noted_fill (phase_of to) ≡ Some o → c.head ≤ head
-      → ((frame : Frame) (below : List Frame) → model_steps.FrameStep n size c frame below phase model_steps.going (record c { frames = record frame { phase = phase_of to } ∷ below; links = links_with n c.links f l; head = head }))
+      → ((frame : Frame) (below : List Frame) → cases.FrameStep n size c frame below phase model_steps.going (record c { frames = record frame { phase = phase_of to } ∷ below; links = links_with n c.links f l; head = head }))
       → IsStep n size start c model_steps.steps Going (record v { phase = to; links = links_with (length v.links) v.links f l })
   sets phase to o f head l at was is later step =
       let s = core.shows in
@@ -111,21 +112,21 @@ module _ (n size start : ℕ) (v : CoreValue) (c : Core) (core : IsCore n size s
       let here = link_shown n size start v c noted core.shows ∙ link in
       let it = is_opened noted now in
       let tells = normal_fill n c kept.links kept.progress noted it page fill here in
-      goes (model.looking noted) (Opening noted page) noted (ap phase_of at) refl refl (λ frame below. model_steps.sees_free page it (here ∙ ap (normal_link page) tells) refl refl)
+      goes (model.looking noted) (Opening noted page) noted (ap phase_of at) refl refl (λ frame below. cases.sees_free page it (here ∙ ap (normal_link page) tells) refl refl)
 
   pub looks_header : (noted page fill : ℕ) → v.phase ≡ Looking noted → noted ≡ opened v.stack → link_into (length v.links) v.links noted ≡ header_link page fill → IsStep n size start c model_steps.steps Going (record v { phase = Claiming noted page })
   looks_header noted page fill at now link =
       let here = link_shown n size start v c noted core.shows ∙ link in
       let it = is_opened noted now in
       let tells = header_fill n c kept.links kept.progress noted it page fill here in
-      goes (model.looking noted) (Claiming noted page) noted (ap phase_of at) refl refl (λ frame below. model_steps.sees_header page fill it tells here refl refl)
+      goes (model.looking noted) (Claiming noted page) noted (ap phase_of at) refl refl (λ frame below. cases.sees_header page fill it tells here refl refl)
 
   pub looks_update : (noted page fill : ℕ) → v.phase ≡ Looking noted → noted ≡ opened v.stack → link_into (length v.links) v.links noted ≡ update_link page fill → IsStep n size start c model_steps.steps Going (record v { phase = LookingNext Helper noted page })
   looks_update noted page fill at now link =
       let here = link_shown n size start v c noted core.shows ∙ link in
       let it = is_opened noted now in
       let tells = update_fill n c kept.links kept.progress noted it page fill here in
-      goes (model.looking noted) (LookingNext Helper noted page) noted (ap phase_of at) refl refl (λ frame below. model_steps.sees_update page fill it tells here refl refl)
+      goes (model.looking noted) (LookingNext Helper noted page) noted (ap phase_of at) refl refl (λ frame below. cases.sees_update page fill it tells here refl refl)
 
   -- ---- the head is lost
 
@@ -138,7 +139,7 @@ module _ (n size start : ℕ) (v : CoreValue) (c : Core) (core : IsCore n size s
       let it = is_opened noted now in
       subst (λ (x : CoreValue). IsStep n size start c model_steps.steps Going (record x { phase = LookingNext Owner noted page })) (sym claim.new_is)
       (sets (model.claiming noted page) (LookingNext Owner noted page) noted noted (c.head + 1) (update_link page lost) (ap phase_of at) refl refl (omega arith)
-      (λ frame below. model_steps.claims lost it (omega arith) here refl refl))
+      (λ frame below. cases.claims lost it (omega arith) here refl refl))
 
   pub claims_none : (noted page : ℕ) (new : CoreValue) → v.phase ≡ Claiming noted page → noted ≡ opened v.stack → new ≡ v → ((lost : ℕ) → HasHeader v noted page lost → ⊥)
       → IsStep n size start c model_steps.steps Going (record new { phase = Looking noted })
@@ -147,7 +148,7 @@ module _ (n size start : ℕ) (v : CoreValue) (c : Core) (core : IsCore n size s
       let wide = core.shows.positions in
       subst (λ (x : CoreValue). IsStep n size start c model_steps.steps Going (record x { phase = Looking noted })) (sym same)
       (goes (model.claiming noted page) (Looking noted) noted (ap phase_of at) refl refl
-      (λ frame below. model_steps.claim_fails (is_opened noted now) (λ lost sum e. none lost record { round = omega arith; link = sym there ∙ e }) refl refl))
+      (λ frame below. cases.claim_fails (is_opened noted now) (λ lost sum e. none lost record { round = omega arith; link = sym there ∙ e }) refl refl))
 
   -- ---- the next link
 
@@ -173,7 +174,7 @@ module _ (n size start : ℕ) (v : CoreValue) (c : Core) (core : IsCore n size s
       let here = link_shown n size start v c (suc lost) core.shows ∙ link in
       let wide = core.shows.positions in
       goes (model.looking_next (role_of role) noted page) (Marking role noted page next) noted (ap phase_of at) refl refl
-      (λ frame below. model_steps.sees_normal lost next (goes_on role noted now) (omega arith) here refl refl)
+      (λ frame below. cases.sees_normal lost next (goes_on role noted now) (omega arith) here refl refl)
 
   -- what the frame does after the look at the next link
   noted_after : (role : Role) (noted page : ℕ) → noted_fill (model_steps.after_next (role_of role) noted page) ≡ Some noted
@@ -188,7 +189,7 @@ module _ (n size start : ℕ) (v : CoreValue) (c : Core) (core : IsCore n size s
       let same = link_shown n size start v c (suc lost) core.shows in
       let wide = core.shows.positions in
       goes (model.looking_next (role_of role) noted page) to noted (ap phase_of at) refl (ap noted_fill to_is ∙ noted_after role noted page)
-      (λ frame below. model_steps.sees_other lost (goes_on role noted now) (omega arith) (λ next e. differ next (sym same ∙ e)) refl (ap (model_steps.in_phase c frame below) to_is))
+      (λ frame below. cases.sees_other lost (goes_on role noted now) (omega arith) (λ next e. differ next (sym same ∙ e)) refl (ap (model_steps.in_phase c frame below) to_is))
 
   marks : (role : Role) (noted page next lost : ℕ) (to : Phase) → v.phase ≡ Marking role noted page next → MayOpen (role_of role) noted (opened v.stack) → lost + length v.links ≡ noted
       → phase_of to ≡ model_steps.after_next (role_of role) noted page
@@ -198,7 +199,7 @@ module _ (n size start : ℕ) (v : CoreValue) (c : Core) (core : IsCore n size s
       let here = link_shown n size start v c (suc lost) core.shows ∙ link in
       let wide = core.shows.positions in
       sets (model.marking (role_of role) noted page next) to noted (suc lost) c.head (header_link next (suc lost)) (ap phase_of at) refl (ap noted_fill to_is ∙ noted_after role noted page) (omega arith)
-      (λ frame below. model_steps.marks lost (goes_on role noted now) (omega arith) here refl (ap (model_steps.in_phase (model_steps.with_link n c (suc lost) (header_link next (suc lost))) frame below) to_is))
+      (λ frame below. cases.marks lost (goes_on role noted now) (omega arith) here refl (ap (model_steps.in_phase (model_steps.with_link n c (suc lost) (header_link next (suc lost))) frame below) to_is))
 
   fails : (role : Role) (noted page next lost : ℕ) (to : Phase) → v.phase ≡ Marking role noted page next → MayOpen (role_of role) noted (opened v.stack) → lost + length v.links ≡ noted
       → phase_of to ≡ model_steps.after_next (role_of role) noted page
@@ -208,7 +209,7 @@ module _ (n size start : ℕ) (v : CoreValue) (c : Core) (core : IsCore n size s
       let same = link_shown n size start v c (suc lost) core.shows in
       let wide = core.shows.positions in
       goes (model.marking (role_of role) noted page next) to noted (ap phase_of at) refl (ap noted_fill to_is ∙ noted_after role noted page)
-      (λ frame below. model_steps.mark_fails lost (goes_on role noted now) (omega arith) (λ e. differ (sym same ∙ e)) refl (ap (model_steps.in_phase c frame below) to_is))
+      (λ frame below. cases.mark_fails lost (goes_on role noted now) (omega arith) (λ e. differ (sym same ∙ e)) refl (ap (model_steps.in_phase c frame below) to_is))
 
   -- the exchange succeeds or fails
   pub mark_exchanged : (role : Role) (noted page next lost : ℕ) (to : Phase) (met : Bool) (new : CoreValue) → v.phase ≡ Marking role noted page next → MayOpen (role_of role) noted (opened v.stack) → lost + length v.links ≡ noted
@@ -231,7 +232,7 @@ module _ (n size start : ℕ) (v : CoreValue) (c : Core) (core : IsCore n size s
       let (lost, sum, low, open_yet, there) = knows.moves noted refl in
       let page_is = (knows.passed noted page refl).2 in
       sets (model.clearing noted page) (Opening noted page) noted noted c.head (normal_link page noted) (ap phase_of at) refl refl (omega arith)
-      (λ frame below. model_steps.clears lost sum (there ∙ ap (λ (p : ℕ). update_link p lost) (sym page_is)) refl refl)
+      (λ frame below. cases.clears lost sum (there ∙ ap (λ (p : ℕ). update_link p lost) (sym page_is)) refl refl)
 
 -- ---- another frame has begun the fill
 

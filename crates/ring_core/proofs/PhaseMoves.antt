@@ -5,7 +5,9 @@ use Rattle.trace_model.specs.Links.{Link}
 use Rattle.trace_model.specs.Frames as model
 use Rattle.trace_model.specs.Frames.{Frame, noted_fill}
 use Rattle.trace_model.specs.Ring.{Core}
-use Rattle.trace_model.specs.Steps.{Answer, steps, FrameStep, frame_step, in_phase}
+use Rattle.trace_model.specs.Steps.{Answer, steps, in_phase}
+use Rattle.trace_model.proofs.StepCases.{FrameStep, frame_step}
+use Rattle.trace_model.proofs.StepIs.{step_by}
 use Rattle.ring_frames.specs.declared.answer.Answer as code
 use Rattle.ring_frames.specs.declared.phase.Phase.{Phase}
 use Rattle.ring_frames.specs.Value.{phase_of}
@@ -57,4 +59,4 @@ pub top_steps : (n size start : ℕ) (v new : CoreValue) (c : Core) (frame : Fra
     → HasStateOf n size start new after
     → IsStep n size start c steps result new
 top_steps n size start v new c frame below phase result answer after core top at step tells shows =
-    stepped n size start v new c steps result answer after core (frame_step frame below refl top (subst (λ (p : model.Phase). FrameStep n size c frame below p answer after) (sym at) step)) tells shows
+    stepped n size start v new c steps result answer after core (step_by (frame_step frame below refl top (subst (λ (p : model.Phase). FrameStep n size c frame below p answer after) (sym at) step))) tells shows

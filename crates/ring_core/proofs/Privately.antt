@@ -6,6 +6,7 @@ use Rattle.trace_model.specs.History.{HistoryEvent}
 use Rattle.trace_model.specs.Ring.{PageRecords, Core, page_at}
 use Rattle.trace_model.specs.Steps as model
 use Rattle.trace_model.specs.Steps.{contents_of}
+use Rattle.trace_model.proofs.StepSound.{cases_of}
 use Rattle.link_marks.specs.RingKept.{IsRingKept}
 use Rattle.link_marks.proofs.PageChanges.{pages_differ}
 use Rattle.link_marks.proofs.PrivateSteps.{private_state, private_result, changes_privately}
@@ -51,7 +52,7 @@ pub made_privately : (v : CoreValue) (event : model.Event) (result : Answer) (ne
 made_privately v event result new makes = λ n size start c core.
     let p : IsPrivateStep n size start c event result new = makes n size start c core.reached core.shows.frames in
     let after : Core = p.after in
-    let is = changes_privately c after (private_result n size c event p.answer after p.private p.step) in
+    let is = changes_privately c after (private_result n size c event p.answer after p.private (cases_of p.step)) in
     let others = private_leaves_other_pages n size start c event p.answer after (kept_of n size start v c core) p.private p.step in
     let behind : Core = private_state c after.frames after.history after.held in
     stepped n size start v (with_frames v new) c event result p.answer after core p.step p.tells

@@ -4,6 +4,8 @@ use Rattle.trace_model.specs.declared.limits.TheConstants.{LINK_FILLS}
 use Rattle.trace_model.specs.Links.{Link, header_link, normal_link, update_link}
 use Rattle.trace_model.specs.Ring as ring
 use Rattle.trace_model.specs.Steps as model
+use Rattle.trace_model.proofs.StepCases as cases
+use Rattle.trace_model.proofs.StepIs.{step_by}
 use Rattle.link_marks.specs.KeptLinks.{ReaderKept, LinkKept, is_normal, is_header, is_update, LinksKept}
 use Rattle.link_marks.proofs.LinkFills.{fill_at, normal_tells}
 use Rattle.link_marks.proofs.Positions.{at_position}
@@ -67,18 +69,18 @@ module _ (n size start : ℕ) (v : CoreValue) (c : ring.Core) (core : IsCore n s
   pub wished : IsStep n size start c model.wishes (Wished record { 0 = v.reader.seen }) (record v { wish = v.reader.seen + 1 })
   wished = let s = core.shows in
       stepped n size start v (record v { wish = v.reader.seen + 1 }) c model.wishes (Wished record { 0 = v.reader.seen }) (model.wished_for c.reader.seen) (model.with_wish c) core
-      (model.store_wish_step refl refl refl) (ap model.wished_for s.seen_is)
+      (step_by (cases.store_wish_step refl refl refl)) (ap model.wished_for s.seen_is)
       (reader_shown n size start v c v.spare_link c.spare_link (v.reader.seen + 1) (c.reader.seen + 1) v.reader c.reader s
       s.spare_link_is (ap (λ (k : ℕ). k + 1) s.seen_is) s.reader_phase_is s.hint_is s.seen_is s.expected_is)
 
   -- a step of the reader that changes only the reader and its page's link
   pub reads : (phase : ring.ReaderPhase) (answer : model.Answer) (result : Answer) (spare_link of_link : Link) (reader : Reader) (of : ring.Reader) → reader_phase_of v.reader.phase ≡ phase
-      → model.ReadStep n c phase answer (record c { spare_link = of_link; reader = of }) → IsAnswerOf size result answer
+      → cases.ReadStep n c phase answer (record c { spare_link = of_link; reader = of }) → IsAnswerOf size result answer
       → of_link ≡ spare_link → of.phase ≡ reader_phase_of reader.phase → of.hint ≡ reader.hint → of.seen ≡ reader.seen → of.expected ≡ reader.expected
       → IsStep n size start c model.reads result (record v { spare_link = spare_link; reader = reader })
   reads phase answer result spare_link of_link reader of at step tells link_is phase_is hint seen expected = let s = core.shows in
       stepped n size start v (record v { spare_link = spare_link; reader = reader }) c model.reads result answer (record c { spare_link = of_link; reader = of }) core
-      (model.read_step refl (subst (λ (p : ring.ReaderPhase). model.ReadStep n c p answer (record c { spare_link = of_link; reader = of })) (sym (s.reader_phase_is ∙ at)) step)) tells
+      (step_by (cases.read_step refl (subst (λ (p : ring.ReaderPhase). cases.ReadStep n c p answer (record c { spare_link = of_link; reader = of })) (sym (s.reader_phase_is ∙ at)) step))) tells
       (reader_shown n size start v c spare_link of_link v.wish c.wish reader of s link_is s.wish_is phase_is hint seen expected)
 
   -- the link into the position of the hint, as it is loaded
@@ -89,19 +91,19 @@ module _ (n size start : ℕ) (v : CoreValue) (c : ring.Core) (core : IsCore n s
       → IsStep n size start c model.reads (Looking body) (record v { reader = record v.reader { phase = LoadingDone page fill; hint = fill } })
   sees_header page fill body at link = let s = core.shows in
       reads ring.loading_link model.reading (Looking body) v.spare_link c.spare_link (record v.reader { phase = LoadingDone page fill; hint = fill }) (record c.reader { phase = ring.loading_done page fill; hint = fill })
-      (ap reader_phase_of at) (model.loads_header page fill (link_at (header_link page fill) link) refl refl) refl s.spare_link_is refl refl s.seen_is s.expected_is
+      (ap reader_phase_of at) (cases.loads_header page fill (link_at (header_link page fill) link) refl refl) refl s.spare_link_is refl refl s.seen_is s.expected_is
 
   pub sees_update : (page lost : ℕ) (body : List ℕ) → v.reader.phase ≡ LoadingLink → ring.link_into (length v.links) v.links v.reader.hint ≡ update_link page lost
       → IsStep n size start c model.reads (Moving record { 0 = lost + 1 } body) (record v { reader = record v.reader { phase = LoadingLink; hint = lost + 1 } })
   sees_update page lost body at link = let s = core.shows in let next : suc lost ≡ lost + 1 = omega arith in
       reads ring.loading_link (model.moving (suc lost)) (Moving record { 0 = lost + 1 } body) v.spare_link c.spare_link (record v.reader { phase = LoadingLink; hint = lost + 1 }) (record c.reader { phase = ring.loading_link; hint = suc lost })
-      (ap reader_phase_of at) (model.loads_update page lost (link_at (update_link page lost) link) refl refl) (ap model.moving next) s.spare_link_is refl next s.seen_is s.expected_is
+      (ap reader_phase_of at) (cases.loads_update page lost (link_at (update_link page lost) link) refl refl) (ap model.moving next) s.spare_link_is refl next s.seen_is s.expected_is
 
   pub sees_owed : (page : ℕ) (body : List ℕ) → v.reader.phase ≡ LoadingLink → ring.link_into (length v.links) v.links v.reader.hint ≡ normal_link page v.reader.hint
       → IsStep n size start c model.reads (Moving record { 0 = v.reader.hint } body) v
   sees_owed page body at link = let s = core.shows in
       reads ring.loading_link (model.moving c.reader.hint) (Moving record { 0 = v.reader.hint } body) v.spare_link c.spare_link v.reader (record c.reader { phase = ring.loading_link; hint = c.reader.hint })
-      (ap reader_phase_of at) (model.loads_owed page (link_at (normal_link page v.reader.hint) link ∙ ap (normal_link page) (sym s.hint_is)) refl refl) (ap model.moving s.hint_is)
+      (ap reader_phase_of at) (cases.loads_owed page (link_at (normal_link page v.reader.hint) link ∙ ap (normal_link page) (sym s.hint_is)) refl refl) (ap model.moving s.hint_is)
       s.spare_link_is (sym (ap reader_phase_of at)) s.hint_is s.seen_is s.expected_is
 
   pub sees_passed : (page fill least : ℕ) (body : List ℕ) → v.reader.phase ≡ LoadingLink → ring.link_into (length v.links) v.links v.reader.hint ≡ normal_link page fill → fill ≢ v.reader.hint → least ≡ fill + 1 - length v.links
@@ -110,19 +112,19 @@ module _ (n size start : ℕ) (v : CoreValue) (c : ring.Core) (core : IsCore n s
       let told = link_at (normal_link page fill) link in let positions = s.positions in
       let (behind, turn) = turned n c page fill (kept_of n size start v c core).links told (λ e. ne (e ∙ s.hint_is)) in
       reads ring.loading_link model.reading (Looking body) v.spare_link c.spare_link (record v.reader { phase = LoadingLink; hint = least }) (record c.reader { phase = ring.loading_link; hint = least })
-      (ap reader_phase_of at) (model.loads_passed page fill least told behind (omega arith) refl refl) refl s.spare_link_is refl refl s.seen_is s.expected_is
+      (ap reader_phase_of at) (cases.loads_passed page fill least told behind (omega arith) refl refl) refl s.spare_link_is refl refl s.seen_is s.expected_is
 
   pub finds_none : (page fill done : ℕ) (body : List ℕ) → v.reader.phase ≡ LoadingDone page fill → done ≡ v.stack.done → done ≤ fill
       → IsStep n size start c model.reads (Empty done body) (record v { reader = record v.reader { phase = LoadingLink; seen = done } })
   finds_none page fill done body at is le = let s = core.shows in let done_is : c.done ≡ done = s.frames.done_is ∙ sym is in
       reads (ring.loading_done page fill) (model.empty c.done) (Empty done body) v.spare_link c.spare_link (record v.reader { phase = LoadingLink; seen = done }) (record c.reader { phase = ring.loading_link; seen = c.done })
-      (ap reader_phase_of at) (model.finds_none (omega arith) refl refl) (ap model.empty done_is) s.spare_link_is refl s.hint_is done_is s.expected_is
+      (ap reader_phase_of at) (cases.finds_none (omega arith) refl refl) (ap model.empty done_is) s.spare_link_is refl s.hint_is done_is s.expected_is
 
   pub finds_closed : (page fill done : ℕ) (body : List ℕ) → v.reader.phase ≡ LoadingDone page fill → done ≡ v.stack.done → fill < done
       → IsStep n size start c model.reads (Looking body) (record v { reader = record v.reader { phase = StoringLink page fill; seen = done } })
   finds_closed page fill done body at is less = let s = core.shows in let done_is : c.done ≡ done = s.frames.done_is ∙ sym is in
       reads (ring.loading_done page fill) model.reading (Looking body) v.spare_link c.spare_link (record v.reader { phase = StoringLink page fill; seen = done }) (record c.reader { phase = ring.storing_link page fill; seen = c.done })
-      (ap reader_phase_of at) (model.finds_closed (omega arith) refl refl) refl s.spare_link_is refl s.hint_is done_is s.expected_is
+      (ap reader_phase_of at) (cases.finds_closed (omega arith) refl refl) refl s.spare_link_is refl s.hint_is done_is s.expected_is
 
   pub stores : (page fill : ℕ) (link : Link) (body : List ℕ) → v.reader.phase ≡ StoringLink page fill → link ≡ header_link (ring.page_at (length v.links) v.order (fill + 1)) (fill + 1)
       → IsStep n size start c model.reads (Looking body) (record v { spare_link = link; reader = record v.reader { phase = Swapping page fill } })

@@ -2,6 +2,8 @@
 use Rattle.std.proofs.Common.{◌≡◌, ◌≢◌, ℕ, ◌⊎◌, [], ◌∷◌, inl, inr, ⊎_elim, sym, ◌∙◌, subst}
 use Rattle.trace_model.specs.Ring.{Core}
 use Rattle.trace_model.specs.Steps as model
+use Rattle.trace_model.proofs.StepCases as cases
+use Rattle.trace_model.proofs.StepSound.{cases_of}
 use Rattle.link_marks.specs.RingKept.{IsRingKept}
 use Rattle.link_marks.proofs.RingsKept.{reached_further, reached_kept}
 use Rattle.ring_frames.specs.declared.answer.Answer.{Answer}
@@ -57,23 +59,23 @@ whole_page old new event result (n, size, start, c, core) makes =
 -- ---- only a step reserves
 
 -- a step of the model that answers by a reservation is one of a frame, or of the reader
-who_reserves : (n size : ℕ) (c : Core) (event : model.Event) (number : ℕ) (after : Core) → model.Step n size c event (model.reserved_as number) after → (event ≡ model.steps) ⊎ (event ≡ model.reads)
-who_reserves n size c event number after (model.push_step moment len e few short early a is) = absurd (cc)
-who_reserves n size c event number after (model.push_refused moment len why e refused a is) = absurd (cc)
-who_reserves n size c event number after (model.close_step e few a is) = absurd (cc)
-who_reserves n size c event number after (model.close_refused e many a is) = absurd (cc)
-who_reserves n size c event number after (model.frame_step frame below e is step) = inl e
-who_reserves n size c event number after (model.frame_lacks e none a is) = inl e
-who_reserves n size c event number after (model.end_step payload frame [] number' moment len e is x kind slot a after_is) = absurd (cc)
-who_reserves n size c event number after (model.end_step payload frame (next ∷ below) number' moment len e is x kind slot a after_is) = absurd (cc)
-who_reserves n size c event number after (model.end_lacks payload e none a is) = absurd (cc)
-who_reserves n size c event number after (model.end_early payload frame below e is none a after_is) = absurd (cc)
-who_reserves n size c event number after (model.read_step e step) = inr e
-who_reserves n size c event number after (model.store_wish_step e a is) = absurd (cc)
+who_reserves : (n size : ℕ) (c : Core) (event : model.Event) (number : ℕ) (after : Core) → cases.StepCases n size c event (model.reserved_as number) after → (event ≡ model.steps) ⊎ (event ≡ model.reads)
+who_reserves n size c event number after (cases.push_step moment len e few short early a is) = absurd (cc)
+who_reserves n size c event number after (cases.push_refused moment len why e refused a is) = absurd (cc)
+who_reserves n size c event number after (cases.close_step e few a is) = absurd (cc)
+who_reserves n size c event number after (cases.close_refused e many a is) = absurd (cc)
+who_reserves n size c event number after (cases.frame_step frame below e is step) = inl e
+who_reserves n size c event number after (cases.frame_lacks e none a is) = inl e
+who_reserves n size c event number after (cases.end_step payload frame [] number' moment len e is x kind slot a after_is) = absurd (cc)
+who_reserves n size c event number after (cases.end_step payload frame (next ∷ below) number' moment len e is x kind slot a after_is) = absurd (cc)
+who_reserves n size c event number after (cases.end_lacks payload e none a is) = absurd (cc)
+who_reserves n size c event number after (cases.end_early payload frame below e is none a after_is) = absurd (cc)
+who_reserves n size c event number after (cases.read_step e step) = inr e
+who_reserves n size c event number after (cases.store_wish_step e a is) = absurd (cc)
 
 -- so nothing is reserved by another event
 pub unreserved : (old new : CoreValue) (event : model.Event) (result : Answer) → (event ≢ model.steps) → (event ≢ model.reads) → IsReachedCore old → Makes old event result new → ZerosSlot old.stack result new.stack
 unreserved old new event result no_step no_read (n, size, start, c, core) makes number slot is lacks at =
     let s = makes n size start c core in
     let answer : s.answer ≡ model.reserved_as number.0 = subst (λ (r : Answer). IsAnswerOf size r s.answer) is s.tells in
-    absurd (⊎_elim no_step no_read (who_reserves n size c event number.0 s.after (subst (λ (a : model.Answer). model.Step n size c event a s.after) answer s.step)))
+    absurd (⊎_elim no_step no_read (who_reserves n size c event number.0 s.after (cases_of (subst (λ (a : model.Answer). model.Step n size c event a s.after) answer s.step))))

@@ -11,7 +11,9 @@ use Rattle.trace_model.specs.History.{settled_prefix, reserved_records, as_recor
 use Rattle.trace_model.specs.Links.{Link, header_link, normal_link}
 use Rattle.trace_model.specs.Ring as ring
 use Rattle.trace_model.specs.Steps as model
+use Rattle.trace_model.proofs.StepCases as cases
 use Rattle.trace_model.proofs.HistoryPrefixes.{settled_records_prefix}
+use Rattle.trace_model.proofs.StepIs.{step_by}
 use Rattle.link_marks.specs.KeptLinks.{ReaderKept}
 use Rattle.link_marks.specs.RingKept.{IsRingKept}
 use Rattle.link_marks.proofs.Positions.{apart, link_else, page_turn, page_here, page_else}
@@ -73,7 +75,7 @@ module _ (n size start : ℕ) (v : CoreValue) (c : ring.Core) (core : IsCore n s
       → IsStep n size start c model.reads (Looking body) (record v { reader = record v.reader { phase = LoadingLink; hint = fill + 1 } })
   fails body ne = let s = core.shows in let next : suc fill ≡ fill + 1 = omega arith in
       reads n size start v c core (ring.swapping page fill) model.reading (Looking body) v.spare_link c.spare_link (record v.reader { phase = LoadingLink; hint = fill + 1 }) (record c.reader { phase = ring.loading_link; hint = suc fill })
-      (ap reader_phase_of at) (model.swap_fails (λ e. ne (link_told (header_link page fill) e)) refl refl) refl s.spare_link_is refl next s.seen_is s.expected_is
+      (ap reader_phase_of at) (cases.swap_fails (λ e. ne (link_told (header_link page fill) e)) refl refl) refl s.spare_link_is refl next s.seen_is s.expected_is
 
 -- ---- the swap
 
@@ -232,6 +234,6 @@ module _ (n size start : ℕ) (v : CoreValue) (c : ring.Core) (core : IsCore n s
     takes = let s = core.shows in
         stepped n size start v (value_after v behind body_size page fill (taken.first + taken.count)) c model.reads (IsTaken taken (taken.first - v.reader.expected))
         (model.swapped (model.taken_fill c page fill)) (model.after_swap n c page fill) core
-        (model.read_step refl (subst (λ (p : ring.ReaderPhase). model.ReadStep n c p (model.swapped (model.taken_fill c page fill)) (model.after_swap n c page fill)) (sym (s.reader_phase_is ∙ ap reader_phase_of at)) (model.swaps told refl refl)))
+        (step_by (cases.read_step refl (subst (λ (p : ring.ReaderPhase). cases.ReadStep n c p (model.swapped (model.taken_fill c page fill)) (model.after_swap n c page fill)) (sym (s.reader_phase_is ∙ ap reader_phase_of at)) (cases.swaps told refl refl))))
         (model.taken_fill c page fill, refl, record { written = w; missed_is = λ i. w.first_is i - sym s.expected_is i })
         shown_after

@@ -8,8 +8,10 @@ use Rattle.trace_model.specs.Packing.{tail_of, FitsBehind}
 use Rattle.trace_model.specs.Frames.{for_record, waiting, reserved, left, idle, pushed_of, Frame as ModelFrame}
 use Rattle.trace_model.specs.Ring.{Core}
 use Rattle.trace_model.specs.Steps as model
+use Rattle.trace_model.proofs.StepCases as cases
 use Rattle.trace_model.proofs.Lengths.{length-padded, slot_len-slot_len}
 use Rattle.trace_model.proofs.NextEvent.{reserved_stack}
+use Rattle.trace_model.proofs.StepIs.{step_by}
 use Rattle.nested_writer.specs.declared.frame.Purpose.TheVariants.{Record}
 use Rattle.nested_writer.specs.declared.frame.Progress.TheVariants.{Left}
 use Rattle.nested_writer.specs.declared.frame.Frame.{Frame}
@@ -69,7 +71,7 @@ module _ (n size start : ℕ) (v : FramesValue) (c : Core) (k : AreFrames n size
   push_is : model.Step n size c (model.pushes moment len) model.pushed pushed
   push_is =
       let few : length v.stack.frames < MAX_FRAMES = subst (λ (fs : List Frame). length fs < MAX_FRAMES) (sym none) (omega arith) in
-      model.push_step moment len refl (has_room n size start v c k few) (subst (λ (s : ℕ). model.IsTooLong s len → ⊥) k.size_is fits.1) fits.2 refl refl
+      step_by (cases.push_step moment len refl (has_room n size start v c k few) (subst (λ (s : ℕ). model.IsTooLong s len → ⊥) k.size_is fits.1) fits.2 refl refl)
 
   pushed_frames : pushed.frames ≡ waits ∷ []
   pushed_frames = ap (λ (fs : List ModelFrame). waits ∷ fs) (k.frames_are ∙ ap (λ (fs : List Frame). ring_frames fs (v.phase ∷ v.below)) none)
@@ -87,14 +89,14 @@ module _ (n size start : ℕ) (v : FramesValue) (c : Core) (k : AreFrames n size
   reserve_is =
       let room = fits.3 in
       let tail = record_fits start pushed.history pushed_stack is_pushed moment len (λ past. omega arith) in
-      model.frame_step waits [] refl pushed_frames
-      (model.reserves moment len (model.new_reservation pushed moment len) refl refl (subst (λ (s : ℕ). FitsBehind s (tail_of pushed.history) (model.new_reservation pushed moment len)) k.size_is tail) (ap model.reserved_as numbered) refl)
+      step_by (cases.frame_step waits [] refl pushed_frames
+      (cases.reserves moment len (model.new_reservation pushed moment len) refl refl (subst (λ (s : ℕ). FitsBehind s (tail_of pushed.history) (model.new_reservation pushed moment len)) k.size_is tail) (ap model.reserved_as numbered) refl))
 
   same_slot : slot_len (length (padded payload)) ≡ slot_len len
   same_slot = ap slot_len (length-padded payload) ∙ slot_len-slot_len len
 
   end_is : model.Step n size with_its_record (model.ends (padded payload)) model.full after
-  end_is = model.end_step (padded payload) (holds number) [] number moment len refl refl refl refl same_slot refl refl
+  end_is = step_by (cases.end_step (padded payload) (holds number) [] number moment len refl refl refl refl same_slot refl refl)
 
   -- ---- the frames after them
 

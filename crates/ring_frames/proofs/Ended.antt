@@ -9,8 +9,10 @@ use Rattle.trace_model.specs.Packing.{opens_of, is_wished}
 use Rattle.trace_model.specs.Frames.{for_record, number_of, Frame as ModelFrame}
 use Rattle.trace_model.specs.Ring.{Core}
 use Rattle.trace_model.specs.Steps as model
+use Rattle.trace_model.proofs.StepCases as cases
 use Rattle.trace_model.proofs.Lengths.{slot_len-slot_len}
 use Rattle.trace_model.proofs.Overwritten.{place-within}
+use Rattle.trace_model.proofs.StepIs.{step_by}
 use Rattle.page_image.specs.Contents.{Contents}
 use Rattle.nested_writer.specs.declared.fault.WriteFault.{WriteFault}
 use Rattle.nested_writer.specs.declared.fault.WriteFault.TheVariants.{NoFrame, NotReserved}
@@ -78,7 +80,7 @@ module _ (n size start : ℕ) (v : FramesValue) (c : Core) (k : AreFrames n size
   end_is : model.Step n size c (model.ends bytes) (model.end_answer below) (model.after_leave c frame below (Some bytes))
   end_is =
       let (frame_is, below_is, same) = tops_are v c n size start top frames frame below k stack_is model_is in
-      model.end_step bytes frame below slot.number stands.0 stands.1 refl model_is (ap (λ (f : ModelFrame). f.state) frame_is ∙ ap state_of has) (ap (λ (f : ModelFrame). f.kind) frame_is ∙ stands.2) fills_slot refl refl
+      step_by (cases.end_step bytes frame below slot.number stands.0 stands.1 refl model_is (ap (λ (f : ModelFrame). f.state) frame_is ∙ ap state_of has) (ap (λ (f : ModelFrame). f.kind) frame_is ∙ stands.2) fills_slot refl refl)
 
   shown : (stack : Stack) → stack ≡ after_leave v.stack top frames → HasEnded v.stack (Reserved slot) stack → AreFrames n size start (left_value v stack) (model.after_leave c frame below (Some bytes))
   shown stack is acted =
@@ -149,10 +151,10 @@ end_refused n size start v c fault k none early may = by_frames v.stack.frames r
     without (Left noted) may = refl
 
     by_frames : (frames : List Frame) → v.stack.frames ≡ frames → IsPrivateStep n size start c event (Refused fault) v
-    by_frames [] is = refused_for NoFrame (none is) (model.end_lacks (top_bytes v.stack v.stack.frames) refl (k.frames_are ∙ ap (λ (fs : List Frame). ring_frames fs (v.phase ∷ v.below)) is) refl refl)
+    by_frames [] is = refused_for NoFrame (none is) (step_by (cases.end_lacks (top_bytes v.stack v.stack.frames) refl (k.frames_are ∙ ap (λ (fs : List Frame). ring_frames fs (v.phase ∷ v.below)) is) refl refl))
     by_frames (top ∷ rest) is =
         let not_yet : MayEnd top.progress → ⊥ = λ can. may (subst MayEndTop (sym is) can) in
         let (frame, below, model_is) = model_top v.stack.frames v.phase v.below top rest is in
         let (frame_is, below_is, same) = tops_are v c n size start top rest frame below k is (k.frames_are ∙ model_is) in
         refused_for NotReserved (early (subst MayNotEndTop (sym is) not_yet))
-        (model.end_early (top_bytes v.stack v.stack.frames) frame below refl (k.frames_are ∙ model_is) (ap (λ (f : ModelFrame). number_of f.state) frame_is ∙ without top.progress not_yet) refl refl)
+        (step_by (cases.end_early (top_bytes v.stack v.stack.frames) frame below refl (k.frames_are ∙ model_is) (ap (λ (f : ModelFrame). number_of f.state) frame_is ∙ without top.progress not_yet) refl refl))

@@ -3,6 +3,8 @@ use Rattle.std.proofs.Common.{◌≡◌, ◌≢◌, ℕ, List, [], Some, refl, s
 use Rattle.trace_model.specs.Frames.{owner, helper, Phase, idle, looking, claiming, looking_next, marking, clearing, opening, releasing, wishing, Frame, noted_fill}
 use Rattle.trace_model.specs.Ring.{Core}
 use Rattle.trace_model.specs.Steps as model
+use Rattle.trace_model.proofs.StepCases as cases
+use Rattle.trace_model.proofs.StepIs.{step_by}
 use Rattle.link_marks.specs.Seats.{PhaseIsPrivate}
 use Rattle.link_marks.proofs.FramePhases.{none_some}
 use Rattle.nested_writer.specs.Stack.{opened}
@@ -19,19 +21,19 @@ module _ (n size : ℕ) (c : Core) (frame : Frame) (below : List Frame) where
   abbrev after_is : Core
   after_is = model.after_begin frame.kind frame.state c frame below
 
-  again : (noted : ℕ) → noted ≢ c.opened → model.BeginsAgain c frame below noted answer_is after_is
+  again : (noted : ℕ) → noted ≢ c.opened → cases.BeginsAgain c frame below noted answer_is after_is
   again noted passed = record { passed = passed; answer_is = refl; after_is = refl }
 
-  late_in : (phase : Phase) (noted : ℕ) → noted_fill phase ≡ Some noted → PhaseIsPrivate phase c.opened → model.FrameStep n size c frame below phase answer_is after_is
+  late_in : (phase : Phase) (noted : ℕ) → noted_fill phase ≡ Some noted → PhaseIsPrivate phase c.opened → cases.FrameStep n size c frame below phase answer_is after_is
   late_in idle noted is own = absurd (none_some is)
-  late_in (looking o) noted is own = model.load_link_late (again o own)
-  late_in (claiming o page) noted is own = model.claim_late (again o own)
+  late_in (looking o) noted is own = cases.load_link_late (again o own)
+  late_in (claiming o page) noted is own = cases.claim_late (again o own)
   late_in (looking_next owner o page) noted is own = absurd own
-  late_in (looking_next helper o page) noted is own = model.load_next_late refl (again o own)
+  late_in (looking_next helper o page) noted is own = cases.load_next_late refl (again o own)
   late_in (marking owner o page next) noted is own = absurd own
-  late_in (marking helper o page next) noted is own = model.mark_late refl (again o own)
+  late_in (marking helper o page next) noted is own = cases.mark_late refl (again o own)
   late_in (clearing o page) noted is own = absurd own
-  late_in (opening o page) noted is own = model.open_late (again o own)
+  late_in (opening o page) noted is own = cases.open_late (again o own)
   late_in releasing noted is own = absurd own
   late_in wishing noted is own = absurd own
 
@@ -42,5 +44,5 @@ late_private v result new noted some is own again = λ n size start c reached ar
     let (tells, shows) = again n size start c top.frame top.below are top.is_top in
     let own_phase : PhaseIsPrivate top.frame.phase c.opened = subst (λ (o : ℕ). PhaseIsPrivate top.frame.phase o) (sym are.opened_is) (subst (λ (p : Phase). PhaseIsPrivate p (opened v.stack)) (sym top.phase_is) own) in
     privately n size start new c model.steps result (model.begin_answer top.frame.kind top.frame.state top.below) (model.after_begin top.frame.kind top.frame.state c top.frame top.below)
-    (model.frame_step top.frame top.below refl top.is_top (late_in n size c top.frame top.below top.frame.phase noted (ap noted_fill top.phase_is ∙ is) own_phase))
+    (step_by (cases.frame_step top.frame top.below refl top.is_top (late_in n size c top.frame top.below top.frame.phase noted (ap noted_fill top.phase_is ∙ is) own_phase)))
     (top_is_private c top.frame top.below top.is_top own_phase) tells shows

@@ -7,6 +7,8 @@ use Rattle.trace_model.specs.Words.{encoded_len}
 use Rattle.trace_model.specs.History.{HistoryEvent, push, push_close}
 use Rattle.trace_model.specs.Ring.{Core}
 use Rattle.trace_model.specs.Steps as model
+use Rattle.trace_model.proofs.StepCases as cases
+use Rattle.trace_model.proofs.StepIs.{step_by}
 use Rattle.link_marks.specs.Seats.{IsPrivate}
 use Rattle.nested_writer.specs.declared.fault.WriteFault.{WriteFault}
 use Rattle.nested_writer.specs.declared.fault.WriteFault.TheVariants.{TooDeep, TooLong, LateMoment}
@@ -40,7 +42,7 @@ shown_with n size start v c purpose history_event stack k is kept =
 pub record_pushed : (n size start : ℕ) (v : FramesValue) (c : Core) (moment len : ℕ) (stack : Stack) → AreFrames n size start v c → length v.stack.frames < MAX_FRAMES → (model.IsTooLong v.stack.size len → ⊥) → moment < MOMENT_LIMIT → stack ≡ with_frame v.stack (new_frame (Record moment len)) → IsStack start (c.history ++ push moment len ∷ []) stack → IsPrivateStep n size start c (model.pushes moment len) Pushed (pushed_value v stack)
 record_pushed n size start v c moment len stack k few fits early is kept =
     privately n size start (pushed_value v stack) c (model.pushes moment len) Pushed model.pushed (after_push c (Record moment len) (push moment len))
-    (model.push_step moment len refl (has_room n size start v c k few) (subst (λ (s : ℕ). model.IsTooLong s len → ⊥) k.size_is fits) early refl refl)
+    (step_by (cases.push_step moment len refl (has_room n size start v c k few) (subst (λ (s : ℕ). model.IsTooLong s len → ⊥) k.size_is fits) early refl refl))
     tt
     refl
     (shown_with n size start v c (Record moment len) (push moment len) stack k is kept)
@@ -48,7 +50,7 @@ record_pushed n size start v c moment len stack k few fits early is kept =
 pub close_pushed : (n size start : ℕ) (v : FramesValue) (c : Core) (stack : Stack) → AreFrames n size start v c → length v.stack.frames < MAX_FRAMES → stack ≡ with_frame v.stack (new_frame Close) → IsStack start (c.history ++ push_close ∷ []) stack → IsPrivateStep n size start c model.pushes_close Pushed (pushed_value v stack)
 close_pushed n size start v c stack k few is kept =
     privately n size start (pushed_value v stack) c model.pushes_close Pushed model.pushed (after_push c Close push_close)
-    (model.close_step refl (has_room n size start v c k few) refl refl)
+    (step_by (cases.close_step refl (has_room n size start v c k few) refl refl))
     tt
     refl
     (shown_with n size start v c Close push_close stack k is kept)
@@ -77,16 +79,16 @@ pub record_refused : (n size start : ℕ) (v : FramesValue) (c : Core) (moment l
     → IsPrivateStep n size start c (model.pushes moment len) (Refused fault) v
 record_refused n size start v c moment len fault k deep long late none =
     dite (dec_le MAX_FRAMES (length v.stack.frames))
-    (λ many. refused_for TooDeep (deep many) (model.all_stand (has_no_room n size start v c k many)))
+    (λ many. refused_for TooDeep (deep many) (cases.all_stand (has_no_room n size start v c k many)))
     (λ few. ⊎_elim
-    (λ is. refused_for TooLong (long (omega arith) is) (model.has_no_room (has_room n size start v c k (omega arith)) (subst (λ (s : ℕ). model.IsTooLong s len) k.size_is is)))
+    (λ is. refused_for TooLong (long (omega arith) is) (cases.has_no_room (has_room n size start v c k (omega arith)) (subst (λ (s : ℕ). model.IsTooLong s len) k.size_is is)))
     (λ fits. dite (dec_le MOMENT_LIMIT moment)
-    (λ is. refused_for LateMoment (late (omega arith) fits is) (model.comes_late (has_room n size start v c k (omega arith)) (subst (λ (s : ℕ). model.IsTooLong s len → ⊥) k.size_is fits) is))
+    (λ is. refused_for LateMoment (late (omega arith) fits is) (cases.comes_late (has_room n size start v c k (omega arith)) (subst (λ (s : ℕ). model.IsTooLong s len → ⊥) k.size_is fits) is))
     (λ early. absurd (none (omega arith) fits (omega arith))))
     (too_long_or v.stack.size len))
   where
-    refused_for : (why : WriteFault) → fault ≡ why → model.PushRefused size c moment len (refusal_of why) → IsPrivateStep n size start c (model.pushes moment len) (Refused fault) v
-    refused_for why is refused = stays n size start v c (model.pushes moment len) fault why k is (model.push_refused moment len (refusal_of why) refl refused refl refl) tt
+    refused_for : (why : WriteFault) → fault ≡ why → cases.PushRefused size c moment len (refusal_of why) → IsPrivateStep n size start c (model.pushes moment len) (Refused fault) v
+    refused_for why is refused = stays n size start v c (model.pushes moment len) fault why k is (step_by (cases.push_refused moment len (refusal_of why) refl refused refl refl)) tt
 
 pub close_refused : (n size start : ℕ) (v : FramesValue) (c : Core) (fault : WriteFault) → AreFrames n size start v c
     → (MAX_FRAMES ≤ length v.stack.frames → fault ≡ TooDeep)
@@ -94,5 +96,5 @@ pub close_refused : (n size start : ℕ) (v : FramesValue) (c : Core) (fault : W
     → IsPrivateStep n size start c model.pushes_close (Refused fault) v
 close_refused n size start v c fault k deep none =
     dite (dec_le MAX_FRAMES (length v.stack.frames))
-    (λ many. stays n size start v c model.pushes_close fault TooDeep k (deep many) (model.close_refused refl (has_no_room n size start v c k many) refl refl) tt)
+    (λ many. stays n size start v c model.pushes_close fault TooDeep k (deep many) (step_by (cases.close_refused refl (has_no_room n size start v c k many) refl refl)) tt)
     (λ few. absurd (none (omega arith)))

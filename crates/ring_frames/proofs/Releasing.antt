@@ -5,6 +5,8 @@ use Rattle.trace_model.specs.History.{HistoryEvent}
 use Rattle.trace_model.specs.Frames.{left, noted_fill, Frame}
 use Rattle.trace_model.specs.Ring.{Core, PageRecords, page_at, fill_of}
 use Rattle.trace_model.specs.Steps as model
+use Rattle.trace_model.proofs.StepCases as cases
+use Rattle.trace_model.proofs.StepIs.{step_by}
 use Rattle.link_marks.specs.RingKept.{IsRingKept}
 use Rattle.link_marks.proofs.StackSteps.{releasing_left}
 use Rattle.link_marks.proofs.FrameChanges.{top_kept}
@@ -81,12 +83,12 @@ module _ (n size start : ℕ) (v : FramesValue) (c : Core) (core : HasFrames n s
         }
 
     release_to : (phase : Phase) → noted_fill (phase_of phase) ≡ None
-        → model.ReleaseFillStep c (frame_in v.phase) [] model.going (released_in c (frame_in phase))
+        → cases.ReleaseFillStep c (frame_in v.phase) [] model.going (released_in c (frame_in phase))
         → IsRelease n size start c page (record v { stack = later; phase = phase })
     unfolding frame_in
     release_to phase none step = record {
       frame = frame_in phase;
-      step = model.frame_step (frame_in v.phase) [] refl one.model (subst (λ (p : Phase). model.FrameStep n size c (frame_in v.phase) [] (phase_of p) model.going (released_in c (frame_in phase))) (sym is) step);
+      step = step_by (cases.frame_step (frame_in v.phase) [] refl one.model (subst (λ (p : Phase). cases.FrameStep n size c (frame_in v.phase) [] (phase_of p) model.going (released_in c (frame_in phase))) (sym is) step));
       written = written;
       are = are_in phase none;
     }
@@ -97,13 +99,13 @@ module _ (n size start : ℕ) (v : FramesValue) (c : Core) (core : HasFrames n s
         let last : later.done + 1 ≡ opened later = eqb-true (later.done + 1) (opened later) e in
         let done_now : later.done ≡ v.stack.done + 1 = ap (λ (x : Stack). x.done) gone.released in
         let long : length v.stack.older ≡ suc (length later.older) = ap length gone.oldest in
-        release_to Wishing refl (model.releases_last refl (omega arith) refl refl)
+        release_to Wishing refl (cases.releases_last refl (omega arith) refl refl)
     released_with false e = let s = core.are in let done = s.done_is in let begun = s.opened_is in let more = more_open in
         let not_last : later.done + 1 ≢ opened later = eqb-false (later.done + 1) (opened later) e in
         let done_now : later.done ≡ v.stack.done + 1 = ap (λ (x : Stack). x.done) gone.released in
         let long : length v.stack.older ≡ suc (length later.older) = ap length gone.oldest in
         let stays : ◌≡◌ {A = List Frame} (frame_in Releasing ∷ []) c.frames = ap (λ (p : Phase). frame_in p ∷ []) (sym is) ∙ sym one.model in
-        release_to Releasing refl (model.releases refl (omega arith) refl (λ i. record (model.with_released c) { frames = stays i }))
+        release_to Releasing refl (cases.releases refl (omega arith) refl (λ i. record (model.with_released c) { frames = stays i }))
 
     pub released : (phase : Phase) → phase ≡ closing_phase later → IsRelease n size start c page (record v { stack = later; phase = phase })
     released phase closes = subst (λ (p : Phase). IsRelease n size start c page (record v { stack = later; phase = p })) (sym closes)

@@ -8,6 +8,8 @@ use Rattle.trace_model.specs.Packing.{tail_of, FitsBehind}
 use Rattle.trace_model.specs.Frames.{for_record, FrameState, waiting, reserved, left, idle, looking, Frame as ModelFrame}
 use Rattle.trace_model.specs.Ring.{PageRecords, Core}
 use Rattle.trace_model.specs.Steps as model
+use Rattle.trace_model.proofs.StepCases as cases
+use Rattle.trace_model.proofs.StepIs.{step_by}
 use Rattle.link_marks.proofs.StackSteps.{top_agrees}
 use Rattle.link_marks.specs.Seats.{IsPrivate}
 use Rattle.record_words.specs.declared.put.Place.{Place}
@@ -85,15 +87,15 @@ module _ (n size start : ℕ) (v : FramesValue) (c : Core) (core : HasFrames n s
   own_step = top_is_private c frame below model_is tt
 
   -- a step of one that waits
-  waits_step : (answer : model.Answer) (after : Core) → state_of top.progress ≡ waiting → model.ReserveStep n size c frame below answer after → model.Step n size c model.steps answer after
-  waits_step answer after waits step = model.frame_step frame below refl model_is (subst (λ (st : FrameState). model.IdleStep n size c frame below st answer after) (sym waits) step)
+  waits_step : (answer : model.Answer) (after : Core) → state_of top.progress ≡ waiting → cases.ReserveStep n size c frame below answer after → model.Step n size c model.steps answer after
+  waits_step answer after waits step = step_by (cases.frame_step frame below refl model_is (subst (λ (st : FrameState). cases.IdleStep n size c frame below st answer after) (sym waits) step))
 
   -- ---- it has its record
 
   pub keeps_record : (slot : Slot) → top.progress ≡ Reserved slot → IsPrivateStep n size start c model.steps (ReservedAs record { 0 = slot.number }) v
   keeps_record slot has =
       privately n size start v c model.steps _ (model.reserved_as slot.number) c
-      (model.frame_step frame below refl model_is (subst (λ (p : Progress). model.IdleStep n size c frame below (state_of p) (model.reserved_as slot.number) c) (sym has) (refl, refl)))
+      (step_by (cases.frame_step frame below refl model_is (subst (λ (p : Progress). cases.IdleStep n size c frame below (state_of p) (model.reserved_as slot.number) c) (sym has) (refl, refl))))
       own_step refl core.are
 
   -- ---- it wants a page
@@ -132,7 +134,7 @@ module _ (n size start : ℕ) (v : FramesValue) (c : Core) (core : HasFrames n s
       let few : c.opened + n < LINK_FILLS = subst (λ (m : ℕ). m < LINK_FILLS) (λ i. sym k.opened_is i + k.pages_is i) fills in
       let frames_is : stack.frames ≡ record top { progress = Waiting (Some (opened v.stack)) } ∷ rest = ap (λ (s : Stack). s.frames) is in
       privately n size start (at_phase v stack (Looking noted)) c model.steps Going model.going (model.in_phase c frame below (looking c.opened))
-      (waits_step model.going (model.in_phase c frame below (looking c.opened)) waits (model.notes needs (free_is free) few refl refl))
+      (waits_step model.going (model.in_phase c frame below (looking c.opened)) waits (cases.notes needs (free_is free) few refl refl))
       own_step
       refl
       (reshown n size start v c stack (Looking noted) v.below (record frame { phase = looking c.opened } ∷ below) c.history c.held k record {
@@ -154,7 +156,7 @@ module _ (n size start : ℕ) (v : FramesValue) (c : Core) (core : HasFrames n s
 
   -- ---- it is refused
 
-  refused_with : (stack : Stack) (fault : WriteFault) → (state_of top.progress ≡ waiting) → stack ≡ after_leave v.stack top rest → HasActed v.stack (leave None ∷ []) stack → model.ReserveStep n size c frame below (model.refused (refusal_of fault)) (model.after_leave c frame below None) → IsPrivateStep n size start c model.steps (Refused fault) (left_value v stack)
+  refused_with : (stack : Stack) (fault : WriteFault) → (state_of top.progress ≡ waiting) → stack ≡ after_leave v.stack top rest → HasActed v.stack (leave None ∷ []) stack → cases.ReserveStep n size c frame below (model.refused (refusal_of fault)) (model.after_leave c frame below None) → IsPrivateStep n size start c model.steps (Refused fault) (left_value v stack)
   refused_with stack fault waits is acted step =
       privately n size start (left_value v stack) c model.steps (Refused fault) (model.refused (refusal_of fault)) (model.after_leave c frame below None)
       (waits_step (model.refused (refusal_of fault)) (model.after_leave c frame below None) waits step)
@@ -165,10 +167,10 @@ module _ (n size start : ℕ) (v : FramesValue) (c : Core) (core : HasFrames n s
   refused_top : (fault : WriteFault) (stack : Stack) → IsAnswered v.stack c.history (top ∷ rest) (Err fault) → IsAllotted v.stack (top ∷ rest) (Err fault) stack → IsPrivateStep n size start c model.steps (Refused fault) (left_value v stack)
   refused_top Crowded stack (want, full) (is, acted) =
       let (waits, needs) = wanted want in
-      refused_with stack Crowded waits is acted (model.is_crowded needs (crowded_is full) refl refl)
+      refused_with stack Crowded waits is acted (cases.is_crowded needs (crowded_is full) refl refl)
   refused_top Worn stack (want, free, worn) (is, acted) =
       let (waits, needs) = wanted want in
-      refused_with stack Worn waits is acted (model.is_worn needs (free_is free) (subst (λ (m : ℕ). LINK_FILLS ≤ m) (λ i. sym k.opened_is i + k.pages_is i) worn) refl refl)
+      refused_with stack Worn waits is acted (cases.is_worn needs (free_is free) (subst (λ (m : ℕ). LINK_FILLS ≤ m) (λ i. sym k.opened_is i + k.pages_is i) worn) refl refl)
   refused_top NotReserved stack answered allotted = absurd (stays (left_is top.progress answered))
     where
       left_is : (progress : Progress) → HasLeft progress → state_of progress ≡ left
@@ -211,7 +213,7 @@ module _ (n size start : ℕ) (v : FramesValue) (c : Core) (core : HasFrames n s
       let tail : PageRecords = model.contents_of c (model.tail_page c) in
       let held : PageRecords = record { first = tail.first; records = tail.records ++ r ∷ [] } in
       privately n size start (record v { stack = stack }) c model.steps (ReservedAs record { 0 = slot.number }) (model.reserved_as number) after
-      (waits_step (model.reserved_as number) after waits (model.reserves moment len r kind refl (subst (λ (s : ℕ). FitsBehind s (tail_of c.history) r) k.size_is fits) refl refl))
+      (waits_step (model.reserved_as number) after waits (cases.reserves moment len r kind refl (subst (λ (s : ℕ). FitsBehind s (tail_of c.history) r) k.size_is fits) refl refl))
       own_step
       (ap model.reserved_as (sym (slot_is ∙ numbered)))
       (reshown n size start v c stack v.phase v.below (record frame { state = reserved number; phase = idle } ∷ below) (c.history ++ reserve ∷ []) (model.with_held c (model.tail_page c) held).held k record {
@@ -287,6 +289,6 @@ module _ (n size start : ℕ) (v : FramesValue) (c : Core) (core : HasFrames n s
   nothing_found between stack closing ended =
       let (tells, shows) = closed_shown n size start v c top rest frame below closing.noted between stack k stack_is model_is closing.waits closing.through ended in
       privately n size start (left_value v stack) c model.steps (left_answer v.below) (model.leave_answer below) (model.after_leave c frame below None)
-      (waits_step (model.leave_answer below) (model.after_leave c frame below None) (ap state_of closing.waits) (model.finds_nothing (ap kind_of closing.close) closing.nothing refl refl))
+      (waits_step (model.leave_answer below) (model.after_leave c frame below None) (ap state_of closing.waits) (cases.finds_nothing (ap kind_of closing.close) closing.nothing refl refl))
       own_step
       tells shows

@@ -3,6 +3,8 @@ use Rattle.std.proofs.Common.{◌≡◌, ℕ, List, [], ◌∷◌, Option, Some,
 use Rattle.trace_model.specs.Frames.{Kind, for_record, for_close, FrameState, waiting, reserved, left, Phase, idle, looking, claiming, looking_next, marking, clearing, opening, releasing, wishing, Frame}
 use Rattle.trace_model.specs.Ring.{Core}
 use Rattle.trace_model.specs.Steps as model
+use Rattle.trace_model.proofs.StepCases as cases
+use Rattle.trace_model.proofs.StepSound.{cases_of}
 use Rattle.nested_writer.specs.declared.frame.Purpose.{Purpose}
 use Rattle.nested_writer.specs.declared.frame.Purpose.TheVariants.{Record, Close}
 use Rattle.nested_writer.specs.declared.frame.Frame as stack
@@ -57,69 +59,69 @@ module _ (n size : ℕ) (c : Core) (frame : Frame) where
     kept : (a : model.Answer) (next : Core) → answer ≡ a → after ≡ next → KeepsKind a (frame ∷ below) next.frames → IsKept
     kept a next a_is next_is keeps = subst (λ (x : model.Answer). KeepsKind x (frame ∷ below) after.frames) (sym a_is) (subst (λ (d : Core). KeepsKind a (frame ∷ below) d.frames) (sym next_is) keeps)
 
-    again : (noted : ℕ) → model.BeginsAgain c frame below noted answer after → IsKept
+    again : (noted : ℕ) → cases.BeginsAgain c frame below noted answer after → IsKept
     again noted late = kept _ _ late.answer_is late.after_is (begun frame.kind frame.state c below)
 
-    kept_idle : (state : FrameState) → model.IdleStep n size c frame below state answer after → IsKept
-    kept_idle waiting (model.reserves moment len r kind r_is fits a is) = kept _ _ a is refl
-    kept_idle waiting (model.finds_nothing kind none a is) = kept _ _ a is (leaves below)
-    kept_idle waiting (model.is_crowded needs full a is) = kept _ _ a is tt
-    kept_idle waiting (model.is_worn needs room last a is) = kept _ _ a is tt
-    kept_idle waiting (model.notes needs room small a is) = kept _ _ a is refl
+    kept_idle : (state : FrameState) → cases.IdleStep n size c frame below state answer after → IsKept
+    kept_idle waiting (cases.reserves moment len r kind r_is fits a is) = kept _ _ a is refl
+    kept_idle waiting (cases.finds_nothing kind none a is) = kept _ _ a is (leaves below)
+    kept_idle waiting (cases.is_crowded needs full a is) = kept _ _ a is tt
+    kept_idle waiting (cases.is_worn needs room last a is) = kept _ _ a is tt
+    kept_idle waiting (cases.notes needs room small a is) = kept _ _ a is refl
     kept_idle (reserved number) step = kept _ _ step.0 step.1 (ap top_kind top)
     kept_idle left step = absurd step
 
-    kept_by : (phase : Phase) → model.FrameStep n size c frame below phase answer after → IsKept
+    kept_by : (phase : Phase) → cases.FrameStep n size c frame below phase answer after → IsKept
     kept_by idle step = kept_idle frame.state step
-    kept_by (looking noted) (model.load_link_late late) = again noted late
-    kept_by (looking noted) (model.sees_free page at link a is) = kept _ _ a is refl
-    kept_by (looking noted) (model.sees_header page lost at sum link a is) = kept _ _ a is refl
-    kept_by (looking noted) (model.sees_update page lost at sum link a is) = kept _ _ a is refl
-    kept_by (claiming noted page) (model.claim_late late) = again noted late
-    kept_by (claiming noted page) (model.claims lost at sum link a is) = kept _ _ a is refl
-    kept_by (claiming noted page) (model.claim_fails at none a is) = kept _ _ a is refl
-    kept_by (looking_next role noted page) (model.load_next_late helps late) = again noted late
-    kept_by (looking_next role noted page) (model.sees_normal lost next goes sum link a is) = kept _ _ a is refl
-    kept_by (looking_next role noted page) (model.sees_other lost goes sum other a is) = kept _ _ a is refl
-    kept_by (marking role noted page next) (model.mark_late helps late) = again noted late
-    kept_by (marking role noted page next) (model.marks lost goes sum link a is) = kept _ _ a is refl
-    kept_by (marking role noted page next) (model.mark_fails lost goes sum other a is) = kept _ _ a is refl
-    kept_by (clearing noted page) (model.clears lost sum link a is) = kept _ _ a is refl
-    kept_by (opening noted page) (model.open_late late) = again noted late
-    kept_by (opening noted page) (model.opens at a is) = kept _ _ a is (begun frame.kind frame.state (model.with_new_tail c page) below)
-    kept_by releasing (model.releases none more a is) = kept _ _ a is (ap top_kind top)
-    kept_by releasing (model.releases_last none last a is) = kept _ _ a is refl
-    kept_by wishing (model.grants none granted a is) = kept _ _ a is refl
-    kept_by wishing (model.closes_more none not more a is) = kept _ _ a is refl
-    kept_by wishing (model.goes_away none not last a is) = kept _ _ a is tt
+    kept_by (looking noted) (cases.load_link_late late) = again noted late
+    kept_by (looking noted) (cases.sees_free page at link a is) = kept _ _ a is refl
+    kept_by (looking noted) (cases.sees_header page lost at sum link a is) = kept _ _ a is refl
+    kept_by (looking noted) (cases.sees_update page lost at sum link a is) = kept _ _ a is refl
+    kept_by (claiming noted page) (cases.claim_late late) = again noted late
+    kept_by (claiming noted page) (cases.claims lost at sum link a is) = kept _ _ a is refl
+    kept_by (claiming noted page) (cases.claim_fails at none a is) = kept _ _ a is refl
+    kept_by (looking_next role noted page) (cases.load_next_late helps late) = again noted late
+    kept_by (looking_next role noted page) (cases.sees_normal lost next goes sum link a is) = kept _ _ a is refl
+    kept_by (looking_next role noted page) (cases.sees_other lost goes sum other a is) = kept _ _ a is refl
+    kept_by (marking role noted page next) (cases.mark_late helps late) = again noted late
+    kept_by (marking role noted page next) (cases.marks lost goes sum link a is) = kept _ _ a is refl
+    kept_by (marking role noted page next) (cases.mark_fails lost goes sum other a is) = kept _ _ a is refl
+    kept_by (clearing noted page) (cases.clears lost sum link a is) = kept _ _ a is refl
+    kept_by (opening noted page) (cases.open_late late) = again noted late
+    kept_by (opening noted page) (cases.opens at a is) = kept _ _ a is (begun frame.kind frame.state (model.with_new_tail c page) below)
+    kept_by releasing (cases.releases none more a is) = kept _ _ a is (ap top_kind top)
+    kept_by releasing (cases.releases_last none last a is) = kept _ _ a is refl
+    kept_by wishing (cases.grants none granted a is) = kept _ _ a is refl
+    kept_by wishing (cases.closes_more none not more a is) = kept _ _ a is refl
+    kept_by wishing (cases.goes_away none not last a is) = kept _ _ a is tt
 
 -- a step of the frame on top
-kind_kept : (n size : ℕ) (c : Core) (answer : model.Answer) (after : Core) → model.Step n size c model.steps answer after → KeepsKind answer c.frames after.frames
-kind_kept n size c answer after (model.push_step moment len e few short early a is) = absurd (cc)
-kind_kept n size c answer after (model.push_refused moment len why e refused a is) = absurd (cc)
-kind_kept n size c answer after (model.close_step e few a is) = absurd (cc)
-kind_kept n size c answer after (model.close_refused e many a is) = absurd (cc)
-kind_kept n size c answer after (model.frame_step frame below e is step) = subst (λ (fs : List Frame). KeepsKind answer fs after.frames) (sym is) (kept_by n size c frame below is answer after frame.phase step)
-kind_kept n size c answer after (model.frame_lacks e none a is) = subst (λ (x : model.Answer). KeepsKind x c.frames after.frames) (sym a) tt
-kind_kept n size c answer after (model.end_step payload frame below number moment len e is x kind slot a after_is) = absurd (cc)
-kind_kept n size c answer after (model.end_lacks payload e none a is) = absurd (cc)
-kind_kept n size c answer after (model.end_early payload frame below e is none a after_is) = absurd (cc)
-kind_kept n size c answer after (model.read_step e step) = absurd (cc)
-kind_kept n size c answer after (model.store_wish_step e a is) = absurd (cc)
+kind_kept : (n size : ℕ) (c : Core) (answer : model.Answer) (after : Core) → cases.StepCases n size c model.steps answer after → KeepsKind answer c.frames after.frames
+kind_kept n size c answer after (cases.push_step moment len e few short early a is) = absurd (cc)
+kind_kept n size c answer after (cases.push_refused moment len why e refused a is) = absurd (cc)
+kind_kept n size c answer after (cases.close_step e few a is) = absurd (cc)
+kind_kept n size c answer after (cases.close_refused e many a is) = absurd (cc)
+kind_kept n size c answer after (cases.frame_step frame below e is step) = subst (λ (fs : List Frame). KeepsKind answer fs after.frames) (sym is) (kept_by n size c frame below is answer after frame.phase step)
+kind_kept n size c answer after (cases.frame_lacks e none a is) = subst (λ (x : model.Answer). KeepsKind x c.frames after.frames) (sym a) tt
+kind_kept n size c answer after (cases.end_step payload frame below number moment len e is x kind slot a after_is) = absurd (cc)
+kind_kept n size c answer after (cases.end_lacks payload e none a is) = absurd (cc)
+kind_kept n size c answer after (cases.end_early payload frame below e is none a after_is) = absurd (cc)
+kind_kept n size c answer after (cases.read_step e step) = absurd (cc)
+kind_kept n size c answer after (cases.store_wish_step e a is) = absurd (cc)
 
 -- a push
-kind_pushed : (n size : ℕ) (c : Core) (moment len : ℕ) (after : Core) → model.Step n size c (model.pushes moment len) model.pushed after → top_kind after.frames ≡ Some (for_record moment len)
-kind_pushed n size c moment len after (model.push_step moment' len' e few short early a is) = ap (λ (d : Core). top_kind d.frames) is ∙ (let same : for_record moment' len' ≡ for_record moment len = cc in ap Some same)
-kind_pushed n size c moment len after (model.push_refused moment' len' why e refused a is) = absurd (cc)
-kind_pushed n size c moment len after (model.close_step e few a is) = absurd (cc)
-kind_pushed n size c moment len after (model.close_refused e many a is) = absurd (cc)
-kind_pushed n size c moment len after (model.frame_step frame below e is step) = absurd (cc)
-kind_pushed n size c moment len after (model.frame_lacks e none a is) = absurd (cc)
-kind_pushed n size c moment len after (model.end_step payload frame below number moment' len' e is x kind slot a after_is) = absurd (cc)
-kind_pushed n size c moment len after (model.end_lacks payload e none a is) = absurd (cc)
-kind_pushed n size c moment len after (model.end_early payload frame below e is none a after_is) = absurd (cc)
-kind_pushed n size c moment len after (model.read_step e step) = absurd (cc)
-kind_pushed n size c moment len after (model.store_wish_step e a is) = absurd (cc)
+kind_pushed : (n size : ℕ) (c : Core) (moment len : ℕ) (after : Core) → cases.StepCases n size c (model.pushes moment len) model.pushed after → top_kind after.frames ≡ Some (for_record moment len)
+kind_pushed n size c moment len after (cases.push_step moment' len' e few short early a is) = ap (λ (d : Core). top_kind d.frames) is ∙ (let same : for_record moment' len' ≡ for_record moment len = cc in ap Some same)
+kind_pushed n size c moment len after (cases.push_refused moment' len' why e refused a is) = absurd (cc)
+kind_pushed n size c moment len after (cases.close_step e few a is) = absurd (cc)
+kind_pushed n size c moment len after (cases.close_refused e many a is) = absurd (cc)
+kind_pushed n size c moment len after (cases.frame_step frame below e is step) = absurd (cc)
+kind_pushed n size c moment len after (cases.frame_lacks e none a is) = absurd (cc)
+kind_pushed n size c moment len after (cases.end_step payload frame below number moment' len' e is x kind slot a after_is) = absurd (cc)
+kind_pushed n size c moment len after (cases.end_lacks payload e none a is) = absurd (cc)
+kind_pushed n size c moment len after (cases.end_early payload frame below e is none a after_is) = absurd (cc)
+kind_pushed n size c moment len after (cases.read_step e step) = absurd (cc)
+kind_pushed n size c moment len after (cases.store_wish_step e a is) = absurd (cc)
 
 -- ---- in the frames
 
@@ -148,14 +150,14 @@ module _ (n size start : ℕ) (old new : FramesValue) (c after : Core) (result :
       record {
         going = λ is.
             let told : answer ≡ model.going = subst (λ (r : Answer). IsAnswerOf size r answer) is tells in
-            same (kind_kept n size c model.going after (subst (λ (a : model.Answer). model.Step n size c model.steps a after) told step));
+            same (kind_kept n size c model.going after (cases_of (subst (λ (a : model.Answer). model.Step n size c model.steps a after) told step)));
         reserved = λ number is.
             let told : answer ≡ model.reserved_as number.0 = subst (λ (r : Answer). IsAnswerOf size r answer) is tells in
-            same (kind_kept n size c (model.reserved_as number.0) after (subst (λ (a : model.Answer). model.Step n size c model.steps a after) told step));
+            same (kind_kept n size c (model.reserved_as number.0) after (cases_of (subst (λ (a : model.Answer). model.Step n size c model.steps a after) told step)));
       }
 
   -- and a frame that is pushed is for the payload that is asked for
   pub pushes_top : (moment len : ℕ) → model.Step n size c (model.pushes moment len) answer after → result ≡ Pushed → pushed_len new.stack.frames ≡ Some len
   pushes_top moment len step is =
       let told : answer ≡ model.pushed = subst (λ (r : Answer). IsAnswerOf size r answer) is tells in
-      top_len new after after_are ∙ ap kind_len (kind_pushed n size c moment len after (subst (λ (a : model.Answer). model.Step n size c (model.pushes moment len) a after) told step))
+      top_len new after after_are ∙ ap kind_len (kind_pushed n size c moment len after (cases_of (subst (λ (a : model.Answer). model.Step n size c (model.pushes moment len) a after) told step)))

@@ -7,6 +7,8 @@ use Rattle.trace_model.specs.Packing.{tail_of}
 use Rattle.trace_model.specs.Frames.{left, Frame}
 use Rattle.trace_model.specs.Ring.{Core}
 use Rattle.trace_model.specs.Steps as model
+use Rattle.trace_model.proofs.StepCases as cases
+use Rattle.trace_model.proofs.StepIs.{step_by}
 use Rattle.link_marks.proofs.StackSteps.{wishing_left}
 use Rattle.link_marks.proofs.FramePhases.{none_some}
 use Rattle.nested_writer.specs.declared.frame.Progress.TheVariants.{Left}
@@ -40,14 +42,14 @@ module _ (n size start : ℕ) (v : FramesValue) (c : Core) (core : HasFrames n s
   frame_in : Phase → Frame
   frame_in phase = record { kind = kind_of one.purpose; state = left; phase = phase_of phase }
 
-  looks : (result : Answer) (new : FramesValue) (answer : model.Answer) (frames : List Frame) (history : List HistoryEvent) → model.LoadWishStep n c (frame_in v.phase) [] answer (told_in c frames history) → IsAnswerOf size result answer → AreFrames n size start new (told_in c frames history)
+  looks : (result : Answer) (new : FramesValue) (answer : model.Answer) (frames : List Frame) (history : List HistoryEvent) → cases.LoadWishStep n c (frame_in v.phase) [] answer (told_in c frames history) → IsAnswerOf size result answer → AreFrames n size start new (told_in c frames history)
       → IsLookForWish n size start c result new
   unfolding frame_in
   looks result new answer frames history step tells shows = record {
     answer = answer;
     frames = frames;
     history = history;
-    step = model.frame_step (frame_in v.phase) [] refl one.model (subst (λ (p : Phase). model.FrameStep n size c (frame_in v.phase) [] (phase_of p) answer (told_in c frames history)) (sym is) step);
+    step = step_by (cases.frame_step (frame_in v.phase) [] refl one.model (subst (λ (p : Phase). cases.FrameStep n size c (frame_in v.phase) [] (phase_of p) answer (told_in c frames history)) (sym is) step));
     tells = tells;
     are = shows;
   }
@@ -59,7 +61,7 @@ module _ (n size start : ℕ) (v : FramesValue) (c : Core) (core : HasFrames n s
       let begun = s.opened_is in let wide = s.pages_is in
       let same_frames : later.frames ≡ record { purpose = one.purpose; progress = Left (Some (opened v.stack)) } ∷ [] = ap (λ (x : Stack). x.frames) asked ∙ ap (λ (fs : List stack.Frame). asked_frames fs (Some (opened v.stack))) one.frames_are in
       looks Going (record v { stack = later; phase = Looking (opened v.stack) }) model.going (frame_in (Looking c.opened) ∷ []) (c.history ++ wished ∷ [])
-      (model.grants refl record { asks_tail = asks ∙ sym s.opened_is; holds_record = holds; numbers_left = omega arith } refl refl) refl
+      (cases.grants refl record { asks_tail = asks ∙ sym s.opened_is; holds_record = holds; numbers_left = omega arith } refl refl) refl
       (reshown n size start v c later (Looking (opened v.stack)) v.below (frame_in (Looking c.opened) ∷ []) (c.history ++ wished ∷ []) c.held s record {
         pages_is = ap (λ (x : Stack). x.pages) asked;
         size_is = ap (λ (x : Stack). x.size) asked;
@@ -75,7 +77,7 @@ module _ (n size start : ℕ) (v : FramesValue) (c : Core) (core : HasFrames n s
   unfolding frame_in
   closes_more none more = let s = core.are in let begun = s.opened_is in let done = s.done_is in
       looks Going (record v { phase = Releasing }) model.going (frame_in Releasing ∷ []) c.history
-      (model.closes_more refl none (omega arith) refl refl) refl
+      (cases.closes_more refl none (omega arith) refl refl) refl
       (reshown n size start v c v.stack Releasing v.below (frame_in Releasing ∷ []) c.history c.held s record {
         pages_is = refl;
         size_is = refl;
@@ -91,7 +93,7 @@ module _ (n size start : ℕ) (v : FramesValue) (c : Core) (core : HasFrames n s
   goes_away later phase none last popped acted = let s = core.are in let begun = s.opened_is in let done = s.done_is in
       let no_frames : later.frames ≡ [] = ap (λ (x : Stack). x.frames) popped in
       looks Gone (record v { stack = later; phase = phase }) model.gone [] c.history
-      (model.goes_away refl none (omega arith) refl refl) refl
+      (cases.goes_away refl none (omega arith) refl refl) refl
       (reshown n size start v c later phase v.below [] c.history c.held s record {
         pages_is = ap (λ (x : Stack). x.pages) popped;
         size_is = ap (λ (x : Stack). x.size) popped;

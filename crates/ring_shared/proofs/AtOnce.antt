@@ -5,6 +5,8 @@ use Rattle.trace_model.specs.Words.{padded}
 use Rattle.trace_model.specs.Frames.{for_record, left, wishing, Frame}
 use Rattle.trace_model.specs.Ring.{Core}
 use Rattle.trace_model.specs.Steps as model
+use Rattle.trace_model.proofs.StepCases as cases
+use Rattle.trace_model.proofs.StepSound.{cases_of}
 use Rattle.link_marks.specs.Reached.{IsReached}
 use Rattle.link_marks.specs.Seats.{IsPrivate}
 use Rattle.link_marks.specs.FrameOutcomes.{IsLeaving}
@@ -43,15 +45,15 @@ pub data Wished (frame : Frame) (below : List Frame) (answer : model.Answer) (af
   wishes_on : (next : Frame) → answer ≡ model.going → after ≡ next ∷ below → next.kind ≡ frame.kind → next.state ≡ frame.state → Wished frame below answer after
   wished_gone : answer ≡ model.gone → after ≡ below → Wished frame below answer after
 
-wish_outcome : (n : ℕ) (c : Core) (frame : Frame) (below : List Frame) (answer : model.Answer) (after : Core) → model.LoadWishStep n c frame below answer after → Wished frame below answer after.frames
-wish_outcome n c frame below answer after (model.grants alone granted a is) = wishes_on _ a (ap (λ (d : Core). d.frames) is) refl refl
-wish_outcome n c frame below answer after (model.closes_more alone denied more a is) = wishes_on _ a (ap (λ (d : Core). d.frames) is) refl refl
-wish_outcome n c frame below answer after (model.goes_away alone denied last a is) = wished_gone a (ap (λ (d : Core). d.frames) is ∙ sym alone)
+wish_outcome : (n : ℕ) (c : Core) (frame : Frame) (below : List Frame) (answer : model.Answer) (after : Core) → cases.LoadWishStep n c frame below answer after → Wished frame below answer after.frames
+wish_outcome n c frame below answer after (cases.grants alone granted a is) = wishes_on _ a (ap (λ (d : Core). d.frames) is) refl refl
+wish_outcome n c frame below answer after (cases.closes_more alone denied more a is) = wishes_on _ a (ap (λ (d : Core). d.frames) is) refl refl
+wish_outcome n c frame below answer after (cases.goes_away alone denied last a is) = wished_gone a (ap (λ (d : Core). d.frames) is ∙ sym alone)
 
 -- ---- private steps
 
 open_stay : (n size : ℕ) (c : Core) (event : model.Event) (answer : model.Answer) (after : Core) → IsPrivate c event → model.Step n size c event answer after → after.open_pages ≡ c.open_pages
-open_stay n size c event answer after own step = ap (λ (d : Core). d.open_pages) (changes_privately c after (private_result n size c event answer after own step))
+open_stay n size c event answer after own step = ap (λ (d : Core). d.open_pages) (changes_privately c after (private_result n size c event answer after own (cases_of step)))
 
 module _ (v : WriterValue) (w : IsWriter v) (moment : ℕ) (payload : List ℕ) (gone : FramesValue) (wrote : WritesAtOnce v.frames moment payload (with_left_frame gone moment (length payload))) (alone : IsWrittenAlone v.frames moment payload gone) where
   abbrev pub frames : FramesValue

@@ -1,10 +1,10 @@
 -- What an event that touches no word makes of the writer's part of a ring: a function of that part alone.
-use Rattle.std.specs.Prelude.{ℕ, List, [], length, Option, Some, None}
+use Rattle.std.specs.Prelude.{ℕ, List, [], length, Some, None}
 use Rattle.trace_model.specs.Words.{padded}
 use Rattle.trace_model.specs.Links.{normal_link}
 use Rattle.trace_model.specs.Ring.{Core, first_reader}
-use Rattle.trace_model.specs.Steps.{Event, pushes, steps, ends}
-use Rattle.link_marks.proofs.StepFunction.{Outcome, step_of}
+use Rattle.trace_model.specs.Events.{Event, pushes, steps, ends, Outcome}
+use Rattle.trace_model.specs.Steps.{step_of}
 use Rattle.ring_steps.specs.declared.rule.Shape.{Shape}
 use Rattle.ring_steps.specs.Views.{Writing, writing_of}
 
@@ -26,9 +26,9 @@ alone w = record {
   reader = first_reader 0;
 }
 
-abbrev pub part_of : Writing → Option Outcome → Writing
+abbrev pub part_of : Writing → Outcome → Writing
 part_of w None = w
-part_of w (Some outcome) = writing_of outcome.after
+part_of w (Some outcome) = writing_of outcome.1
 
 -- the writer's part after a private event
 abbrev pub behind : Shape → Writing → Event → Writing

@@ -3,6 +3,7 @@ use Rattle.std.proofs.Common.{◌≡◌, ◌≢◌, ℕ, List, [], Some, refl, s
 use Rattle.trace_model.specs.Frames.{Phase as ModelPhase, Frame, noted_fill}
 use Rattle.trace_model.specs.Ring.{Core}
 use Rattle.trace_model.specs.Steps as model
+use Rattle.trace_model.proofs.StepCases as cases
 use Rattle.ring_steps.specs.Views.{Writing, writing_of}
 use Rattle.ring_steps.specs.Seats.{IsWriterStep}
 use Rattle.ring_frames.specs.declared.phase.Phase.{Phase}
@@ -18,7 +19,7 @@ use Rattle.ring_shared.proofs.Standing.{frames_like, frames_in, top_in, made}
 -- the step of the frame on top in a phase makes of the writer's part that the frame goes on in another
 abbrev pub Moves : WriterValue → ModelPhase → ModelPhase → Core → Core → Type 0
 Moves v from to c after = (frame : Frame) (below : List Frame)
-    → model.FrameStep v.shape.pages v.shape.size c frame below from model.going after
+    → cases.FrameStep v.shape.pages v.shape.size c frame below from model.going after
     → writing_of after ≡ writing_of (model.in_phase c frame below to)
 
 -- it continues in this phase, which was chosen by what the word stated

@@ -4,6 +4,8 @@ use Rattle.trace_model.specs.Record.{Record}
 use Rattle.trace_model.specs.History.{as_record, reserved_records}
 use Rattle.trace_model.specs.Ring as ring
 use Rattle.trace_model.specs.Steps as model
+use Rattle.trace_model.proofs.StepCases as cases
+use Rattle.trace_model.proofs.StepIs.{step_by}
 use Rattle.link_marks.proofs.RingsKept.{reached_further}
 use Rattle.link_marks.proofs.StepsDetermined.{steps_are_determined}
 use Rattle.page_image.specs.Contents.{records_of_page}
@@ -73,7 +75,7 @@ given_up shape before after fill a is = let hint = a.hint_le in record {
 -- a wish changes only the wish
 pub wish_stays : (shape : Shape) (before after : Reading) (sees : ring.Core → Type 0) (answer : model.Answer) → IsReaderStep shape before sees model.wishes answer after → Stays shape (record before { wish = after.wish }) after before.reader
 wish_stays shape before after sees answer r =
-    let is = (steps_are_determined shape.pages shape.size r.core model.wishes answer (model.wished_for r.core.reader.seen) r.next (model.with_wish r.core) r.step (model.store_wish_step refl refl refl)).1 in record {
+    let is = (steps_are_determined shape.pages shape.size r.core model.wishes answer (model.wished_for r.core.reader.seen) r.next (model.with_wish r.core) r.step (step_by (cases.store_wish_step refl refl refl))).1 in record {
       known = record {
         core = r.next;
         reached = reached_further shape.pages shape.size shape.start r.core model.wishes answer r.next r.reached r.step;

@@ -3,6 +3,7 @@ use Rattle.std.proofs.Common.{◌≡◌, ◌≢◌, ℕ, List, [], ◌∷◌, �
 use Rattle.trace_model.specs.Frames.{Kind, for_record, for_close, FrameState, waiting, reserved, left, opening, Frame}
 use Rattle.trace_model.specs.Ring.{Core, PageRecords, fill_of}
 use Rattle.trace_model.specs.Steps as model
+use Rattle.trace_model.proofs.StepCases as cases
 use Rattle.link_marks.proofs.StepsDetermined.{steps_are_determined}
 use Rattle.page_image.specs.Contents.{Contents}
 use Rattle.nested_writer.specs.Released.{IsWrittenPage}
@@ -52,10 +53,10 @@ module _ (v new : WriterValue) (w : IsWriter v) (some : v.frames.stack.frames �
       (ap (λ (c : Core). c.open_pages) after_is ∙ begun_pages t.frame.kind t.frame.state (model.with_new_tail s.core page) t.frame t.below
       ∙ ap (λ (pages : List ℕ). pages ++ page ∷ []) (pages_before answer s) ∙ sym pages_is)
     where
-      opened : {c after : Core} {answer : model.Answer} (frame : Frame) (below : List Frame) → noted ≡ c.opened → model.OpenFillStep v.shape.pages c frame below noted page answer after
+      opened : {c after : Core} {answer : model.Answer} (frame : Frame) (below : List Frame) → noted ≡ c.opened → cases.OpenFillStep v.shape.pages c frame below noted page answer after
           → after ≡ model.after_begin frame.kind frame.state (model.with_new_tail c page) frame below
-      opened frame below here (model.open_late late) = absurd (late.passed here)
-      opened frame below here (model.opens x a is) = is
+      opened frame below here (cases.open_late late) = absurd (late.passed here)
+      opened frame below here (cases.opens x a is) = is
 
   -- ---- a fill is closed
 

@@ -3,6 +3,7 @@
 use Rattle.std.proofs.Common.{◌≡◌, ℕ, [], ◌∷◌, refl, sym, ap, ◌∙◌, subst}
 use Rattle.trace_model.specs.Ring.{Core}
 use Rattle.trace_model.specs.Steps as model
+use Rattle.trace_model.proofs.StepSound.{cases_of}
 use Rattle.link_marks.specs.Reached.{IsReached}
 use Rattle.link_marks.specs.RingLaws.{MayAsk}
 use Rattle.link_marks.specs.Seats.{WriterStays, PhaseIsPrivate, IsPrivate}
@@ -98,7 +99,7 @@ private_call old event result new w shape table noted pages made =
     let n = old.shape.pages in let size = old.shape.size in let start = old.shape.start in
     let m = made n size start w.core w.reached w.frames_are in
     let after_is : writing_of m.after ≡ new.part = behind_is old.shape old.part w.core event m.answer m.after w.part_is m.private m.step ∙ sym noted in
-    let stays = ap (λ (d : Core). d.open_pages) (changes_privately w.core m.after (private_result n size w.core event m.answer m.after m.private m.step)) in
+    let stays = ap (λ (d : Core). d.open_pages) (changes_privately w.core m.after (private_result n size w.core event m.answer m.after m.private (cases_of m.step))) in
     record {
       shape_is = shape;
       table_is = table;

@@ -7,7 +7,9 @@ use Rattle.trace_model.proofs.Elements.{some_is}
 use Rattle.trace_model.specs.Frames.{Kind, for_record, for_close, FrameState, waiting, reserved, left, Refusal, Frame}
 use Rattle.trace_model.specs.Ring.{Core}
 use Rattle.trace_model.specs.Steps as model
-use Rattle.trace_model.specs.Steps.{end_answer, frames_after_leave, Step, push_step, push_refused, close_step, close_refused, frame_step, frame_lacks, end_step, end_lacks, end_early, read_step, store_wish_step}
+use Rattle.trace_model.specs.Steps.{end_answer, frames_after_leave, Step}
+use Rattle.trace_model.proofs.StepCases.{StepCases, push_step, push_refused, close_step, close_refused, frame_step, frame_lacks, end_step, end_lacks, end_early, read_step, store_wish_step}
+use Rattle.trace_model.proofs.StepSound.{cases_of}
 use Rattle.link_marks.specs.KeptStack.{MayBeIn, IsForRecord}
 use Rattle.link_marks.proofs.StackSteps.{top_agrees}
 use Rattle.nested_writer.specs.declared.frame.Slot.{Slot}
@@ -54,7 +56,7 @@ refused_not : (answer : model.Answer) (what : model.Answer) (why : Refusal) → 
 refused_not answer what why a e = sym a ∙ e
 
 module _ (n size : ℕ) (c : Core) (answer : model.Answer) (after : Core) where
-  close_in : Step n size c model.pushes_close answer after → answer ≡ model.pushed → rooms_of after.frames ≡ None ∷ rooms_of c.frames
+  close_in : StepCases n size c model.pushes_close answer after → answer ≡ model.pushed → rooms_of after.frames ≡ None ∷ rooms_of c.frames
   close_in (push_step m l e few short early a is) told = absurd (subst IsClose e tt)
   close_in (push_refused m l why e why_not a is) told = absurd (subst IsClose e tt)
   close_in (close_step e few a is) told = ap (λ (d : Core). rooms_of d.frames) is
@@ -73,7 +75,7 @@ module _ (n size : ℕ) (c : Core) (answer : model.Answer) (after : Core) where
   above_others frame below (next ∷ others) top same a told is =
       (room_of frame.kind, ap rooms_of top ∙ ap (λ (fs : List Frame). room_of frame.kind ∷ rooms_of fs) (same ∙ sym is))
 
-  end_in : (payload : List ℕ) → Step n size c (model.ends payload) answer after → answer ≡ model.pending → IsOneMore (rooms_of c.frames) (rooms_of after.frames)
+  end_in : (payload : List ℕ) → StepCases n size c (model.ends payload) answer after → answer ≡ model.pending → IsOneMore (rooms_of c.frames) (rooms_of after.frames)
   end_in payload (push_step m l e few short early a is) told = absurd (subst IsEnd e tt)
   end_in payload (push_refused m l why e why_not a is) told = absurd (subst IsEnd e tt)
   end_in payload (close_step e few a is) told = absurd (subst IsEnd e tt)
@@ -106,7 +108,7 @@ module _ (shape : Shape) (before : Writing) (result : Answer) (after : Writing) 
   pub push_rooms : (moment len : ℕ) → IsCall shape before (model.pushes moment len) result after → result ≡ Pushed → rooms_of after.frames ≡ Some (slot_len len) ∷ rooms_of before.frames
   push_rooms moment len call e =
       let told : call.answer ≡ model.pushed = tells_so shape before (model.pushes moment len) result after call Pushed e in
-      elim (push_answers shape.pages shape.size call.core moment len call.answer call.next call.step) [
+      elim (push_answers shape.pages shape.size call.core moment len call.answer call.next (cases_of call.step)) [
         | inl p ↦ sym (rooms_after shape before (model.pushes moment len) result after call) ∙ ap rooms_of p.top ∙ ap (λ (k : Kind). room_of k ∷ rooms_of call.core.frames) p.kind_is ∙ ap (λ (rs : List (Option ℕ)). Some (slot_len len) ∷ rs) (rooms_before shape before (model.pushes moment len) result after call)
         | inr r ↦ absurd (let both = refused_not call.answer model.pushed r.0 r.1 told in cc)
       ]
@@ -115,14 +117,14 @@ module _ (shape : Shape) (before : Writing) (result : Answer) (after : Writing) 
   pub close_rooms : IsCall shape before model.pushes_close result after → result ≡ Pushed → rooms_of after.frames ≡ None ∷ rooms_of before.frames
   close_rooms call e =
       sym (rooms_after shape before model.pushes_close result after call)
-      ∙ close_in shape.pages shape.size call.core call.answer call.next call.step (tells_so shape before model.pushes_close result after call Pushed e)
+      ∙ close_in shape.pages shape.size call.core call.answer call.next (cases_of call.step) (tells_so shape before model.pushes_close result after call Pushed e)
       ∙ ap (λ (rs : List (Option ℕ)). None ∷ rs) (rooms_before shape before model.pushes_close result after call)
 
   -- one that ends above others leaves them
   pub end_rooms : (payload : List ℕ) → IsCall shape before (model.ends payload) result after → result ≡ Ended Pending → IsOneMore (rooms_of before.frames) (rooms_of after.frames)
   end_rooms payload call e =
       more_rooms shape before (model.ends payload) result after call
-      (end_in shape.pages shape.size call.core call.answer call.next payload call.step (tells_so shape before (model.ends payload) result after call (Ended Pending) e))
+      (end_in shape.pages shape.size call.core call.answer call.next payload (cases_of call.step) (tells_so shape before (model.ends payload) result after call (Ended Pending) e))
 
   module _ (call : IsCall shape before model.steps result after) where
     frames_in : (frames : List Frame) → before.frames ≡ frames → call.core.frames ≡ frames
@@ -214,7 +216,7 @@ module _ (shape : Shape) (before : Writing) (result : Answer) (after : Writing) 
 
 module _ (shape : Shape) (before after : Writing) (moment len : ℕ) where
   refused_push : (fault : WriteFault) → IsCall shape before (model.pushes moment len) (Refused fault) after → rooms_of after.frames ≡ rooms_of before.frames
-  refused_push fault call = elim (push_answers shape.pages shape.size call.core moment len call.answer call.next call.step) [
+  refused_push fault call = elim (push_answers shape.pages shape.size call.core moment len call.answer call.next (cases_of call.step)) [
     | inl p ↦ absurd (let told = call.tells in let both : model.pushed ≡ model.refused (refusal_of fault) = sym p.answer_is ∙ told in cc)
     | inr r ↦ sym (rooms_after shape before (model.pushes moment len) (Refused fault) after call) ∙ ap (λ (c : Core). rooms_of c.frames) r.2 ∙ rooms_before shape before (model.pushes moment len) (Refused fault) after call
   ]

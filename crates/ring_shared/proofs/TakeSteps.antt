@@ -7,6 +7,8 @@ use Rattle.trace_model.specs.History.{as_record, reserved_records}
 use Rattle.trace_model.specs.Links.{Link, normal_link, header_link, update_link}
 use Rattle.trace_model.specs.Ring.{Core, Reader, ReaderPhase, loading_link, loading_done, storing_link, swapping, link_into}
 use Rattle.trace_model.specs.Steps as model
+use Rattle.trace_model.proofs.StepCases as cases
+use Rattle.trace_model.proofs.StepIs.{step_by}
 use Rattle.link_marks.specs.KeptLinks.{ReaderKept}
 use Rattle.link_marks.specs.RingKept.{IsRingKept}
 use Rattle.link_marks.proofs.AnswersRight.{passed_below, moving_right}
@@ -79,9 +81,9 @@ module _ (shape : Shape) (before after : Reading) (sees : Core → Type 0) (answ
   facts phase at = subst (λ (p : ReaderPhase). ReaderKept shape.pages r.core.links r.core.order r.core.spare_link r.core.head r.core.done r.core.reader.hint p) (sym (phase_in phase at)) kept.links.reader
 
   -- the step is this one
-  is_step : (phase : ReaderPhase) (told : model.Answer) (next : Core) → before.reader.phase ≡ phase → model.ReadStep shape.pages r.core phase told next → (answer ≡ told) × (r.next ≡ next)
+  is_step : (phase : ReaderPhase) (told : model.Answer) (next : Core) → before.reader.phase ≡ phase → cases.ReadStep shape.pages r.core phase told next → (answer ≡ told) × (r.next ≡ next)
   is_step phase told next at step = steps_are_determined shape.pages shape.size r.core model.reads answer told r.next next r.step
-      (model.read_step refl (subst (λ (p : ReaderPhase). model.ReadStep shape.pages r.core p told next) (phase_in phase at) step))
+      (step_by (cases.read_step refl (subst (λ (p : ReaderPhase). cases.ReadStep shape.pages r.core p told next) (phase_in phase at) step)))
 
   -- the model answers the step so
   pub so : (told : model.Answer) → answer ≡ told → ReadsSo shape before told after
@@ -96,7 +98,7 @@ module _ (shape : Shape) (before after : Reading) (sees : Core → Type 0) (answ
     after_is = r.after_is;
   }
 
-  reads_so : (phase : ReaderPhase) (told : model.Answer) (next : Core) → before.reader.phase ≡ phase → model.ReadStep shape.pages r.core phase told next → ReadsSo shape before told after
+  reads_so : (phase : ReaderPhase) (told : model.Answer) (next : Core) → before.reader.phase ≡ phase → cases.ReadStep shape.pages r.core phase told next → ReadsSo shape before told after
   reads_so phase told next at step = so told (is_step phase told next at step).0
 
   stays : (reader : Reader) (link : Link) → r.next ≡ gone_on r.core reader link → reader.expected ≡ r.core.reader.expected → Stays shape before after reader
@@ -115,7 +117,7 @@ module _ (shape : Shape) (before after : Reading) (sees : Core → Type 0) (answ
 
   module _ (at : before.reader.phase ≡ loading_link) where
     -- the reader goes on in this phase, with this hint
-    loads : (phase : ReaderPhase) (hint : ℕ) (told : model.Answer) → model.LoadHeadStep shape.pages r.core told (model.reader_at r.core phase hint) → Stays shape before after (record before.reader { phase = phase; hint = hint })
+    loads : (phase : ReaderPhase) (hint : ℕ) (told : model.Answer) → cases.LoadHeadStep shape.pages r.core told (model.reader_at r.core phase hint) → Stays shape before after (record before.reader { phase = phase; hint = hint })
     loads phase hint told step = subst (λ (x : Reader). Stays shape before after (record x { phase = phase; hint = hint })) (sym reader_is)
         (stays (record r.core.reader { phase = phase; hint = hint }) r.core.spare_link (is_step loading_link told (model.reader_at r.core phase hint) at step).1 refl)
 
@@ -123,27 +125,27 @@ module _ (shape : Shape) (before after : Reading) (sees : Core → Type 0) (answ
     here l e = ap (link_into shape.pages r.core.links) (sym hint_is) ∙ e
 
     pub header_answers : (page fill : ℕ) → link_into shape.pages r.core.links before.reader.hint ≡ header_link page fill → ReadsSo shape before model.reading after
-    header_answers page fill e = reads_so loading_link model.reading (model.reader_at r.core (loading_done page fill) fill) at (model.loads_header page fill (here (header_link page fill) e) refl refl)
+    header_answers page fill e = reads_so loading_link model.reading (model.reader_at r.core (loading_done page fill) fill) at (cases.loads_header page fill (here (header_link page fill) e) refl refl)
 
     pub update_answers : (page lost : ℕ) → link_into shape.pages r.core.links before.reader.hint ≡ update_link page lost → ReadsSo shape before (model.moving (lost + 1)) after
     update_answers page lost e = subst (λ (fill : ℕ). ReadsSo shape before (model.moving fill) after) (let next : suc lost ≡ lost + 1 = omega arith in next)
-        (reads_so loading_link (model.moving (suc lost)) (model.reader_at r.core loading_link (suc lost)) at (model.loads_update page lost (here (update_link page lost) e) refl refl))
+        (reads_so loading_link (model.moving (suc lost)) (model.reader_at r.core loading_link (suc lost)) at (cases.loads_update page lost (here (update_link page lost) e) refl refl))
 
     pub owed_answers : (page : ℕ) → link_into shape.pages r.core.links before.reader.hint ≡ normal_link page before.reader.hint → ReadsSo shape before (model.moving before.reader.hint) after
     owed_answers page e = subst (λ (fill : ℕ). ReadsSo shape before (model.moving fill) after) (sym hint_is)
         (reads_so loading_link (model.moving r.core.reader.hint) (model.reader_at r.core loading_link r.core.reader.hint) at
-        (model.loads_owed page (here (normal_link page before.reader.hint) e ∙ ap (normal_link page) hint_is) refl refl))
+        (cases.loads_owed page (here (normal_link page before.reader.hint) e ∙ ap (normal_link page) hint_is) refl refl))
 
     pub sees_header : (page fill : ℕ) → link_into shape.pages r.core.links before.reader.hint ≡ header_link page fill → Stays shape before after (record before.reader { phase = loading_done page fill; hint = fill }) × (before.reader.hint ≤ fill)
     sees_header page fill e =
         let (g, low, high, same, link) = fill_at shape.pages r.core kept.links before.reader.hint in
         let told = header_tells shape.pages r.core.links r.core.order r.core.head r.core.frames g page fill link (same ∙ e) in
         let fill_is = told.0 in let head_is = told.1 in let behind = kept.links.hint_le in let hint = hint_is in
-        (loads (loading_done page fill) fill model.reading (model.loads_header page fill (here (header_link page fill) e) refl refl), omega arith)
+        (loads (loading_done page fill) fill model.reading (cases.loads_header page fill (here (header_link page fill) e) refl refl), omega arith)
 
     pub sees_update : (page lost : ℕ) → link_into shape.pages r.core.links before.reader.hint ≡ update_link page lost → Stays shape before after (record before.reader { phase = loading_link; hint = lost + 1 }) × (before.reader.hint ≤ lost + 1)
     sees_update page lost e =
-        let step : model.LoadHeadStep shape.pages r.core (model.moving (suc lost)) (model.reader_at r.core loading_link (suc lost)) = model.loads_update page lost (here (update_link page lost) e) refl refl in
+        let step : cases.LoadHeadStep shape.pages r.core (model.moving (suc lost)) (model.reader_at r.core loading_link (suc lost)) = cases.loads_update page lost (here (update_link page lost) e) refl refl in
         let next : suc lost ≡ lost + 1 = omega arith in
         let is = is_step loading_link (model.moving (suc lost)) (model.reader_at r.core loading_link (suc lost)) at step in
         let way = (moving_right shape.pages shape.size shape.start r.core model.reads (suc lost) r.next kept (subst (λ (a : model.Answer). model.Step shape.pages shape.size r.core model.reads a r.next) is.0 r.step)).0 in
@@ -153,7 +155,7 @@ module _ (shape : Shape) (before after : Reading) (sees : Core → Type 0) (answ
     pub sees_owed : (page : ℕ) → link_into shape.pages r.core.links before.reader.hint ≡ normal_link page before.reader.hint → Stays shape before after before.reader
     sees_owed page e =
         let owed = here (normal_link page before.reader.hint) e ∙ ap (normal_link page) hint_is in
-        let hint = loads loading_link r.core.reader.hint (model.moving r.core.reader.hint) (model.loads_owed page owed refl refl) in
+        let hint = loads loading_link r.core.reader.hint (model.moving r.core.reader.hint) (cases.loads_owed page owed refl refl) in
         subst (Stays shape before after) (λ i. record before.reader { phase = sym at i; hint = sym hint_is i }) hint
 
     -- the position has a fill from the head on, at least a whole round after the hint
@@ -169,10 +171,10 @@ module _ (shape : Shape) (before after : Reading) (sees : Core → Type 0) (answ
         )
 
     passed_step : (page fill : ℕ) → link_into shape.pages r.core.links before.reader.hint ≡ normal_link page fill → fill ≢ before.reader.hint
-        → model.LoadHeadStep shape.pages r.core model.reading (model.reader_at r.core loading_link (fill + 1 - shape.pages))
+        → cases.LoadHeadStep shape.pages r.core model.reading (model.reader_at r.core loading_link (fill + 1 - shape.pages))
     passed_step page fill e other =
         let (behind, some_pages) = far page fill e other in let same = hint_is in
-        model.loads_passed page fill (fill + 1 - shape.pages) (here (normal_link page fill) e) (omega arith) (omega arith) refl refl
+        cases.loads_passed page fill (fill + 1 - shape.pages) (here (normal_link page fill) e) (omega arith) (omega arith) refl refl
 
     pub passed_answers : (page fill : ℕ) → link_into shape.pages r.core.links before.reader.hint ≡ normal_link page fill → fill ≢ before.reader.hint → ReadsSo shape before model.reading after
     passed_answers page fill e other = reads_so loading_link model.reading (model.reader_at r.core loading_link (fill + 1 - shape.pages)) at (passed_step page fill e other)
@@ -186,27 +188,27 @@ module _ (shape : Shape) (before after : Reading) (sees : Core → Type 0) (answ
   -- ---- a load of the number of closed fills
 
   module _ (page fill : ℕ) (at : before.reader.phase ≡ loading_done page fill) where
-    saw : (phase : ReaderPhase) (told : model.Answer) → model.LoadDoneStep r.core page fill told (model.reader_saw r.core phase) → Stays shape before after (record before.reader { phase = phase; seen = r.core.done })
+    saw : (phase : ReaderPhase) (told : model.Answer) → cases.LoadDoneStep r.core page fill told (model.reader_saw r.core phase) → Stays shape before after (record before.reader { phase = phase; seen = r.core.done })
     saw phase told step = subst (λ (x : Reader). Stays shape before after (record x { phase = phase; seen = r.core.done })) (sym reader_is)
         (stays (record r.core.reader { phase = phase; seen = r.core.done }) r.core.spare_link (is_step (loading_done page fill) told (model.reader_saw r.core phase) at step).1 refl)
 
     pub closed_answers : (done : ℕ) → r.core.done ≡ done → fill < done → ReadsSo shape before model.reading after
-    closed_answers done is below = reads_so (loading_done page fill) model.reading (model.reader_saw r.core (storing_link page fill)) at (model.finds_closed (omega arith) refl refl)
+    closed_answers done is below = reads_so (loading_done page fill) model.reading (model.reader_saw r.core (storing_link page fill)) at (cases.finds_closed (omega arith) refl refl)
 
     pub none_answers : (done : ℕ) → r.core.done ≡ done → done ≤ fill → ReadsSo shape before (model.empty done) after
     none_answers done is le = subst (λ (d : ℕ). ReadsSo shape before (model.empty d) after) is
-        (reads_so (loading_done page fill) (model.empty r.core.done) (model.reader_saw r.core loading_link) at (model.finds_none (omega arith) refl refl))
+        (reads_so (loading_done page fill) (model.empty r.core.done) (model.reader_saw r.core loading_link) at (cases.finds_none (omega arith) refl refl))
 
     pub finds_closed : (done : ℕ) → r.core.done ≡ done → fill < done → Stays shape before after (record before.reader { phase = storing_link page fill; seen = done }) × (before.reader.seen ≤ done)
     finds_closed done is below = let low = seen_low in
-        (subst (λ (d : ℕ). Stays shape before after (record before.reader { phase = storing_link page fill; seen = d })) is (saw (storing_link page fill) model.reading (model.finds_closed (omega arith) refl refl)), omega arith)
+        (subst (λ (d : ℕ). Stays shape before after (record before.reader { phase = storing_link page fill; seen = d })) is (saw (storing_link page fill) model.reading (cases.finds_closed (omega arith) refl refl)), omega arith)
 
     pub finds_none : (done : ℕ) → r.core.done ≡ done → done ≤ fill → Stays shape before after (record before.reader { phase = loading_link; seen = done }) × (before.reader.hint ≡ done) × IsEmptyFound shape before done after
     unfolding known_after
     finds_none done is le =
         let low = seen_low in
         let fill_is = (facts (loading_done page fill) at).fill_is in let behind = kept.links.hint_le in let unread = kept.links.head_le in let hint = hint_is in
-        let step : model.LoadDoneStep r.core page fill (model.empty r.core.done) (model.reader_saw r.core loading_link) = model.finds_none (omega arith) refl refl in
+        let step : cases.LoadDoneStep r.core page fill (model.empty r.core.done) (model.reader_saw r.core loading_link) = cases.finds_none (omega arith) refl refl in
         let s : Stays shape before after (record before.reader { phase = loading_link; seen = done }) = subst (λ (d : ℕ). Stays shape before after (record before.reader { phase = loading_link; seen = d })) is (saw loading_link (model.empty r.core.done) step) in
         let hint_done : before.reader.hint ≡ done = omega arith in
         let same = (is_step (loading_done page fill) (model.empty r.core.done) (model.reader_saw r.core loading_link) at step).1 in (

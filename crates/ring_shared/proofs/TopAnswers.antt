@@ -3,7 +3,10 @@ use Rattle.std.proofs.Common.{◌≡◌, ◌≢◌, ℕ, List, [], ◌∷◌, le
 use Rattle.trace_model.specs.Frames.{Kind, for_record, for_close, FrameState, waiting, reserved, left, Phase as ModelPhase, idle, releasing, Frame, no_frame}
 use Rattle.trace_model.specs.Ring.{Core}
 use Rattle.trace_model.specs.Steps as model
-use Rattle.trace_model.specs.Steps.{ReleaseFillStep, releases, releases_last, Step, push_step, push_refused, close_step, close_refused, frame_step, frame_lacks, end_step, end_lacks, end_early, read_step, store_wish_step}
+use Rattle.trace_model.proofs.StepCases as cases
+use Rattle.trace_model.specs.Steps.{Step}
+use Rattle.trace_model.proofs.StepCases.{ReleaseFillStep, releases, releases_last, push_step, push_refused, close_step, close_refused, frame_step, frame_lacks, end_step, end_lacks, end_early, read_step, store_wish_step}
+use Rattle.trace_model.proofs.StepSound.{cases_of}
 use Rattle.link_marks.specs.FrameOutcomes.{IsLeaving}
 use Rattle.link_marks.specs.KeptStack.{MayBeIn}
 use Rattle.link_marks.proofs.RingsKept.{reached_kept}
@@ -81,7 +84,7 @@ IsSteps (model.ends payload) = ⊥
 IsSteps model.reads = ⊥
 IsSteps model.wishes = ⊥
 
-none_answers : (n size : ℕ) (c : Core) (answer : model.Answer) (after : Core) → c.frames ≡ [] → Step n size c model.steps answer after → answer ≡ model.refused no_frame
+none_answers : (n size : ℕ) (c : Core) (answer : model.Answer) (after : Core) → c.frames ≡ [] → cases.StepCases n size c model.steps answer after → answer ≡ model.refused no_frame
 none_answers n size c answer after none (push_step moment len e few short early a is) = absurd (subst IsSteps e tt)
 none_answers n size c answer after none (push_refused moment len why e why_not a is) = absurd (subst IsSteps e tt)
 none_answers n size c answer after none (close_step e few a is) = absurd (subst IsSteps e tt)
@@ -101,7 +104,7 @@ module _ (shape : Shape) (before : Writing) (result : Answer) (after : Writing) 
       let at : call.core.frames ≡ frame ∷ below = ap (λ (p : Writing). p.frames) call.before_is ∙ top in
       let kept = reached_kept shape.pages shape.size shape.start call.core call.reached in
       let agree = top_agrees call.core frame below at kept.stack in
-      let (answer_is, same) = subst (λ (s : FrameState). model.IdleStep shape.pages shape.size call.core frame below s call.answer call.next) is
+      let (answer_is, same) = subst (λ (s : FrameState). cases.IdleStep shape.pages shape.size call.core frame below s call.answer call.next) is
       (top_stepped shape.pages shape.size call.core frame below idle call.answer call.next at (reserved_rests frame.kind frame.state frame.phase number is agree.0) call.step) in
       let (told, tells, told_is) = is_number shape.size result call.answer number call.tells answer_is in
       record {
@@ -116,7 +119,7 @@ module _ (shape : Shape) (before : Writing) (result : Answer) (after : Writing) 
   pub none_refused : before.frames ≡ [] → IsRefusal result
   none_refused none =
       is_refusal shape.size result call.answer no_frame call.tells
-      (none_answers shape.pages shape.size call.core call.answer call.next (ap (λ (p : Writing). p.frames) call.before_is ∙ none) call.step)
+      (none_answers shape.pages shape.size call.core call.answer call.next (ap (λ (p : Writing). p.frames) call.before_is ∙ none) (cases_of call.step))
 
 -- one that makes a single step answers its record's number, or is refused
 step_in : (shape : Shape) (before : Writing) (result : Answer) (after : Writing) (frames : List stack.Frame) (phase : Phase) (below : List Phase) → before.frames ≡ ring_frames frames (phase ∷ below) → IsTarget (top_of frames) target.Step → IsCall shape before model.steps result after → TellsTop result after.frames

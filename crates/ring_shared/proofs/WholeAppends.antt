@@ -7,6 +7,7 @@ use Rattle.trace_model.specs.History.{IsHistory, HistoryEvent, push, reserve, le
 use Rattle.trace_model.specs.Frames.{Kind, for_record, for_close, FrameState, waiting, left, Refusal, Frame}
 use Rattle.trace_model.specs.Steps as model
 use Rattle.trace_model.proofs.HistoryPrefixes.{writer-append}
+use Rattle.trace_model.proofs.StepSound.{cases_of}
 use Rattle.link_marks.specs.FrameOutcomes.{IsReserving, IsLeaving}
 use Rattle.link_marks.proofs.PackedRuns.{runs_packed}
 use Rattle.link_marks.proofs.RingsKept.{reached_kept}
@@ -290,7 +291,7 @@ refused_writes_append shape before moment len fault after (inr r) = inr (pushed_
 
 -- a push that is refused changes nothing
 refused_push : (shape : Shape) (before : Writing) (moment len : ℕ) (fault : WriteFault) (after : Writing) → IsCall shape before (model.pushes moment len) (Refused fault) after → after ≡ before
-refused_push shape before moment len fault after call = by (push_answers shape.pages shape.size call.core moment len call.answer call.next call.step)
+refused_push shape before moment len fault after call = by (push_answers shape.pages shape.size call.core moment len call.answer call.next (cases_of call.step))
   where
     by : IsPushed moment len call.answer call.core.frames call.next.frames ⊎ ((why : Refusal) × (call.answer ≡ model.refused why) × (call.next ≡ call.core)) → after ≡ before
     by (inl p) = absurd (let both : model.refused (refusal_of fault) ≡ model.pushed = sym call.tells ∙ p.answer_is in cc)

@@ -4,6 +4,7 @@ use Rattle.std.proofs.Common.{◌≡◌, ◌≢◌, ℕ, List, [], ◌∷◌, le
 use Rattle.trace_model.specs.Words.{slot_len, padded}
 use Rattle.trace_model.specs.Frames.{Kind, for_record, for_close, FrameState, waiting, reserved, left, Refusal, Frame}
 use Rattle.trace_model.specs.Steps as model
+use Rattle.trace_model.proofs.StepSound.{cases_of}
 use Rattle.link_marks.specs.FrameOutcomes.{IsReserving, IsLeaving}
 use Rattle.nested_writer.specs.declared.fault.WriteFault.{WriteFault}
 use Rattle.nested_writer.specs.declared.frame.Slot.{Slot}
@@ -151,7 +152,7 @@ module _ (shape : Shape) (before after : Writing) (moment len : ℕ) (result : A
   push_so (inr (why, denied, same)) = absurd (not_no (is_refusal shape.size result call.answer why call.tells denied))
 
   pub has_begun : HasBegun moment len before after × (result ≡ Pushed)
-  has_begun = push_so (push_answers shape.pages shape.size call.core moment len call.answer call.next call.step)
+  has_begun = push_so (push_answers shape.pages shape.size call.core moment len call.answer call.next (cases_of call.step))
 
 -- ---- the reservation
 
@@ -275,7 +276,7 @@ reserved_top v w slot is = reserved_in v.frames.stack.frames v.frames.phase v.fr
 module _ (shape : Shape) (before after : Writing) (payload : List ℕ) (result : Answer) (call : IsCall shape before (model.ends payload) result after) (t : HasReservedTop before.frames) where
   ended : HasEnded call.core t.frame t.below call.answer call.next.frames
   ended = end_answers shape.pages shape.size call.core payload t.frame t.below t.number call.answer call.next
-      (ap (λ (w : Writing). w.frames) call.before_is ∙ t.top) t.state_is call.step
+      (ap (λ (w : Writing). w.frames) call.before_is ∙ t.top) t.state_is (cases_of call.step)
 
   frames_then : after.frames ≡ model.frames_after_leave call.core t.frame t.below
   frames_then = ap (λ (w : Writing). w.frames) (sym call.after_is) ∙ ended.frames_are

@@ -8,7 +8,8 @@ use Rattle.trace_model.specs.declared.limits.TheConstants.{MAX_PAGES, LINK_FILLS
 use Rattle.trace_model.specs.Links.{Link, word_of, update_link, FitsWord}
 use Rattle.trace_model.specs.Frames.{Phase, marking, clearing, Frame, noted_fill, owned_update}
 use Rattle.trace_model.specs.Ring.{Core, link_into}
-use Rattle.trace_model.specs.Steps.{Answer, ClearUpdateStep, clears}
+use Rattle.trace_model.specs.Steps.{Answer}
+use Rattle.trace_model.proofs.StepCases.{ClearUpdateStep, clears}
 use Rattle.trace_model.proofs.LinkWords.{word_tells}
 use Rattle.link_marks.specs.KeptLinks.{spot, passed_spot}
 use Rattle.link_marks.specs.RingKept.{IsRingKept}

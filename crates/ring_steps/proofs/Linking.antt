@@ -12,7 +12,8 @@ use Rattle.trace_model.specs.declared.limits.TheConstants.{MAX_PAGES, LINK_PAGES
 use Rattle.trace_model.specs.Links.{Link, word_of, normal_link, header_link, update_link, FitsWord}
 use Rattle.trace_model.specs.Frames.{Role, owner, helper, Phase, looking, claiming, looking_next, marking, clearing, opening, wishing, Frame, noted_fill}
 use Rattle.trace_model.specs.Ring.{Core, link_into, links_with, page_at}
-use Rattle.trace_model.specs.Steps.{steps, going, Answer, MayOpen, after_next, in_phase, with_head_claimed, with_link, contents_of, LoadLinkStep, load_link_late, sees_free, sees_header, sees_update, ClaimHeadStep, claim_late, claims, claim_fails, LoadNextStep, load_next_late, sees_normal, sees_other, MarkHeadStep, mark_late, marks, mark_fails, ClearUpdateStep, clears, LoadWishStep, grants, closes_more, goes_away, Step}
+use Rattle.trace_model.specs.Steps.{steps, going, Answer, MayOpen, after_next, in_phase, with_head_claimed, with_link, contents_of, Step}
+use Rattle.trace_model.proofs.StepCases.{LoadLinkStep, load_link_late, sees_free, sees_header, sees_update, ClaimHeadStep, claim_late, claims, claim_fails, LoadNextStep, load_next_late, sees_normal, sees_other, MarkHeadStep, mark_late, marks, mark_fails, ClearUpdateStep, clears, LoadWishStep, grants, closes_more, goes_away}
 use Rattle.trace_model.proofs.LinkWords.{word_tells}
 use Rattle.link_marks.specs.KeptLinks.{passed_spot}
 use Rattle.link_marks.specs.RingKept.{IsRingKept}

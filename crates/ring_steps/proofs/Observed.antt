@@ -6,6 +6,7 @@ use Rattle.trace_model.specs.Window.{history_events_of}
 use Rattle.trace_model.specs.Ring.{Core}
 use Rattle.trace_model.specs.Steps.{Event, Answer, Step}
 use Rattle.trace_model.proofs.Committed.{committed_len, committed_len-more}
+use Rattle.trace_model.proofs.StepSound.{cases_of}
 use Rattle.link_marks.specs.RingKept.{IsRingKept}
 use Rattle.link_marks.proofs.PartitionChanges.{frozen}
 use Rattle.link_marks.proofs.PartitionSteps.{settled}
@@ -22,5 +23,5 @@ observed_longer h (a ∷ more) e low = let up = committed_len-more h a in
 
 pub observed_stays : (n size start : ℕ) (c : Core) (event : Event) (answer : Answer) (after : Core) → IsRingKept n size start c → Step n size c event answer after → first_records c.reader.expected after.history ≡ first_records c.reader.expected c.history
 observed_stays n size start c event answer after k step =
-    let l = leads_step n size start c event answer after k.links k.stack k.history step in
+    let l = leads_step n size start c event answer after k.links k.stack k.history (cases_of step) in
     ap (first_records c.reader.expected) l.history_events ∙ observed_longer c.history (history_events_of l.events) c.reader.expected (settled n start c k.links k.contents k.closed k.partition)

@@ -3,9 +3,9 @@ use Rattle.std.proofs.Common.{◌≡◌, ℕ, suc, ◌+◌, ◌-◌, ◌<◌, �
 use Rattle.std.proofs.lemmas.List.{map-append, length-map}
 use Rattle.trace_model.specs.Record.{Record}
 use Rattle.trace_model.specs.History.{HistoryEvent, Reservation, reserved_records, as_record}
-use Rattle.trace_model.specs.Packing.{opens_of, fills_of}
+use Rattle.trace_model.specs.Packing.{opens_of, fills_of, first_of_fill}
 use Rattle.trace_model.specs.Fitting.{IsRising}
-use Rattle.trace_model.specs.Ring.{PageRecords, first_of_fill, fill_of}
+use Rattle.trace_model.specs.Ring.{PageRecords, fill_of}
 use Rattle.trace_model.proofs.FillFirsts.{first_below, fill_behind}
 use Rattle.link_marks.proofs.PartitionLemmas.{take_split, take_map}
 use Rattle.ring_steps.proofs.Observed.{first_records}

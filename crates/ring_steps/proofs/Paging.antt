@@ -11,7 +11,9 @@ use Rattle.atomic_table.proofs.Lists.{set_here, set_else}
 use Rattle.trace_model.specs.Frames.{Kind, for_record, for_close, FrameState, waiting, reserved, left, opening, releasing, wishing, Phase, Frame}
 use Rattle.trace_model.specs.History.{HistoryEvent}
 use Rattle.trace_model.specs.Ring.{PageRecords, Core, empty_page, page_at, fill_of}
-use Rattle.trace_model.specs.Steps.{steps, going, Answer, contents_of, with_new_tail, held_with_payload, own_number, after_begin, begin_answer, ReleaseFillStep, releases, releases_last, opens, FrameStep, Step, frame_step}
+use Rattle.trace_model.specs.Steps.{steps, going, Answer, contents_of, with_new_tail, held_with_payload, own_number, after_begin, begin_answer, Step}
+use Rattle.trace_model.proofs.StepCases.{ReleaseFillStep, releases, releases_last, opens, FrameStep, frame_step}
+use Rattle.trace_model.proofs.StepIs.{step_by}
 use Rattle.link_marks.specs.RingKept.{IsRingKept}
 use Rattle.link_marks.specs.KeptLinks.{passed_spot}
 use Rattle.link_marks.proofs.FrameChanges.{top_kept}
@@ -179,7 +181,7 @@ module _ (shape : Shape) (c : Core) (r : Reading) (ws : List ℕ) (homes : Homes
       let alone = agree.1 (releasing_left top.frame.kind top.frame.state top.frame.phase top.phase_is agree.0) in
       let more = (top_kept shape.pages c top.frame top.below kept.links top.is).releases top.phase_is in
       let of_top : (after : Core) → ReleaseFillStep c top.frame top.below going after → Step shape.pages shape.size c steps going after =
-      λ after step. frame_step top.frame top.below refl top.is (subst (λ (p : Phase). FrameStep shape.pages shape.size c top.frame top.below p going after) (sym top.phase_is) step) in
+      λ after step. step_by (frame_step top.frame top.below refl top.is (subst (λ (p : Phase). FrameStep shape.pages shape.size c top.frame top.below p going after) (sym top.phase_is) step)) in
       dite (ℕ_discrete (c.done + 2) c.opened)
       (λ last. let frames : List Frame = record top.frame { phase = wishing } ∷ top.below in (frames, of_top (released_in frames) (releases_last alone last refl refl)))
       (λ ne. (c.frames, of_top (released_in c.frames) (releases alone (omega arith) refl refl)))
@@ -200,7 +202,7 @@ module _ (shape : Shape) (c : Core) (r : Reading) (ws : List ℕ) (homes : Homes
     begun_is = begun_private top_frame.kind top_frame.state (with_new_tail c number) top_frame below
 
     opened_step : Step shape.pages shape.size c steps (begin_answer top_frame.kind top_frame.state below) begun
-    opened_step = frame_step top_frame below refl is_top (subst (λ (p : Phase). FrameStep shape.pages shape.size c top_frame below p (begin_answer top_frame.kind top_frame.state below) begun) (sym phase_is) (opens refl refl refl))
+    opened_step = step_by (frame_step top_frame below refl is_top (subst (λ (p : Phase). FrameStep shape.pages shape.size c top_frame below p (begin_answer top_frame.kind top_frame.state below) begun) (sym phase_is) (opens refl refl refl)))
 
     lies_there : HasBody homes shape.size number
     lies_there = let low = kept.links.head_le in let room = position.1 in

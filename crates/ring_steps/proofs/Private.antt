@@ -2,6 +2,7 @@
 use Rattle.std.proofs.Common.{◌≡◌, ◌≢◌, ℕ, ◌+◌, ◌<◌, ◌≤◌, List, [], ◌∷◌, length, slice_index_or, sym, ap, ◌∙◌, subst, arith}
 use Rattle.trace_model.specs.Ring.{PageRecords, Core, page_at}
 use Rattle.trace_model.specs.Steps.{contents_of, Event, Answer, Exchange, Step}
+use Rattle.trace_model.proofs.StepSound.{cases_of}
 use Rattle.link_marks.specs.RingKept.{IsRingKept}
 use Rattle.link_marks.specs.Reached.{IsReached}
 use Rattle.link_marks.specs.Seats.{PrivateRun}
@@ -35,7 +36,7 @@ pub private_read : (n size start : ℕ) (c aside : Core) (exchanges : List Excha
 private_read n size start c aside [] r reached run reading_is = subst (λ (d : Core). IsReading d r) run reading_is
 private_read n size start c aside (x ∷ exchanges) r reached (own, between, step, run) reading_is =
     private_read n size start between aside exchanges r (reached_further n size start c x.event x.answer between reached step) run
-    (stays_read n size start c x.event x.answer between r reached step (changes_privately c between (private_result n size c x.event x.answer between own step)) reading_is)
+    (stays_read n size start c x.event x.answer between r reached step (changes_privately c between (private_result n size c x.event x.answer between own (cases_of step))) reading_is)
 
 -- the frames, the history and what pages hold are others; the pages of closed fills hold what they held
 pub stays_shown : (n size start : ℕ) (c : Core) (event : Event) (answer : Answer) (after : Core) (r : Reading) (words : List ℕ) (homes : Homes)
@@ -78,20 +79,20 @@ private_shown n size start c aside [] r words homes s run = subst (λ (d : Core)
 private_shown n size start c aside (x ∷ exchanges) r words homes s (own, between, step, run) =
     let k = reached_kept n size start c s.reached in
     private_shown n size start between aside exchanges r words homes
-    (stays_shown n size start c x.event x.answer between r words homes s step (changes_privately c between (private_result n size c x.event x.answer between own step))
+    (stays_shown n size start c x.event x.answer between r words homes s step (changes_privately c between (private_result n size c x.event x.answer between own (cases_of step)))
     (λ f low high. private_leaves_other_pages n size start c x.event x.answer between k own step (page_at n c.order f) (closed_is_other n size start c f k low high))) run
 
 -- the writer's open pages are the same ones
 pub private_open_pages : (n size : ℕ) (c aside : Core) (exchanges : List Exchange) → PrivateRun n size c exchanges aside → aside.open_pages ≡ c.open_pages
 private_open_pages n size c aside [] run = ap (λ (d : Core). d.open_pages) (sym run)
 private_open_pages n size c aside (x ∷ exchanges) (own, between, step, run) =
-    private_open_pages n size between aside exchanges run ∙ ap (λ (d : Core). d.open_pages) (changes_privately c between (private_result n size c x.event x.answer between own step))
+    private_open_pages n size between aside exchanges run ∙ ap (λ (d : Core). d.open_pages) (changes_privately c between (private_result n size c x.event x.answer between own (cases_of step)))
 
 -- and so is the head
 pub private_head : (n size : ℕ) (c aside : Core) (exchanges : List Exchange) → PrivateRun n size c exchanges aside → aside.head ≡ c.head
 private_head n size c aside [] run = ap (λ (d : Core). d.head) (sym run)
 private_head n size c aside (x ∷ exchanges) (own, between, step, run) =
-    private_head n size between aside exchanges run ∙ ap (λ (d : Core). d.head) (changes_privately c between (private_result n size c x.event x.answer between own step))
+    private_head n size between aside exchanges run ∙ ap (λ (d : Core). d.head) (changes_privately c between (private_result n size c x.event x.answer between own (cases_of step)))
 
 pub private_reached : (n size start : ℕ) (c aside : Core) (exchanges : List Exchange) → IsReached n size start c → PrivateRun n size c exchanges aside → IsReached n size start aside
 private_reached n size start c aside [] reached run = subst (IsReached n size start) run reached

@@ -3,7 +3,9 @@ use Rattle.std.specs.Prelude.{⊤}
 use Rattle.std.proofs.Common.{◌≡◌, ℕ, ◌+◌, List, refl, sym, ap, ◌∙◌, subst, arith}
 use Rattle.atomic_table.specs.Table.{keeps}
 use Rattle.trace_model.specs.Ring.{Core, ReaderPhase, storing_link, swapping, Reader, AreApart}
-use Rattle.trace_model.specs.Steps.{wishes, wished_for, store_wish_step, with_wish, Step}
+use Rattle.trace_model.specs.Steps.{wishes, wished_for, with_wish, Step}
+use Rattle.trace_model.proofs.StepCases.{store_wish_step}
+use Rattle.trace_model.proofs.StepIs.{step_by}
 use Rattle.link_marks.specs.KeptLinks.{ReaderKept}
 use Rattle.link_marks.specs.RingKept.{IsRingKept}
 use Rattle.link_marks.proofs.RingsKept.{reached_kept, reached_further}
@@ -38,7 +40,7 @@ module _ (shape : Shape) (me : Sat) (is : IsSeatOfReader me) (c : Core) (ws : Li
       let seen : fill ≡ c.reader.seen = due ∙ ap (λ (x : Reader). x.seen) s.is_reading.reader_is in
       let next : Core = with_wish c in
       let after : Reading = record (reading me.0) { wish = fill + 1 } in
-      let step : Step shape.pages shape.size c wishes (wished_for (reading me.0).reader.seen) next = store_wish_step refl (ap wished_for (ap (λ (x : Reader). x.seen) s.is_reading.reader_is)) refl in
+      let step : Step shape.pages shape.size c wishes (wished_for (reading me.0).reader.seen) next = step_by (store_wish_step refl (ap wished_for (ap (λ (x : Reader). x.seen) s.is_reading.reader_is)) refl) in
       let reached = reached_further shape.pages shape.size shape.start c wishes (wished_for (reading me.0).reader.seen) next s.reached step in
       let is_reading : IsReading next after = record {
         order_is = s.is_reading.order_is;

@@ -14,8 +14,10 @@ use Rattle.trace_model.specs.Record.{Record}
 use Rattle.trace_model.specs.declared.limits.TheConstants.{LINK_FILLS}
 use Rattle.trace_model.specs.History.{as_record, reserved_records}
 use Rattle.trace_model.specs.Links.{word_of, normal_link, header_link, FitsWord}
-use Rattle.trace_model.specs.Ring.{PageRecords, Core, ReaderPhase, loading_link, swapping, Reader, link_into, first_of_fill, fill_of}
+use Rattle.trace_model.specs.Packing.{first_of_fill}
+use Rattle.trace_model.specs.Ring.{PageRecords, Core, ReaderPhase, loading_link, swapping, Reader, link_into, fill_of}
 use Rattle.trace_model.specs.Steps as model
+use Rattle.trace_model.proofs.StepCases as cases
 use Rattle.trace_model.specs.Steps.{contents_of}
 use Rattle.trace_model.proofs.LinkWords.{word_tells}
 use Rattle.link_marks.specs.KeptLinks.{Spot, spot, ReaderKept}
@@ -86,7 +88,7 @@ module _ (shape : Shape) (me : Sat) (c : Core) (ws : List ℕ) (homes : Homes) (
     pub fails : Moves
     fails =
         let next : Core = gone_on c reader_on c.spare_link in
-        let step : model.Step shape.pages shape.size c model.reads model.reading next = step_in shape me c ws homes s (swapping page fill) model.reading next at (model.swap_fails differs refl refl) in
+        let step : model.Step shape.pages shape.size c model.reads model.reading next = step_in shape me c ws homes s (swapping page fill) model.reading next at (cases.swap_fails differs refl refl) in
         let on : suc fill ≡ fill + 1 = omega arith in
         reads_on shape me c ws homes s (front + 3) (λ k. either (k == from) to k) (λ found after. SwapTold shape me (spot fill page) found after) (λ _. ⊤) true model.reading next keeps step (omega arith) tt
         tt
@@ -161,7 +163,7 @@ module _ (shape : Shape) (me : Sat) (c : Core) (ws : List ℕ) (homes : Homes) (
 
     step : model.Step shape.pages shape.size c model.reads (model.swapped (model.taken_fill c page fill)) next
     unfolding next
-    step = step_in shape me c ws homes s (swapping page fill) (model.swapped (model.taken_fill c page fill)) next at (model.swaps told refl refl)
+    step = step_in shape me c ws homes s (swapping page fill) (model.swapped (model.taken_fill c page fill)) next at (cases.swaps told refl refl)
 
     taken : HeadTaken shape (reading me.0) page fill home.0 (part_of next true)
     unfolding next

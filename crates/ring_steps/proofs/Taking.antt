@@ -16,7 +16,10 @@ use Rattle.trace_model.specs.History.{as_record, reserved_records}
 use Rattle.trace_model.specs.Links.{Link, word_of, normal_link, header_link, FitsWord}
 use Rattle.trace_model.specs.Ring.{Core, ReaderPhase, loading_link, loading_done, storing_link, swapping, Reader, AreApart, link_into, page_at}
 use Rattle.trace_model.specs.Steps as model
-use Rattle.trace_model.specs.Steps.{loads_header, loads_update, loads_owed, loads_passed, push_step, push_refused, close_step, close_refused, frame_step, frame_lacks, end_step, end_lacks, end_early, read_step, store_wish_step}
+use Rattle.trace_model.proofs.StepCases as cases
+use Rattle.trace_model.proofs.StepCases.{loads_header, loads_update, loads_owed, loads_passed, push_step, push_refused, close_step, close_refused, frame_step, frame_lacks, end_step, end_lacks, end_early, read_step, store_wish_step}
+use Rattle.trace_model.proofs.StepSound.{cases_of}
+use Rattle.trace_model.proofs.StepIs.{step_by}
 use Rattle.link_marks.specs.RingKept.{IsRingKept}
 use Rattle.link_marks.specs.Seats.{IsOfReader}
 use Rattle.link_marks.proofs.LinksFit.{links_fit_words}
@@ -104,7 +107,7 @@ words_set n c words reader link some_pages a w =
 
 -- ---- what a load is
 
-reads_of : (n size : ℕ) (c : Core) (answer : model.Answer) (next : Core) → model.Step n size c model.reads answer next → model.ReadStep n c c.reader.phase answer next
+reads_of : (n size : ℕ) (c : Core) (answer : model.Answer) (next : Core) → cases.StepCases n size c model.reads answer next → cases.ReadStep n c c.reader.phase answer next
 reads_of n size c answer next (push_step moment len e few short early a is) = absurd (subst IsOfReader e tt)
 reads_of n size c answer next (push_refused moment len why e refused a is) = absurd (subst IsOfReader e tt)
 reads_of n size c answer next (close_step e few a is) = absurd (subst IsOfReader e tt)
@@ -117,7 +120,7 @@ reads_of n size c answer next (end_early payload frame below e top none a is) = 
 reads_of n size c answer next (read_step e step) = step
 reads_of n size c answer next (store_wish_step e a is) = absurd (cc)
 
-load_on : (n : ℕ) (c : Core) (answer : model.Answer) (next : Core) → model.LoadHeadStep n c answer next → (reader : Reader) × (next ≡ gone_on c reader c.spare_link)
+load_on : (n : ℕ) (c : Core) (answer : model.Answer) (next : Core) → cases.LoadHeadStep n c answer next → (reader : Reader) × (next ≡ gone_on c reader c.spare_link)
 load_on n c answer next (loads_header page fill at a is) = (record c.reader { phase = loading_done page fill; hint = fill }, is)
 load_on n c answer next (loads_update page lost at a is) = (record c.reader { phase = loading_link; hint = suc lost }, is)
 load_on n c answer next (loads_owed page at a is) = (record c.reader { phase = loading_link; hint = c.reader.hint }, is)
@@ -141,8 +144,8 @@ module _ (shape : Shape) (me : Sat) (c : Core) (ws : List ℕ) (homes : Homes) (
   pub phase_in : (phase : ReaderPhase) → (reading me.0).reader.phase ≡ phase → phase ≡ c.reader.phase
   phase_in phase at = sym at ∙ ap (λ (x : Reader). x.phase) s.is_reading.reader_is
 
-  pub step_in : (phase : ReaderPhase) (answer : model.Answer) (next : Core) → (reading me.0).reader.phase ≡ phase → model.ReadStep shape.pages c phase answer next → model.Step shape.pages shape.size c model.reads answer next
-  step_in phase answer next at step = model.read_step refl (subst (λ (p : ReaderPhase). model.ReadStep shape.pages c p answer next) (phase_in phase at) step)
+  pub step_in : (phase : ReaderPhase) (answer : model.Answer) (next : Core) → (reading me.0).reader.phase ≡ phase → cases.ReadStep shape.pages c phase answer next → model.Step shape.pages shape.size c model.reads answer next
+  step_in phase answer next at step = step_by (cases.read_step refl (subst (λ (p : ReaderPhase). cases.ReadStep shape.pages c p answer next) (phase_in phase at) step))
 
   pub word_into : (page fill : ℕ) → page ≡ page_before shape.pages (reading me.0).order fill → slice_index ws (page + 3) ≡ word_of (link_into shape.pages c.links fill)
   word_into page fill is = ap (λ (p : ℕ). get_or ws (p + 3) 0) (is ∙ ap (λ (order : List ℕ). page_before shape.pages order fill) s.is_reading.order_is) ∙ s.are_words.links fill
@@ -159,7 +162,7 @@ module _ (shape : Shape) (me : Sat) (c : Core) (ws : List ℕ) (homes : Homes) (
       → ReaderMoves shape c me ws homes i f tells
   reads_on i f tells sees b answer next act step head_le seen valid words at_home tell =
       let reached = reached_further shape.pages shape.size shape.start c model.reads answer next s.reached step in
-      let stays = reader_leaves_writer shape.pages shape.size c model.reads answer next tt step in
+      let stays = reader_leaves_writer shape.pages shape.size c model.reads answer next tt (cases_of step) in
       let is_reading : IsReading next (part_of next b) = record { order_is = refl; spare_is = refl; spare_link_is = refl; reader_is = refl; wish_is = refl; observed_is = refl } in record {
         next = next;
         after = part_of next b;
@@ -196,9 +199,9 @@ module _ (shape : Shape) (me : Sat) (is : IsSeatOfReader me) (c : Core) (ws : Li
   load_done_moves page fill at = let seen = sym s.are_words.done in
       dite (dec_le c.done fill)
       (λ le. loads_on 1 (λ found core. core.done ≡ found) (model.empty c.done) (record c.reader { phase = loading_link; seen = c.done })
-      (step_in shape me c ws homes s (loading_done page fill) (model.empty c.done) (model.reader_saw c loading_link) at (model.finds_none le refl refl)) seen)
+      (step_in shape me c ws homes s (loading_done page fill) (model.empty c.done) (model.reader_saw c loading_link) at (cases.finds_none le refl refl)) seen)
       (λ not. loads_on 1 (λ found core. core.done ≡ found) model.reading (record c.reader { phase = storing_link page fill; seen = c.done })
-      (step_in shape me c ws homes s (loading_done page fill) model.reading (model.reader_saw c (storing_link page fill)) at (model.finds_closed (lt_of_not-le not) refl refl)) seen)
+      (step_in shape me c ws homes s (loading_done page fill) model.reading (model.reader_saw c (storing_link page fill)) at (cases.finds_closed (lt_of_not-le not) refl refl)) seen)
 
   -- the link into the position of the hint is loaded, and the spare's slot is put home
   pub load_link_moves : (page : ℕ) → (reading me.0).reader.phase ≡ loading_link → page ≡ page_before shape.pages (reading me.0).order (reading me.0).reader.hint
@@ -209,7 +212,7 @@ module _ (shape : Shape) (me : Sat) (is : IsSeatOfReader me) (c : Core) (ws : Li
       let b : Bool = (reading me.0).keeps_spare in
       let hand : me.1 ≡ kept_slots b c.spare = is.hand ∙ ap (kept_slots b) s.is_reading.spare_is in
       let (answer, behind, made) = each_event_is_a_step shape.pages shape.size shape.start c model.reads k tt in
-      let load = subst (λ (p : ReaderPhase). model.ReadStep shape.pages c p answer behind) (sym (phase_in shape me c ws homes s loading_link at)) (reads_of shape.pages shape.size c answer behind made) in
+      let load = subst (λ (p : ReaderPhase). cases.ReadStep shape.pages c p answer behind) (sym (phase_in shape me c ws homes s loading_link at)) (reads_of shape.pages shape.size c answer behind (cases_of made)) in
       let (reader, on) = load_on shape.pages c answer behind load in
       let next : Core = gone_on c reader c.spare_link in
       let step : model.Step shape.pages shape.size c model.reads answer next = subst (λ (d : Core). model.Step shape.pages shape.size c model.reads answer d) on made in

@@ -7,6 +7,7 @@ use Rattle.trace_model.specs.Frames.{Frame, no_frame}
 use Rattle.trace_model.specs.Ring.{Core}
 use Rattle.trace_model.specs.Steps as model
 use Rattle.trace_model.specs.Steps.{steps, refused, Step, Exchange}
+use Rattle.trace_model.proofs.StepSound.{cases_of}
 use Rattle.text_model.specs.Log as text
 use Rattle.text_model.specs.Script.{step_frame, finish_frame}
 use Rattle.link_marks.specs.Reached.{IsReached}
@@ -57,7 +58,7 @@ top_fewer : (n size : ℕ) (lane : Lane) (answer : model.Answer) (core : Core)
 top_fewer n size lane answer core step =
     fewer lane.core.frames core.frames
     (step_moves n size lane.core (event_on_top lane.core.frames lane.payloads) answer core
-    (pushes_none lane.core.frames lane.payloads) step)
+    (pushes_none lane.core.frames lane.payloads) (cases_of step))
 
 pub amid_none : (n size start cpu line depth : ℕ) (v : LaneValue) (lane : Lane) (log : List LogLine)
     → IsLane n size start cpu v lane

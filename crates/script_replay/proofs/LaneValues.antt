@@ -4,6 +4,7 @@ use Rattle.std.proofs.lemmas.List.{length-map, length-reverse}
 use Rattle.trace_model.specs.Frames.{FrameState, waiting, reserved, left, Frame}
 use Rattle.trace_model.specs.Ring.{Reader, Core}
 use Rattle.trace_model.specs.Steps.{Event, Answer, Step}
+use Rattle.trace_model.proofs.StepSound.{cases_of}
 use Rattle.link_marks.specs.Seats.{IsOfReader}
 use Rattle.link_marks.proofs.SeatSteps.{writer_leaves_reader}
 use Rattle.world_model.specs.Lanes.{Lane, FitFrames, lane_behind, event_in, event_on_top}
@@ -105,7 +106,7 @@ behind n size start cpu v lane event answer after core is none step core_is same
       payloads_are = (λ i. let payloads : List (List ℕ) = is.payloads_are i in
           drop (length payloads - depth i) payloads);
       fit = fit_moved lane.core.frames after.frames lane.payloads is.fit
-          (step_moves n size lane.core event answer after none step);
+          (step_moves n size lane.core event answer after none (cases_of step));
       body = is.body;
       taken_are = is.taken_are ∙ ap (map (parcel_of cpu)) (sym same);
     }

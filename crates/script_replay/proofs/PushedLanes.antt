@@ -3,7 +3,9 @@ use Rattle.std.proofs.Common.{◌≡◌, ◌≢◌, ℕ, List, [], ◌∷◌, �
 use Rattle.trace_model.specs.Frames.{Refusal, Frame}
 use Rattle.trace_model.specs.Ring.{Core}
 use Rattle.trace_model.specs.Steps as model
-use Rattle.trace_model.specs.Steps.{pushes, pushes_close, pushed, refused, Step, push_step, push_refused, close_step, close_refused, frame_step, frame_lacks, end_step, end_lacks, end_early, read_step, store_wish_step, Exchange}
+use Rattle.trace_model.specs.Steps.{pushes, pushes_close, pushed, refused, Step, Exchange}
+use Rattle.trace_model.proofs.StepCases.{StepCases, push_step, push_refused, close_step, close_refused, frame_step, frame_lacks, end_step, end_lacks, end_early, read_step, store_wish_step}
+use Rattle.trace_model.proofs.StepSound.{cases_of}
 use Rattle.text_model.specs.Script.{begin_frame, finish_frame}
 use Rattle.link_marks.specs.Seats.{IsOfReader}
 use Rattle.world_model.specs.Lanes.{Lane, payloads_with, lane_with, FitsKind, FitFrames, PushesFrame, FinishesPushed, WritesFrame, LineRun}
@@ -42,7 +44,7 @@ len_same moment len moment' len' e = cc
 module _ (n size : ℕ) (payload : List ℕ) (c : Core) (told : model.Answer) (after : Core) where
   record_ends : (moment len : ℕ)
       → length payload ≡ len
-      → Step n size c (pushes moment len) told after
+      → StepCases n size c (pushes moment len) told after
       → PushEnds payload c told after
   record_ends moment len long (push_step moment' len' e few short early a is) =
       stands _ a (ap (λ (d : Core). d.frames) is) (long ∙ len_same moment len moment' len' e)
@@ -59,7 +61,7 @@ module _ (n size : ℕ) (payload : List ℕ) (c : Core) (told : model.Answer) (a
   record_ends moment len long (read_step e step) = absurd (let z : ⊥ = cc in z)
   record_ends moment len long (store_wish_step e a is) = absurd (let z : ⊥ = cc in z)
 
-  close_ends : payload ≡ [] → Step n size c pushes_close told after → PushEnds payload c told after
+  close_ends : payload ≡ [] → StepCases n size c pushes_close told after → PushEnds payload c told after
   close_ends none (push_step moment' len' e few short early a is) = absurd (let z : ⊥ = cc in z)
   close_ends none (push_refused moment' len' why e refusal a is) = absurd (let z : ⊥ = cc in z)
   close_ends none (close_step e few a is) = stands _ a (ap (λ (d : Core). d.frames) is) none
@@ -77,8 +79,8 @@ module _ (n size : ℕ) (payload : List ℕ) (c : Core) (told : model.Answer) (a
       → IsPushOf push payload
       → Step n size c (push_event push) told after
       → PushEnds payload c told after
-  push_ends (event.Push moment len) of step = record_ends moment len of step
-  push_ends event.PushClose of step = close_ends of step
+  push_ends (event.Push moment len) of step = record_ends moment len of (cases_of step)
+  push_ends event.PushClose of step = close_ends of (cases_of step)
   push_ends event.Step of step = absurd of
   push_ends event.End of step = absurd of
   push_ends (event.Read body) of step = absurd of

@@ -6,7 +6,9 @@ use Rattle.std.proofs.lemmas.List.{map-append}
 use Rattle.trace_model.specs.Ring.{Core}
 use Rattle.trace_model.specs.Parcel.{Parcel}
 use Rattle.trace_model.specs.Steps as model
-use Rattle.trace_model.specs.Steps.{Event, pushes, pushes_close, steps, ends, reads, wishes, reading, empty, moving, swapped, Step, push_step, push_refused, close_step, close_refused, frame_step, frame_lacks, end_step, end_lacks, end_early, read_step, store_wish_step, Exchange}
+use Rattle.trace_model.specs.Steps.{Event, pushes, pushes_close, steps, ends, reads, wishes, reading, empty, moving, swapped, Step, Exchange}
+use Rattle.trace_model.proofs.StepCases.{StepCases, push_step, push_refused, close_step, close_refused, frame_step, frame_lacks, end_step, end_lacks, end_early, read_step, store_wish_step}
+use Rattle.trace_model.proofs.StepSound.{cases_of}
 use Rattle.link_marks.specs.Seats.{IsOfReader}
 use Rattle.link_marks.proofs.RingsKept.{reached_kept}
 use Rattle.link_marks.proofs.SeatSteps.{reader_leaves_writer}
@@ -39,7 +41,7 @@ module _ (n size start cpu : ℕ) (v : LaneValue) (lane : Lane) (is : IsLane n s
   x = record { event = event; answer = answer }
 
   frames_stay : after.frames ≡ lane.core.frames
-  frames_stay = (reader_leaves_writer n size lane.core event answer after of step).frames
+  frames_stay = (reader_leaves_writer n size lane.core event answer after of (cases_of step)).frames
 
   all_left : payloads_left after.frames lane.payloads ≡ lane.payloads
   all_left =
@@ -87,7 +89,7 @@ IsWish wishes = Unit {0}
 
 brings_none : (n size cpu : ℕ) (c : Core) (event : Event) (answer : model.Answer) (after : Core)
     → IsWish event
-    → Step n size c event answer after
+    → StepCases n size c event answer after
     → parcels_in cpu answer ≡ []
 brings_none n size cpu c event answer after wish (push_step moment len e few short early a is) =
     absurd (subst IsWish e wish)
@@ -124,7 +126,7 @@ wishes_of line cpu v result new old_log new_log makes same told = λ n size star
           (ap (λ (w : LaneValue). w.taken) same
           ∙ sym (append-nil v.taken)
           ∙ ap (λ (l : List Parcel). v.taken ++ l)
-          (sym (brings_none n size cpu lane.core wishes s.answer s.after tt s.step)));
+          (sym (brings_none n size cpu lane.core wishes s.answer s.after tt (cases_of s.step))));
       log = told_one line cpu x (shown_log old_log) (shown_log new_log) (told size s.answer s.tells);
     }
 

@@ -40,3 +40,8 @@ pub mod FillSizes
 pub mod PackedHistories
 pub mod FullFills
 pub mod OpenPages
+-- the steps of a ring case by case, and that they are those that the function makes
+pub mod StepCases
+pub mod StepSound
+pub mod StepIs
+pub mod EventSteps

@@ -2,7 +2,7 @@
 use Rattle.std.proofs.Common.{◌≡◌, ◌≢◌, ℕ, ◌%◌, ◌^◌, ◌<◌, refl, arith}
 use Rattle.trace_model.specs.Links.{Mark, normal, header, update, Link, mark_code, word_of, FitsWord}
 
-mark_of : (a b : Mark) → mark_code a ≡ mark_code b → a ≡ b
+pub mark_of : (a b : Mark) → mark_code a ≡ mark_code b → a ≡ b
 mark_of normal normal e = refl
 mark_of header header e = refl
 mark_of update update e = refl
@@ -18,15 +18,15 @@ code_below normal = omega arith
 code_below header = omega arith
 code_below update = omega arith
 
-same_link : (a b : Mark) (page page' fill fill' : ℕ) → a ≡ b → page ≡ page' → fill ≡ fill' → (let l : Link = record { mark = a; page = page; fill = fill } in l) ≡ record { mark = b; page = page'; fill = fill' }
-same_link a b page page' fill fill' e f g = cc
+link_from_parts : (a b : Mark) (page page' fill fill' : ℕ) → a ≡ b → page ≡ page' → fill ≡ fill' → (let l : Link = record { mark = a; page = page; fill = fill } in l) ≡ record { mark = b; page = page'; fill = fill' }
+link_from_parts a b page page' fill fill' e f g = cc
 
 pub word_tells : (l other : Link) → FitsWord l → FitsWord other → word_of l ≡ word_of other → l ≡ other
 word_tells l other fits others same =
     let a = code_below l.mark in let b = code_below other.mark in
     let p = fits.page_fits in let q = others.page_fits in
     let codes : mark_code l.mark ≡ mark_code other.mark = omega arith in
-    same_link l.mark other.mark l.page other.page l.fill other.fill (mark_of l.mark other.mark codes) (omega arith) (omega arith)
+    link_from_parts l.mark other.mark l.page other.page l.fill other.fill (mark_of l.mark other.mark codes) (omega arith) (omega arith)
 
 pub no_mark : (l : Link) → word_of l % 4 ≢ 3
 no_mark l three = let a = code_below l.mark in absurd (omega arith)

@@ -23,9 +23,8 @@ pub data FrameState : Type 0 where
 
 -- the number of the frame's record, while it has reserved one
 abbrev pub number_of : FrameState → Option ℕ
-number_of waiting = None
 number_of (reserved number) = Some number
-number_of left = None
+number_of _ = None
 
 -- a frame as the history has it
 abbrev pub pushed_frame : Kind → FrameState → PushedFrame
@@ -87,30 +86,21 @@ pushed_frames frames = pushed_of (stack_of frames)
 
 -- the fill that a frame is about to open, if it has noted one
 abbrev pub noted_fill : Phase → Option ℕ
-noted_fill idle = None
 noted_fill (looking o) = Some o
 noted_fill (claiming o page) = Some o
 noted_fill (looking_next role o page) = Some o
 noted_fill (marking role o page next) = Some o
 noted_fill (clearing o page) = Some o
 noted_fill (opening o page) = Some o
-noted_fill releasing = None
-noted_fill wishing = None
+noted_fill _ = None
 
 -- the fill to open, if the frame owns the UPDATE at its position: it has set that, and not
 -- yet cleared it
 abbrev pub owned_update : Phase → Option ℕ
-owned_update idle = None
-owned_update (looking o) = None
-owned_update (claiming o page) = None
 owned_update (looking_next owner o page) = Some o
-owned_update (looking_next helper o page) = None
 owned_update (marking owner o page next) = Some o
-owned_update (marking helper o page next) = None
 owned_update (clearing o page) = Some o
-owned_update (opening o page) = None
-owned_update releasing = None
-owned_update wishing = None
+owned_update _ = None
 
 -- ---- refusals
 

@@ -68,11 +68,7 @@ after_reserve (record_frame moment len None) stack records = record {
   stack = record_frame moment len (Some (length records)) ∷ stack;
   records = records ++ reservation_for moment len records ∷ [];
 }
-after_reserve (record_frame moment len (Some number)) stack records = record {
-  stack = record_frame moment len (Some number) ∷ stack;
-  records = records;
-}
-after_reserve close_frame stack records = record { stack = close_frame ∷ stack; records = records }
+after_reserve frame stack records = record { stack = frame ∷ stack; records = records }
 
 -- the record of a frame that leaves gets its bytes, if it has one
 abbrev pub records_after_leave : PushedFrame → Option (List ℕ) → List Reservation → List Reservation
@@ -86,15 +82,12 @@ after_event stack records (push moment len) = record {
   records = records;
 }
 after_event stack records push_close = record { stack = close_frame ∷ stack; records = records }
-after_event stack records open_fill = record { stack = stack; records = records }
-after_event [] records reserve = record { stack = []; records = records }
 after_event (f ∷ stack) records reserve = after_reserve f stack records
-after_event [] records (leave payload) = record { stack = []; records = records }
 after_event (f ∷ stack) records (leave payload) = record {
   stack = stack;
   records = records_after_leave f payload records;
 }
-after_event stack records wished = record { stack = stack; records = records }
+after_event stack records _ = record { stack = stack; records = records }
 
 -- what a history leaves, from nothing
 abbrev pub writer_after : List HistoryEvent → WriterState

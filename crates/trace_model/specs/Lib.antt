@@ -20,7 +20,12 @@ pub mod Frames
 pub mod Fitting
 pub mod Window
 pub mod Ring
+pub mod Events
+pub mod WriterSteps
+pub mod HeadMove
+pub mod ReaderSteps
 pub mod Steps
+pub mod StepConditions
 -- what was taken: the partition, parcels, collections and listings
 pub mod Partition
 pub mod Parcel

@@ -2,7 +2,7 @@
 -- After Documentation/trace/ring-buffer-design.rst, "Making the Ring Buffer Lockless": the two low bits
 -- of a page's next pointer say HEADER or UPDATE. That the fill's number is in the link too is this
 -- project's own, and so is the word (docs/FORMATS.md, "Link word").
-use Rattle.std.specs.Prelude.{◌≡◌, ◌≢◌, ℕ, ◌+◌, ◌*◌, ◌%◌, ◌^◌, ◌<◌}
+use Rattle.std.specs.Prelude.{◌≡◌, ◌≢◌, ℕ, ◌+◌, ◌*◌, ◌%◌, ◌^◌, ◌<◌, Bool, ◌&&◌, ◌==◌}
 use Rattle.trace_model.specs.declared.limits.TheConstants.{LINK_PAGES, LINK_FILLS}
 
 -- normal: nothing is stated of the page. header: the page is the head. update: a writer moves the head
@@ -32,6 +32,10 @@ abbrev pub mark_code : Mark → ℕ
 mark_code normal = 0
 mark_code header = 1
 mark_code update = 2
+
+-- the two are one link
+abbrev pub same_link : Link → Link → Bool
+same_link a b = mark_code a.mark == mark_code b.mark && a.page == b.page && a.fill == b.fill
 
 -- The link as one word: the mark in bits 0 and 1, the page in bits 2 to 15, the fill in bits 16 to 63.
 abbrev pub word_of : Link → ℕ

@@ -9,16 +9,16 @@ use Rattle.trace_model.specs.History.{HistoryEvent, push, push_close, open_fill,
 -- how many records were reserved before each open, in order
 abbrev pub opens_behind : List HistoryEvent → List HistoryEvent → List ℕ
 opens_behind front [] = []
-opens_behind front (push moment len ∷ behind) = opens_behind (front ++ push moment len ∷ []) behind
-opens_behind front (push_close ∷ behind) = opens_behind (front ++ push_close ∷ []) behind
 opens_behind front (open_fill ∷ behind) =
     length (reserved_records front) ∷ opens_behind (front ++ open_fill ∷ []) behind
-opens_behind front (reserve ∷ behind) = opens_behind (front ++ reserve ∷ []) behind
-opens_behind front (leave payload ∷ behind) = opens_behind (front ++ leave payload ∷ []) behind
-opens_behind front (wished ∷ behind) = opens_behind (front ++ wished ∷ []) behind
+opens_behind front (event ∷ behind) = opens_behind (front ++ event ∷ []) behind
 
 abbrev pub opens_of : List HistoryEvent → List ℕ
 opens_of history = opens_behind [] history
+
+-- how many records were reserved before a fill was begun; start is the number of the first fill
+abbrev pub first_of_fill : List HistoryEvent → ℕ → ℕ → ℕ
+first_of_fill history start f = slice_index_or (0 ∷ opens_of history) (f - start) 0
 
 -- a list cut at rising indexes, of which none is below from: one more sublist than there are cuts
 abbrev pub cut_from : {A : Type 0} → ℕ → List ℕ → List A → List (List A)
@@ -72,12 +72,9 @@ abbrev pub is_wished : List HistoryEvent → Bool
 is_wished history = fold wished_after false history
   where
     wished_after : Bool → HistoryEvent → Bool
-    wished_after found (push moment len) = found
-    wished_after found push_close = found
     wished_after found open_fill = false
-    wished_after found reserve = found
-    wished_after found (leave payload) = found
     wished_after found wished = true
+    wished_after found _ = found
 
 -- The tail page may be left without a record that needs the next one: for the close frame on top; or, if the
 -- stack is empty, for the reader, who wished for it.

@@ -5,7 +5,7 @@ use Rattle.std.specs.Prelude.{◌≡◌, ◌≢◌, ℕ, suc, ◌+◌, ◌-◌, 
 use Rattle.trace_model.specs.declared.limits.TheConstants.{MIN_PAGES, MAX_PAGES, MIN_SIZE, MAX_SIZE}
 use Rattle.trace_model.specs.Record.{Record}
 use Rattle.trace_model.specs.History.{HistoryEvent, Reservation, reserved_records, committed_records, as_record}
-use Rattle.trace_model.specs.Packing.{opens_of, fills_of}
+use Rattle.trace_model.specs.Packing.{fills_of, first_of_fill}
 use Rattle.trace_model.specs.Links.{Link, normal_link, header_link, update_link}
 use Rattle.trace_model.specs.Frames.{Frame, noted_fill, owned_update}
 use Rattle.trace_model.specs.Window.{Window}
@@ -163,10 +163,6 @@ pub record AreApart (n : ℕ) (order : List ℕ) (spare : ℕ) : Type 0 where
   pub spare_below : spare < n + 1
   pub spare_differs : (i : ℕ) → i < n → slice_index_or order i 0 ≢ spare
 
--- how many records were reserved before a fill was begun; start is the number of the first fill
-abbrev pub first_of_fill : List HistoryEvent → ℕ → ℕ → ℕ
-first_of_fill history start f = slice_index_or (0 ∷ opens_of history) (f - start) 0
-
 -- a fill as the history has it: its records, from its first number on
 abbrev pub fill_of : List HistoryEvent → ℕ → ℕ → PageRecords
 fill_of history start f = record {
@@ -205,10 +201,8 @@ records_before_fill history start f =
 
 -- where the reader is about to swap, the spare's link is the HEADER of the next fill
 abbrev pub IsSwapReady : ℕ → Core → ReaderPhase → Type 0
-IsSwapReady n c loading_link = Unit {0}
-IsSwapReady n c (loading_done page fill) = Unit {0}
-IsSwapReady n c (storing_link page fill) = Unit {0}
 IsSwapReady n c (swapping page fill) = c.spare_link ≡ header_link (page_at n c.order (suc fill)) (suc fill)
+IsSwapReady n c _ = Unit {0}
 
 -- The ring, between any two steps. Each position has a link, and each page a body; the pages go round; the
 -- window keeps its order, from the first fill on, and the fills begun are those of the history; the reader wishes

@@ -57,18 +57,12 @@ pub data RingEvent : Type 0 where
 abbrev pub history_events_of : List RingEvent → List HistoryEvent
 history_events_of [] = []
 history_events_of (acts a ∷ events) = a ∷ history_events_of events
-history_events_of (closes ∷ events) = history_events_of events
-history_events_of (takes ∷ events) = history_events_of events
-history_events_of (loses ∷ events) = history_events_of events
+history_events_of (_ ∷ events) = history_events_of events
 
 -- the event of the window that a history event is, if it is one
 abbrev pub window_event_of : HistoryEvent → Option WindowEvent
-window_event_of (push moment len) = None
-window_event_of push_close = None
 window_event_of open_fill = Some opened_one
-window_event_of reserve = None
-window_event_of (leave payload) = None
-window_event_of wished = None
+window_event_of _ = None
 
 -- nothing happens, or what may
 abbrev pub MayPass : ℕ → List HistoryEvent → Window → Option WindowEvent → Type 0

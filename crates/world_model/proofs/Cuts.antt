@@ -9,12 +9,12 @@ use mathlib.Core.Logic.{dite}
 use native.Mathlib.Decide.{dec_le, ℕ_discrete}
 use Rattle.trace_model.specs.Record.{Record}
 use Rattle.trace_model.specs.History.{Reservation, reserved_records, as_record, committed_records}
-use Rattle.trace_model.specs.Packing.{opens_of, cut_from}
+use Rattle.trace_model.specs.Packing.{opens_of, cut_from, first_of_fill}
 use Rattle.trace_model.specs.Fitting.{IsRising}
 use Rattle.trace_model.specs.Partition.{Piece, IsPartition, covered_count, first_from, first_of}
 use Rattle.trace_model.specs.Parcel.{Parcel, IsMissingOf}
 use Rattle.trace_model.specs.Collection.{Has}
-use Rattle.trace_model.specs.Ring.{PageRecords, Taken, Core, first_of_fill, window_of}
+use Rattle.trace_model.specs.Ring.{PageRecords, Taken, Core, window_of}
 use Rattle.trace_model.specs.Window.{RingEvent, first_window}
 use Rattle.trace_model.proofs.Elements.{some_is}
 use Rattle.trace_model.proofs.FillFirsts.{first_below, first_rises_to}

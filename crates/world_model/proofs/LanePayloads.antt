@@ -3,9 +3,11 @@ use Rattle.std.proofs.Common.{◌≡◌, ℕ, zero, suc, ◌-◌, List, [], ◌�
 use Rattle.trace_model.specs.Words.{slot_len, padded}
 use Rattle.trace_model.specs.Frames.{Kind, for_record, FrameState, waiting, reserved, left, Frame}
 use Rattle.trace_model.specs.Ring.{Core}
-use Rattle.trace_model.specs.Steps.{Event, pushes, pushes_close, steps, ends, reads, wishes, Answer, pushed, going, reserved_as, pending, full, gone, refused, reading, empty, moving, swapped, wished_for, Step, push_step, push_refused, close_step, close_refused, frame_step, frame_lacks, end_step, end_lacks, end_early, read_step, store_wish_step, Exchange}
+use Rattle.trace_model.specs.Steps.{Event, pushes, pushes_close, steps, ends, reads, wishes, Answer, pushed, going, reserved_as, pending, full, gone, refused, reading, empty, moving, swapped, wished_for, Step, Exchange}
+use Rattle.trace_model.proofs.StepCases.{StepCases, push_step, push_refused, close_step, close_refused, frame_step, frame_lacks, end_step, end_lacks, end_early, read_step, store_wish_step}
 use Rattle.text_model.specs.Script.{Command, begin_frame, step_frame, finish_frame, write, close, step_reader, take_page, wish, deliver}
 use Rattle.trace_model.proofs.Lengths.{slot_len-slot_len, length-padded}
+use Rattle.trace_model.proofs.StepSound.{cases_of}
 use Rattle.link_marks.specs.RingLaws.{MayAsk}
 use Rattle.world_model.specs.Lanes.{Lane, IsNewLane, lane_behind, payloads_left, payloads_with, FitsKind, FitFrames, HasPayloads, event_in, event_on_top, FrameRun, StepsFrame, lacks_to_step, steps_on, FinishesFrame, lacks_to_finish, finishes, PushesFrame, FinishesPushed, WritesFrame, ReaderRun, LineRun}
 use Rattle.world_model.proofs.FramesMove.{Moves, stays, changes, pops, PushesNone, step_moves}
@@ -82,7 +84,7 @@ may_ask lane fit = may_ask_of lane.core lane.core.frames lane.payloads refl fit
 
 module _ (n size : ℕ) where
   behind_fits : (before : Lane) (event : Event) (answer : Answer) (core : Core) → PushesNone event → HasPayloads before → Step n size before.core event answer core → HasPayloads (lane_behind before core)
-  behind_fits before event answer core none fit step = fit_moved before.core.frames core.frames before.payloads fit (step_moves n size before.core event answer core none step)
+  behind_fits before event answer core none fit step = fit_moved before.core.frames core.frames before.payloads fit (step_moves n size before.core event answer core none (cases_of step))
 
   frames_fit : (depth : ℕ) (before after : Lane) (xs : List Exchange) → HasPayloads before → FrameRun n size depth before xs after → HasPayloads after
   frames_fit depth before after [] fit run = subst HasPayloads run fit
@@ -113,7 +115,7 @@ module _ (n size : ℕ) where
   IsPushOf reads payload = ⊥
   IsPushOf wishes payload = ⊥
 
-  push_fits : (event : Event) (payload : List ℕ) (before : Lane) (answer : Answer) (core : Core) → IsPushOf event payload → HasPayloads before → Step n size before.core event answer core → FitsPushed payload before answer core
+  push_fits : (event : Event) (payload : List ℕ) (before : Lane) (answer : Answer) (core : Core) → IsPushOf event payload → HasPayloads before → StepCases n size before.core event answer core → FitsPushed payload before answer core
   push_fits event payload before answer core is_push fit (push_step moment len e few short early a is) = answered payload before answer pushed core a
       (subst (λ (d : Core). FitFrames d.frames (payload ∷ before.payloads)) (sym is) (subst (λ (ev : Event). IsPushOf ev payload) e is_push, fit))
   push_fits event payload before answer core is_push fit (push_refused moment len why e refusal a is) = answered payload before answer (refused why) core a
@@ -131,7 +133,7 @@ module _ (n size : ℕ) where
   push_fits event payload before answer core is_push fit (store_wish_step e a is) = absurd (subst (λ (ev : Event). IsPushOf ev payload) e is_push)
 
   pushes_fit : (event : Event) (payload : List ℕ) (before after : Lane) (x : Exchange) → IsPushOf event payload → HasPayloads before → PushesFrame n size event payload before x after → HasPayloads after
-  pushes_fit event payload before after x is_push fit p = subst HasPayloads (sym p.after_is) (push_fits event payload before x.answer p.core is_push fit p.step)
+  pushes_fit event payload before after x is_push fit p = subst HasPayloads (sym p.after_is) (push_fits event payload before x.answer p.core is_push fit (cases_of p.step))
 
   pushed_fit : (answer : Answer) (before after : Lane) (xs : List Exchange) → HasPayloads before → FinishesPushed n size answer before xs after → HasPayloads after
   pushed_fit pushed before after xs fit f = finishes_fit before after xs fit f

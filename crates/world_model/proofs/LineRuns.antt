@@ -1,6 +1,8 @@
 -- What a line has with a ring is a run of it.
 use Rattle.std.proofs.Common.{ℕ, List, [], ◌∷◌, refl, sym, ap, subst}
-use Rattle.trace_model.specs.Steps.{Event, Answer, pushed, going, reserved_as, pending, full, gone, refused, reading, empty, moving, swapped, wished_for, Step, frame_lacks, Exchange, Run}
+use Rattle.trace_model.specs.Steps.{Event, Answer, pushed, going, reserved_as, pending, full, gone, refused, reading, empty, moving, swapped, wished_for, Step, Exchange, Run}
+use Rattle.trace_model.proofs.StepCases.{frame_lacks}
+use Rattle.trace_model.proofs.StepIs.{step_by}
 use Rattle.text_model.specs.Script.{Command, begin_frame, step_frame, finish_frame, write, close, step_reader, take_page, wish, deliver}
 use Rattle.world_model.specs.Lanes.{Lane, lane_behind, FrameRun, LacksFrame, StepsFrame, lacks_to_step, steps_on, FinishesFrame, lacks_to_finish, finishes, PushesFrame, FinishesPushed, WritesFrame, ReaderRun, Wishes, LineRun}
 
@@ -11,7 +13,7 @@ module _ (n size : ℕ) where
 
   lacks_run : (before after : Lane) (xs : List Exchange) → LacksFrame n size before xs after → Run n size before.core xs after.core
   lacks_run before after xs h = subst (λ (l : List Exchange). Run n size before.core l after.core) (sym h.exchanges_are)
-      (before.core, frame_lacks refl h.none refl refl, ap (λ (l : Lane). l.core) (sym h.stays))
+      (before.core, step_by (frame_lacks refl h.none refl refl), ap (λ (l : Lane). l.core) (sym h.stays))
 
   steps_run : (count : ℕ) (before after : Lane) (xs : List Exchange) → StepsFrame n size count before xs after → Run n size before.core xs after.core
   steps_run count before after xs (lacks_to_step h) = lacks_run before after xs h

@@ -6,6 +6,7 @@ use Rattle.trace_model.specs.History.{HistoryEvent}
 use Rattle.trace_model.specs.Window.{RingEvent, history_events_of, Window, first_window, WindowRunFrom}
 use Rattle.trace_model.specs.Ring.{Reader, Core, IsStart, window_of}
 use Rattle.trace_model.specs.Steps.{Exchange, Run}
+use Rattle.trace_model.proofs.StepSound.{cases_of}
 use Rattle.link_marks.specs.RingKept.{IsRingKept}
 use Rattle.link_marks.specs.ToldRuns.{fills_taken, numbers_of, IsToldBy}
 use Rattle.link_marks.proofs.RingsKept.{ring_step}
@@ -17,7 +18,7 @@ use Rattle.world_model.specs.RunEvents.{AreEventsOf, IsRunToldBy}
 pub run_events : (n size start : ℕ) (c after : Core) (exchanges : List Exchange) → IsRingKept n size start c → Run n size c exchanges after → (events : List RingEvent) × IsRunToldBy n size c exchanges events after
 run_events n size start c after [] r run = ([], (run, refl))
 run_events n size start c after (x ∷ exchanges) r (between, step, run) =
-    let l = leads_step n size start c x.event x.answer between r.links r.stack r.history step in
+    let l = leads_step n size start c x.event x.answer between r.links r.stack r.history (cases_of step) in
     let (rest, more) = run_events n size start between after exchanges (ring_step n size start c x.event x.answer between r step) run in
     (l.events ++ rest, (between, step, l.events, record { history_events = l.history_events; window = l.window; took = l.took }, rest, refl, more))
 

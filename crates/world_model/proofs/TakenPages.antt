@@ -6,6 +6,7 @@ use Rattle.trace_model.specs.Window.{Window, WindowEvent, opened_one, released_o
 use Rattle.trace_model.specs.Ring.{Taken, Reader, Core}
 use Rattle.trace_model.specs.Steps.{Event, Answer, pushed, going, reserved_as, pending, full, gone, refused, reading, empty, moving, swapped, wished_for, Step, Exchange, Run}
 use Rattle.trace_model.specs.Parcel.{Parcel}
+use Rattle.trace_model.proofs.StepSound.{cases_of}
 use Rattle.link_marks.specs.RingKept.{IsRingKept}
 use Rattle.link_marks.specs.WindowLaws.{MovesWindow}
 use Rattle.link_marks.proofs.AnswersRight.{swapped_right}
@@ -38,7 +39,7 @@ taken_by xs = flat_map (λ x. taken_in x.answer) xs
 module _ (n size start : ℕ) (c : Core) (event : Event) (answer : Answer) (after : Core) (kept : IsRingKept n size start c) (step : Step n size c event answer after) where
   -- an answer that isn't a take's takes nothing
   none_taken : ((t : Taken) → answer ≢ swapped t) → after.reader.taken ≡ c.reader.taken ++ []
-  none_taken not = ⊎_elim (λ stays. stays.1) (λ (what, happened). by_what what happened) (step_owed n size start c event answer after kept.links kept.stack kept.history step).window ∙ sym (append-nil c.reader.taken)
+  none_taken not = ⊎_elim (λ stays. stays.1) (λ (what, happened). by_what what happened) (step_owed n size start c event answer after kept.links kept.stack kept.history (cases_of step)).window ∙ sym (append-nil c.reader.taken)
     where
       by_what : (what : WindowEvent) → MovesWindow n c what after → after.reader.taken ≡ c.reader.taken
       by_what opened_one h = ap (λ (r : Reader). r.taken) h.shown.1

@@ -4,11 +4,11 @@ use Rattle.std.specs.Prelude.{◌≡◌, ℕ, suc, ◌<◌, ◌≤◌, ◌==◌,
 use Rattle.std.specs.List.{slice_get}
 use Rattle.trace_model.specs.Record.{Record}
 use Rattle.trace_model.specs.History.{HistoryEvent, IsHistory, as_record, committed_records}
-use Rattle.trace_model.specs.Packing.{IsPacked}
+use Rattle.trace_model.specs.Packing.{IsPacked, first_of_fill}
 use Rattle.trace_model.specs.Partition.{Piece, IsPartition}
 use Rattle.trace_model.specs.Parcel.{Parcel, IsMissingOf, AreGenuine}
 use Rattle.trace_model.specs.Collection.{Has, Misses, Agree}
-use Rattle.trace_model.specs.Ring.{Core, IsStart, first_of_fill, fill_of}
+use Rattle.trace_model.specs.Ring.{Core, IsStart, fill_of}
 use Rattle.trace_model.specs.Steps.{Exchange}
 use Rattle.trace_model.specs.Window.{RingEvent}
 use Rattle.link_marks.specs.ToldRuns.{fills_taken, fills_lost, IsToldBy}

@@ -1,0 +1,42 @@
+-- What a ring is asked, step by step, what it answers, and what a step leads to.
+use Rattle.std.specs.Prelude.{ℕ, Bool, true, false, List, Option, None}
+use Rattle.trace_model.specs.Frames.{Refusal}
+use Rattle.trace_model.specs.Ring.{Taken, Core}
+
+-- A frame is pushed, for a record or for a close; the frame on top makes one step, or is ended with its
+-- payload, which takes the slot that the record has; the reader makes one step, which begins a take where
+-- none is under way, or wishes for the tail page.
+pub data Event : Type 0 where
+  pushes : (moment len : ℕ) → Event
+  pushes_close : Event
+  steps : Event
+  ends : (payload : List ℕ) → Event
+  reads : Event
+  wishes : Event
+
+-- going: the frame is on the stack and hasn't reserved. reserved_as: its record has this number. pending, full:
+-- it was ended, with a frame below it or with none. gone: it has left the stack. reading: the take goes
+-- on. empty: no closed fill is unread, and this many are closed. moving: a head move is in progress, and
+-- fills below this one are taken or lost. swapped: a fill is taken. wished_for: the reader wished for this fill.
+pub data Answer : Type 0 where
+  pushed : Answer
+  going : Answer
+  reserved_as : (number : ℕ) → Answer
+  pending : Answer
+  full : Answer
+  gone : Answer
+  refused : Refusal → Answer
+  reading : Answer
+  empty : (done : ℕ) → Answer
+  moving : (fill : ℕ) → Answer
+  swapped : Taken → Answer
+  wished_for : (fill : ℕ) → Answer
+
+-- what a step answers, and the state after it; None: there is no such step
+abbrev pub Outcome : Type 0
+Outcome = Option (Answer × Core)
+
+-- the outcome, if this holds; else there is no such step
+abbrev pub only_if : Bool → Outcome → Outcome
+only_if true outcome = outcome
+only_if false outcome = None
