@@ -19,3 +19,4 @@ pub mod AtOnce
 pub mod Staying
 pub mod Runs
 pub mod Answering
+mod Promises

@@ -3,7 +3,7 @@ use Rattle.std.specs.Prelude.{◌≡◌}
 use Rattle.nested_writer.specs.Stack.{Stack}
 
 -- the ring has as many pages as before, of the same size
-pub record SameSeat (old new : Stack) : Type 0 where
+pub record SameShape (old new : Stack) : Type 0 where
   pub pages : new.pages ≡ old.pages
   pub size : new.size ≡ old.size
 

@@ -15,3 +15,4 @@ pub mod PlainTop
 pub mod Runs
 pub mod Kept
 pub mod Next
+pub mod Promises

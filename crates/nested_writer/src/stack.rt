@@ -54,8 +54,9 @@ impl Model for WriterStack {
 }
 
 impl WriterStack {
-    ghost use Rattle.std.specs.Prelude.{◌≡◌, ◌+◌, ◌%◌, ◌≤◌, ◌<◌, [], length, IfOk};
-    ghost use Rattle.trace_model.specs.declared.limits.TheConstants.{MIN_PAGES, MAX_PAGES, MIN_SIZE, MAX_SIZE, LINK_FILLS, START_FILL};
+    ghost use Rattle.std.specs.Prelude.{◌≡◌, ◌+◌, ◌<◌, [], length, IfOk};
+    ghost use Rattle.trace_model.specs.declared.limits.TheConstants.{LINK_FILLS, START_FILL};
+    ghost use Rattle.trace_model.specs.Ring.{HasRingLimits};
     ghost use Rattle.nested_writer.specs.Stack.{new_stack};
     ghost use Rattle.nested_writer.specs.IsStack.{IsStack, Stands};
 
@@ -67,11 +68,7 @@ impl WriterStack {
         size: usize,
         start: u64,
     ) -> Result<WriterStack, NoMemory>
-        requires pages { MIN_PAGES ≤ pages }
-        requires most { pages ≤ MAX_PAGES }
-        requires small { MIN_SIZE ≤ size }
-        requires large { size ≤ MAX_SIZE }
-        requires words { size % 4 ≡ 0 }
+        requires limits { HasRingLimits pages size }
         requires start { start + pages < LINK_FILLS }
         ensures blank { IfOk result (λ stack. stack ≡ new_stack pages size start) }
         ensures stack { IfOk result (λ stack. IsStack start [] stack) }
@@ -96,11 +93,7 @@ impl WriterStack {
 
     /// A stack in a ring whose first fill has the number `START_FILL`.
     pub fn new(alloc: Global, pages: usize, size: usize) -> Result<WriterStack, NoMemory>
-        requires pages { MIN_PAGES ≤ pages }
-        requires most { pages ≤ MAX_PAGES }
-        requires small { MIN_SIZE ≤ size }
-        requires large { size ≤ MAX_SIZE }
-        requires words { size % 4 ≡ 0 }
+        requires limits { HasRingLimits pages size }
         ensures blank { IfOk result (λ stack. stack ≡ new_stack pages size START_FILL) }
         ensures stack { IfOk result (λ stack. IsStack START_FILL [] stack) }
         ensures stands { IfOk result (λ stack. Stands stack) }

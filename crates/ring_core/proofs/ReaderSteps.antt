@@ -18,7 +18,7 @@ use Rattle.ring_frames.specs.ReaderPhases.{reader_phase_of}
 use Rattle.ring_core.specs.Value.{CoreValue, frames_of}
 use Rattle.ring_core.specs.IsCore.{HasStateOf, IsCore}
 use Rattle.ring_frames.specs.Answers.{IsAnswerOf}
-use Rattle.ring_core.specs.Steps.{IsStep, IsReachedCore}
+use Rattle.ring_core.specs.Steps.{IsStep, IsSomeCore}
 use Rattle.ring_core.proofs.Stepped.{kept_of, stepped}
 
 -- the reader goes on, and sets its page's link or its wish
@@ -135,7 +135,7 @@ module _ (n size start : ℕ) (v : CoreValue) (c : ring.Core) (core : IsCore n s
 
 -- ---- ranges
 
-module _ (v : CoreValue) (r : IsReachedCore v) where
+module _ (v : CoreValue) (r : IsSomeCore v) where
   -- the fill of a link has a number
   pub told_fits : (f : ℕ) → (ring.link_into (length v.links) v.links f).fill < LINK_FILLS
   told_fits f = let (n, size, start, c, core) = r in let s = core.shows in

@@ -12,7 +12,7 @@ use Rattle.ring_core.specs.Value.{CoreValue}
 use Rattle.ring_core.specs.IsCore.{HasStateOf, IsCore}
 use Rattle.ring_frames.specs.Answers.{IsAnswerOf, ZerosSlot}
 use Rattle.ring_core.specs.Answers.{HasWholePage}
-use Rattle.ring_core.specs.Steps.{IsStep, Makes, IsReachedCore}
+use Rattle.ring_core.specs.Steps.{IsStep, Makes, IsSomeCore}
 
 -- what every step keeps holds of a ring's state
 pub kept_of : (n size start : ℕ) (v : CoreValue) (c : Core) → IsCore n size start v c → IsRingKept n size start c
@@ -29,12 +29,12 @@ stepped n size start old new c event result answer after core step tells shows =
 
 -- ---- what a caller has of any step
 
-pub ring_behind : (old new : CoreValue) (event : model.Event) (result : Answer) → IsReachedCore old → Makes old event result new → IsReachedCore new
+pub ring_behind : (old new : CoreValue) (event : model.Event) (result : Answer) → IsSomeCore old → Makes old event result new → IsSomeCore new
 ring_behind old new event result (n, size, start, c, core) makes =
     let s = makes n size start c core in
     (n, size, start, s.after, s.is_core)
 
-pub size_behind : (old new : CoreValue) (event : model.Event) (result : Answer) → IsReachedCore old → Makes old event result new → new.stack.size ≡ old.stack.size
+pub size_behind : (old new : CoreValue) (event : model.Event) (result : Answer) → IsSomeCore old → Makes old event result new → new.stack.size ≡ old.stack.size
 size_behind old new event result (n, size, start, c, core) makes =
     (makes n size start c core).is_core.shows.frames.size_is ∙ sym core.shows.frames.size_is
 
@@ -51,7 +51,7 @@ told_whole size (Moving fill body) told t = tt
 told_whole size (Taken page missed) told (taken, is, whole) = (whole.written.page_reads, whole.written.size_is)
 told_whole size (Wished fill) told t = tt
 
-pub whole_page : (old new : CoreValue) (event : model.Event) (result : Answer) → IsReachedCore old → Makes old event result new → HasWholePage old.stack.size result
+pub whole_page : (old new : CoreValue) (event : model.Event) (result : Answer) → IsSomeCore old → Makes old event result new → HasWholePage old.stack.size result
 whole_page old new event result (n, size, start, c, core) makes =
     let s = makes n size start c core in
     subst (λ (bytes : ℕ). HasWholePage bytes result) (sym core.shows.frames.size_is) (told_whole size result s.answer s.tells)
@@ -74,7 +74,7 @@ who_reserves n size c event number after (cases.read_step e step) = inr e
 who_reserves n size c event number after (cases.store_wish_step e a is) = absurd (cc)
 
 -- so nothing is reserved by another event
-pub unreserved : (old new : CoreValue) (event : model.Event) (result : Answer) → (event ≢ model.steps) → (event ≢ model.reads) → IsReachedCore old → Makes old event result new → ZerosSlot old.stack result new.stack
+pub unreserved : (old new : CoreValue) (event : model.Event) (result : Answer) → (event ≢ model.steps) → (event ≢ model.reads) → IsSomeCore old → Makes old event result new → ZerosSlot old.stack result new.stack
 unreserved old new event result no_step no_read (n, size, start, c, core) makes number slot is lacks at =
     let s = makes n size start c core in
     let answer : s.answer ≡ model.reserved_as number.0 = subst (λ (r : Answer). IsAnswerOf size r s.answer) is s.tells in

@@ -1,18 +1,18 @@
 -- What an event makes of a ring as a value: the step of the model.
-use Rattle.std.specs.Prelude.{◌≡◌, ◌≢◌, ℕ, length, Some}
+use Rattle.std.specs.Prelude.{◌≡◌, ◌≢◌, ℕ, List, length, Some}
 use Rattle.trace_model.specs.Frames.{noted_fill}
 use Rattle.trace_model.specs.Ring.{IsStart, Core}
 use Rattle.trace_model.specs.Steps as model
 use Rattle.link_marks.specs.Seats.{PhaseIsPrivate}
 use Rattle.nested_writer.specs.Stack.{opened}
 use Rattle.ring_frames.specs.Value.{phase_of}
-use Rattle.ring_frames.specs.Answers.{IsAnswerOf}
+use Rattle.ring_frames.specs.Answers.{IsAnswerOf, ZerosSlot}
 use Rattle.ring_core.specs.declared.event.Event.{Event}
 use Rattle.ring_core.specs.declared.event.Event.TheVariants.{Push, PushClose, Step, End, Read, Wish}
 use Rattle.ring_frames.specs.declared.answer.Answer.{Answer}
 use Rattle.ring_core.specs.Value.{CoreValue}
 use Rattle.ring_core.specs.IsCore.{IsCore}
-use Rattle.ring_core.specs.Answers.{GivesBack}
+use Rattle.ring_core.specs.Answers.{event_of, StepsPayloads, StepsTop, GivesBack}
 
 -- In this state the event has an answer and a state after it, by a step of the model. The value's answer means the
 -- model's answer, and the value after it shows the model's state.
@@ -30,8 +30,12 @@ Makes old event result new = (n size start : ℕ) (c : Core)
     → IsStep n size start c event result new
 
 -- the value is the ring in some state
-abbrev pub IsReachedCore : CoreValue → Type 0
-IsReachedCore v = (n size start : ℕ) × (c : Core) × IsCore n size start v c
+abbrev pub IsSomeCore : CoreValue → Type 0
+IsSomeCore v = (n size start : ℕ) × (c : Core) × IsCore n size start v c
+
+-- so of a value that `new` made: a word that nobody outside takes apart
+unfoldable pub IsReachedCore : CoreValue → Type 0
+IsReachedCore v = IsSomeCore v
 
 -- the value is a new ring of n positions and pages of this size whose first fill has the number start
 abbrev pub IsNewRing : (n size start : ℕ) → CoreValue → Type 0
@@ -61,3 +65,19 @@ GivesBodyBack Step answer = Unit {0}
 GivesBodyBack End answer = Unit {0}
 GivesBodyBack (Read body) answer = GivesBack body answer
 GivesBodyBack Wish answer = Unit {0}
+
+-- The event is one step of the model, whose answer is the value's. The body of a `Read` is given back but for a page;
+-- payloads stay in their slots; a slot that was reserved holds only zeros; and of a push, and of a step by which the
+-- frame on top goes on or reserves, the payload's length is known.
+pub record Obeys (event : Event) (old : CoreValue) (result : Answer) (new : CoreValue) : Type 0 where
+  pub step : Makes old (event_of old event) result new
+  pub given_back : GivesBodyBack event result
+  pub payloads : StepsPayloads event old.stack new.stack
+  pub zeros : ZerosSlot old.stack result new.stack
+  pub top : StepsTop event result old.stack new.stack
+
+-- so is a step of the reader, which has this body
+pub record MakesRead (old : CoreValue) (body : List ℕ) (result : Answer) (new : CoreValue) : Type 0 where
+  pub step : Makes old model.reads result new
+  pub given_back : GivesBack body result
+  pub stack : new.stack ≡ old.stack

@@ -38,6 +38,7 @@
 
 pub mod event;
 pub mod laws;
+#[tactic(auto, unfolding(crate::specs::Steps::IsReachedCore))]
 pub mod ring;
 
 pub use event::{Answer, Event};

@@ -1,6 +1,6 @@
 -- What the steps at the words of counts and of the wish make of a writer's frames: a fill is begun, one is closed, and
 -- the reader's wish is looked for.
-use Rattle.std.specs.Prelude.{◌≡◌, ℕ, List, [], ◌∷◌}
+use Rattle.std.specs.Prelude.{◌≡◌, ◌≢◌, ℕ, List, [], ◌∷◌}
 use Rattle.trace_model.specs.History.{HistoryEvent}
 use Rattle.trace_model.specs.Frames.{Frame}
 use Rattle.trace_model.specs.Ring.{Core, page_at}
@@ -11,7 +11,15 @@ use Rattle.nested_writer.specs.Released.{IsWrittenPage}
 use Rattle.ring_frames.specs.declared.answer.Answer.{Answer}
 use Rattle.ring_frames.specs.Value.{FramesValue}
 use Rattle.ring_frames.specs.AreFrames.{AreFrames}
+use Rattle.ring_frames.specs.declared.phase.Phase.TheVariants.{Wishing}
 use Rattle.ring_frames.specs.Answers.{IsAnswerOf}
+use Rattle.ring_frames.specs.Steps.{IsFrames}
+
+-- the frame on top looks for the reader's wish
+pub record IsWishing (v : FramesValue) : Type 0 where
+  pub frames : IsFrames v
+  pub top : v.stack.frames ≢ []
+  pub phase : v.phase ≡ Wishing
 
 -- The next fill is begun, on whatever page, and the frame on top begins again, in any state whose frames these are.
 abbrev pub OpensFill : FramesValue → Answer → FramesValue → Type 0

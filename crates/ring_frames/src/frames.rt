@@ -40,6 +40,7 @@ impl Model for Frames {
 impl Frames {
     ghost use Rattle.std.specs.Prelude.{◌≡◌, ◌≢◌, true, false, ◌+◌, ◌%◌, ◌≤◌, ◌<◌, ◌↔◌, [], length, IfOk, IsTrue};
     ghost use Rattle.trace_model.specs.declared.limits.TheConstants.{MIN_PAGES, MAX_PAGES, MIN_SIZE, MAX_SIZE, MAX_FRAMES, LINK_FILLS};
+    ghost use Rattle.trace_model.specs.Ring.{HasRingLimits};
     ghost use Rattle.trace_model.specs.Steps.{MayOpen};
     ghost use Rattle.nested_writer.specs.Stack.{opened};
     ghost use Rattle.nested_writer.specs.Calls.{top_of};
@@ -50,11 +51,7 @@ impl Frames {
     /// No frame, over the empty tail page of a new ring of `pages` pages of `size` bytes of data each, whose first fill
     /// has the number `start`. All room is made here: no other call takes memory.
     pub fn new_at(alloc: Global, pages: usize, size: usize, start: u64) -> Result<Frames, NoMemory>
-        requires pages { MIN_PAGES ≤ pages }
-        requires most { pages ≤ MAX_PAGES }
-        requires small { MIN_SIZE ≤ size }
-        requires large { size ≤ MAX_SIZE }
-        requires words { size % 4 ≡ 0 }
+        requires limits { HasRingLimits pages size }
         requires start { start + pages < LINK_FILLS }
         ensures { IfOk result (λ frames. AreNew pages size start frames) }
     {

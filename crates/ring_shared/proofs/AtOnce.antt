@@ -28,7 +28,7 @@ use Rattle.ring_steps.specs.Views.{Writing, writing_of}
 use Rattle.ring_steps.specs.Seats.{Leads}
 use Rattle.ring_steps.specs.Paging.{IsTopIn}
 use Rattle.ring_shared.specs.Value.{WriterValue}
-use Rattle.ring_shared.specs.Calls.{IsWriter, IsCall}
+use Rattle.ring_shared.specs.Calls.{AreWriterFields, IsCall}
 use Rattle.ring_shared.specs.Finishing.{at_once, Reserves, Leaves, is_gone}
 use Rattle.ring_shared.specs.WholeWrites.{IsWritten}
 use Rattle.ring_shared.proofs.Behind.{behind, behind_write}
@@ -55,7 +55,7 @@ wish_outcome n c frame below answer after (cases.goes_away alone denied last a i
 open_stay : (n size : ℕ) (c : Core) (event : model.Event) (answer : model.Answer) (after : Core) → IsPrivate c event → model.Step n size c event answer after → after.open_pages ≡ c.open_pages
 open_stay n size c event answer after own step = ap (λ (d : Core). d.open_pages) (changes_privately c after (private_result n size c event answer after own (cases_of step)))
 
-module _ (v : WriterValue) (w : IsWriter v) (moment : ℕ) (payload : List ℕ) (gone : FramesValue) (wrote : WritesAtOnce v.frames moment payload (with_left_frame gone moment (length payload))) (alone : IsWrittenAlone v.frames moment payload gone) where
+module _ (v : WriterValue) (w : AreWriterFields v) (moment : ℕ) (payload : List ℕ) (gone : FramesValue) (wrote : WritesAtOnce v.frames moment payload (with_left_frame gone moment (length payload))) (alone : IsWrittenAlone v.frames moment payload gone) where
   abbrev pub frames : FramesValue
   frames = with_left_frame gone moment (length payload)
 
@@ -125,7 +125,7 @@ module _ (v : WriterValue) (w : IsWriter v) (moment : ℕ) (payload : List ℕ) 
       ∙ ap (λ (x : Writing). x.open_pages) w.part_is)))
 
   -- the writer after them
-  pub writer_mid : IsWriter mid
+  pub writer_mid : AreWriterFields mid
   writer_mid = record {
     core = first.after;
     reached = after_reached;

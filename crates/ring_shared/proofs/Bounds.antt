@@ -11,10 +11,10 @@ use Rattle.nested_writer.specs.Stack.{opened}
 use Rattle.ring_steps.specs.Views.{Writing}
 use Rattle.ring_frames.specs.Value.{phase_of}
 use Rattle.ring_shared.specs.Value.{WriterValue}
-use Rattle.ring_shared.specs.Calls.{IsWriter}
+use Rattle.ring_shared.specs.Calls.{AreWriterFields}
 use Rattle.ring_shared.proofs.Standing.{kept_now, top_in}
 
-module _ (v : WriterValue) (w : IsWriter v) where
+module _ (v : WriterValue) (w : AreWriterFields v) where
   pub opened_now : opened v.frames.stack ≡ v.part.opened
   opened_now = sym w.frames_are.opened_is ∙ ap (λ (p : Writing). p.opened) w.part_is
 

@@ -3,11 +3,11 @@ use Rattle.std.proofs.Common.{◌≡◌, ◌≢◌, [], sym, ap, ◌∙◌, subs
 use Rattle.ring_frames.specs.declared.phase.Phase.{Phase}
 use Rattle.ring_frames.specs.Value.{phase_of}
 use Rattle.ring_shared.specs.Value.{WriterValue}
-use Rattle.ring_shared.specs.Calls.{IsWriter}
+use Rattle.ring_shared.specs.Calls.{AreWriterFields}
 
 module _ {v x : WriterValue} (view_is : v ≡ x) where
-  pub writer_seen : IsWriter x → IsWriter v
-  writer_seen w = subst IsWriter (sym view_is) w
+  pub writer_seen : AreWriterFields x → AreWriterFields v
+  writer_seen w = subst AreWriterFields (sym view_is) w
 
   pub top_seen : x.frames.stack.frames ≢ [] → v.frames.stack.frames ≢ []
   top_seen some = subst (λ (y : WriterValue). y.frames.stack.frames ≢ []) (sym view_is) some

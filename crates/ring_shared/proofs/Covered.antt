@@ -14,14 +14,14 @@ use Rattle.ring_frames.proofs.Lent.{slot_keeps}
 use Rattle.ring_steps.specs.declared.rule.Shape.{Shape}
 use Rattle.ring_steps.specs.Views.{Writing}
 use Rattle.ring_shared.specs.Value.{WriterValue}
-use Rattle.ring_shared.specs.Calls.{IsWriter}
+use Rattle.ring_shared.specs.Calls.{AreWriterFields}
 use Rattle.ring_shared.specs.Covering.{CoversPayloads, KeepsCovered}
 use Rattle.ring_shared.specs.WholeWrites.{IsReserved}
 use Rattle.ring_shared.proofs.WholeWrites.{top_kind}
 
 -- ---- a frame was pushed, and has reserved
 
-pub reserved_covers : (shape : Shape) (x two : WriterValue) (moment len : ℕ) → IsWriter x → IsWriter two → two.shape ≡ x.shape → IsReserved shape x.part moment len two.part → KeepsPayloads x.frames.stack two.frames.stack → CoversPayloads x.frames.stack two.frames.stack
+pub reserved_covers : (shape : Shape) (x two : WriterValue) (moment len : ℕ) → AreWriterFields x → AreWriterFields two → two.shape ≡ x.shape → IsReserved shape x.part moment len two.part → KeepsPayloads x.frames.stack two.frames.stack → CoversPayloads x.frames.stack two.frames.stack
 reserved_covers shape x two moment len w k same r kept slot had =
     let (held, bytes) = kept slot had in
     let t = top_kind (for_record moment len) x.part.frames r.number two.part.frames r.reserve.ends in

@@ -5,9 +5,9 @@ use Rattle.link_marks.specs.FrameOutcomes.{IsReserving, IsLeaving}
 use Rattle.ring_frames.proofs.Pushed.{as_many}
 use Rattle.ring_steps.specs.Views.{Writing}
 use Rattle.ring_shared.specs.Value.{WriterValue}
-use Rattle.ring_shared.specs.Calls.{IsWriter}
+use Rattle.ring_shared.specs.Calls.{AreWriterFields}
 
-pub depth_is : (v : WriterValue) → IsWriter v → length v.frames.stack.frames ≡ length v.part.frames
+pub depth_is : (v : WriterValue) → AreWriterFields v → length v.frames.stack.frames ≡ length v.part.frames
 depth_is v w =
     sym (as_many v.frames.stack.frames v.frames.phase v.frames.below w.frames_are.below_are)
     ∙ ap (length {A = Frame}) (sym w.frames_are.frames_are ∙ ap (λ (p : Writing). p.frames) w.part_is)

@@ -21,7 +21,7 @@ use Rattle.ring_steps.specs.Views.{Writing}
 use Rattle.ring_shared.specs.declared.writer.finish.Finished.{Finished}
 use Rattle.ring_shared.specs.declared.writer.finish.Finished.TheVariants as finished
 use Rattle.ring_shared.specs.Value.{WriterValue}
-use Rattle.ring_shared.specs.Calls.{IsWriter, IsCall}
+use Rattle.ring_shared.specs.Calls.{AreWriterFields, IsCall}
 use Rattle.ring_shared.specs.Finishing.{MakesSteps, at_once, one_more, IsReservedOr, is_reserved, stays_refused, is_refused, Leaves, Closes, Finishes, IsNumberOrRefused, IsOutcomeOf, IsFinished, IsGoneOrRefused}
 use Rattle.ring_shared.proofs.Targets.{frames_of}
 use Rattle.ring_shared.proofs.Finishes.{IsRefusal, leaves_behind, IsAmidLeaving, leaving_first, leaving_going, leaving_gone}
@@ -62,18 +62,18 @@ slot_number (f ∷ frames) phase phases shown next below number slot same top at
     cc
 
 -- and the slot on top has it
-pub number_of_slot : (v : WriterValue) (w : IsWriter v) (below : List Frame) (result : Answer) (h : HasNumber below result v.part.frames) (slot : Slot) → IsTopSlot v.frames.stack.frames slot → result ≡ Reserved record { 0 = slot.number }
+pub number_of_slot : (v : WriterValue) (w : AreWriterFields v) (below : List Frame) (result : Answer) (h : HasNumber below result v.part.frames) (slot : Slot) → IsTopSlot v.frames.stack.frames slot → result ≡ Reserved record { 0 = slot.number }
 number_of_slot v w below result h slot is =
     let same : slot.number ≡ h.number.0 = slot_number v.frames.stack.frames v.frames.phase v.frames.below v.part.frames h.next below h.number.0 slot (frames_of v w) h.top h.state_is is in
     h.told ∙ ap (λ (n : ℕ). let r : RecordNo = record { 0 = n } in Reserved r) (sym same)
 
-pub slot_of_number : (v : WriterValue) (w : IsWriter v) (below : List Frame) (result : Answer) → HasNumber below result v.part.frames → (slot : Slot) × IsTopSlot v.frames.stack.frames slot
+pub slot_of_number : (v : WriterValue) (w : AreWriterFields v) (below : List Frame) (result : Answer) → HasNumber below result v.part.frames → (slot : Slot) × IsTopSlot v.frames.stack.frames slot
 slot_of_number v w below result h =
     let t : HasTopRecord h.next.kind below v.part.frames = record { next = h.next; number = h.number.0; top = h.top; kind_is = refl; state_is = h.state_is } in
     top_slot_of v w h.next.kind below t
 
 -- so what the brief answer states
-pub finished_so : (old new : WriterValue) (w : IsWriter new) (answer : Answer) (to : Finished) → IsOutcomeOf answer to → TellsTop answer new.part.frames → Finishes old.shape old.part answer new.part → IsFinished old to new
+pub finished_so : (old new : WriterValue) (w : AreWriterFields new) (answer : Answer) (to : Finished) → IsOutcomeOf answer to → TellsTop answer new.part.frames → Finishes old.shape old.part answer new.part → IsFinished old to new
 finished_so old new w answer finished.Reserved (number, is) (inl (below, h)) f =
     let (slot, at) = slot_of_number new w below answer h in
     (slot, at, subst (λ (x : Answer). Finishes old.shape old.part x new.part) (number_of_slot new w below answer h slot at) f)

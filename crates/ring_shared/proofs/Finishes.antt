@@ -14,7 +14,7 @@ use Rattle.ring_frames.specs.Answers.{refusal_of, IsAnswerOf}
 use Rattle.ring_steps.specs.declared.rule.Shape.{Shape}
 use Rattle.ring_steps.specs.Views.{Writing}
 use Rattle.ring_shared.specs.Value.{WriterValue, SameWriter}
-use Rattle.ring_shared.specs.Calls.{IsCall, MakesSome}
+use Rattle.ring_shared.specs.Calls.{IsWriter, IsCall, MakesSome}
 use Rattle.ring_shared.specs.Finishing.{MakesSteps, at_once, one_more, IsReservedOr, is_reserved, stays_refused, is_refused, Reserves, Leaves, is_gone, was_refused, met_behind, told_behind, IsGoneOrRefused}
 
 -- ---- what an answer states
@@ -253,6 +253,7 @@ module _ (shape : Shape) (below : List Frame) (before : Writing) (met : Option W
   leaving_ends less = a.ends result next (is_gone now now next result at_once call (gone_to step less))
 
   gone_how : Leaving below call.answer call.next.frames → length next.frames < length now.frames → IsGoneOrRefused (told_behind met result)
+  unfolding IsWriter
   gone_how (leaves_on frame answer_is top leaves) less = let same = ap (length {A = Frame}) (frames_after shape now next result call (frame ∷ below) top) in let w = wide in absurd (omega arith)
   gone_how (gone_from how top) less = told_how met result (how_told how)
     where
@@ -288,7 +289,9 @@ module _ (shape : Shape) (below : List Frame) (before : Writing) (met : Option W
 
 -- the step that was made is a call in the ring of this shape
 pub call_in : (shape : Shape) (old new : WriterValue) (result : Answer) → old.shape ≡ shape → MakesSome old model.steps result new → IsCall shape old.part model.steps result new.part
+unfolding IsWriter
 call_in shape old new result same makes = subst (λ (s : Shape). IsCall s old.part model.steps result new.part) same makes.call
 
 pub same_writer : (first old new : WriterValue) (result : Answer) → SameWriter first old → MakesSome old model.steps result new → SameWriter first new
+unfolding IsWriter
 same_writer first old new result same makes = (makes.shape_is ∙ same.0, makes.table_is ∙ same.1)

@@ -23,11 +23,11 @@ counted_at from (suc count) (suc i) low = counted_at (suc from) count i (omega a
 -- it is that of a state that steps reach
 pub first_part : (shape : Shape) (part : Reading) → IsShape shape → part ≡ first_reading shape → IsReaderPart shape part
 first_part shape part is same =
-    let some_pages = is.some_pages in let numbers = is.numbers_left in
+    let some_pages = is.limits.some_pages in let numbers = is.numbers_left in
     let (c, s, one) = new_ring_is_one shape.pages shape.start (omega arith) in
     subst (IsReaderPart shape) (sym same) record {
       core = c;
-      reached = record { from = c; exchanges = []; may_start = record { some_pages = is.some_pages; numbers_left = omega arith }; is_new = s; run = refl };
+      reached = record { from = c; exchanges = []; may_start = record { some_pages = is.limits.some_pages; numbers_left = omega arith }; is_new = s; run = refl };
       is = record {
         order_is = ext_get_or 0 (counted 0 shape.pages) c.order (counted_length 0 shape.pages ∙ sym s.pages)
             (λ i low. let count = counted_length 0 shape.pages in counted_at 0 shape.pages i (omega arith) ∙ ((let e : 0 + i ≡ i = omega arith in e) ∙ sym (s.order i (omega arith))));

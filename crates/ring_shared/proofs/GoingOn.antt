@@ -12,7 +12,7 @@ use Rattle.ring_frames.specs.declared.answer.Answer.TheVariants.{Going}
 use Rattle.ring_frames.specs.Value.{phase_of}
 use Rattle.ring_frames.specs.Steps.{GoesOnIn, IsNotedIn}
 use Rattle.ring_shared.specs.Value.{WriterValue}
-use Rattle.ring_shared.specs.Calls.{IsWriter, MakesSome}
+use Rattle.ring_shared.specs.Calls.{IsWriter, AreWriterFields, MakesSome}
 use Rattle.link_marks.proofs.TopSteps.{top_stepped}
 use Rattle.ring_shared.proofs.Standing.{frames_like, frames_in, top_in, made}
 
@@ -23,7 +23,7 @@ Moves v from to c after = (frame : Frame) (below : List Frame)
     → writing_of after ≡ writing_of (model.in_phase c frame below to)
 
 -- it continues in this phase, which was chosen by what the word stated
-pub goes_on : (v new : WriterValue) (w : IsWriter v) (some : v.frames.stack.frames ≢ []) (from : ModelPhase) (noted : ℕ) (chosen to : Phase) (sees : Core → Type 0)
+pub goes_on : (v new : WriterValue) (w : AreWriterFields v) (some : v.frames.stack.frames ≢ []) (from : ModelPhase) (noted : ℕ) (chosen to : Phase) (sees : Core → Type 0)
     → phase_of v.frames.phase ≡ from
     → noted_fill from ≡ Some noted
     → noted_fill (phase_of to) ≡ Some noted
@@ -35,6 +35,7 @@ pub goes_on : (v new : WriterValue) (w : IsWriter v) (some : v.frames.stack.fram
     → (s : IsWriterStep v.shape v.part sees model.going new.part)
     → Moves v from (phase_of to) s.core s.next
     → MakesSome v model.steps Going new
+unfolding IsWriter
 goes_on v new w some from noted chosen to sees at was is same shape_is table_is pages_is on s moves =
     let before = frames_in v w s.core s.before_is in
     let t = top_in v w s.core s.before_is some in
@@ -47,4 +48,5 @@ goes_on v new w some from noted chosen to sees at was is same shape_is table_is 
 
 -- the same of a value whose view is that one, and of an answer
 pub as_called : (v x new : WriterValue) (result : Answer) → v ≡ x → result ≡ Going → MakesSome v model.steps Going new → MakesSome x model.steps result new
+unfolding IsWriter
 as_called v x new result view_is is makes = subst (λ (r : Answer). MakesSome x model.steps r new) (sym is) (subst (λ (y : WriterValue). MakesSome y model.steps Going new) view_is makes)

@@ -14,7 +14,7 @@ use Rattle.ring_steps.specs.Views.{Writing, writing_of}
 use Rattle.ring_steps.specs.Seats.{IsWriterStep}
 use Rattle.ring_steps.specs.Paging.{IsTopIn}
 use Rattle.ring_shared.specs.Value.{WriterValue}
-use Rattle.ring_shared.specs.Calls.{MakesSome}
+use Rattle.ring_shared.specs.Calls.{IsWriter, MakesSome}
 use Rattle.ring_shared.specs.Nearer.{IsNearer}
 
 -- ---- phases
@@ -76,6 +76,7 @@ module _ (v new : WriterValue) (shape_is : new.shape ≡ v.shape) (knows : v.pas
 
   -- a step of a frame that is in neither of these two phases, or in one of them late
   pub nearer_quietly : (result : Answer) (phase : Phase) → MakesSome v model.steps result new → IsTopIn v.part.frames phase → IsQuiet v.part.opened phase → IsNearer v new
+  unfolding IsWriter
   nearer_quietly result phase m top quiet =
       let in_phase : (other : Phase) → IsTopIn v.part.frames other → IsQuiet v.part.opened other = λ other at. subst (IsQuiet v.part.opened) (one_phase v.part.frames phase other top at) quiet in
       nearer m.call.core m.call.next m.call.answer m.call.reached m.call.before_is m.call.step m.call.after_is
@@ -83,6 +84,7 @@ module _ (v new : WriterValue) (shape_is : new.shape ≡ v.shape) (knows : v.pas
 
   -- a claim, after which the fill that is lost is known to be passed
   pub nearer_claiming : (result : Answer) (noted page : ℕ) → MakesSome v model.steps result new → IsTopIn v.part.frames (claiming noted page) → noted < new.passed + v.shape.pages → IsNearer v new
+  unfolding IsWriter
   nearer_claiming result noted page m top low =
       nearer m.call.core m.call.next m.call.answer m.call.reached m.call.before_is m.call.step m.call.after_is
       (λ o at now. absurd (let same : claiming noted page ≡ looking o = one_phase v.part.frames (claiming noted page) (looking o) top at in cc))

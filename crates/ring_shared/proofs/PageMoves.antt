@@ -16,7 +16,7 @@ use Rattle.ring_frames.specs.Value.{FramesValue, phase_of}
 use Rattle.ring_frames.specs.Answers.{IsAnswerOf}
 use Rattle.ring_frames.specs.Fills.{OpensFill, Releases, released_in, LooksForWish, told_in}
 use Rattle.ring_shared.specs.Value.{WriterValue}
-use Rattle.ring_shared.specs.Calls.{IsWriter, MakesSome}
+use Rattle.ring_shared.specs.Calls.{IsWriter, AreWriterFields, MakesSome}
 use Rattle.link_marks.proofs.TopSteps.{top_stepped}
 use Rattle.ring_shared.proofs.Standing.{FramesIn, kept_now, frames_in, top_in, made}
 
@@ -27,7 +27,7 @@ begun_pages for_close waiting c frame below = refl
 begun_pages kind (reserved number) c frame below = refl
 begun_pages kind left c frame below = refl
 
-module _ (v new : WriterValue) (w : IsWriter v) (some : v.frames.stack.frames ≢ []) (shape_is : new.shape ≡ v.shape) (table_is : new.table ≡ v.table) (sees : Core → Type 0) where
+module _ (v new : WriterValue) (w : AreWriterFields v) (some : v.frames.stack.frames ≢ []) (shape_is : new.shape ≡ v.shape) (table_is : new.table ≡ v.table) (sees : Core → Type 0) where
   module _ (answer : model.Answer) (s : IsWriterStep v.shape v.part sees answer new.part) where
     pages_before : s.core.open_pages ≡ v.pages
     pages_before = ap (λ (p : Writing). p.open_pages) s.before_is ∙ w.pages_are
@@ -41,6 +41,7 @@ module _ (v new : WriterValue) (w : IsWriter v) (some : v.frames.stack.frames �
       → new.pages ≡ v.pages ++ page ∷ []
       → IsWriterStep v.shape v.part sees (begun_answer v.part.frames) new.part
       → MakesSome v model.steps result new
+  unfolding IsWriter
   opens_fill noted page result at now opens pages_is s =
       let answer = begun_answer v.part.frames in
       let t = top_in v w s.core s.before_is some in
@@ -65,6 +66,7 @@ module _ (v new : WriterValue) (w : IsWriter v) (some : v.frames.stack.frames �
       → new.pages ≡ drop 1 v.pages
       → IsWriterStep v.shape v.part sees model.going new.part
       → MakesSome v model.steps Going new
+  unfolding IsWriter
   closes_fill page releases pages_is s =
       let r = releases v.shape.pages v.shape.size v.shape.start s.core s.reached (frames_in v w s.core s.before_is) in
       let (same, after_is) = steps_are_determined v.shape.pages v.shape.size s.core model.steps model.going model.going s.next (released_in s.core r.frame) s.step r.step in
@@ -79,6 +81,7 @@ module _ (v new : WriterValue) (w : IsWriter v) (some : v.frames.stack.frames �
       → (s : IsWriterStep v.shape v.part sees answer new.part)
       → (sees s.core → s.core.wish ≡ wish)
       → MakesSome v model.steps result new
+  unfolding IsWriter
   looks_for_wish wish result answer looks pages_is s is_wish =
       let l = looks v.shape.pages v.shape.size v.shape.start s.core s.reached (frames_in v w s.core s.before_is) (is_wish s.seen) in
       let (same, after_is) = steps_are_determined v.shape.pages v.shape.size s.core model.steps answer l.answer s.next (told_in s.core l.frames l.history) s.step l.step in
@@ -86,7 +89,7 @@ module _ (v new : WriterValue) (w : IsWriter v) (some : v.frames.stack.frames �
       (ap (λ (c : Core). c.open_pages) after_is ∙ (pages_before answer s ∙ sym pages_is))
 
 -- the page that is let go holds what the fill holds
-pub is_written : (v : WriterValue) (w : IsWriter v) (page : Contents) (new : FramesValue) → Releases v.frames page new
+pub is_written : (v : WriterValue) (w : AreWriterFields v) (page : Contents) (new : FramesValue) → Releases v.frames page new
     → IsWrittenPage v.shape.size v.part.done (fill_of v.part.history v.shape.start v.part.done) page
 is_written v w page new releases =
     let c = w.core in let k = kept_now v w in

@@ -23,7 +23,7 @@ use Rattle.ring_steps.specs.declared.rule.Shape.{Shape}
 use Rattle.ring_steps.specs.Views.{Writing, writing_of}
 use Rattle.ring_steps.specs.Seats.{Leads}
 use Rattle.ring_shared.specs.Value.{WriterValue}
-use Rattle.ring_shared.specs.Calls.{IsWriter, MakesSome}
+use Rattle.ring_shared.specs.Calls.{IsWriter, AreWriterFields, MakesSome}
 use Rattle.ring_shared.proofs.Behind.{alone, part_of, behind}
 
 -- ---- the writer's part
@@ -75,7 +75,7 @@ pub close_leads : (shape : Shape) (w : Writing) → Leads shape w (behind shape 
 close_leads shape w = leads_behind shape w model.pushes_close (λ c reached is. (tt, tt))
 
 -- the writer's frames are those of each state with its part
-frames_there : (v : WriterValue) → IsWriter v → (c : Core) → writing_of c ≡ v.part → AreFrames v.shape.pages v.shape.size v.shape.start v.frames c
+frames_there : (v : WriterValue) → AreWriterFields v → (c : Core) → writing_of c ≡ v.part → AreFrames v.shape.pages v.shape.size v.shape.start v.frames c
 frames_there v w c is = let same = is ∙ sym w.part_is in
     same_frames v.shape.pages v.shape.size v.shape.start v.frames w.core c w.frames_are
     (ap (λ (x : Writing). x.frames) same)
@@ -83,18 +83,19 @@ frames_there v w c is = let same = is ∙ sym w.part_is in
     (ap (λ (x : Writing). x.done) same)
     (ap (λ (x : Writing). x.opened) same)
 
-pub end_leads : (v : WriterValue) → IsWriter v → Leads v.shape v.part (behind v.shape v.part (model.ends (top_bytes v.frames.stack v.frames.stack.frames)))
+pub end_leads : (v : WriterValue) → AreWriterFields v → Leads v.shape v.part (behind v.shape v.part (model.ends (top_bytes v.frames.stack v.frames.stack.frames)))
 end_leads v w = leads_behind v.shape v.part (model.ends (top_bytes v.frames.stack v.frames.stack.frames))
     (λ c reached is. (tt, may_end v.shape.pages v.shape.size v.shape.start v.frames c (frames_there v w c is)))
 
-pub step_leads : (v : WriterValue) → IsWriter v → PhaseIsPrivate (phase_of v.frames.phase) (opened v.frames.stack) → Leads v.shape v.part (behind v.shape v.part model.steps)
+pub step_leads : (v : WriterValue) → AreWriterFields v → PhaseIsPrivate (phase_of v.frames.phase) (opened v.frames.stack) → Leads v.shape v.part (behind v.shape v.part model.steps)
 step_leads v w own = leads_behind v.shape v.part model.steps
     (λ c reached is. (steps_are_private v.shape.pages v.shape.size v.shape.start v.frames c (frames_there v w c is) own, tt))
 
 -- ---- calls
 
 -- what the frames made in private, and the seat has noted, is a call
-private_call : (old : WriterValue) (event : model.Event) (result : Answer) (new : WriterValue) → IsWriter old → new.shape ≡ old.shape → new.table ≡ old.table → new.part ≡ behind old.shape old.part event → new.pages ≡ old.pages → MakesPrivate old.frames event result new.frames → MakesSome old event result new
+private_call : (old : WriterValue) (event : model.Event) (result : Answer) (new : WriterValue) → AreWriterFields old → new.shape ≡ old.shape → new.table ≡ old.table → new.part ≡ behind old.shape old.part event → new.pages ≡ old.pages → MakesPrivate old.frames event result new.frames → MakesSome old event result new
+unfolding IsWriter
 private_call old event result new w shape table noted pages made =
     let n = old.shape.pages in let size = old.shape.size in let start = old.shape.start in
     let m = made n size start w.core w.reached w.frames_are in
@@ -123,7 +124,8 @@ private_call old event result new w shape table noted pages made =
     }
 
 -- so of the value that the writer is seen as
-pub seen_call : (old now : WriterValue) (event : WriterValue → model.Event) (result : Answer) (new : WriterValue) → old ≡ now → IsWriter now → new.shape ≡ old.shape → new.table ≡ old.table → new.part ≡ behind old.shape old.part (event old) → new.pages ≡ old.pages → MakesPrivate old.frames (event old) result new.frames → MakesSome now (event now) result new
+pub seen_call : (old now : WriterValue) (event : WriterValue → model.Event) (result : Answer) (new : WriterValue) → old ≡ now → AreWriterFields now → new.shape ≡ old.shape → new.table ≡ old.table → new.part ≡ behind old.shape old.part (event old) → new.pages ≡ old.pages → MakesPrivate old.frames (event old) result new.frames → MakesSome now (event now) result new
+unfolding IsWriter
 seen_call old now event result new is w shape table noted pages made =
     subst (λ (v : WriterValue). MakesSome v (event v) result new) is
-    (private_call old (event old) result new (subst IsWriter (sym is) w) shape table noted pages made)
+    (private_call old (event old) result new (subst AreWriterFields (sym is) w) shape table noted pages made)

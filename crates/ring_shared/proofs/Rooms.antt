@@ -22,7 +22,7 @@ use Rattle.ring_frames.specs.Answers.{IsAnswerOf, refusal_of}
 use Rattle.ring_steps.specs.declared.rule.Shape.{Shape}
 use Rattle.ring_steps.specs.Views.{Writing}
 use Rattle.ring_shared.specs.Value.{WriterValue}
-use Rattle.ring_shared.specs.Calls.{IsWriter, IsCall}
+use Rattle.ring_shared.specs.Calls.{AreWriterFields, IsCall}
 use Rattle.ring_shared.specs.Lending.{FitsFrame}
 use Rattle.ring_shared.specs.WholeWrites.{IsWritten, IsRefusedWrite}
 use Rattle.ring_shared.specs.Finishing.{MakesSteps, at_once, one_more, Leaves, is_gone, was_refused, FinishesFrame, FinishesTop, Finishes}
@@ -240,7 +240,7 @@ room_of_record (for_record moment len) bytes is fits = ap (λ (n : ℕ). Some n)
 room_of_record for_close bytes is fits = absurd is
 
 -- the slot of the frame on top takes its room
-pub top_room : (v : WriterValue) (w : IsWriter v) (slot : Slot) → IsTopSlot v.frames.stack.frames slot → FitsFrame v slot → IsTopRoom v slot.place.len
+pub top_room : (v : WriterValue) (w : AreWriterFields v) (slot : Slot) → IsTopSlot v.frames.stack.frames slot → FitsFrame v slot → IsTopRoom v slot.place.len
 top_room v w slot on_top fits =
     let t = reserved_top v w slot on_top in
     let at : w.core.frames ≡ t.frame ∷ t.below = ap (λ (p : Writing). p.frames) w.part_is ∙ t.top in

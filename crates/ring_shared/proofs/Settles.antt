@@ -17,7 +17,7 @@ use Rattle.ring_steps.specs.declared.rule.Shape.{Shape}
 use Rattle.ring_steps.specs.Views.{Writing, Reading}
 use Rattle.ring_steps.specs.Seats.{AreParts}
 use Rattle.ring_shared.specs.Value.{WriterValue, ReaderValue}
-use Rattle.ring_shared.specs.Calls.{IsWriter}
+use Rattle.ring_shared.specs.Calls.{AreWriterFields}
 use Rattle.ring_shared.specs.Takes.{IsReader}
 use Rattle.ring_shared.specs.declared.settling.Settled.{Settled}
 use Rattle.ring_shared.specs.Settling.{piece_unread, unread_page, WasTaken, IsSettled}
@@ -108,10 +108,10 @@ module _ (shape : Shape) (writing : Writing) (part : Reading) (settled : Settled
 -- ---- by the fields of both ends
 
 -- the writer's part and its frames know alike how many fills are closed
-pub done_there : (w : WriterValue) → IsWriter w → w.part.done ≡ w.frames.stack.done
+pub done_there : (w : WriterValue) → AreWriterFields w → w.part.done ≡ w.frames.stack.done
 done_there w writer = sym (ap (λ (p : Writing). p.done) writer.part_is) ∙ writer.frames_are.done_is
 
-module _ (w : WriterValue) (r : ReaderValue) (tail : Contents) (writer : IsWriter w) (reader : IsReader r) (at_rest : w.part.frames ≡ []) (found : r.empty_at ≡ Some w.part.done) where
+module _ (w : WriterValue) (r : ReaderValue) (tail : Contents) (writer : AreWriterFields w) (reader : IsReader r) (at_rest : w.part.frames ≡ []) (found : r.empty_at ≡ Some w.part.done) where
   tail_there : ((start : ℕ) (history : List HistoryEvent) → IsStack start history w.frames.stack → IsWrittenPage w.frames.stack.size w.frames.stack.done (fill_of history start w.frames.stack.done) tail)
       → IsWrittenPage w.shape.size w.part.done (fill_of w.part.history w.shape.start w.part.done) tail
   tail_there written =

@@ -17,7 +17,7 @@ use Rattle.ring_frames.specs.Answers.{IsAnswerOf}
 use Rattle.ring_frames.proofs.Same.{same_frames}
 use Rattle.ring_frames.proofs.Tops.{IsTopped, topped}
 use Rattle.ring_shared.specs.Value.{WriterValue}
-use Rattle.ring_shared.specs.Calls.{IsWriter, MakesSome}
+use Rattle.ring_shared.specs.Calls.{IsWriter, AreWriterFields, MakesSome}
 
 -- if nothing was done in private, no step is pending
 pub leads_nowhere : (shape : Shape) (part : Writing) → Leads shape part part
@@ -31,7 +31,7 @@ frames_like shape frames c other are same =
     same_frames shape.pages shape.size shape.start frames c other are
     (ap (λ (w : Writing). w.frames) same) (ap (λ (w : Writing). w.history) same) (ap (λ (w : Writing). w.done) same) (ap (λ (w : Writing). w.opened) same)
 
-module _ (v : WriterValue) (w : IsWriter v) where
+module _ (v : WriterValue) (w : AreWriterFields v) where
   pub kept_now : IsRingKept v.shape.pages v.shape.size v.shape.start w.core
   kept_now = reached_kept v.shape.pages v.shape.size v.shape.start w.core w.reached
 
@@ -57,6 +57,7 @@ module _ (v : WriterValue) (w : IsWriter v) where
       → FramesIn v.shape new.frames s.next
       → s.next.open_pages ≡ new.pages
       → MakesSome v model.steps result new
+  unfolding IsWriter
   made new sees answer result shape_is table_is s tells are pages = record {
     shape_is = shape_is;
     table_is = table_is;

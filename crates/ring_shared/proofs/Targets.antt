@@ -16,7 +16,7 @@ use Rattle.ring_steps.specs.Views.{Writing}
 use Rattle.ring_shared.specs.declared.writer.finish.Target.{Target}
 use Rattle.ring_shared.specs.declared.writer.finish.Target.TheVariants as target
 use Rattle.ring_shared.specs.Value.{WriterValue}
-use Rattle.ring_shared.specs.Calls.{IsWriter, IsCall}
+use Rattle.ring_shared.specs.Calls.{AreWriterFields, IsCall}
 use Rattle.ring_shared.specs.Finishing.{Reserves, Leaves, FinishesFrame, FinishesTop, Finishes, IsTarget}
 
 -- the frame on top, as the model has it
@@ -26,14 +26,14 @@ pub record IsOnTop (frames : List Frame) (state : Kind → FrameState → Type 0
   pub top : frames ≡ frame ∷ below
   pub is : state frame.kind frame.state
 
-pub frames_of : (v : WriterValue) → IsWriter v → v.part.frames ≡ ring_frames v.frames.stack.frames (v.frames.phase ∷ v.frames.below)
+pub frames_of : (v : WriterValue) → AreWriterFields v → v.part.frames ≡ ring_frames v.frames.stack.frames (v.frames.phase ∷ v.frames.below)
 frames_of v w = ap (λ (p : Writing). p.frames) (sym w.part_is) ∙ w.frames_are.frames_are
 
 on_top : (frames : List stack.Frame) (phase : Phase) (below : List Phase) (shown : List Frame) (to : Target) (state : Kind → FrameState → Type 0) → shown ≡ ring_frames frames (phase ∷ below) → IsTarget (top_of frames) to → (to ≡ target.Step → ⊥) → ((f : stack.Frame) → IsTarget (Rattle.std.specs.Prelude.Some f) to → state (kind_of f.purpose) (state_of f.progress)) → IsOnTop shown state
 on_top [] phase below shown to state same is other says = absurd (other is)
 on_top (f ∷ frames) phase below shown to state same is other says = record { frame = _; below = _; top = same; is = says f is }
 
-module _ (v : WriterValue) (w : IsWriter v) where
+module _ (v : WriterValue) (w : AreWriterFields v) where
   pub reserving_on_top : IsTarget (top_of v.frames.stack.frames) target.Record → IsOnTop v.part.frames IsReserving
   reserving_on_top is = on_top v.frames.stack.frames v.frames.phase v.frames.below v.part.frames target.Record IsReserving (frames_of v w) is (λ e. cc) (λ f at. at)
 
@@ -75,7 +75,7 @@ module _ (shape : Shape) (before : Writing) (result : Answer) (after : Writing) 
   finishes_in [] phase below same is call = subst (λ (fs : List Frame). FinishesTop shape fs before result after) (sym same) call
   finishes_in (f ∷ frames) phase below same (number, is) call = subst (λ (fs : List Frame). FinishesTop shape fs before result after) (sym same) (reserved_frame (kind_of f.purpose) (state_of f.progress) number _ is call)
 
-pub finishes_step : (v : WriterValue) (w : IsWriter v) (result : Answer) (after : Writing) → IsTarget (top_of v.frames.stack.frames) target.Step → IsCall v.shape v.part model.steps result after → Finishes v.shape v.part result after
+pub finishes_step : (v : WriterValue) (w : AreWriterFields v) (result : Answer) (after : Writing) → IsTarget (top_of v.frames.stack.frames) target.Step → IsCall v.shape v.part model.steps result after → Finishes v.shape v.part result after
 finishes_step v w result after is call = finishes_in v.shape v.part result after v.frames.stack.frames v.frames.phase v.frames.below (frames_of v w) is call
 
 -- ---- slots
@@ -104,5 +104,5 @@ lacks_in (f ∷ frames) phase phases shown frame below same top is =
     let both : frame ∷ below ≡ ring_frames (f ∷ frames) (phase ∷ phases) = sym top ∙ same in
     state_lacks f _ (subst (λ (x : Frame). IsReserving x.kind x.state) (ap (first_of frame) both) is)
 
-pub lacks_slot : (v : WriterValue) → IsWriter v → (frame : Frame) (below : List Frame) → v.part.frames ≡ frame ∷ below → IsReserving frame.kind frame.state → LacksSlot v.frames.stack.frames
+pub lacks_slot : (v : WriterValue) → AreWriterFields v → (frame : Frame) (below : List Frame) → v.part.frames ≡ frame ∷ below → IsReserving frame.kind frame.state → LacksSlot v.frames.stack.frames
 lacks_slot v w frame below top is = lacks_in v.frames.stack.frames v.frames.phase v.frames.below v.part.frames frame below (frames_of v w) top is

@@ -24,7 +24,7 @@ use Rattle.ring_steps.specs.declared.rule.Shape.{Shape}
 use Rattle.ring_steps.specs.Views.{Writing}
 use Rattle.ring_shared.specs.declared.writer.finish.Target.TheVariants as target
 use Rattle.ring_shared.specs.Value.{WriterValue}
-use Rattle.ring_shared.specs.Calls.{IsWriter, IsCall}
+use Rattle.ring_shared.specs.Calls.{AreWriterFields, IsCall}
 use Rattle.ring_shared.specs.Finishing.{IsTarget}
 use Rattle.ring_shared.proofs.Targets.{IsOnTop, frames_of}
 use Rattle.ring_shared.proofs.Depths.{depth_is}
@@ -42,7 +42,7 @@ release_answers : (c : Core) (frame : Frame) (below : List Frame) (answer : mode
 release_answers c frame below answer after (releases alone more a is) = a
 release_answers c frame below answer after (releases_last alone last a is) = a
 
-module _ (v : WriterValue) (w : IsWriter v) where
+module _ (v : WriterValue) (w : AreWriterFields v) where
   -- the stack has a frame if the writer's part has
   pub some_stand : (frame : Frame) (below : List Frame) → v.part.frames ≡ frame ∷ below → v.frames.stack.frames ≢ []
   some_stand frame below top none =
@@ -126,5 +126,5 @@ step_in : (shape : Shape) (before : Writing) (result : Answer) (after : Writing)
 step_in shape before result after [] phase below same is call = inr (none_refused shape before result after call same)
 step_in shape before result after (f ∷ frames) phase below same (number, is) call = inl (_, reserved_answers shape before result after call _ _ number same is)
 
-pub step_tells : (v : WriterValue) (w : IsWriter v) (result : Answer) (after : Writing) → IsTarget (top_of v.frames.stack.frames) target.Step → IsCall v.shape v.part model.steps result after → TellsTop result after.frames
+pub step_tells : (v : WriterValue) (w : AreWriterFields v) (result : Answer) (after : Writing) → IsTarget (top_of v.frames.stack.frames) target.Step → IsCall v.shape v.part model.steps result after → TellsTop result after.frames
 step_tells v w result after is call = step_in v.shape v.part result after v.frames.stack.frames v.frames.phase v.frames.below (frames_of v w) is call

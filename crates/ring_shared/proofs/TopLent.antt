@@ -12,7 +12,7 @@ use Rattle.ring_frames.specs.Answers.{top_bytes}
 use Rattle.ring_frames.specs.AreFrames.{AreFrames}
 use Rattle.ring_frames.specs.Lending.{StaysFrames}
 use Rattle.ring_shared.specs.Value.{WriterValue}
-use Rattle.ring_shared.specs.Calls.{IsWriter}
+use Rattle.ring_shared.specs.Calls.{AreWriterFields}
 use Rattle.ring_shared.specs.Lending.{with_slot_payload, with_lent}
 use Rattle.ring_shared.specs.Covering.{KeepsCovered}
 use Rattle.ring_shared.specs.WholeWrites.{EndsRecord}
@@ -26,7 +26,7 @@ pub lent_len : (s : Stack) (payload : Lent) (lent : IsLent s payload) → length
 lent_len s payload lent = lent.long ∙ ap (λ (p : Place). p.len) lent.place_is
 
 -- whatever is written, the writer's fields are its part of the ring
-pub stays_writer : (v : WriterValue) (w : IsWriter v) (payload : Lent) (lent : IsLent v.frames.stack payload) (part : List ℕ) → length part ≡ length (lent_bytes payload) → StaysFrames v.frames lent.slot → IsWriter (with_lent v (with_bytes payload part))
+pub stays_writer : (v : WriterValue) (w : AreWriterFields v) (payload : Lent) (lent : IsLent v.frames.stack payload) (part : List ℕ) → length part ≡ length (lent_bytes payload) → StaysFrames v.frames lent.slot → AreWriterFields (with_lent v (with_bytes payload part))
 stays_writer v w payload lent part long stays = record {
   core = w.core;
   reached = w.reached;

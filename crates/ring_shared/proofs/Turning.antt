@@ -12,7 +12,7 @@ use Rattle.ring_frames.proofs.Payloads.{same_stack, kept_then}
 use Rattle.ring_steps.specs.declared.rule.Shape.{Shape}
 use Rattle.ring_steps.specs.Views.{Writing}
 use Rattle.ring_shared.specs.Value.{WriterValue, SameWriter}
-use Rattle.ring_shared.specs.Calls.{IsWriter, IsCall, MakesSome}
+use Rattle.ring_shared.specs.Calls.{IsWriter, AreWriterFields, IsCall, MakesSome}
 use Rattle.ring_shared.specs.Nearer.{rank_of, IsNearer}
 use Rattle.ring_shared.specs.Finishing.{MakesSteps, at_once, one_more, IsReservedOr, is_reserved, stays_refused, is_refused, Reserves}
 use Rattle.ring_shared.specs.Turning.{IsReservingTop, TurnsOn}
@@ -31,7 +31,7 @@ module _ (shape : Shape) where
 
 -- ---- none, or one
 
-pub turned_none : (v : WriterValue) → IsWriter v → IsReservingTop v.part.frames → TurnsOn v v
+pub turned_none : (v : WriterValue) → AreWriterFields v → IsReservingTop v.part.frames → TurnsOn v v
 turned_none v w (frame, below, top, is) = record {
   ring = (refl, refl);
   writer = w;
@@ -57,6 +57,7 @@ module _ (old new : WriterValue) (top : IsReservingTop old.part.frames) where
       absurd (never_gone frame.kind below Gone new.part.frames r.ends refl)
 
   pub turned_once : (result : Turned) → MakesSome old model.steps (told result) new → IsNearer old new → KeepsPayloads old.frames.stack new.frames.stack → TurnsOn old new
+  unfolding IsWriter
   turned_once result makes nearer kept =
       let going = goes_with result makes.call in
       let (frame, below, at, is) = top in
@@ -78,6 +79,7 @@ module _ (old new : WriterValue) (top : IsReservingTop old.part.frames) where
 -- ---- one after the other
 
 pub turned_on : (old mid new : WriterValue) → TurnsOn old mid → TurnsOn mid new → TurnsOn old new
+unfolding IsWriter
 turned_on old mid new one two = record {
   ring = (two.ring.0 ∙ one.ring.0, two.ring.1 ∙ one.ring.1);
   writer = two.writer;

@@ -20,7 +20,7 @@ use Rattle.ring_frames.specs.declared.answer.Answer.{Answer}
 use Rattle.ring_frames.specs.declared.answer.Answer.TheVariants.{Pushed, Going, Reserved, Ended, Refused}
 use Rattle.ring_steps.specs.declared.rule.Shape.{Shape}
 use Rattle.ring_steps.specs.Views.{Writing, writing_of}
-use Rattle.ring_shared.specs.Calls.{IsCall}
+use Rattle.ring_shared.specs.Calls.{IsWriter, IsCall}
 use Rattle.ring_shared.specs.Laws.{events_of_refusal}
 use Rattle.ring_shared.specs.Finishing.{MakesSteps, at_once, one_more, Reserves, Leaves, is_gone, was_refused}
 use Rattle.ring_shared.specs.WholeWrites.{GoesAway, IsRefusedAmid}
@@ -347,6 +347,7 @@ refused_writes_reserve_none shape before moment len fault after r = by (refused_
 -- ---- the writer's end
 
 pub writers_have_histories : WritersHaveHistories
+unfolding IsWriter
 writers_have_histories v w =
     let kept = reached_kept v.shape.pages v.shape.size v.shape.start w.core w.reached in
     let same : w.core.history ≡ v.part.history = ap (λ (p : Writing). p.history) w.part_is in record {

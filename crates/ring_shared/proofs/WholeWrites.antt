@@ -25,7 +25,7 @@ use Rattle.ring_steps.specs.declared.rule.Shape.{Shape}
 use Rattle.ring_steps.specs.Views.{Writing}
 use Rattle.ring_shared.specs.Value.{WriterValue}
 use Rattle.ring_shared.specs.Lending.{with_slot_payload, FitsFrame}
-use Rattle.ring_shared.specs.Calls.{IsWriter, IsCall}
+use Rattle.ring_shared.specs.Calls.{AreWriterFields, IsCall}
 use Rattle.ring_shared.specs.Finishing.{IsReservedOr, is_reserved, stays_refused, is_refused, Reserves, Leaves, is_gone, was_refused, FinishesFrame, FinishesTop, Finishes, met_behind}
 use Rattle.ring_shared.specs.WholeWrites.{GoesAway, IsReserved, EndsRecord, IsRefusedWrite, IsWritten}
 use Rattle.ring_shared.proofs.Targets.{frames_of}
@@ -253,7 +253,7 @@ slot_in (f ∷ frames) phase phases shown next below number same top at =
     state_first [] = waiting
     state_first (first ∷ others) = first.state
 
-pub top_slot_of : (v : WriterValue) (w : IsWriter v) (kind : Kind) (below : List Frame) → HasTopRecord kind below v.part.frames → (slot : Slot) × IsTopSlot v.frames.stack.frames slot
+pub top_slot_of : (v : WriterValue) (w : AreWriterFields v) (kind : Kind) (below : List Frame) → HasTopRecord kind below v.part.frames → (slot : Slot) × IsTopSlot v.frames.stack.frames slot
 top_slot_of v w kind below t = slot_in v.frames.stack.frames v.frames.phase v.frames.below v.part.frames t.next below t.number (frames_of v w) t.top t.state_is
 
 -- so the frame on top has reserved
@@ -268,7 +268,7 @@ reserved_in : (frames : List stack.Frame) (phase : Phase) (phases : List Phase) 
 reserved_in [] phase phases shown slot same is = absurd is
 reserved_in (f ∷ frames) phase phases shown slot same is = record { frame = _; below = _; number = slot.number; top = same; state_is = ap state_of is }
 
-pub reserved_top : (v : WriterValue) (w : IsWriter v) (slot : Slot) → IsTopSlot v.frames.stack.frames slot → HasReservedTop v.part.frames
+pub reserved_top : (v : WriterValue) (w : AreWriterFields v) (slot : Slot) → IsTopSlot v.frames.stack.frames slot → HasReservedTop v.part.frames
 reserved_top v w slot is = reserved_in v.frames.stack.frames v.frames.phase v.frames.below v.part.frames slot (frames_of v w) is
 
 -- ---- the end

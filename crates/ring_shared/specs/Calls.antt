@@ -11,12 +11,16 @@ use Rattle.ring_steps.specs.Views.{Writing, writing_of}
 use Rattle.ring_shared.specs.Value.{WriterValue}
 
 -- The writer's fields are its part of the ring, which is that of a state which steps reach.
-pub record IsWriter (v : WriterValue) : Type 0 where
+pub record AreWriterFields (v : WriterValue) : Type 0 where
   pub core : Core
   pub reached : IsReached v.shape.pages v.shape.size v.shape.start core
   pub part_is : writing_of core ≡ v.part
   pub frames_are : AreFrames v.shape.pages v.shape.size v.shape.start v.frames core
   pub pages_are : v.part.open_pages ≡ v.pages
+
+-- so of an end that ring made: a word that nobody outside takes apart
+unfoldable pub IsWriter : WriterValue → Type 0
+IsWriter v = AreWriterFields v
 
 -- The event is a step of the model, from a state in which the writer's part is the first to one in which it is the
 -- second, and the answer means the model's.

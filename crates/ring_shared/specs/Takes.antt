@@ -206,3 +206,17 @@ EmptyAfter v (Looking back) = Unit {0}
 EmptyAfter v (Done (Page page missed)) = Unit {0}
 EmptyAfter v (Done (Empty done back)) = FoundEmpty v done
 EmptyAfter v (Done (Moving fill back)) = Unit {0}
+
+-- the reader is at a take, whose answer isn't given yet
+pub record IsTaking (v : ReaderValue) : Type 0 where
+  pub reader : IsReader v
+  pub again : v.empty_at ≡ None
+
+-- One step of a take, which has this answer: what it takes, as the model does, and what the reader knows then.
+pub record MakesTurn (old : ReaderValue) (body : List ℕ) (result : Turn) (new : ReaderValue) : Type 0 where
+  pub turn : IsTurn old.shape old.part body result new.part
+  pub answered : IsAnswered old.shape old.part result new.part
+  pub empty : EmptyAfter new result
+  pub empty_at : new.empty_at ≡ None
+  pub ring : SameRing old new
+  pub reader : IsReader new

@@ -4,7 +4,7 @@ use Rattle.trace_model.specs.Frames.{Frame}
 use Rattle.link_marks.specs.FrameOutcomes.{IsReserving}
 use Rattle.ring_frames.specs.Answers.{KeepsPayloads}
 use Rattle.ring_shared.specs.Value.{WriterValue, SameWriter}
-use Rattle.ring_shared.specs.Calls.{IsWriter}
+use Rattle.ring_shared.specs.Calls.{AreWriterFields}
 use Rattle.ring_shared.specs.Nearer.{rank_of}
 use Rattle.ring_shared.specs.Finishing.{MakesSteps}
 
@@ -17,7 +17,7 @@ IsReservingTop frames =
 -- same record to be reserved, and is no further from its end; and all payloads stay.
 pub record TurnsOn (old new : WriterValue) : Type 0 where
   pub ring : SameWriter old new
-  pub writer : IsWriter new
+  pub writer : AreWriterFields new
   pub goes : MakesSteps old.shape old.part new.part
   pub stands : (frame : Frame) (below : List Frame)
       → old.part.frames ≡ frame ∷ below

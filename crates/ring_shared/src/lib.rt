@@ -36,11 +36,15 @@
 //! ```
 #![tactic(auto)]
 
+#[tactic(auto, unfolding(crate::specs::Calls::IsWriter))]
 pub mod laws;
+#[tactic(auto, unfolding(crate::specs::Calls::IsWriter))]
 mod making;
 pub mod reader;
+#[tactic(auto, unfolding(crate::specs::Calls::IsWriter))]
 pub mod settling;
 pub mod take;
+#[tactic(auto, unfolding(crate::specs::Calls::IsWriter))]
 pub mod writer;
 
 pub use making::{ring, ring_at};

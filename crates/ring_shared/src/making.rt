@@ -1,6 +1,7 @@
 //! The two ends of a new ring.
-ghost use Rattle.std.specs.Prelude.{◌≡◌, ◌+◌, ◌≤◌, ◌<◌, ◌%◌, IfOk};
-ghost use Rattle.trace_model.specs.declared.limits.TheConstants.{MIN_PAGES, MAX_PAGES, MIN_SIZE, MAX_SIZE, LINK_FILLS, START_FILL};
+ghost use Rattle.std.specs.Prelude.{◌+◌, ◌<◌, IfOk};
+ghost use Rattle.trace_model.specs.declared.limits.TheConstants.{LINK_FILLS, START_FILL};
+ghost use Rattle.trace_model.specs.Ring.{HasRingLimits};
 ghost use Rattle.ring_shared.specs.NewEnds.{AreNewEnds};
 
 use crate::reader::Reader;
@@ -18,11 +19,7 @@ pub fn ring_at(
     size: usize,
     start: u64,
 ) -> Result<(Writer, Reader), NoMemory>
-    requires pages { MIN_PAGES ≤ pages }
-    requires most { pages ≤ MAX_PAGES }
-    requires small { MIN_SIZE ≤ size }
-    requires large { size ≤ MAX_SIZE }
-    requires words { size % 4 ≡ 0 }
+    requires limits { HasRingLimits pages size }
     requires start { start + pages < LINK_FILLS }
     ensures { IfOk result (λ ends. AreNewEnds (record { pages = pages; size = size; start = start }) ends.0 ends.1) }
 {
@@ -34,11 +31,7 @@ pub fn ring_at(
 
 /// The two ends of a new ring whose first fill has the number `START_FILL`.
 pub fn ring(alloc: Global, pages: usize, size: usize) -> Result<(Writer, Reader), NoMemory>
-    requires pages { MIN_PAGES ≤ pages }
-    requires most { pages ≤ MAX_PAGES }
-    requires small { MIN_SIZE ≤ size }
-    requires large { size ≤ MAX_SIZE }
-    requires words { size % 4 ≡ 0 }
+    requires limits { HasRingLimits pages size }
     ensures { IfOk result (λ ends. AreNewEnds (record { pages = pages; size = size; start = START_FILL })
         ends.0 ends.1) }
 {

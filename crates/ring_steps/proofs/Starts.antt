@@ -48,7 +48,7 @@ module _ (shape : Shape) (is : IsShape shape) (ws : List ℕ) (first_ws : AreFir
   start = shape.start
 
   some_pages : 1 ≤ n
-  some_pages = let a = is.some_pages in omega arith
+  some_pages = let a = is.limits.some_pages in omega arith
 
   word_at : (i : ℕ) → i < n + 4 → IsFirstWord shape i (get_or ws i 0)
   word_at i low = let count = first_ws.0 in first_ws.1 i (get_or ws i 0) (slice_get-get_or ws i 0 (omega arith))
@@ -122,11 +122,11 @@ module _ (shape : Shape) (is : IsShape shape) (ws : List ℕ) (first_ws : AreFir
     core = c;
     reader = first_reading shape;
     shown = record {
-      pages_fit = is.most_pages;
+      pages_fit = is.limits.most_pages;
       reached = record {
         from = c;
         exchanges = [];
-        may_start = record { some_pages = is.some_pages; numbers_left = omega arith };
+        may_start = record { some_pages = is.limits.some_pages; numbers_left = omega arith };
         is_new = s;
         run = refl;
       };
@@ -141,10 +141,10 @@ module _ (shape : Shape) (is : IsShape shape) (ws : List ℕ) (first_ws : AreFir
 
 -- The model's new ring is one that no step is needed to reach, and the writer's first part is its.
 pub first_state : (shape : Shape) → IsShape shape → (c : Core) × IsStart shape.pages shape.start c × IsReached shape.pages shape.size shape.start c × (writing_of c ≡ first_writing shape)
-first_state shape is = let some_pages = is.some_pages in let (c, s, one) = new_ring_is_one shape.pages shape.start (omega arith) in let numbers = is.numbers_left in (
+first_state shape is = let some_pages = is.limits.some_pages in let (c, s, one) = new_ring_is_one shape.pages shape.start (omega arith) in let numbers = is.numbers_left in (
   c,
   s,
-  record { from = c; exchanges = []; may_start = record { some_pages = is.some_pages; numbers_left = omega arith }; is_new = s; run = refl },
+  record { from = c; exchanges = []; may_start = record { some_pages = is.limits.some_pages; numbers_left = omega arith }; is_new = s; run = refl },
   λ i. record { frames = s.frames i; open_pages = s.open_pages i; history = s.history i; done = s.done i; opened = s.opened i },
 )
 
@@ -153,7 +153,7 @@ first_reached shape is = let (c, s, reached, part_is) = first_state shape is in 
 
 -- and the reader's first part is within bounds
 pub first_within : (shape : Shape) → IsShape shape → IsReaderWithin shape (first_reading shape)
-first_within shape is = let numbers = is.numbers_left in let some_pages = is.some_pages in record {
+first_within shape is = let numbers = is.numbers_left in let some_pages = is.limits.some_pages in record {
   some_pages = omega arith;
   apart = record {
     pages = counted_length 0 shape.pages;

@@ -1,5 +1,5 @@
 -- What contracts see of the two seats: the part of the ring that each knows, and the table at which both sit.
-use Rattle.std.specs.Prelude.{ℕ}
+use Rattle.std.specs.Prelude.{◌≡◌, ◌≤◌, ℕ}
 use Rattle.atomic_table.specs.Seated.{TableId}
 use Rattle.ring_steps.specs.declared.ends.WriterSeat.{WriterSeat}
 use Rattle.ring_steps.specs.declared.ends.ReaderSeat.{ReaderSeat}
@@ -23,3 +23,14 @@ writer_table writer = writer.seat.table_id
 
 abbrev pub reader_table : ReaderSeat → TableId
 reader_table reader = reader.seat.table_id
+
+-- the seat stays one of the same ring, and knows at least as many fills to be passed
+pub record SameSeat (old new : WriterSeat) : Type 0 where
+  pub shape : new.shape ≡ old.shape
+  pub table : writer_table new ≡ writer_table old
+  pub knows : passed_in old ≤ passed_in new
+
+-- so does the reader's
+pub record SameReaderSeat (old new : ReaderSeat) : Type 0 where
+  pub shape : new.shape ≡ old.shape
+  pub table : reader_table new ≡ reader_table old

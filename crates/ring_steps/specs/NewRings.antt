@@ -1,8 +1,8 @@
 -- A new ring's table: its words and slots, and what its two ends know at first.
 use Rattle.std.specs.Prelude.{◌≡◌, ◌≢◌, ℕ, zero, suc, ◌+◌, ◌%◌, ◌<◌, ◌≤◌, List, [], ◌∷◌, length, Option, Some, None, false}
-use Rattle.trace_model.specs.declared.limits.TheConstants.{MIN_PAGES, MAX_PAGES, MIN_SIZE, MAX_SIZE, LINK_FILLS}
+use Rattle.trace_model.specs.declared.limits.TheConstants.{LINK_FILLS}
 use Rattle.trace_model.specs.Links.{Link, word_of, normal_link}
-use Rattle.trace_model.specs.Ring.{first_reader}
+use Rattle.trace_model.specs.Ring.{HasRingLimits, first_reader}
 use Rattle.link_marks.specs.FirstLinks.{EachAt, IsFirstLink}
 use Rattle.page_image.specs.Contents.{Contents}
 use Rattle.ring_steps.specs.declared.rule.Shape.{Shape}
@@ -14,11 +14,7 @@ use Rattle.ring_steps.specs.Ends.{writing_in, passed_in, reading_in, writer_tabl
 
 -- a ring may have this shape
 pub record IsShape (shape : Shape) : Type 0 where
-  pub some_pages : MIN_PAGES ≤ shape.pages
-  pub most_pages : shape.pages ≤ MAX_PAGES
-  pub small : MIN_SIZE ≤ shape.size
-  pub large : shape.size ≤ MAX_SIZE
-  pub words : shape.size % 4 ≡ 0
+  pub limits : HasRingLimits shape.pages shape.size
   pub numbers_left : shape.start + shape.pages < LINK_FILLS
 
 -- count numbers, from one on

@@ -24,6 +24,11 @@ pub record IsTableOf (shape : Shape) (table : TableId) : Type 0 where
   pub words : table.words ≡ shape.pages + 4
   pub slots : table.slots ≡ shape.pages + 1
 
+-- a seat at the table of a ring of this shape
+pub record SitsAt (shape key : Shape) (table own : TableId) : Type 0 where
+  pub shape_is : key ≡ shape
+  pub seated : own ≡ table
+
 -- ---- the seats
 
 -- the empty slots of these pages

@@ -1,6 +1,7 @@
 //! The two seats of a new ring.
-ghost use Rattle.std.specs.Prelude.{◌≡◌, [], ◌+◌, ◌%◌, ◌≤◌, ◌<◌, IfOk};
-ghost use Rattle.trace_model.specs.declared.limits.TheConstants.{MIN_PAGES, MAX_PAGES, MIN_SIZE, MAX_SIZE, LINK_FILLS, START_FILL};
+ghost use Rattle.std.specs.Prelude.{◌≡◌, [], ◌+◌, ◌<◌, IfOk};
+ghost use Rattle.trace_model.specs.declared.limits.TheConstants.{LINK_FILLS, START_FILL};
+ghost use Rattle.trace_model.specs.Ring.{HasRingLimits};
 ghost use Rattle.ring_steps.specs.Seats.{Sat, IsTableOf};
 ghost use Rattle.ring_steps.specs.NewRings.{IsShape, AreNewSeats, IsWholeSeat, first_writing, first_reading};
 ghost use Rattle.ring_steps.specs.Views.{laid};
@@ -65,11 +66,7 @@ pub fn seats_at(
     size: usize,
     start: u64,
 ) -> Result<(WriterSeat, ReaderSeat), NoMemory>
-    requires pages { MIN_PAGES ≤ pages }
-    requires most { pages ≤ MAX_PAGES }
-    requires small { MIN_SIZE ≤ size }
-    requires large { size ≤ MAX_SIZE }
-    requires words { size % 4 ≡ 0 }
+    requires limits { HasRingLimits pages size }
     requires start { start + pages < LINK_FILLS }
     ensures { IfOk result (λ seats. AreNewSeats (record { pages = pages; size = size; start = start }) seats) }
 {
@@ -97,11 +94,7 @@ pub fn seats_at(
 
 /// The seats of a new ring whose first fill has the number `START_FILL`.
 pub fn seats(alloc: Global, pages: usize, size: usize) -> Result<(WriterSeat, ReaderSeat), NoMemory>
-    requires pages { MIN_PAGES ≤ pages }
-    requires most { pages ≤ MAX_PAGES }
-    requires small { MIN_SIZE ≤ size }
-    requires large { size ≤ MAX_SIZE }
-    requires words { size % 4 ≡ 0 }
+    requires limits { HasRingLimits pages size }
     ensures { IfOk result (λ seats. AreNewSeats (record { pages = pages; size = size; start = START_FILL }) seats) }
 {
     seats_at(alloc, pages, size, START_FILL)

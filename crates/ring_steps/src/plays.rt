@@ -2,6 +2,7 @@
 ghost use Rattle.std.specs.Prelude.{◌≡◌, ℕ, ◌<◌, ◌==◌};
 ghost use prog.Atomic.{either};
 ghost use Rattle.atomic_table.specs.Table.{Allows};
+ghost use Rattle.ring_steps.specs.Seats.{SitsAt};
 ghost use Rattle.ring_steps.specs.Shown.{Shows};
 
 use crate::rule::{Board, Shape};
@@ -37,8 +38,7 @@ impl<J: Telling> Play<Option<Page>, View> for Told<J> {
 /// Loads a word.
 #[inline(always)]
 pub(crate) fn load<J: Telling>(board: &Board, shape: Shape, seat: &mut Place, word: usize) -> u64
-    requires shape { board.now.shared.key ≡ shape }
-    requires seated { seat.old.table_id ≡ board.now.shared.table_id }
+    requires at { SitsAt shape board.now.shared.key board.now.shared.table_id seat.old.table_id }
     requires word { word < board.now.shared.table_id.words }
     requires allowed { Allows (Shows shape.pages shape.size shape.start)
         board.now.shared.table_id.slots seat.old.id seat.old.me word (λ n. n) (J.tells seat.old.me) }
@@ -58,8 +58,7 @@ pub(crate) fn store<J: Telling>(
     word: usize,
     new: u64,
 )
-    requires shape { board.now.shared.key ≡ shape }
-    requires seated { seat.old.table_id ≡ board.now.shared.table_id }
+    requires at { SitsAt shape board.now.shared.key board.now.shared.table_id seat.old.table_id }
     requires word { word < board.now.shared.table_id.words }
     requires allowed { Allows (Shows shape.pages shape.size shape.start)
         board.now.shared.table_id.slots seat.old.id seat.old.me word (λ _. new) (λ _. J.tells seat.old.me new) }
@@ -80,8 +79,7 @@ pub(crate) fn exchange<J: Telling>(
     from: u64,
     to: u64,
 ) -> u64
-    requires shape { board.now.shared.key ≡ shape }
-    requires seated { seat.old.table_id ≡ board.now.shared.table_id }
+    requires at { SitsAt shape board.now.shared.key board.now.shared.table_id seat.old.table_id }
     requires word { word < board.now.shared.table_id.words }
     requires allowed { Allows (Shows shape.pages shape.size shape.start)
         board.now.shared.table_id.slots seat.old.id seat.old.me word (λ n. either (n == from) to n)

@@ -6,7 +6,7 @@ ghost use Rattle.trace_model.specs.Steps.{wishes, wished_for};
 ghost use Rattle.link_marks.specs.ModelLinks.{link_of};
 ghost use Rattle.ring_steps.specs.Shown.{page_before};
 ghost use Rattle.ring_steps.specs.Seats.{IsReaderStep};
-ghost use Rattle.ring_steps.specs.Ends.{reading_in, reader_table};
+ghost use Rattle.ring_steps.specs.Ends.{reading_in, SameReaderSeat};
 ghost use Rattle.ring_steps.specs.Taking.{IsRead};
 
 use crate::ends::ReaderSeat;
@@ -21,8 +21,7 @@ impl ReaderSeat {
     /// A store of the reader's wish for this fill, the first that it doesn't know to be closed.
     pub fn store_wish(&mut self, fill: FillNo)
         requires due { fill.0 ≡ (reading_in self.old).reader.seen }
-        ensures shape { self.new.shape ≡ self.old.shape }
-        ensures table { reader_table self.new ≡ reader_table self.old }
+        ensures same { SameReaderSeat self.old self.new }
         ensures step { IsReaderStep self.old.shape (reading_in self.old) (λ _. ⊤) wishes (wished_for fill.0)
             (reading_in self.new) }
         ensures spare { (reading_in self.new).keeps_spare ≡ (reading_in self.old).keeps_spare }
@@ -33,8 +32,7 @@ impl ReaderSeat {
     /// A load of the number of closed fills: the fill that the reader found is closed, or it finds none.
     pub fn load_done(&mut self) -> u64
         requires due { (page fill : ℕ) × ((reading_in self.old).reader.phase ≡ loading_done page fill) }
-        ensures shape { self.new.shape ≡ self.old.shape }
-        ensures table { reader_table self.new ≡ reader_table self.old }
+        ensures same { SameReaderSeat self.old self.new }
         ensures step { IsRead self.old.shape (reading_in self.old) (λ core. core.done ≡ result)
             (reading_in self.new) }
         ensures spare { (reading_in self.new).keeps_spare ≡ (reading_in self.old).keeps_spare }
@@ -48,8 +46,7 @@ impl ReaderSeat {
         requires due { (reading_in self.old).reader.phase ≡ loading_link }
         requires page { page ≡ page_before self.old.shape.pages (reading_in self.old).order
             (reading_in self.old).reader.hint }
-        ensures shape { self.new.shape ≡ self.old.shape }
-        ensures table { reader_table self.new ≡ reader_table self.old }
+        ensures same { SameReaderSeat self.old self.new }
         ensures step { IsRead self.old.shape (reading_in self.old)
             (λ core. link_into self.old.shape.pages core.links (reading_in self.old).reader.hint
             ≡ link_of result) (reading_in self.new) }
@@ -69,8 +66,7 @@ impl ReaderSeat {
             ≡ header_link (page_at self.old.shape.pages (reading_in self.old).order (fill + 1)) (fill + 1)) }
         requires spare { spare ≡ (reading_in self.old).spare }
         requires given_back { (reading_in self.old).keeps_spare ≡ false }
-        ensures shape { self.new.shape ≡ self.old.shape }
-        ensures table { reader_table self.new ≡ reader_table self.old }
+        ensures same { SameReaderSeat self.old self.new }
         ensures step { IsRead self.old.shape (reading_in self.old) (λ _. ⊤) (reading_in self.new) }
         ensures spare { (reading_in self.new).keeps_spare ≡ true }
     {

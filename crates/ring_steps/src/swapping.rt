@@ -5,7 +5,7 @@ ghost use Rattle.trace_model.specs.Ring.{swapping};
 ghost use Rattle.atomic_table.specs.Table.{rest};
 ghost use Rattle.page_image.specs.Contents.{Contents};
 ghost use Rattle.ring_steps.specs.Shown.{page_before};
-ghost use Rattle.ring_steps.specs.Ends.{reading_in, reader_table};
+ghost use Rattle.ring_steps.specs.Ends.{reading_in, SameReaderSeat};
 ghost use Rattle.ring_steps.specs.Swapping.{HeadTaken, HeadMissed};
 
 use crate::ends::ReaderSeat;
@@ -35,8 +35,7 @@ impl ReaderSeat {
         requires fits { page < LINK_PAGES }
         requires spare { spare ≡ (reading_in self.old).spare }
         requires size { length body ≡ self.old.shape.size }
-        ensures shape { self.new.shape ≡ self.old.shape }
-        ensures table { reader_table self.new ≡ reader_table self.old }
+        ensures same { SameReaderSeat self.old self.new }
         ensures taken { IfOk result (λ taken. HeadTaken self.old.shape (reading_in self.old) page fill.0 taken
             (reading_in self.new)) }
         ensures missed { IfErr result (λ _. HeadMissed self.old.shape (reading_in self.old) page fill.0

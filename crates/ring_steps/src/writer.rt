@@ -9,7 +9,7 @@ ghost use Rattle.link_marks.specs.ModelLinks.{link_of};
 ghost use Rattle.nested_writer.specs.Released.{IsWrittenPage};
 ghost use Rattle.ring_steps.specs.Views.{writing};
 ghost use Rattle.ring_steps.specs.Seats.{Leads, IsWriterStep};
-ghost use Rattle.ring_steps.specs.Ends.{writing_in, passed_in, writer_table};
+ghost use Rattle.ring_steps.specs.Ends.{writing_in, passed_in, SameSeat};
 ghost use Rattle.ring_steps.specs.Paging.{IsTopIn, begun_answer};
 ghost use Rattle.ring_steps.specs.Linking.{tail_in, LooksBehind, MarksBehind};
 
@@ -30,9 +30,7 @@ impl WriterSeat {
     #[inline(always)]
     pub fn note<J: ChosenPart, G>(&mut self, given: &G)
         requires due { Leads self.old.shape (writing_in self.old) J.now }
-        ensures shape { self.new.shape ≡ self.old.shape }
-        ensures table { writer_table self.new ≡ writer_table self.old }
-        ensures knows { passed_in self.old ≤ passed_in self.new }
+        ensures same { SameSeat self.old self.new }
         ensures noted { writing_in self.new ≡ J.now }
     {
         self.ghost_part = ghost_part_of::<J, G>(given);
@@ -51,9 +49,7 @@ impl WriterSeat {
         requires due { Leads self.old.shape (writing_in self.old) J.now }
         requires phase { IsTopIn J.now.frames (looking J.now.opened) }
         requires tail { tail ≡ tail_in J.now }
-        ensures shape { self.new.shape ≡ self.old.shape }
-        ensures table { writer_table self.new ≡ writer_table self.old }
-        ensures knows { passed_in self.old ≤ passed_in self.new }
+        ensures same { SameSeat self.old self.new }
         ensures fits { FitsWord (link_of result) }
         ensures step { IsWriterStep self.old.shape J.now
             (λ core. (passed_in self.old ≤ core.head)
@@ -72,9 +68,7 @@ impl WriterSeat {
     pub fn load_next<J: ChosenPart>(&mut self, page: u16, behind: FillNo) -> Link
         requires due { Leads self.old.shape (writing_in self.old) J.now }
         requires phase { LooksBehind self.old.shape.pages J.now page behind.0 }
-        ensures shape { self.new.shape ≡ self.old.shape }
-        ensures table { writer_table self.new ≡ writer_table self.old }
-        ensures knows { passed_in self.old ≤ passed_in self.new }
+        ensures same { SameSeat self.old self.new }
         ensures fits { FitsWord (link_of result) }
         ensures step { IsWriterStep self.old.shape J.now
             (λ core. link_into self.old.shape.pages core.links behind.0 ≡ link_of result) going
@@ -93,9 +87,7 @@ impl WriterSeat {
     pub fn load_wish<J: ChosenPart, G>(&mut self, given: &G) -> u64
         requires due { Leads self.old.shape (writing_in self.old) J.now }
         requires phase { IsTopIn J.now.frames wishing }
-        ensures shape { self.new.shape ≡ self.old.shape }
-        ensures table { writer_table self.new ≡ writer_table self.old }
-        ensures knows { passed_in self.old ≤ passed_in self.new }
+        ensures same { SameSeat self.old self.new }
         ensures step { (answer : Answer) × IsWriterStep self.old.shape J.now (λ core. core.wish ≡ result) answer
             (writing_in self.new) }
     {
@@ -114,9 +106,7 @@ impl WriterSeat {
         requires tail { tail ≡ tail_in J.now }
         requires lost { lost.0 + self.old.shape.pages ≡ J.now.opened }
         requires fits { page < LINK_PAGES }
-        ensures shape { self.new.shape ≡ self.old.shape }
-        ensures table { writer_table self.new ≡ writer_table self.old }
-        ensures knows { passed_in self.old ≤ passed_in self.new }
+        ensures same { SameSeat self.old self.new }
         ensures passed { lost.0 < passed_in self.new }
         ensures step { IsWriterStep self.old.shape J.now
             (λ core. result ≡ true ↔ link_into self.old.shape.pages core.links J.now.opened ≡ header_link page lost.0)
@@ -136,9 +126,7 @@ impl WriterSeat {
         requires due { Leads self.old.shape (writing_in self.old) J.now }
         requires phase { MarksBehind self.old.shape.pages J.now page next behind.0 }
         requires fits { next < LINK_PAGES }
-        ensures shape { self.new.shape ≡ self.old.shape }
-        ensures table { writer_table self.new ≡ writer_table self.old }
-        ensures knows { passed_in self.old ≤ passed_in self.new }
+        ensures same { SameSeat self.old self.new }
         ensures step { IsWriterStep self.old.shape J.now
             (λ core. result ≡ true ↔ link_into self.old.shape.pages core.links behind.0 ≡ normal_link next behind.0)
             going (writing_in self.new) }
@@ -158,9 +146,7 @@ impl WriterSeat {
         requires due { Leads self.old.shape (writing_in self.old) J.now }
         requires phase { IsTopIn J.now.frames (clearing noted.0 page) }
         requires front { front ≡ slice_index_or J.now.open_pages (noted.0 - 1 - J.now.done) 0 }
-        ensures shape { self.new.shape ≡ self.old.shape }
-        ensures table { writer_table self.new ≡ writer_table self.old }
-        ensures knows { passed_in self.old ≤ passed_in self.new }
+        ensures same { SameSeat self.old self.new }
         ensures done { result ≡ true }
         ensures step { IsWriterStep self.old.shape J.now
             (λ core. result ≡ true ↔ link_into self.old.shape.pages core.links noted.0
@@ -181,9 +167,7 @@ impl WriterSeat {
         requires due { Leads self.old.shape (writing_in self.old) J.now }
         requires phase { IsTopIn J.now.frames (opening fill.0 number) }
         requires next { fill.0 ≡ J.now.opened }
-        ensures shape { self.new.shape ≡ self.old.shape }
-        ensures table { writer_table self.new ≡ writer_table self.old }
-        ensures knows { passed_in self.old ≤ passed_in self.new }
+        ensures same { SameSeat self.old self.new }
         ensures step { IsWriterStep self.old.shape J.now (λ _. ⊤) (begun_answer J.now.frames)
             (writing_in self.new) }
         ensures body { length result ≡ self.old.shape.size }
@@ -207,9 +191,7 @@ impl WriterSeat {
         requires oldest { number ≡ slice_index_or J.now.open_pages 0 0 }
         requires written { IsWrittenPage self.old.shape.size J.now.done
             (fill_of J.now.history self.old.shape.start J.now.done) page }
-        ensures shape { self.new.shape ≡ self.old.shape }
-        ensures table { writer_table self.new ≡ writer_table self.old }
-        ensures knows { passed_in self.old ≤ passed_in self.new }
+        ensures same { SameSeat self.old self.new }
         ensures step { IsWriterStep self.old.shape J.now (λ _. ⊤) going (writing_in self.new) }
     {
         self.recall();

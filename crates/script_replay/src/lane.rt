@@ -31,8 +31,9 @@ impl<'a> Model for Lane<'a> {
 }
 
 impl<'a> Lane<'a> {
-    ghost use Rattle.std.specs.Prelude.{◌≡◌, ◌+◌, ◌%◌, ◌≤◌, ◌<◌, IfOk};
-    ghost use Rattle.trace_model.specs.declared.limits.TheConstants.{MIN_PAGES, MAX_PAGES, MIN_SIZE, MAX_SIZE, LINK_FILLS};
+    ghost use Rattle.std.specs.Prelude.{◌≡◌, ◌+◌, ◌<◌, IfOk};
+    ghost use Rattle.trace_model.specs.declared.limits.TheConstants.{LINK_FILLS};
+    ghost use Rattle.trace_model.specs.Ring.{HasRingLimits};
     ghost use Rattle.script_replay.specs.Lanes.{IsNewLaneOf};
 
     /// A new ring of `pages` pages of `size` bytes, whose first fill has the number `start`.
@@ -42,11 +43,7 @@ impl<'a> Lane<'a> {
         size: usize,
         start: u64,
     ) -> Result<Lane<'a>, NoMemory>
-        requires pages { MIN_PAGES ≤ pages }
-        requires most { pages ≤ MAX_PAGES }
-        requires small { MIN_SIZE ≤ size }
-        requires large { size ≤ MAX_SIZE }
-        requires words { size % 4 ≡ 0 }
+        requires limits { HasRingLimits pages size }
         requires start { start + pages < LINK_FILLS }
         ensures { IfOk result (λ lane. IsNewLaneOf pages size start lane) }
     {

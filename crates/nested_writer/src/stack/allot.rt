@@ -28,6 +28,7 @@ impl WriterStack {
     ghost use Rattle.nested_writer.specs.IsStack.{IsStack, Stands};
     ghost use Rattle.nested_writer.specs.Allotted.{IsAllotted, HasActed};
     ghost use Rattle.nested_writer.specs.Answered.{IsAnswered};
+    ghost use Rattle.nested_writer.specs.Promises.{Allots};
     ghost use Rattle.record_words.specs.declared.put.Place.{Place};
     ghost use Rattle.nested_writer.specs.declared.frame.Slot.{Slot};
     ghost use Rattle.nested_writer.specs.declared.frame.Frame.{Frame};
@@ -215,24 +216,7 @@ impl WriterStack {
     #[inline(never)]
     fn allot_any(&mut self) -> Result<Allot, WriteFault>
         requires stack { Stands self.old }
-        ensures crowded { result ≡ Err WriteFault.Crowded ↔ (NeedsPage self.old self.old.frames × IsCrowded self.old) }
-        ensures worn { result ≡ Err WriteFault.Worn
-            ↔ (NeedsPage self.old self.old.frames × (IsCrowded self.old → ⊥) × IsWorn self.old) }
-        ensures no_frame { result ≡ Err WriteFault.NoFrame ↔ self.old.frames ≡ [] }
-        ensures not_reserved { result ≡ Err WriteFault.NotReserved ↔ HasTopLeft self.old.frames }
-        ensures needs_page { result ≡ Ok Allot.NeedsPage
-            ↔ (NeedsPage self.old self.old.frames × (IsCrowded self.old → ⊥) × (IsWorn self.old → ⊥)) }
-        ensures after { IsAllotted self.old self.old.frames result self.new }
-        ensures stays { Stands self.new }
-        ensures answered { (start : ℕ) (history : List HistoryEvent)
-            → IsStack start history self.old
-            → IsAnswered self.old history self.old.frames result }
-        ensures kept { SameFills self.old self.new }
-        ensures fits { (place : Place) → result ≡ Ok (Allot.Fits place) → IsPlaced self.old self.new place }
-        ensures page { result ≡ Ok Allot.NeedsPage → IsReadyForPage self.old self.new }
-        ensures next { IfOk result (λ allot. IsAllottedTo self.old self.new allot) }
-        ensures same { OnOk result (IsSameFrame self.old self.new) }
-        ensures refused { IfErr result (λ fault. IsRefusedTo self.old self.new fault) }
+        ensures { Allots self.old result self.new }
     {
         let Some((pushed, noted)) = self.top.trying() else {
             return self.allot_again();
@@ -253,24 +237,7 @@ impl WriterStack {
     #[inline(never)]
     fn allot_again(&mut self) -> Result<Allot, WriteFault>
         requires stack { Stands self.old }
-        ensures crowded { result ≡ Err WriteFault.Crowded ↔ (NeedsPage self.old self.old.frames × IsCrowded self.old) }
-        ensures worn { result ≡ Err WriteFault.Worn
-            ↔ (NeedsPage self.old self.old.frames × (IsCrowded self.old → ⊥) × IsWorn self.old) }
-        ensures no_frame { result ≡ Err WriteFault.NoFrame ↔ self.old.frames ≡ [] }
-        ensures not_reserved { result ≡ Err WriteFault.NotReserved ↔ HasTopLeft self.old.frames }
-        ensures needs_page { result ≡ Ok Allot.NeedsPage
-            ↔ (NeedsPage self.old self.old.frames × (IsCrowded self.old → ⊥) × (IsWorn self.old → ⊥)) }
-        ensures after { IsAllotted self.old self.old.frames result self.new }
-        ensures stays { Stands self.new }
-        ensures answered { (start : ℕ) (history : List HistoryEvent)
-            → IsStack start history self.old
-            → IsAnswered self.old history self.old.frames result }
-        ensures kept { SameFills self.old self.new }
-        ensures fits { (place : Place) → result ≡ Ok (Allot.Fits place) → IsPlaced self.old self.new place }
-        ensures page { result ≡ Ok Allot.NeedsPage → IsReadyForPage self.old self.new }
-        ensures next { IfOk result (λ allot. IsAllottedTo self.old self.new allot) }
-        ensures same { OnOk result (IsSameFrame self.old self.new) }
-        ensures refused { IfErr result (λ fault. IsRefusedTo self.old self.new fault) }
+        ensures { Allots self.old result self.new }
     {
         let Some(top) = self.top.get() else {
             return Err(WriteFault::NoFrame);
@@ -304,24 +271,7 @@ impl WriterStack {
     #[inline(always)]
     pub fn allot(&mut self) -> Result<Allot, WriteFault>
         requires stack { Stands self.old }
-        ensures crowded { result ≡ Err WriteFault.Crowded ↔ (NeedsPage self.old self.old.frames × IsCrowded self.old) }
-        ensures worn { result ≡ Err WriteFault.Worn
-            ↔ (NeedsPage self.old self.old.frames × (IsCrowded self.old → ⊥) × IsWorn self.old) }
-        ensures no_frame { result ≡ Err WriteFault.NoFrame ↔ self.old.frames ≡ [] }
-        ensures not_reserved { result ≡ Err WriteFault.NotReserved ↔ HasTopLeft self.old.frames }
-        ensures needs_page { result ≡ Ok Allot.NeedsPage
-            ↔ (NeedsPage self.old self.old.frames × (IsCrowded self.old → ⊥) × (IsWorn self.old → ⊥)) }
-        ensures after { IsAllotted self.old self.old.frames result self.new }
-        ensures stays { Stands self.new }
-        ensures answered { (start : ℕ) (history : List HistoryEvent)
-            → IsStack start history self.old
-            → IsAnswered self.old history self.old.frames result }
-        ensures kept { SameFills self.old self.new }
-        ensures fits { (place : Place) → result ≡ Ok (Allot.Fits place) → IsPlaced self.old self.new place }
-        ensures page { result ≡ Ok Allot.NeedsPage → IsReadyForPage self.old self.new }
-        ensures next { IfOk result (λ allot. IsAllottedTo self.old self.new allot) }
-        ensures same { OnOk result (IsSameFrame self.old self.new) }
-        ensures refused { IfErr result (λ fault. IsRefusedTo self.old self.new fault) }
+        ensures { Allots self.old result self.new }
     {
         let Some(pushed) = self.plain_top() else {
             return self.allot_any();

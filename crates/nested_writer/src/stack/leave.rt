@@ -20,6 +20,7 @@ impl WriterStack {
     ghost use Rattle.nested_writer.specs.Calls.{with_bottom, IsAtBottom, MayAddPage};
     ghost use Rattle.nested_writer.specs.Allotted.{HasActed};
     ghost use Rattle.nested_writer.specs.Ends.{MayEndTop, MayNotEndTop, IsEnd};
+    ghost use Rattle.nested_writer.specs.Promises.{EndsTop};
     ghost use Rattle.nested_writer.specs.Kept.{SamePages};
     ghost use Rattle.nested_writer.specs.Next.{below_top, IsEndedTo};
     ghost use Rattle.nested_writer.specs.IsStack.{IsStack, Stands};
@@ -28,17 +29,7 @@ impl WriterStack {
     #[inline(never)]
     fn end_any(&mut self) -> Result<Ended, WriteFault>
         requires stack { Stands self.old }
-        ensures no_frame { result ≡ Err WriteFault.NoFrame ↔ self.old.frames ≡ [] }
-        ensures not_reserved { result ≡ Err WriteFault.NotReserved ↔ MayNotEndTop self.old.frames }
-        ensures pending { result ≡ Ok Ended.Pending ↔ (MayEndTop self.old.frames × (1 < length self.old.frames)) }
-        ensures full { result ≡ Ok Ended.Full ↔ (MayEndTop self.old.frames × (length self.old.frames ≤ 1)) }
-        ensures stays { Stands self.new }
-        ensures ok { OnOk result (IsEnd self.old self.old.frames self.new) }
-        ensures err { OnErr result (self.new ≡ self.old) }
-        ensures kept { SamePages self.old self.new }
-        ensures below { result ≡ Ok Ended.Pending → self.new.frames ≡ below_top self.old.frames }
-        ensures bottom { result ≡ Ok Ended.Full → IsAtBottom self.new.frames }
-        ensures next { IfOk result (λ ended. IsEndedTo self.old self.new ended) }
+        ensures { EndsTop self.old result self.new }
     {
         let Some(top) = self.top.get() else {
             return Err(WriteFault::NoFrame);
@@ -60,17 +51,7 @@ impl WriterStack {
     #[inline(always)]
     pub fn end(&mut self) -> Result<Ended, WriteFault>
         requires stack { Stands self.old }
-        ensures no_frame { result ≡ Err WriteFault.NoFrame ↔ self.old.frames ≡ [] }
-        ensures not_reserved { result ≡ Err WriteFault.NotReserved ↔ MayNotEndTop self.old.frames }
-        ensures pending { result ≡ Ok Ended.Pending ↔ (MayEndTop self.old.frames × (1 < length self.old.frames)) }
-        ensures full { result ≡ Ok Ended.Full ↔ (MayEndTop self.old.frames × (length self.old.frames ≤ 1)) }
-        ensures stays { Stands self.new }
-        ensures ok { OnOk result (IsEnd self.old self.old.frames self.new) }
-        ensures err { OnErr result (self.new ≡ self.old) }
-        ensures kept { SamePages self.old self.new }
-        ensures below { result ≡ Ok Ended.Pending → self.new.frames ≡ below_top self.old.frames }
-        ensures bottom { result ≡ Ok Ended.Full → IsAtBottom self.new.frames }
-        ensures next { IfOk result (λ ended. IsEndedTo self.old self.new ended) }
+        ensures { EndsTop self.old result self.new }
     {
         if self.top.holds_record() && self.below.is_empty() {
             self.leave();

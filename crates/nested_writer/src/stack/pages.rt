@@ -18,7 +18,7 @@ impl WriterStack {
     ghost use Rattle.nested_writer.specs.Calls.{with_tail, MayAddPage, IsAtBottom, IsCrowded, IsWorn};
     ghost use Rattle.nested_writer.specs.Allotted.{HasActed};
     ghost use Rattle.nested_writer.specs.Released.{IsWrittenPage, AreCommitted};
-    ghost use Rattle.nested_writer.specs.Kept.{SameSeat};
+    ghost use Rattle.nested_writer.specs.Kept.{SameShape};
     ghost use Rattle.nested_writer.specs.IsStack.{IsStack, Stands};
 
     /// Begins the next fill in this body, for the frame on top, which got the answer that it needs a page, or which was
@@ -36,7 +36,7 @@ impl WriterStack {
             → next_number self.old ≡ length (reserved_records history) }
         ensures stack { HasActed self.old (open_fill ∷ []) self.new }
         ensures stays { Stands self.new }
-        ensures kept { SameSeat self.old self.new }
+        ensures kept { SameShape self.old self.new }
         ensures frames { self.new.frames ≡ self.old.frames }
         ensures done { self.new.done ≡ self.old.done }
         ensures more { length self.new.older ≡ length self.old.older + 1 }
@@ -69,7 +69,7 @@ impl WriterStack {
         ensures settled { (start : ℕ) (history : List HistoryEvent)
             → IsStack start history self.old
             → IsTrue (is_settled history) }
-        ensures kept { SameSeat self.old self.new }
+        ensures kept { SameShape self.old self.new }
         ensures tail { self.new.tail ≡ self.old.tail }
         ensures bottom { IsAtBottom self.new.frames }
         ensures done { self.new.done ≡ self.old.done + 1 }

@@ -31,6 +31,7 @@ impl WriterStack {
     ghost use Rattle.nested_writer.specs.Calls.{with_frame};
     ghost use Rattle.nested_writer.specs.Kept.{SamePages};
     ghost use Rattle.nested_writer.specs.Next.{IsPushedOn};
+    ghost use Rattle.nested_writer.specs.Promises.{Begins};
     ghost use Rattle.nested_writer.specs.IsStack.{IsStack, Stands};
     ghost use Rattle.nested_writer.specs.declared.frame.Purpose.TheVariants.{Record, Close};
     ghost use Rattle.nested_writer.specs.declared.frame.Progress.TheVariants.{Waiting};
@@ -78,22 +79,7 @@ impl WriterStack {
     /// `begin`, whatever is on the stack.
     #[inline(never)]
     fn begin_any(&mut self, moment: u64, len: usize) -> Result<(), WriteFault>
-        ensures too_deep { result ≡ Err WriteFault.TooDeep ↔ MAX_FRAMES ≤ length self.old.frames }
-        ensures too_long { result ≡ Err WriteFault.TooLong
-            ↔ ((length self.old.frames < MAX_FRAMES) × IsTooLong self.old.size len) }
-        ensures late { result ≡ Err WriteFault.LateMoment
-            ↔ ((length self.old.frames < MAX_FRAMES) × (IsTooLong self.old.size len → ⊥) × (MOMENT_LIMIT ≤ moment)) }
-        ensures begun { IsOk result
-            ↔ ((length self.old.frames < MAX_FRAMES) × (IsTooLong self.old.size len → ⊥) × (moment < MOMENT_LIMIT)) }
-        ensures ok { OnOk result
-            (self.new ≡ with_frame self.old (record { purpose = Record moment len; progress = Waiting None })) }
-        ensures err { OnErr result (self.new ≡ self.old) }
-        ensures stays { Stands self.old → Stands self.new }
-        ensures pushed { OnOk result ((start : ℕ) (history : List HistoryEvent)
-            → IsStack start history self.old
-            → IsStack start (history ++ push moment len ∷ []) self.new) }
-        ensures kept { SamePages self.old self.new }
-        ensures top { OnOk result (IsPushedOn self.old self.new (Some len)) }
+        ensures { Begins moment len self.old result self.new }
     {
         self.admit(moment, len)?;
         self.push(Purpose::Record { moment, len });
@@ -103,22 +89,7 @@ impl WriterStack {
     /// Pushes a frame for a record of this moment and of a payload of `len` bytes.
     #[inline(always)]
     pub fn begin(&mut self, moment: u64, len: usize) -> Result<(), WriteFault>
-        ensures too_deep { result ≡ Err WriteFault.TooDeep ↔ MAX_FRAMES ≤ length self.old.frames }
-        ensures too_long { result ≡ Err WriteFault.TooLong
-            ↔ ((length self.old.frames < MAX_FRAMES) × IsTooLong self.old.size len) }
-        ensures late { result ≡ Err WriteFault.LateMoment
-            ↔ ((length self.old.frames < MAX_FRAMES) × (IsTooLong self.old.size len → ⊥) × (MOMENT_LIMIT ≤ moment)) }
-        ensures begun { IsOk result
-            ↔ ((length self.old.frames < MAX_FRAMES) × (IsTooLong self.old.size len → ⊥) × (moment < MOMENT_LIMIT)) }
-        ensures ok { OnOk result
-            (self.new ≡ with_frame self.old (record { purpose = Record moment len; progress = Waiting None })) }
-        ensures err { OnErr result (self.new ≡ self.old) }
-        ensures stays { Stands self.old → Stands self.new }
-        ensures pushed { OnOk result ((start : ℕ) (history : List HistoryEvent)
-            → IsStack start history self.old
-            → IsStack start (history ++ push moment len ∷ []) self.new) }
-        ensures kept { SamePages self.old self.new }
-        ensures top { OnOk result (IsPushedOn self.old self.new (Some len)) }
+        ensures { Begins moment len self.old result self.new }
     {
         if !self.top.is_none() {
             return self.begin_any(moment, len);

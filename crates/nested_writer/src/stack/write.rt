@@ -21,7 +21,7 @@ impl WriterStack {
     ghost use Rattle.page_image.specs.Contents.{records_of_page};
     ghost use Rattle.nested_writer.specs.Allotted.{HasActed};
     ghost use Rattle.nested_writer.specs.AtOnce.{MayStand, FitsAtOnce, with_written, with_left, with_record, IsPlain};
-    ghost use Rattle.nested_writer.specs.Kept.{SameFills, SamePages};
+    ghost use Rattle.nested_writer.specs.Promises.{WritesWhatFits, StandsAgain};
     ghost use Rattle.nested_writer.specs.Calls.{IsAtBottom};
     ghost use Rattle.nested_writer.specs.IsStack.{Stands};
 
@@ -47,16 +47,8 @@ impl WriterStack {
     #[inline(never)]
     fn write_any(&mut self, moment: u64, payload: &[u8]) -> Wrote
         requires stack { Stands self.old }
-        ensures wrote { result ≡ Wrote.Record ↔ FitsAtOnce self.old moment (length payload.now) }
+        ensures at_once { WritesWhatFits moment payload.now self.old result self.new }
         ensures written { result ≡ Wrote.Record → self.new ≡ with_written self.old moment payload.now }
-        ensures records { result ≡ Wrote.Record → records_of_page self.new.tail
-            ≡ records_of_page self.old.tail
-            ++ record { moment = max moment self.old.last_moment; bytes = padded payload.now } ∷ [] }
-        ensures stack { result ≡ Wrote.Record
-            → HasActed self.old (push moment (length payload.now) ∷ reserve ∷ leave (Some payload.now) ∷ []) self.new }
-        ensures stays { Stands self.new }
-        ensures nothing { result ≡ Wrote.Nothing → self.new ≡ self.old }
-        ensures kept { SameFills self.old self.new }
         ensures frames { self.new.frames ≡ self.old.frames }
     {
         let len = payload.len();
@@ -81,16 +73,8 @@ impl WriterStack {
     fn write_plain(&mut self, moment: u64, payload: &[u8]) -> Wrote
         requires stack { Stands self.old }
         requires plain { IsPlain self.old moment (length payload.now) }
-        ensures wrote { result ≡ Wrote.Record ↔ FitsAtOnce self.old moment (length payload.now) }
+        ensures at_once { WritesWhatFits moment payload.now self.old result self.new }
         ensures written { result ≡ Wrote.Record → self.new ≡ with_written self.old moment payload.now }
-        ensures records { result ≡ Wrote.Record → records_of_page self.new.tail
-            ≡ records_of_page self.old.tail
-            ++ record { moment = max moment self.old.last_moment; bytes = padded payload.now } ∷ [] }
-        ensures stack { result ≡ Wrote.Record
-            → HasActed self.old (push moment (length payload.now) ∷ reserve ∷ leave (Some payload.now) ∷ []) self.new }
-        ensures stays { Stands self.new }
-        ensures nothing { result ≡ Wrote.Nothing → self.new ≡ self.old }
-        ensures kept { SameFills self.old self.new }
         ensures frames { self.new.frames ≡ self.old.frames }
     {
         let size = size_of(payload.len(), moment - self.last_moment, false);
@@ -107,16 +91,8 @@ impl WriterStack {
     #[inline(always)]
     pub fn write_alone(&mut self, moment: u64, payload: &[u8]) -> Wrote
         requires stack { Stands self.old }
-        ensures wrote { result ≡ Wrote.Record ↔ FitsAtOnce self.old moment (length payload.now) }
+        ensures at_once { WritesWhatFits moment payload.now self.old result self.new }
         ensures written { result ≡ Wrote.Record → self.new ≡ with_written self.old moment payload.now }
-        ensures records { result ≡ Wrote.Record → records_of_page self.new.tail
-            ≡ records_of_page self.old.tail
-            ++ record { moment = max moment self.old.last_moment; bytes = padded payload.now } ∷ [] }
-        ensures stack { result ≡ Wrote.Record
-            → HasActed self.old (push moment (length payload.now) ∷ reserve ∷ leave (Some payload.now) ∷ []) self.new }
-        ensures stays { Stands self.new }
-        ensures nothing { result ≡ Wrote.Nothing → self.new ≡ self.old }
-        ensures kept { SameFills self.old self.new }
         ensures frames { self.new.frames ≡ self.old.frames }
     {
         if !self.is_empty() {
@@ -143,11 +119,7 @@ impl WriterStack {
     fn put_left(&mut self, moment: u64, len: usize)
         requires none { self.old.frames ≡ [] }
         requires may { MayStand self.old moment len }
-        ensures left { self.new ≡ with_left self.old moment len }
-        ensures stack { HasActed self.old [] self.new }
-        ensures stays { Stands self.old → Stands self.new }
-        ensures kept { SamePages self.old self.new }
-        ensures bottom { IsAtBottom self.new.frames }
+        ensures { StandsAgain moment len self.old self.new }
     {
         self.top.leave(moment, len);
     }
@@ -158,11 +130,7 @@ impl WriterStack {
     pub fn stand_again(&mut self, moment: u64, len: usize)
         requires none { self.old.frames ≡ [] }
         requires may { MayStand self.old moment len }
-        ensures left { self.new ≡ with_left self.old moment len }
-        ensures stack { HasActed self.old [] self.new }
-        ensures stays { Stands self.old → Stands self.new }
-        ensures kept { SamePages self.old self.new }
-        ensures bottom { IsAtBottom self.new.frames }
+        ensures { StandsAgain moment len self.old self.new }
     {
         self.put_left(moment, len);
     }
@@ -173,16 +141,8 @@ impl WriterStack {
     #[inline(always)]
     pub fn write(&mut self, moment: u64, payload: &[u8]) -> Wrote
         requires stack { Stands self.old }
-        ensures wrote { result ≡ Wrote.Record ↔ FitsAtOnce self.old moment (length payload.now) }
+        ensures at_once { WritesWhatFits moment payload.now self.old result self.new }
         ensures with_record { result ≡ Wrote.Record → self.new ≡ with_record self.old moment payload.now }
-        ensures records { result ≡ Wrote.Record → records_of_page self.new.tail
-            ≡ records_of_page self.old.tail
-            ++ record { moment = max moment self.old.last_moment; bytes = padded payload.now } ∷ [] }
-        ensures stack { result ≡ Wrote.Record
-            → HasActed self.old (push moment (length payload.now) ∷ reserve ∷ leave (Some payload.now) ∷ []) self.new }
-        ensures stays { Stands self.new }
-        ensures nothing { result ≡ Wrote.Nothing → self.new ≡ self.old }
-        ensures kept { SameFills self.old self.new }
         ensures bottom { result ≡ Wrote.Record → IsAtBottom self.new.frames }
     {
         match self.write_alone(moment, payload) {

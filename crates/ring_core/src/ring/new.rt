@@ -7,18 +7,15 @@ use std::alloc::Global;
 use trace_model::{FillNo, NoMemory, RecordNo, START_FILL};
 
 impl Core {
-    ghost use Rattle.std.specs.Prelude.{◌≡◌, ◌+◌, ◌%◌, ◌≤◌, ◌<◌, IfOk};
-    ghost use Rattle.trace_model.specs.declared.limits.TheConstants.{MIN_PAGES, MAX_PAGES, MIN_SIZE, MAX_SIZE, LINK_FILLS, START_FILL};
+    ghost use Rattle.std.specs.Prelude.{◌+◌, ◌<◌, IfOk};
+    ghost use Rattle.trace_model.specs.declared.limits.TheConstants.{LINK_FILLS, START_FILL};
+    ghost use Rattle.trace_model.specs.Ring.{HasRingLimits};
     ghost use Rattle.ring_core.specs.Steps.{IsNewRing};
 
     /// A new ring of `pages` pages and a spare, of `size` bytes of data each, whose first fill has the number `start`.
     /// All room is made here: no other call takes memory.
     pub fn new_at(alloc: Global, pages: usize, size: usize, start: u64) -> Result<Core, NoMemory>
-        requires pages { MIN_PAGES ≤ pages }
-        requires most { pages ≤ MAX_PAGES }
-        requires small { MIN_SIZE ≤ size }
-        requires large { size ≤ MAX_SIZE }
-        requires words { size % 4 ≡ 0 }
+        requires limits { HasRingLimits pages size }
         requires start { start + pages < LINK_FILLS }
         ensures { IfOk result (λ core. IsNewRing pages size start core) }
     {
@@ -45,11 +42,7 @@ impl Core {
 
     /// A new ring whose first fill has the number `START_FILL`.
     pub fn new(alloc: Global, pages: usize, size: usize) -> Result<Core, NoMemory>
-        requires pages { MIN_PAGES ≤ pages }
-        requires most { pages ≤ MAX_PAGES }
-        requires small { MIN_SIZE ≤ size }
-        requires large { size ≤ MAX_SIZE }
-        requires words { size % 4 ≡ 0 }
+        requires limits { HasRingLimits pages size }
         ensures { IfOk result (λ core. IsNewRing pages size START_FILL core) }
     {
         Core::new_at(alloc, pages, size, START_FILL)

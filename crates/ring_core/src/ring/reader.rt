@@ -12,8 +12,7 @@ impl Core {
     ghost use Rattle.trace_model.specs.Steps as model;
     ghost use Rattle.ring_frames.specs.declared.reader.ReaderPhase.TheVariants.{LoadingLink, LoadingDone, StoringLink, Swapping};
     ghost use Rattle.ring_frames.specs.declared.answer.Answer.TheVariants.{Taken};
-    ghost use Rattle.ring_core.specs.Answers.{GivesBack};
-    ghost use Rattle.ring_core.specs.Steps.{Makes, IsReachedCore};
+    ghost use Rattle.ring_core.specs.Steps.{Makes, MakesRead, IsReachedCore};
     ghost use Rattle.ring_core.specs.Taking.{with_spare_home, with_head_taken};
 
     /// The reader makes one step. It keeps the body only if it takes a page.
@@ -21,9 +20,7 @@ impl Core {
     pub(crate) fn read(&mut self, body: Body) -> Answer
         requires ring { IsReachedCore self.old }
         requires size { length body ≡ self.old.stack.size }
-        ensures step { Makes self.old model.reads result self.new }
-        ensures given_back { GivesBack body result }
-        ensures stack { self.new.stack ≡ self.old.stack }
+        ensures { MakesRead self.old body result self.new }
     {
         match self.reader.phase {
             ReaderPhase::LoadingLink => self.load_head(body),
@@ -48,9 +45,7 @@ impl Core {
     fn load_head(&mut self, body: Body) -> Answer
         requires ring { IsReachedCore self.old }
         requires phase { self.old.reader.phase ≡ LoadingLink }
-        ensures step { Makes self.old model.reads result self.new }
-        ensures given_back { GivesBack body result }
-        ensures stack { self.new.stack ≡ self.old.stack }
+        ensures { MakesRead self.old body result self.new }
     {
         let hint = self.reader.hint;
         let link = self.link_into(hint);
@@ -78,9 +73,7 @@ impl Core {
     fn load_done(&mut self, page: u16, fill: u64, body: Body) -> Answer
         requires ring { IsReachedCore self.old }
         requires phase { self.old.reader.phase ≡ LoadingDone page fill }
-        ensures step { Makes self.old model.reads result self.new }
-        ensures given_back { GivesBack body result }
-        ensures stack { self.new.stack ≡ self.old.stack }
+        ensures { MakesRead self.old body result self.new }
     {
         let done = self.frames.done();
         self.reader.seen = done;
@@ -96,9 +89,7 @@ impl Core {
     fn store_spare_link(&mut self, page: u16, fill: u64, body: Body) -> Answer
         requires ring { IsReachedCore self.old }
         requires phase { self.old.reader.phase ≡ StoringLink page fill }
-        ensures step { Makes self.old model.reads result self.new }
-        ensures given_back { GivesBack body result }
-        ensures stack { self.new.stack ≡ self.old.stack }
+        ensures { MakesRead self.old body result self.new }
     {
         self.spare_link = header(self.page_at(fill + 1), fill + 1);
         self.reader.phase = ReaderPhase::Swapping { page, fill };
@@ -110,9 +101,7 @@ impl Core {
         requires ring { IsReachedCore self.old }
         requires size { length body ≡ self.old.stack.size }
         requires phase { self.old.reader.phase ≡ Swapping page fill }
-        ensures step { Makes self.old model.reads result self.new }
-        ensures given_back { GivesBack body result }
-        ensures stack { self.new.stack ≡ self.old.stack }
+        ensures { MakesRead self.old body result self.new }
     {
         let behind = normal(self.spare, fill + self.positions());
         if !self.exchange(fill, header(page, fill), behind) {

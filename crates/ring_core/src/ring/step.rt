@@ -8,8 +8,8 @@ impl Core {
     ghost use Rattle.trace_model.specs.Steps as model;
     ghost use Rattle.std.specs.Prelude.{◌≡◌};
     ghost use Rattle.ring_frames.specs.Answers.{KeepsPayloads, ZerosSlot};
-    ghost use Rattle.ring_core.specs.Answers.{event_of, HasWholePage, StepsPayloads, StepsTop};
-    ghost use Rattle.ring_core.specs.Steps.{Makes, IsReachedCore, HasItsSize, GivesBodyBack};
+    ghost use Rattle.ring_core.specs.Answers.{HasWholePage};
+    ghost use Rattle.ring_core.specs.Steps.{Makes, Obeys, IsReachedCore, HasItsSize};
 
     /// One event, which is one step of the ring's model: its answer means the model's, and the ring is in the state
     /// after it. The body of a `Read` is returned with every answer but `Taken`.
@@ -17,11 +17,7 @@ impl Core {
     pub fn step(&mut self, event: Event) -> Answer
         requires ring { IsReachedCore self.old }
         requires size { HasItsSize self.old event }
-        ensures step { Makes self.old (event_of self.old event) result self.new }
-        ensures given_back { GivesBodyBack event result }
-        ensures payloads { StepsPayloads event self.old.stack self.new.stack }
-        ensures zeros { ZerosSlot self.old.stack result self.new.stack }
-        ensures top { StepsTop event result self.old.stack self.new.stack }
+        ensures obeys { Obeys event self.old result self.new }
         ensures ring { IsReachedCore self.new }
         ensures size { self.new.stack.size ≡ self.old.stack.size }
         ensures page { HasWholePage self.old.stack.size result }
@@ -34,11 +30,7 @@ impl Core {
     fn obey(&mut self, event: Event) -> Answer
         requires ring { IsReachedCore self.old }
         requires size { HasItsSize self.old event }
-        ensures step { Makes self.old (event_of self.old event) result self.new }
-        ensures given_back { GivesBodyBack event result }
-        ensures payloads { StepsPayloads event self.old.stack self.new.stack }
-        ensures zeros { ZerosSlot self.old.stack result self.new.stack }
-        ensures top { StepsTop event result self.old.stack self.new.stack }
+        ensures { Obeys event self.old result self.new }
     {
         match event {
             Event::Push { moment, len } => self.push(moment, len),

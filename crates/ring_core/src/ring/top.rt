@@ -3,17 +3,12 @@ use crate::ring::Core;
 use nested_writer::{Payload, WriteFault};
 
 impl Core {
-    ghost use Rattle.std.specs.Prelude.{◌≡◌, ◌≤◌, ◌↔◌, ℕ, List, [], length, Some, IsOk, IfOk};
+    ghost use Rattle.std.specs.Prelude.{◌≡◌, ℕ, List, length, IfOk};
     ghost use Rattle.std.specs.Borrow.{sem};
-    ghost use Rattle.trace_model.specs.Words.{slot_len};
-    ghost use Rattle.record_words.specs.declared.put.Place.{Place};
     ghost use Rattle.nested_writer.specs.declared.frame.Slot.{Slot};
-    ghost use Rattle.nested_writer.specs.Calls.{LacksSlot, IsTopSlot};
-    ghost use Rattle.nested_writer.specs.Next.{pushed_len, top_place};
+    ghost use Rattle.nested_writer.specs.Calls.{IsTopSlot};
     ghost use Rattle.nested_writer.specs.Lent.{lent_bytes, with_bytes};
-    ghost use Rattle.nested_writer.specs.Lending.{IsLent, with_top};
-    ghost use Rattle.ring_frames.specs.Answers.{top_bytes};
-    ghost use Rattle.ring_frames.specs.Lending.{LeavesOthers};
+    ghost use Rattle.ring_frames.specs.Lending.{LeavesOthers, LendsSlot};
     ghost use Rattle.ring_core.specs.Lending.{FitsFrame, LendsTop, StaysRing, with_lent};
     ghost use Rattle.ring_core.specs.Steps.{IsReachedCore};
 
@@ -24,20 +19,8 @@ impl Core {
     pub fn top_mut(&mut self) -> Result<&mut Payload, WriteFault>
         requires ring { IsReachedCore self.old }
         ensures* lends { sem 𝓛 (LendsTop self.entry result) }
-        ensures no_frame { result ≡ Err WriteFault.NoFrame ↔ self.old.stack.frames ≡ [] }
-        ensures not_reserved { result ≡ Err WriteFault.NotReserved ↔ LacksSlot self.old.stack.frames }
-        ensures held { (place : Place) → top_place self.old.stack.frames ≡ Some place → IsOk result }
-        ensures lent { IfOk result (λ payload. IsLent self.old.stack payload.now) }
+        ensures slot { LendsSlot self.old.stack result }
         ensures unwritten { IfOk result (λ payload. with_lent self.old payload.now ≡ self.old) }
-        ensures len { (len : ℕ)
-            → pushed_len self.old.stack.frames ≡ Some len
-            → IfOk result (λ payload. length (lent_bytes payload.now) ≡ slot_len len) }
-        ensures word { IfOk result (λ payload. 4 ≤ length (lent_bytes payload.now)) }
-        ensures payload { IfOk result (λ payload.
-            lent_bytes payload.now ≡ top_bytes self.old.stack self.old.stack.frames) }
-        ensures written { IfOk result (λ payload. (part : List ℕ)
-            → length part ≡ length (lent_bytes payload.now)
-            → top_bytes (with_top self.old.stack (with_bytes payload.now part)) self.old.stack.frames ≡ part) }
         ensures ring { IfOk result (λ payload. (part : List ℕ)
             → length part ≡ length (lent_bytes payload.now)
             → IsReachedCore (with_lent self.old (with_bytes payload.now part))) }

@@ -12,12 +12,12 @@ impl Frames {
     ghost use Rattle.nested_writer.specs.Stack.{opened};
     ghost use Rattle.nested_writer.specs.IsStack.{IsStack};
     ghost use Rattle.nested_writer.specs.Released.{IsWrittenPage};
-    ghost use Rattle.ring_frames.specs.declared.phase.Phase.TheVariants.{Opening, Releasing, Wishing};
+    ghost use Rattle.ring_frames.specs.declared.phase.Phase.TheVariants.{Opening, Releasing};
     ghost use Rattle.ring_frames.specs.declared.answer.Answer.TheVariants.{Going};
     ghost use Rattle.ring_frames.specs.Answers.{KeepsPayloads};
     ghost use Rattle.ring_frames.specs.Phases.{told};
     ghost use Rattle.ring_frames.specs.Steps.{IsFrames};
-    ghost use Rattle.ring_frames.specs.Fills.{OpensFill, Releases, LooksForWish, GrantsNone};
+    ghost use Rattle.ring_frames.specs.Fills.{OpensFill, Releases, IsWishing, LooksForWish, GrantsNone};
 
     /// The next fill, which the frame on top noted, is begun in this body, and the frame begins again.
     #[inline(always)]
@@ -62,9 +62,7 @@ impl Frames {
     /// the frame on top notes the next fill; else it closes what was begun meanwhile, or is gone.
     #[inline(always)]
     pub fn load_wish(&mut self, wish: u64) -> Turned
-        requires frames { IsFrames self.old }
-        requires top { self.old.stack.frames ≢ [] }
-        requires phase { self.old.phase ≡ Wishing }
+        requires { IsWishing self.old }
         ensures looks { LooksForWish self.old wish (told result) self.new }
         ensures payloads { KeepsPayloads self.old.stack self.new.stack }
     {
@@ -80,9 +78,7 @@ impl Frames {
     /// `load_wish`, whatever the wish and the fills.
     #[inline(never)]
     fn load_wish_any(&mut self, wish: u64) -> Turned
-        requires frames { IsFrames self.old }
-        requires top { self.old.stack.frames ≢ [] }
-        requires phase { self.old.phase ≡ Wishing }
+        requires { IsWishing self.old }
         ensures looks { LooksForWish self.old wish (told result) self.new }
         ensures payloads { KeepsPayloads self.old.stack self.new.stack }
     {
@@ -102,9 +98,7 @@ impl Frames {
     /// the next fill.
     #[inline(always)]
     fn grant_wish(&mut self, wish: u64) -> bool
-        requires frames { IsFrames self.old }
-        requires top { self.old.stack.frames ≢ [] }
-        requires phase { self.old.phase ≡ Wishing }
+        requires { IsWishing self.old }
         ensures granted { IsTrue result → LooksForWish self.old wish Going self.new }
         ensures refused { result ≡ false → GrantsNone self.old wish × (self.new ≡ self.old) }
     {

@@ -4,17 +4,11 @@ use nested_writer::frame::Slot;
 use nested_writer::{Payload, WriteFault};
 
 impl Frames {
-    ghost use Rattle.std.specs.Prelude.{◌≡◌, ◌≤◌, ◌↔◌, ℕ, List, [], length, Some, IsOk, IfOk};
+    ghost use Rattle.std.specs.Prelude.{◌≡◌, ◌↔◌, [], IfOk};
     ghost use Rattle.std.specs.Borrow.{sem};
-    ghost use Rattle.trace_model.specs.Words.{slot_len};
-    ghost use Rattle.record_words.specs.declared.put.Place.{Place};
     ghost use Rattle.nested_writer.specs.declared.frame.Slot.{Slot};
     ghost use Rattle.nested_writer.specs.Calls.{LacksSlot, IsTopSlot};
-    ghost use Rattle.nested_writer.specs.Next.{pushed_len, top_place};
-    ghost use Rattle.nested_writer.specs.Lent.{lent_bytes, with_bytes};
-    ghost use Rattle.nested_writer.specs.Lending.{IsLent, with_top};
-    ghost use Rattle.ring_frames.specs.Answers.{top_bytes};
-    ghost use Rattle.ring_frames.specs.Lending.{FitsFrame, LeavesOthers, LendsTop, StaysFrames, with_lent};
+    ghost use Rattle.ring_frames.specs.Lending.{FitsFrame, LeavesOthers, LendsSlot, LendsTop, StaysFrames, with_lent};
     ghost use Rattle.ring_frames.specs.Steps.{AreSomeFrames};
 
     /// Where the record of the frame on top is. Refused with `NoFrame` if there is no frame, and with `NotReserved` if
@@ -36,20 +30,8 @@ impl Frames {
     pub fn top_mut(&mut self) -> Result<&mut Payload, WriteFault>
         requires shown { AreSomeFrames self.old }
         ensures* lends { sem 𝓛 (LendsTop self.entry result) }
-        ensures no_frame { result ≡ Err WriteFault.NoFrame ↔ self.old.stack.frames ≡ [] }
-        ensures not_reserved { result ≡ Err WriteFault.NotReserved ↔ LacksSlot self.old.stack.frames }
-        ensures held { (place : Place) → top_place self.old.stack.frames ≡ Some place → IsOk result }
-        ensures lent { IfOk result (λ payload. IsLent self.old.stack payload.now) }
+        ensures slot { LendsSlot self.old.stack result }
         ensures unwritten { IfOk result (λ payload. with_lent self.old payload.now ≡ self.old) }
-        ensures len { (len : ℕ)
-            → pushed_len self.old.stack.frames ≡ Some len
-            → IfOk result (λ payload. length (lent_bytes payload.now) ≡ slot_len len) }
-        ensures word { IfOk result (λ payload. 4 ≤ length (lent_bytes payload.now)) }
-        ensures payload { IfOk result (λ payload.
-            lent_bytes payload.now ≡ top_bytes self.old.stack self.old.stack.frames) }
-        ensures written { IfOk result (λ payload. (part : List ℕ)
-            → length part ≡ length (lent_bytes payload.now)
-            → top_bytes (with_top self.old.stack (with_bytes payload.now part)) self.old.stack.frames ≡ part) }
         ensures fits { (slot : Slot) → IsTopSlot self.old.stack.frames slot → FitsFrame self.old slot }
         ensures others { (slot : Slot) → IsTopSlot self.old.stack.frames slot → LeavesOthers self.old.stack slot }
         ensures stays { (slot : Slot) → IsTopSlot self.old.stack.frames slot → StaysFrames self.old slot }

@@ -7,22 +7,16 @@ use ring_frames::ReaderPhase;
 use trace_model::FillNo;
 
 impl Reader {
-    ghost use Rattle.std.specs.Prelude.{◌≡◌, ℕ, length, None};
+    ghost use Rattle.std.specs.Prelude.{◌≡◌, length};
     ghost use Rattle.trace_model.specs.Ring.{page_at};
     ghost use Rattle.ring_frames.specs.declared.reader.ReaderPhase.TheVariants.{LoadingLink, LoadingDone, StoringLink, Swapping};
-    ghost use Rattle.ring_shared.specs.Takes.{IsReader, IsTurn, IsAnswered, EmptyAfter, SameRing};
+    ghost use Rattle.ring_shared.specs.Takes.{IsReader, IsTaking, MakesTurn};
 
     /// One step of a take.
     pub(crate) fn step(&mut self, body: Body) -> Turn
-        requires reader { IsReader self.old }
+        requires taking { IsTaking self.old }
         requires size { length body ≡ self.old.shape.size }
-        requires again { self.old.empty_at ≡ None }
-        ensures turn { IsTurn self.old.shape self.old.part body result self.new.part }
-        ensures answered { IsAnswered self.old.shape self.old.part result self.new.part }
-        ensures empty { EmptyAfter self.new result }
-        ensures empty_at { self.new.empty_at ≡ None }
-        ensures ring { SameRing self.old self.new }
-        ensures reader { IsReader self.new }
+        ensures { MakesTurn self.old body result self.new }
     {
         match self.at.phase {
             ReaderPhase::LoadingLink => self.load_head(body),
@@ -42,15 +36,9 @@ impl Reader {
 
     /// A load of the link into the position of the hint.
     fn load_head(&mut self, body: Body) -> Turn
-        requires reader { IsReader self.old }
-        requires again { self.old.empty_at ≡ None }
+        requires taking { IsTaking self.old }
         requires phase { self.old.at.phase ≡ LoadingLink }
-        ensures turn { IsTurn self.old.shape self.old.part body result self.new.part }
-        ensures answered { IsAnswered self.old.shape self.old.part result self.new.part }
-        ensures empty { EmptyAfter self.new result }
-        ensures empty_at { self.new.empty_at ≡ None }
-        ensures ring { SameRing self.old self.new }
-        ensures reader { IsReader self.new }
+        ensures { MakesTurn self.old body result self.new }
     {
         let hint = self.at.hint;
         let pages = self.order.len() as u64;
@@ -76,15 +64,9 @@ impl Reader {
 
     /// A load of the number of closed fills: the head, which is this fill, is closed, or no closed fill is unread.
     fn load_done(&mut self, page: u16, fill: u64, body: Body) -> Turn
-        requires reader { IsReader self.old }
-        requires again { self.old.empty_at ≡ None }
+        requires taking { IsTaking self.old }
         requires phase { self.old.at.phase ≡ LoadingDone page fill }
-        ensures turn { IsTurn self.old.shape self.old.part body result self.new.part }
-        ensures answered { IsAnswered self.old.shape self.old.part result self.new.part }
-        ensures empty { EmptyAfter self.new result }
-        ensures empty_at { self.new.empty_at ≡ None }
-        ensures ring { SameRing self.old self.new }
-        ensures reader { IsReader self.new }
+        ensures { MakesTurn self.old body result self.new }
     {
         let done = self.seat.load_done();
         self.at.seen = done;
@@ -98,15 +80,9 @@ impl Reader {
 
     /// A store of the link of the reader's page: it will lead to the fill after the one that is taken.
     fn store_spare_link(&mut self, page: u16, fill: u64, body: Body) -> Turn
-        requires reader { IsReader self.old }
-        requires again { self.old.empty_at ≡ None }
+        requires taking { IsTaking self.old }
         requires phase { self.old.at.phase ≡ StoringLink page fill }
-        ensures turn { IsTurn self.old.shape self.old.part body result self.new.part }
-        ensures answered { IsAnswered self.old.shape self.old.part result self.new.part }
-        ensures empty { EmptyAfter self.new result }
-        ensures empty_at { self.new.empty_at ≡ None }
-        ensures ring { SameRing self.old self.new }
-        ensures reader { IsReader self.new }
+        ensures { MakesTurn self.old body result self.new }
     {
         let behind = header(self.page_at(fill + 1), fill + 1);
         self.seat.store_spare_link(self.spare, behind);
@@ -116,16 +92,10 @@ impl Reader {
 
     /// A compare and exchange of the link to the head, this page as this fill, from HEADER to NORMAL: the swap.
     fn swap_head(&mut self, page: u16, fill: u64, body: Body) -> Turn
-        requires reader { IsReader self.old }
+        requires taking { IsTaking self.old }
         requires size { length body ≡ self.old.shape.size }
-        requires again { self.old.empty_at ≡ None }
         requires phase { self.old.at.phase ≡ Swapping page fill }
-        ensures turn { IsTurn self.old.shape self.old.part body result self.new.part }
-        ensures answered { IsAnswered self.old.shape self.old.part result self.new.part }
-        ensures empty { EmptyAfter self.new result }
-        ensures empty_at { self.new.empty_at ≡ None }
-        ensures ring { SameRing self.old self.new }
-        ensures reader { IsReader self.new }
+        ensures { MakesTurn self.old body result self.new }
     {
         let pages = self.order.len() as u64;
         let front = self.page_at(fill + pages - 1);

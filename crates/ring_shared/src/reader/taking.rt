@@ -9,7 +9,7 @@ impl Reader {
     ghost use Rattle.trace_model.specs.Steps.{wishes, wished_for};
     ghost use Rattle.ring_steps.specs.Seats.{IsReaderStep};
     ghost use Rattle.ring_shared.specs.declared.take.Turn.TheVariants.{Done};
-    ghost use Rattle.ring_shared.specs.Takes.{IsReader, IsTake, TakesSteps, EmptyAfter, SameRing, IsOfSize, empty_of};
+    ghost use Rattle.ring_shared.specs.Takes.{IsReader, IsTaking, IsTake, TakesSteps, EmptyAfter, SameRing, IsOfSize, empty_of};
 
     /// Takes the oldest page that is closed and unread, for which `body`, of the ring's data size in bytes, goes into
     /// the ring; with any other answer a body of that size is returned. It answers as soon as one of its steps does. It
@@ -35,15 +35,13 @@ impl Reader {
 
     /// The steps of a take.
     fn take_by_steps(&mut self, body: Body) -> Take
-        requires reader { IsReader self.old }
+        requires taking { IsTaking self.old }
         requires size { length body ≡ self.old.shape.size }
-        requires again { self.old.empty_at ≡ None }
         ensures took { IsTake self.old.shape self.old.part body result self.new.part }
         ensures steps { TakesSteps self.old.shape self.old.part result self.new.part }
         ensures empty { EmptyAfter self.new (Done result) }
-        ensures empty_at { self.new.empty_at ≡ None }
         ensures ring { SameRing self.old self.new }
-        ensures reader { IsReader self.new }
+        ensures taking { IsTaking self.new }
     {
         let mut body = body;
         for made in 0..2 * self.order.len() + 8 {

@@ -27,15 +27,13 @@ enum Target {
 
 impl Writer {
     ghost use Rattle.std.specs.Prelude.{◌≡◌, ℕ, ◌∷◌, List};
-    ghost use Rattle.trace_model.specs.declared.numbers.RecordNo.{RecordNo};
     ghost use Rattle.trace_model.specs.Frames.{Frame as ModelFrame};
-    ghost use Rattle.link_marks.specs.FrameOutcomes.{IsReserving, IsLeaving};
+    ghost use Rattle.link_marks.specs.FrameOutcomes.{IsReserving};
     ghost use Rattle.ring_shared.specs.Value.{SameWriter};
     ghost use Rattle.ring_shared.specs.Calls.{IsWriter};
     ghost use Rattle.ring_frames.specs.declared.phase.Phase.TheVariants.{Wishing};
-    ghost use Rattle.ring_frames.specs.declared.answer.Answer.TheVariants.{Reserved, Gone};
     ghost use Rattle.ring_frames.specs.Answers.{KeepsPayloads, ZerosSlot};
-    ghost use Rattle.ring_shared.specs.Rooms.{rooms, IsOneMore};
+    ghost use Rattle.ring_shared.specs.Promises.{HasLeavingTop, KeepsSlots, LeavesTop};
     ghost use Rattle.ring_shared.specs.Finishing.{Finishes, IsFinished, ZerosFinished, Reserves, Leaves, Closes, IsGoneOrRefused, met_behind};
 
     /// Steps a close frame, or one that was ended or refused, until it is gone, and any other record frame until its
@@ -46,10 +44,7 @@ impl Writer {
     pub fn finish_top(&mut self) -> Answer
         requires writer { IsWriter self.old }
         ensures finished { Finishes self.old.shape self.old.part result self.new.part }
-        ensures payloads { KeepsPayloads self.old.frames.stack self.new.frames.stack }
-        ensures zeros { ZerosSlot self.old.frames.stack result self.new.frames.stack }
-        ensures room { (number : RecordNo) → result ≡ Reserved number → rooms self.new ≡ rooms self.old }
-        ensures gone { result ≡ Gone → IsOneMore (rooms self.old) (rooms self.new) }
+        ensures slots { KeepsSlots self.old result self.new }
         ensures ring { SameWriter self.old self.new }
         ensures writer { IsWriter self.new }
     {
@@ -92,16 +87,9 @@ impl Writer {
     /// The frame on top, which looks for the reader's wish, makes steps until it is gone: mostly one.
     #[inline(always)]
     fn finish_wishing(&mut self) -> Answer
-        requires writer { IsWriter self.old }
+        requires leaving { HasLeavingTop self.old }
         requires phase { self.old.frames.phase ≡ Wishing }
-        requires top { (frame : ModelFrame) × (below : List ModelFrame) × (self.old.part.frames ≡ frame ∷ below)
-            × IsLeaving frame.kind frame.state }
-        ensures leaves { (frame : ModelFrame) (below : List ModelFrame) → self.old.part.frames ≡ frame ∷ below
-            → Leaves self.old.shape below self.old.part result self.new.part }
-        ensures gone { IsGoneOrRefused result }
-        ensures payloads { KeepsPayloads self.old.frames.stack self.new.frames.stack }
-        ensures ring { SameWriter self.old self.new }
-        ensures writer { IsWriter self.new }
+        ensures { LeavesTop self.old result self.new }
     {
         match self.load_wish() {
             Turned::Going => self.finish_leaving(),
@@ -112,15 +100,8 @@ impl Writer {
     /// The frame on top makes steps until it is gone, however many.
     #[inline(always)]
     fn finish_leaving(&mut self) -> Answer
-        requires writer { IsWriter self.old }
-        requires top { (frame : ModelFrame) × (below : List ModelFrame) × (self.old.part.frames ≡ frame ∷ below)
-            × IsLeaving frame.kind frame.state }
-        ensures leaves { (frame : ModelFrame) (below : List ModelFrame) → self.old.part.frames ≡ frame ∷ below
-            → Leaves self.old.shape below self.old.part result self.new.part }
-        ensures gone { IsGoneOrRefused result }
-        ensures payloads { KeepsPayloads self.old.frames.stack self.new.frames.stack }
-        ensures ring { SameWriter self.old self.new }
-        ensures writer { IsWriter self.new }
+        requires { HasLeavingTop self.old }
+        ensures { LeavesTop self.old result self.new }
     {
         match self.leave_on() {
             Some(fault) => Answer::Refused(fault),
@@ -131,9 +112,7 @@ impl Writer {
     /// The frame on top makes steps until it is gone: the refusal that it met, if any.
     #[inline(never)]
     pub(crate) fn leave_on(&mut self) -> Option<WriteFault>
-        requires writer { IsWriter self.old }
-        requires top { (frame : ModelFrame) × (below : List ModelFrame) × (self.old.part.frames ≡ frame ∷ below)
-            × IsLeaving frame.kind frame.state }
+        requires { HasLeavingTop self.old }
         ensures leaves { (answer : Answer) × (result ≡ met_behind None answer) × IsGoneOrRefused answer
             × ((frame : ModelFrame) (below : List ModelFrame) → self.old.part.frames ≡ frame ∷ below
             → Leaves self.old.shape below self.old.part answer self.new.part) }
@@ -150,9 +129,7 @@ impl Writer {
     /// The frame on top, which has left, closes fills, and looks for the reader's wish, as long as it is up to these.
     #[inline(always)]
     fn close_fills(&mut self) -> Turned
-        requires writer { IsWriter self.old }
-        requires top { (frame : ModelFrame) × (below : List ModelFrame) × (self.old.part.frames ≡ frame ∷ below)
-            × IsLeaving frame.kind frame.state }
+        requires { HasLeavingTop self.old }
         ensures closes { (frame : ModelFrame) (below : List ModelFrame) → self.old.part.frames ≡ frame ∷ below
             → Closes self.old.shape below self.old.part result self.new.part }
         ensures payloads { KeepsPayloads self.old.frames.stack self.new.frames.stack }
@@ -194,15 +171,8 @@ impl Writer {
     /// The frame on top makes steps until it is gone.
     #[inline(always)]
     fn leave_top(&mut self) -> Answer
-        requires writer { IsWriter self.old }
-        requires top { (frame : ModelFrame) × (below : List ModelFrame) × (self.old.part.frames ≡ frame ∷ below)
-            × IsLeaving frame.kind frame.state }
-        ensures leaves { (frame : ModelFrame) (below : List ModelFrame) → self.old.part.frames ≡ frame ∷ below
-            → Leaves self.old.shape below self.old.part result self.new.part }
-        ensures gone { IsGoneOrRefused result }
-        ensures payloads { KeepsPayloads self.old.frames.stack self.new.frames.stack }
-        ensures ring { SameWriter self.old self.new }
-        ensures writer { IsWriter self.new }
+        requires { HasLeavingTop self.old }
+        ensures { LeavesTop self.old result self.new }
     {
         let depth = self.depth();
         let mut met = None;

@@ -22,6 +22,7 @@ impl Writer {
     ghost use Rattle.ring_shared.specs.Calls.{IsWriter, MakesSome};
     ghost use Rattle.ring_shared.specs.Nearer.{IsNearer};
     ghost use Rattle.ring_shared.specs.Rooms.{rooms, IsOneMore};
+    ghost use Rattle.ring_shared.specs.Promises.{HasFrame};
 
     /// A writer begins: a frame is pushed for a record of this moment, below `MOMENT_LIMIT`, and of a payload of `len`
     /// bytes. `Pushed`; or refused, and nothing changed: `TooDeep` if there are four frames, `TooLong` if the record
@@ -71,8 +72,7 @@ impl Writer {
     /// The record of the frame on top is reserved, or a page is needed, or the frame is refused.
     #[inline(always)]
     pub(crate) fn reserve(&mut self) -> Answer
-        requires writer { IsWriter self.old }
-        requires top { self.old.frames.stack.frames ≢ [] }
+        requires framed { HasFrame self.old }
         requires phase { self.old.frames.phase ≡ Idle }
         ensures makes { MakesSome self.old model.steps result self.new }
         ensures nearer { IsNearer self.old self.new }
@@ -99,8 +99,7 @@ impl Writer {
     /// A fill was begun since the frame on top noted what to open, so that it begins again.
     #[inline(never)]
     pub(crate) fn begin_again(&mut self) -> Turned
-        requires writer { IsWriter self.old }
-        requires top { self.old.frames.stack.frames ≢ [] }
+        requires framed { HasFrame self.old }
         requires passed { (noted : ℕ) × (noted_fill (phase_of self.old.frames.phase) ≡ Some noted)
             × (noted ≢ opened self.old.frames.stack) }
         requires private { PhaseIsPrivate (phase_of self.old.frames.phase) (opened self.old.frames.stack) }

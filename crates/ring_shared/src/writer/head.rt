@@ -7,7 +7,7 @@ use std::marker::Brand;
 use trace_model::FillNo;
 
 impl Writer {
-    ghost use Rattle.std.specs.Prelude.{◌≡◌, ◌≢◌, []};
+    ghost use Rattle.std.specs.Prelude.{◌≡◌};
     ghost use Rattle.trace_model.specs.Steps as model;
     ghost use Rattle.ring_frames.specs.declared.phase.Phase.TheVariants.{Looking, Claiming, LookingNext, Marking, Clearing};
     ghost use Rattle.ring_steps.specs.Linking.{tail_in};
@@ -15,6 +15,7 @@ impl Writer {
     ghost use Rattle.ring_frames.specs.Phases.{told};
     ghost use Rattle.ring_shared.specs.Calls.{IsWriter, MakesSome};
     ghost use Rattle.ring_shared.specs.Nearer.{IsNearer};
+    ghost use Rattle.ring_shared.specs.Promises.{HasFrame};
 
     /// The page of the last fill that is begun.
     fn tail(&self) -> u16
@@ -31,8 +32,7 @@ impl Writer {
     /// head, or a frame below is moving the head.
     #[inline(always)]
     pub(crate) fn load_link(&mut self, noted: u64) -> Turned
-        requires writer { IsWriter self.old }
-        requires top { self.old.frames.stack.frames ≢ [] }
+        requires framed { HasFrame self.old }
         requires phase { self.old.frames.phase ≡ Looking noted }
         ensures makes { MakesSome self.old model.steps (told result) self.new }
         ensures nearer { IsNearer self.old self.new }
@@ -59,8 +59,7 @@ impl Writer {
     /// A compare and exchange of that link from HEADER to UPDATE, by which the head is lost.
     #[inline(always)]
     pub(crate) fn claim_head(&mut self, noted: u64, page: u16) -> Turned
-        requires writer { IsWriter self.old }
-        requires top { self.old.frames.stack.frames ≢ [] }
+        requires framed { HasFrame self.old }
         requires phase { self.old.frames.phase ≡ Claiming noted page }
         ensures makes { MakesSome self.old model.steps (told result) self.new }
         ensures nearer { IsNearer self.old self.new }
@@ -86,8 +85,7 @@ impl Writer {
     /// A load of the next link, from the word of the page that is passed: does it still wait for the HEADER?
     #[inline(always)]
     pub(crate) fn load_next(&mut self, role: Role, noted: u64, page: u16) -> Turned
-        requires writer { IsWriter self.old }
-        requires top { self.old.frames.stack.frames ≢ [] }
+        requires framed { HasFrame self.old }
         requires phase { self.old.frames.phase ≡ LookingNext role noted page }
         ensures makes { MakesSome self.old model.steps (told result) self.new }
         ensures nearer { IsNearer self.old self.new }
@@ -113,8 +111,7 @@ impl Writer {
     /// A compare and exchange of the next link from NORMAL to HEADER.
     #[inline(always)]
     pub(crate) fn mark_head(&mut self, role: Role, noted: u64, page: u16, next: u16) -> Turned
-        requires writer { IsWriter self.old }
-        requires top { self.old.frames.stack.frames ≢ [] }
+        requires framed { HasFrame self.old }
         requires phase { self.old.frames.phase ≡ Marking role noted page next }
         ensures makes { MakesSome self.old model.steps (told result) self.new }
         ensures nearer { IsNearer self.old self.new }
@@ -131,8 +128,7 @@ impl Writer {
     /// A compare and exchange of the link of the claim from the frame's own UPDATE to NORMAL, which is always done.
     #[inline(always)]
     pub(crate) fn clear_update(&mut self, noted: u64, page: u16) -> Turned
-        requires writer { IsWriter self.old }
-        requires top { self.old.frames.stack.frames ≢ [] }
+        requires framed { HasFrame self.old }
         requires phase { self.old.frames.phase ≡ Clearing noted page }
         ensures makes { MakesSome self.old model.steps (told result) self.new }
         ensures nearer { IsNearer self.old self.new }

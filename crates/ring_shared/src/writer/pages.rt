@@ -6,19 +6,19 @@ use std::marker::Brand;
 use trace_model::FillNo;
 
 impl Writer {
-    ghost use Rattle.std.specs.Prelude.{◌≡◌, ◌≢◌, []};
+    ghost use Rattle.std.specs.Prelude.{◌≡◌};
     ghost use Rattle.trace_model.specs.Steps as model;
     ghost use Rattle.ring_frames.specs.declared.phase.Phase.TheVariants.{Opening, Releasing, Wishing};
     ghost use Rattle.ring_frames.specs.Answers.{KeepsPayloads};
     ghost use Rattle.ring_frames.specs.Phases.{told};
-    ghost use Rattle.ring_shared.specs.Calls.{IsWriter, MakesSome};
+    ghost use Rattle.ring_shared.specs.Calls.{MakesSome};
     ghost use Rattle.ring_shared.specs.Nearer.{IsNearer};
+    ghost use Rattle.ring_shared.specs.Promises.{HasFrame};
 
     /// A store of the number of begun fills: the page to open is taken from its home, and is the tail from now on.
     #[inline(always)]
     pub(crate) fn open_fill(&mut self, noted: u64, page: u16) -> Turned
-        requires writer { IsWriter self.old }
-        requires top { self.old.frames.stack.frames ≢ [] }
+        requires framed { HasFrame self.old }
         requires phase { self.old.frames.phase ≡ Opening noted page }
         ensures makes { MakesSome self.old model.steps (told result) self.new }
         ensures nearer { IsNearer self.old self.new }
@@ -35,8 +35,7 @@ impl Writer {
     /// A store of the number of closed fills: the oldest open fill is closed, and its page goes home.
     #[inline(always)]
     pub(crate) fn release_fill(&mut self) -> Turned
-        requires writer { IsWriter self.old }
-        requires top { self.old.frames.stack.frames ≢ [] }
+        requires framed { HasFrame self.old }
         requires phase { self.old.frames.phase ≡ Releasing }
         ensures makes { MakesSome self.old model.steps (told result) self.new }
         ensures nearer { IsNearer self.old self.new }
@@ -54,8 +53,7 @@ impl Writer {
     /// frame closes it; else it closes what was begun meanwhile, or is gone.
     #[inline(always)]
     pub(crate) fn load_wish(&mut self) -> Turned
-        requires writer { IsWriter self.old }
-        requires top { self.old.frames.stack.frames ≢ [] }
+        requires framed { HasFrame self.old }
         requires phase { self.old.frames.phase ≡ Wishing }
         ensures makes { MakesSome self.old model.steps (told result) self.new }
         ensures nearer { IsNearer self.old self.new }

@@ -4,17 +4,17 @@ use nested_writer::WriteFault;
 use ring_frames::{Answer, Phase, Turned};
 
 impl Writer {
-    ghost use Rattle.std.specs.Prelude.{◌≡◌, ◌≢◌, []};
-    ghost use Rattle.trace_model.specs.declared.numbers.RecordNo.{RecordNo};
+    ghost use Rattle.std.specs.Prelude.{◌≡◌, ◌≢◌};
     ghost use Rattle.trace_model.specs.Steps as model;
-    ghost use Rattle.ring_frames.specs.declared.answer.Answer.TheVariants.{Going, Reserved, Gone};
+    ghost use Rattle.ring_frames.specs.declared.answer.Answer.TheVariants.{Going};
     ghost use Rattle.ring_frames.specs.declared.phase.Phase.TheVariants.{Idle};
-    ghost use Rattle.ring_frames.specs.Answers.{KeepsPayloads, ZerosSlot};
+    ghost use Rattle.ring_frames.specs.Answers.{KeepsPayloads};
     ghost use Rattle.ring_frames.specs.Phases.{told};
     ghost use Rattle.ring_shared.specs.Value.{SameWriter};
     ghost use Rattle.ring_shared.specs.Calls.{IsWriter, MakesSome};
     ghost use Rattle.ring_shared.specs.Nearer.{IsNearer};
-    ghost use Rattle.ring_shared.specs.Rooms.{rooms, IsOneMore};
+    ghost use Rattle.ring_shared.specs.Rooms.{rooms};
+    ghost use Rattle.ring_shared.specs.Promises.{HasFrame, KeepsSlots};
 
     /// One step of the frame on top, in its phase: a step on one word, or one that touches none. `Going` while it is on
     /// the stack and has reserved nothing or has left; `Reserved` with its record's number, whose slot holds only zeros
@@ -25,11 +25,8 @@ impl Writer {
         requires writer { IsWriter self.old }
         ensures makes { MakesSome self.old model.steps result self.new }
         ensures nearer { IsNearer self.old self.new }
-        ensures payloads { KeepsPayloads self.old.frames.stack self.new.frames.stack }
-        ensures zeros { ZerosSlot self.old.frames.stack result self.new.frames.stack }
+        ensures slots { KeepsSlots self.old result self.new }
         ensures going { result ≡ Going → rooms self.new ≡ rooms self.old }
-        ensures room { (number : RecordNo) → result ≡ Reserved number → rooms self.new ≡ rooms self.old }
-        ensures gone { result ≡ Gone → IsOneMore (rooms self.old) (rooms self.new) }
         ensures ring { SameWriter self.old self.new }
         ensures writer { IsWriter self.new }
     {
@@ -46,8 +43,7 @@ impl Writer {
     /// One step of the frame on top, which has more to do at the words. It is called rarely.
     #[inline(never)]
     fn turn(&mut self) -> Turned
-        requires writer { IsWriter self.old }
-        requires top { self.old.frames.stack.frames ≢ [] }
+        requires framed { HasFrame self.old }
         requires busy { self.old.frames.phase ≢ Idle }
         ensures makes { MakesSome self.old model.steps (told result) self.new }
         ensures nearer { IsNearer self.old self.new }

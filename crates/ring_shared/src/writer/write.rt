@@ -14,6 +14,7 @@ impl Writer {
     ghost use Rattle.ring_frames.specs.Answers.{KeepsPayloads};
     ghost use Rattle.ring_shared.specs.Covering.{CoversPayloads, KeepsCovered};
     ghost use Rattle.ring_shared.specs.Rooms.{rooms};
+    ghost use Rattle.ring_shared.specs.Promises.{KeepsWriter};
     ghost use Rattle.ring_shared.specs.WholeWrites.{IsWritten, IsRefusedWrite, IsReserved, EndsRecord};
 
     /// Writes a record of this moment and payload in one call: what `begin`, `finish_top`, the payload's copy into what
@@ -25,10 +26,8 @@ impl Writer {
         ensures written { result ≡ Ok tt → IsWritten self.old.shape self.old.part moment payload.now self.new.part }
         ensures refused { (fault : WriteFault) → result ≡ Err fault
             → IsRefusedWrite self.old.shape self.old.part moment (length payload.now) fault self.new.part }
-        ensures payloads { KeepsPayloads self.old.frames.stack self.new.frames.stack }
         ensures rooms { rooms self.new ≡ rooms self.old }
-        ensures ring { SameWriter self.old self.new }
-        ensures writer { IsWriter self.new }
+        ensures keeps { KeepsWriter self.old self.new }
     {
         let Wrote::Record = self.frames.write(moment, payload) else {
             return self.write_by_steps(moment, payload);
@@ -53,9 +52,7 @@ impl Writer {
         ensures written { result ≡ Ok tt → IsWritten self.old.shape self.old.part moment payload.now self.new.part }
         ensures refused { (fault : WriteFault) → result ≡ Err fault
             → IsRefusedWrite self.old.shape self.old.part moment (length payload.now) fault self.new.part }
-        ensures payloads { KeepsPayloads self.old.frames.stack self.new.frames.stack }
-        ensures ring { SameWriter self.old self.new }
-        ensures writer { IsWriter self.new }
+        ensures keeps { KeepsWriter self.old self.new }
     {
         let slot = self.reserve_record(moment, payload.len())?;
         put_padded(self.top_mut()?, payload);

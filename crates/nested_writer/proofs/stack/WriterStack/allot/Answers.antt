@@ -1,16 +1,30 @@
-use Rattle.std.proofs.Common.{◌∷◌, [], ◌++◌}
-use Rattle.trace_model.specs.History.{reserve}
+use Rattle.std.proofs.Common.{rules, Ok}
+use Rattle.nested_writer.specs.declared.stack.allot.Allot.TheVariants.{Fits}
+use Rattle.nested_writer.specs.Stack.{Stack}
+use Rattle.nested_writer.specs.Allotted.{IsAllotted}
 use Rattle.nested_writer.proofs.Allotting.{plain_after}
 use Rattle.nested_writer.proofs.Answering.{plain_answer}
-use Rattle.nested_writer.specs.IsStack.{Stands}
+use Rattle.nested_writer.proofs.Staying.{allotted_stays}
 use Rattle.nested_writer.proofs.stack.WriterStack.allot.Goals as goal
 
-pub returns-clause-after : goal.returns-clause-after
-returns-clause-after c = plain_after c.args.self.now c.hold_plain.new.self c.in-Some.pushed c.hold_plain.result.place c.in-Some.ensures c.hold_plain.ensures.reserved c.hold_plain.ensures.stack
-
-pub returns-clause-stays : goal.returns-clause-stays
-unfolding Stands
-returns-clause-stays c = let (start, history, k) = c.requires.stack in (start, history ++ reserve ∷ [], c.hold_plain.ensures.stack start history k)
-
-pub returns-clause-answered : goal.returns-clause-answered
-returns-clause-answered c = λ start history k. plain_answer start history c.args.self.now k c.in-Some.pushed c.hold_plain.result.place c.in-Some.ensures
+pub returns : goal.returns
+returns c =
+    let s : Stack = c.args.self.now in
+    let place = c.hold_plain.result.place in
+    let after : IsAllotted s s.frames (Ok (Fits place)) c.hold_plain.new.self = plain_after s c.hold_plain.new.self c.in-Some.pushed place c.in-Some.ensures c.hold_plain.ensures.reserved c.hold_plain.ensures.stack in
+    record {
+      crowded = search rules;
+      worn = search rules;
+      no_frame = search rules;
+      not_reserved = search rules;
+      needs_page = search rules;
+      after = after;
+      stays = allotted_stays s c.hold_plain.new.self (Ok (Fits place)) after c.requires.stack;
+      answered = λ start history k. plain_answer start history s k c.in-Some.pushed place c.in-Some.ensures;
+      kept = search rules;
+      fits = search rules;
+      page = search rules;
+      next = search rules;
+      same = search rules;
+      refused = search rules;
+    }

@@ -1,25 +1,55 @@
-use Rattle.std.proofs.Common.{◌≡◌, ◌∷◌, [], ◌++◌, Option, refl, sym, ap, ◌∙◌, rules}
+use Rattle.std.proofs.Common.{rules, ◌≡◌, ◌∷◌, Option, Ok, refl, sym, ap, ◌∙◌}
+use Rattle.nested_writer.specs.declared.stack.allot.Allot.TheVariants.{Fits}
 use Rattle.nested_writer.specs.declared.frame.Frame.{Frame}
 use Rattle.nested_writer.specs.declared.frame.Purpose.TheVariants.{Record}
 use Rattle.nested_writer.specs.declared.frame.Progress.TheVariants.{Waiting}
 use Rattle.nested_writer.specs.Stack.{Stack}
 use Rattle.nested_writer.specs.Inside.{frames_from}
+use Rattle.nested_writer.specs.Allotted.{IsAllotted}
 use Rattle.nested_writer.proofs.Answering.{fits_answer}
-use Rattle.trace_model.specs.History.{reserve}
 use Rattle.nested_writer.proofs.Staying.{allotted_stays}
-use Rattle.nested_writer.specs.IsStack.{Stands}
 use Rattle.nested_writer.proofs.stack.WriterStack.allot_any.Goals as goal
 
-pub returns-then-self-end-clause-stays : goal.returns-then-self-end-clause-stays
-returns-then-self-end-clause-stays c = allotted_stays c.args.self.now c.note_need.new.self c.note_need.result c.note_need.ensures.after c.requires.stack
-
-pub returns-clause-stays : goal.returns-clause-stays
-unfolding Stands
-returns-clause-stays c = let (start, history, k) = c.requires.stack in (start, history ++ reserve ∷ [], c.reserve_any.ensures.stack start history k)
-
-pub returns-clause-answered : goal.returns-clause-answered
-returns-clause-answered c = λ start history k.
+pub returns-then-self-end : goal.returns-then-self-end
+returns-then-self-end c =
     let s : Stack = c.args.self.now in
+    record {
+      crowded = search rules;
+      worn = search rules;
+      no_frame = search rules;
+      not_reserved = search rules;
+      needs_page = search rules;
+      after = c.note_need.ensures.after;
+      stays = allotted_stays s c.note_need.new.self c.note_need.result c.note_need.ensures.after c.requires.stack;
+      answered = c.note_need.ensures.answered;
+      kept = c.note_need.ensures.kept;
+      fits = search rules;
+      page = c.note_need.ensures.page;
+      next = c.note_need.ensures.next;
+      same = c.note_need.ensures.same;
+      refused = c.note_need.ensures.refused;
+    }
+
+pub returns : goal.returns
+returns c =
+    let s : Stack = c.args.self.now in
+    let place = c.reserve_any.result in
     let top : Frame = record { purpose = Record c.in-Some.pushed.moment c.in-Some.pushed.len; progress = Waiting c.in-Some.noted } in
     let frames : s.frames ≡ top ∷ c.self.inside.below.items = ap (λ (x : Stack). x.frames) (sym c.self.view_is) ∙ ap (λ (t : Option Frame). frames_from t c.self.inside.below.items) c.in-Some.ensures in
-    fits_answer start history s k top c.self.inside.below.items frames c.in-Some.noted c.reserve_any.result refl (search rules)
+    let after : IsAllotted s s.frames (Ok (Fits place)) c.reserve_any.new.self = search rules in
+    record {
+      crowded = search rules;
+      worn = search rules;
+      no_frame = search rules;
+      not_reserved = search rules;
+      needs_page = search rules;
+      after = after;
+      stays = allotted_stays s c.reserve_any.new.self (Ok (Fits place)) after c.requires.stack;
+      answered = λ start history k. fits_answer start history s k top c.self.inside.below.items frames c.in-Some.noted place refl (search rules);
+      kept = search rules;
+      fits = search rules;
+      page = search rules;
+      next = search rules;
+      same = search rules;
+      refused = search rules;
+    }

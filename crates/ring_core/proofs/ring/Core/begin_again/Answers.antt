@@ -8,6 +8,7 @@ use Rattle.ring_core.proofs.Privately.{made_privately}
 use Rattle.ring_core.proofs.ring.Core.begin_again.Goals as goal
 
 pub begin_again-requires-clause-shown : goal.begin_again-requires-clause-shown
+unfolding IsReachedCore
 begin_again-requires-clause-shown c =
     let (n, size, start, m, core) = subst IsReachedCore (sym c.self.view_is) c.requires.ring in
     (n, size, start, m, core.shows.frames)

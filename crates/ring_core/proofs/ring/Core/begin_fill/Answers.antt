@@ -15,6 +15,7 @@ use Rattle.ring_core.proofs.Beginning.{page_low, comes_out, begun}
 use Rattle.ring_core.proofs.ring.Core.begin_fill.Goals as goal
 
 pub index_mut-requires : goal.index_mut-requires
+unfolding IsReachedCore
 index_mut-requires c =
     let v : CoreValue = core_of c.self.inside in
     let (n, size, start, m, core) = subst IsReachedCore (sym c.self.view_is) c.requires.ring in
@@ -23,6 +24,7 @@ index_mut-requires c =
     omega (arith, page_low n size start v m core some c.args.page is, c.self.inside.homes.ok.0)
 
 pub open_fill-requires-clause-frames : goal.open_fill-requires-clause-frames
+unfolding IsReachedCore
 open_fill-requires-clause-frames c =
     let (n, size, start, m, core) = subst IsReachedCore (sym c.self.view_is) c.requires.ring in
     (n, size, start, m, record { reached = core.reached; are = core.shows.frames })
@@ -31,6 +33,7 @@ pub open_fill-requires-clause-phase : goal.open_fill-requires-clause-phase
 open_fill-requires-clause-phase c = (c.args.page, subst (λ (x : CoreValue). x.phase ≡ Opening (opened x.stack) c.args.page) (sym c.self.view_is) c.requires.phase)
 
 pub open_fill-requires-clause-size : goal.open_fill-requires-clause-size
+unfolding IsReachedCore
 open_fill-requires-clause-size c =
     let v : CoreValue = core_of c.self.inside in
     let (n, size, start, m, core) = subst IsReachedCore (sym c.self.view_is) c.requires.ring in
@@ -50,6 +53,7 @@ returns-clause-makes c = λ n size start m old.
     (begun n size start v m core some c.args.page is (told c.open_fill.result) c.open_fill.new.self c.open_fill.ensures.opens)
 
 pub unreachable-requires : goal.unreachable-requires
+unfolding IsReachedCore
 unreachable-requires c =
     let v : CoreValue = core_of c.self.inside in
     let (n, size, start, m, core) = subst IsReachedCore (sym c.self.view_is) c.requires.ring in

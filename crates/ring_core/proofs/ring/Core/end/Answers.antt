@@ -8,6 +8,7 @@ use Rattle.ring_core.proofs.Privately.{made_privately}
 use Rattle.ring_core.proofs.ring.Core.end.Goals as goal
 
 pub end-requires : goal.end-requires
+unfolding IsReachedCore
 end-requires c = let (n, size, start, m, core) = subst IsReachedCore (sym c.self.view_is) c.requires.ring in record { shown = (n, size, start, m, core.shows.frames) }
 
 pub returns-clause-makes : goal.returns-clause-makes

@@ -13,7 +13,7 @@ use Rattle.ring_frames.specs.declared.phase.Role.{Role}
 use Rattle.ring_frames.specs.declared.phase.Role.TheVariants.{Helper}
 use Rattle.ring_frames.specs.Value.{role_of}
 use Rattle.ring_core.specs.Value.{CoreValue}
-use Rattle.ring_core.specs.Steps.{IsStep}
+use Rattle.ring_core.specs.Steps.{IsReachedCore, IsStep}
 use Rattle.ring_core.proofs.HeadMoves.{is_late, gone_on, says_normal, round_next, next_waits, next_passed}
 use Rattle.ring_core.proofs.ring.Core.load_next.Goals.{in-Normal, in_default, in_default-via-in-Normal+else-link-behind, in_default-via-in_default}
 use Rattle.ring_core.proofs.ring.Core.load_next.Goals as goal
@@ -25,6 +25,7 @@ begin_again-requires-clause-late c =
     (λ e. passed (e ∙ sym (ap (λ (x : CoreValue). opened x.stack) c.self.view_is)))
 
 pub overflow_sub-behind : goal.overflow_sub-behind
+unfolding IsReachedCore
 overflow_sub-behind c =
     let (n, size, start, s, core) = c.requires.ring in
     let round = round_next n size start c.args.self.now s core c.requires.top c.args.role c.args.noted c.args.page c.requires.phase in

@@ -1,4 +1,4 @@
-use Rattle.std.proofs.Common.{sym, subst}
+use Rattle.std.proofs.Common.{rules, sym, subst}
 use Rattle.trace_model.specs.Steps.{steps}
 use Rattle.ring_frames.specs.Phases.{told}
 use Rattle.ring_core.specs.Value.{CoreValue}
@@ -7,10 +7,13 @@ use Rattle.ring_core.specs.Steps.{IsReachedCore, Makes}
 use Rattle.ring_core.proofs.Privately.{looked_for_wish}
 use Rattle.ring_core.proofs.ring.Core.load_wish.Goals as goal
 
-pub load_wish-requires-clause-frames : goal.load_wish-requires-clause-frames
-load_wish-requires-clause-frames c =
-    let (n, size, start, m, core) = subst IsReachedCore (sym c.self.view_is) c.requires.ring in
-    (n, size, start, m, record { reached = core.reached; are = core.shows.frames })
+pub load_wish-requires : goal.load_wish-requires
+unfolding IsReachedCore
+load_wish-requires c = record {
+  frames = let (n, size, start, m, core) = subst IsReachedCore (sym c.self.view_is) c.requires.ring in (n, size, start, m, record { reached = core.reached; are = core.shows.frames });
+  top = search rules;
+  phase = search rules;
+}
 
 pub returns-clause-makes : goal.returns-clause-makes
 returns-clause-makes c =

@@ -9,6 +9,7 @@ use Rattle.ring_frames.specs.declared.phase.Role.TheVariants.{Helper}
 use Rattle.ring_frames.specs.Value.{role_of}
 use Rattle.ring_core.specs.Value.{CoreValue}
 use Rattle.ring_core.proofs.HeadMoves.{is_late, gone_on, round_mark, mark_exchanged}
+use Rattle.ring_core.specs.Steps.{IsReachedCore}
 use Rattle.ring_core.proofs.ring.Core.mark_head.Goals as goal
 
 pub begin_again-requires-clause-late : goal.begin_again-requires-clause-late
@@ -18,6 +19,7 @@ begin_again-requires-clause-late c =
     (λ e. passed (e ∙ sym (ap (λ (x : CoreValue). opened x.stack) c.self.view_is)))
 
 pub overflow_sub-behind : goal.overflow_sub-behind
+unfolding IsReachedCore
 overflow_sub-behind c =
     let (n, size, start, s, core) = c.requires.ring in
     let round = round_mark n size start c.args.self.now s core c.requires.top c.args.role c.args.noted c.args.page c.args.next c.requires.phase in

@@ -3,7 +3,7 @@ use Rattle.ring_core.proofs.NewCores.{new_core}
 use Rattle.ring_core.proofs.ring.Core.new_at.Goals as goal
 
 pub returns : goal.returns
-returns c = new_core c.args.pages c.args.size c.args.start c.in_ok-links.links.items _ c.requires.pages c.requires.start record {
+returns c = new_core c.args.pages c.args.size c.args.start c.in_ok-links.links.items _ c.requires.limits.some_pages c.requires.start record {
   frames = c.in_ok-frames.ensures;
   links_are = refl;
   positions = c.in_ok-links.ensures.pages;

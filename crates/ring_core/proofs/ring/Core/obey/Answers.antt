@@ -1,23 +1,49 @@
-use Rattle.std.proofs.Common.{sym, subst}
+use Rattle.std.proofs.Common.{rules, sym, subst}
 use Rattle.ring_core.specs.declared.event.Event.{Event}
 use Rattle.ring_core.specs.Answers.{StepsTop}
 use Rattle.ring_core.proofs.Stepped.{unreserved}
 use Rattle.ring_core.proofs.TopKinds.{keeps_top, pushes_top}
+use Rattle.ring_core.specs.Steps.{IsReachedCore}
 use Rattle.ring_core.proofs.ring.Core.obey.Goals as goal
 
-pub returns-in-Push-clause-zeros : goal.returns-in-Push-clause-zeros
-returns-in-Push-clause-zeros c = unreserved c.args.self.now c.push.new.self _ c.push.result (λ e. cc) (λ e. cc) c.requires.ring c.push.ensures.makes
+pub returns-in-Push : goal.returns-in-Push
+unfolding IsReachedCore
+returns-in-Push c = record {
+  step = search rules;
+  given_back = search rules;
+  payloads = search rules;
+  zeros = unreserved c.args.self.now c.push.new.self _ c.push.result (λ e. cc) (λ e. cc) c.requires.ring c.push.ensures.makes;
+  top = subst (λ (event : Event). StepsTop event c.push.result c.args.self.now.stack c.push.new.self.stack) (sym c.in-Push.is)
+      (pushes_top c.args.self.now c.push.new.self c.in-Push.moment c.in-Push.len c.push.result c.requires.ring c.push.ensures.makes);
+}
 
-pub returns-in-PushClose-clause-zeros : goal.returns-in-PushClose-clause-zeros
-returns-in-PushClose-clause-zeros c = unreserved c.args.self.now c.push_close.new.self _ c.push_close.result (λ e. cc) (λ e. cc) c.requires.ring c.push_close.ensures.makes
+pub returns-in-PushClose : goal.returns-in-PushClose
+unfolding IsReachedCore
+returns-in-PushClose c = record {
+  step = search rules;
+  given_back = search rules;
+  payloads = search rules;
+  zeros = unreserved c.args.self.now c.push_close.new.self _ c.push_close.result (λ e. cc) (λ e. cc) c.requires.ring c.push_close.ensures.makes;
+  top = search rules;
+}
 
-pub returns-in-End-clause-zeros : goal.returns-in-End-clause-zeros
-returns-in-End-clause-zeros c = unreserved c.args.self.now c.end.new.self _ c.end.result (λ e. cc) (λ e. cc) c.requires.ring c.end.ensures.makes
+pub returns-in-End : goal.returns-in-End
+unfolding IsReachedCore
+returns-in-End c = record {
+  step = search rules;
+  given_back = search rules;
+  payloads = search rules;
+  zeros = unreserved c.args.self.now c.end.new.self _ c.end.result (λ e. cc) (λ e. cc) c.requires.ring c.end.ensures.makes;
+  top = search rules;
+}
 
-pub returns-in-Push-clause-top : goal.returns-in-Push-clause-top
-returns-in-Push-clause-top c = subst (λ (event : Event). StepsTop event c.push.result c.args.self.now.stack c.push.new.self.stack) (sym c.in-Push.is)
-    (pushes_top c.args.self.now c.push.new.self c.in-Push.moment c.in-Push.len c.push.result c.requires.ring c.push.ensures.makes)
-
-pub returns-in-Step-clause-top : goal.returns-in-Step-clause-top
-returns-in-Step-clause-top c = subst (λ (event : Event). StepsTop event c.step_top.result c.args.self.now.stack c.step_top.new.self.stack) (sym c.in-Step.is)
-    (keeps_top c.args.self.now c.step_top.new.self c.step_top.result c.requires.ring c.step_top.ensures.makes)
+pub returns-in-Step : goal.returns-in-Step
+unfolding IsReachedCore
+returns-in-Step c = record {
+  step = search rules;
+  given_back = search rules;
+  payloads = search rules;
+  zeros = search rules;
+  top = subst (λ (event : Event). StepsTop event c.step_top.result c.args.self.now.stack c.step_top.new.self.stack) (sym c.in-Step.is)
+      (keeps_top c.args.self.now c.step_top.new.self c.step_top.result c.requires.ring c.step_top.ensures.makes);
+}

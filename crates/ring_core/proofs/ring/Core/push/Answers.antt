@@ -7,6 +7,7 @@ use Rattle.ring_core.proofs.Privately.{made_privately}
 use Rattle.ring_core.proofs.ring.Core.push.Goals as goal
 
 pub push-requires : goal.push-requires
+unfolding IsReachedCore
 push-requires c = let (n, size, start, m, core) = subst IsReachedCore (sym c.self.view_is) c.requires.ring in record { shown = (n, size, start, m, core.shows.frames) }
 
 pub returns-clause-makes : goal.returns-clause-makes

@@ -7,6 +7,7 @@ use Rattle.ring_core.proofs.Privately.{made_privately}
 use Rattle.ring_core.proofs.ring.Core.push_close.Goals as goal
 
 pub push_close-requires : goal.push_close-requires
+unfolding IsReachedCore
 push_close-requires c = let (n, size, start, m, core) = subst IsReachedCore (sym c.self.view_is) c.requires.ring in record { shown = (n, size, start, m, core.shows.frames) }
 
 pub returns-clause-makes : goal.returns-clause-makes

@@ -9,11 +9,13 @@ use Rattle.ring_core.proofs.Releasing.{released}
 use Rattle.ring_core.proofs.ring.Core.release_fill.Goals as goal
 
 pub release_fill-requires-clause-frames : goal.release_fill-requires-clause-frames
+unfolding IsReachedCore
 release_fill-requires-clause-frames c =
     let (n, size, start, m, core) = subst IsReachedCore (sym c.self.view_is) c.requires.ring in
     (n, size, start, m, record { reached = core.reached; are = core.shows.frames })
 
 pub index_mut-requires : goal.index_mut-requires
+unfolding IsReachedCore
 index_mut-requires c =
     let v : CoreValue = core_of c.self.inside in
     let (n, size, start, m, core) = subst IsReachedCore (sym c.self.view_is) c.requires.ring in

@@ -8,6 +8,7 @@ use Rattle.ring_core.proofs.Privately.{made_privately}
 use Rattle.ring_core.proofs.ring.Core.reserve.Goals as goal
 
 pub reserve-requires-clause-frames : goal.reserve-requires-clause-frames
+unfolding IsReachedCore
 reserve-requires-clause-frames c =
     let (n, size, start, m, core) = subst IsReachedCore (sym c.self.view_is) c.requires.ring in
     (n, size, start, m, record { reached = core.reached; are = core.shows.frames })

@@ -4,9 +4,11 @@ use Rattle.ring_core.specs.Value.{CoreValue}
 use Rattle.ring_core.specs.IsCore.{IsCore}
 use Rattle.ring_core.proofs.Stepped.{kept_of}
 use Rattle.ring_core.proofs.ReaderSteps.{wished}
+use Rattle.ring_core.specs.Steps.{IsReachedCore}
 use Rattle.ring_core.proofs.ring.Core.store_wish.Goals as goal
 
 pub overflow_add-self : goal.overflow_add-self
+unfolding IsReachedCore
 overflow_add-self c =
     let (n, size, start, state, old) = c.requires.ring in
     let core : IsCore n size start (core_of c.self.inside) state = subst (λ (v : CoreValue). IsCore n size start v state) (sym c.self.view_is) old in

@@ -9,7 +9,7 @@ use Rattle.nested_writer.specs.Lent.{Lent, lent_bytes, with_bytes}
 use Rattle.nested_writer.specs.Lending.{IsLent, with_top}
 use Rattle.ring_frames.specs.Value.{FramesValue}
 use Rattle.ring_frames.specs.Answers.{top_bytes}
-use Rattle.ring_frames.specs.Lending.{LeavesOthers}
+use Rattle.ring_frames.specs.Lending.{LeavesOthers, LendsSlot}
 use Rattle.ring_core.specs.Value.{CoreValue, frames_of}
 use Rattle.ring_core.specs.Inside.{core_of}
 use Rattle.ring_core.specs.Lending.{FitsFrame, StaysRing, with_lent}
@@ -19,11 +19,13 @@ use Rattle.ring_core.proofs.Lent.{top_stays, lent_stays}
 use Rattle.ring_core.proofs.ring.Core.top_mut.Goals as goal
 
 pub top_mut-requires : goal.top_mut-requires
+unfolding IsReachedCore
 top_mut-requires c =
     let (n, size, start, m, core) = subst IsReachedCore (sym c.self.view_is) c.requires.ring in
     record { shown = (n, size, start, m, core.shows.frames) }
 
 pub returns : goal.returns
+unfolding IsReachedCore
 returns c =
     let v : CoreValue = core_of c.self.inside in
     let (n, size, start, s, core) = subst IsReachedCore (sym c.self.view_is) c.requires.ring in
@@ -31,18 +33,11 @@ returns c =
       rw (← c.self.view_is) refl,
       record {
         lends = tt;
-        no_frame = rw (← c.self.view_is) lends.no_frame;
-        not_reserved = rw (← c.self.view_is) lends.not_reserved;
-        held = rw (← c.self.view_is) lends.held;
-        lent = subst (λ (x : CoreValue). IfOk c.top_mut.result (λ (p : MutBor Lent). IsLent x.stack p.now)) c.self.view_is lends.lent;
+        slot = subst (λ (x : CoreValue). LendsSlot x.stack c.top_mut.result) c.self.view_is lends.slot;
         unwritten = subst (λ (x : CoreValue). IfOk c.top_mut.result (λ (p : MutBor Lent). with_lent x p.now ≡ x)) c.self.view_is
             (IfOk-weaker c.top_mut.result _ _ (λ p same. ap (λ (f : FramesValue). record v { stack = f.stack }) same) lends.unwritten);
-        len = subst (λ (x : CoreValue). (len : ℕ) → pushed_len x.stack.frames ≡ Some len → IfOk c.top_mut.result (λ (p : MutBor Lent). length (lent_bytes p.now) ≡ slot_len len)) c.self.view_is lends.len;
-        word = lends.word;
-        payload = subst (λ (x : CoreValue). IfOk c.top_mut.result (λ (p : MutBor Lent). lent_bytes p.now ≡ top_bytes x.stack x.stack.frames)) c.self.view_is lends.payload;
-        written = subst (λ (x : CoreValue). IfOk c.top_mut.result (λ (p : MutBor Lent). (part : List ℕ) → length part ≡ length (lent_bytes p.now) → top_bytes (with_top x.stack (with_bytes p.now part)) x.stack.frames ≡ part)) c.self.view_is lends.written;
         ring = subst (λ (x : CoreValue). IfOk c.top_mut.result (λ (p : MutBor Lent). (part : List ℕ) → length part ≡ length (lent_bytes p.now) → IsReachedCore (with_lent x (with_bytes p.now part)))) c.self.view_is
-            (IfOk-weaker c.top_mut.result _ _ (λ p lent part long. (n, size, start, s, lent_stays n size start v s p.now part core lent (lends.stays lent.slot lent.on_top) long)) lends.lent);
+            (IfOk-weaker c.top_mut.result _ _ (λ p lent part long. (n, size, start, s, lent_stays n size start v s p.now part core lent (lends.stays lent.slot lent.on_top) long)) lends.slot.lent);
         fits = subst (λ (x : CoreValue). (slot : Slot) → IsTopSlot x.stack.frames slot → FitsFrame x slot) c.self.view_is
             (λ slot is n' size' start' s' frame below moment long core' top kind. lends.fits slot is n' size' start' s' frame below moment long core'.shows.frames top kind);
         others = subst (λ (x : CoreValue). (slot : Slot) → IsTopSlot x.stack.frames slot → LeavesOthers x.stack slot) c.self.view_is lends.others;

@@ -26,18 +26,20 @@ returns c =
       rw (← c.self.view_is) refl,
       record {
         lends = tt;
-        no_frame = rw (← c.self.view_is) lends.no_frame;
-        not_reserved = rw (← c.self.view_is) lends.not_reserved;
-        held = rw (← c.self.view_is) lends.held;
-        lent = subst (λ (x : FramesValue). IfOk c.top_mut.result (λ (p : MutBor Lent). IsLent x.stack p.now)) c.self.view_is lends.lent;
+        slot = record {
+          no_frame = rw (← c.self.view_is) lends.no_frame;
+          not_reserved = rw (← c.self.view_is) lends.not_reserved;
+          held = rw (← c.self.view_is) lends.held;
+          lent = subst (λ (x : FramesValue). IfOk c.top_mut.result (λ (p : MutBor Lent). IsLent x.stack p.now)) c.self.view_is lends.lent;
+          len = subst (λ (x : FramesValue). (len : ℕ) → pushed_len x.stack.frames ≡ Some len → IfOk c.top_mut.result (λ (p : MutBor Lent). length (lent_bytes p.now) ≡ slot_len len)) c.self.view_is lends.fits;
+          word = lends.word;
+          payload = subst (λ (x : FramesValue). IfOk c.top_mut.result (λ (p : MutBor Lent). lent_bytes p.now ≡ top_bytes x.stack x.stack.frames)) c.self.view_is
+              (IfOk-weaker c.top_mut.result _ _ (λ p lent. top_lent n size start v s are p.now lent) lends.lent);
+          written = subst (λ (x : FramesValue). IfOk c.top_mut.result (λ (p : MutBor Lent). (part : List ℕ) → length part ≡ length (lent_bytes p.now) → top_bytes (with_top x.stack (with_bytes p.now part)) x.stack.frames ≡ part)) c.self.view_is
+              (IfOk-weaker c.top_mut.result _ _ (λ p lent. top_written n size start v s are p.now lent) lends.lent);
+        };
         unwritten = subst (λ (x : FramesValue). IfOk c.top_mut.result (λ (p : MutBor Lent). with_lent x p.now ≡ x)) c.self.view_is
             (IfOk-weaker c.top_mut.result _ _ (λ p same. ap (λ (s' : Stack). record v { stack = s' }) same) lends.unwritten);
-        len = subst (λ (x : FramesValue). (len : ℕ) → pushed_len x.stack.frames ≡ Some len → IfOk c.top_mut.result (λ (p : MutBor Lent). length (lent_bytes p.now) ≡ slot_len len)) c.self.view_is lends.fits;
-        word = lends.word;
-        payload = subst (λ (x : FramesValue). IfOk c.top_mut.result (λ (p : MutBor Lent). lent_bytes p.now ≡ top_bytes x.stack x.stack.frames)) c.self.view_is
-            (IfOk-weaker c.top_mut.result _ _ (λ p lent. top_lent n size start v s are p.now lent) lends.lent);
-        written = subst (λ (x : FramesValue). IfOk c.top_mut.result (λ (p : MutBor Lent). (part : List ℕ) → length part ≡ length (lent_bytes p.now) → top_bytes (with_top x.stack (with_bytes p.now part)) x.stack.frames ≡ part)) c.self.view_is
-            (IfOk-weaker c.top_mut.result _ _ (λ p lent. top_written n size start v s are p.now lent) lends.lent);
         fits = subst (λ (x : FramesValue). (slot : Slot) → IsTopSlot x.stack.frames slot → FitsFrame x slot) c.self.view_is
             (λ slot is n' size' start' s' frame below moment long are' top kind. slot_fits n' size' start' v s' are' slot is frame below moment long top kind);
         others = subst (λ (x : FramesValue). (slot : Slot) → IsTopSlot x.stack.frames slot → LeavesOthers x.stack slot) c.self.view_is

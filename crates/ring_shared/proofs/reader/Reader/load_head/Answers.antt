@@ -1,4 +1,4 @@
-use Rattle.std.proofs.Common.{◌≡◌, ℕ, ◌+◌, ◌-◌, ◌≤◌, length, refl, sym, ap, ◌∙◌, subst, arith}
+use Rattle.std.proofs.Common.{rules, ◌≡◌, ℕ, ◌+◌, ◌-◌, ◌≤◌, length, refl, sym, ap, ◌∙◌, subst, arith}
 use Rattle.trace_model.specs.Ring as ring
 use Rattle.trace_model.specs.Steps as model
 use Rattle.link_marks.specs.declared.link.Link.{Link}
@@ -25,99 +25,72 @@ sent_away v after reader fill s taken expected seen hint low =
       passed = passed_below_hint v.shape after fill hint_is;
     }
 
-pub returns-in-Header-clause-turn : goal.returns-in-Header-clause-turn
-returns-in-Header-clause-turn c =
-    let v : ReaderValue = c.args.self.now in let l : Link = c.load_head-mark.result in let after : Reading = reading_in c.load_head-mark.new.self in
+pub returns-in-Header : goal.returns-in-Header
+returns-in-Header c =
+    let v : ReaderValue = c.args.self.now in
+    let l : Link = c.load_head-mark.result in
+    let after : Reading = reading_in c.load_head-mark.new.self in
     let read = subst (λ (w : ReaderValue). IsRead w.shape w.part (SeesLink w l) after) c.self.view_is c.load_head-mark.ensures.step in
-    let at = c.requires.reader.phase_is ∙ ap reader_phase_of c.requires.phase in
-    let (s, low) = at_header v l after read at c.in-Header.is in
-    (refl, nothing v.shape v.part after (record v.part.reader { phase = ring.loading_done l.page l.fill; hint = l.fill }) s refl refl low (omega arith))
+    let at = c.requires.taking.reader.phase_is ∙ ap reader_phase_of c.requires.phase in
+    record {
+      turn = let (s, low) = at_header v l after read at c.in-Header.is in (refl, nothing v.shape v.part after (record v.part.reader { phase = ring.loading_done l.page l.fill; hint = l.fill }) s refl refl low (omega arith));
+      answered = record { told = model.reading; step = header_answers_so v l after read at c.in-Header.is; tells = refl };
+      empty = search rules;
+      empty_at = search rules;
+      ring = search rules;
+      reader = let new = c.load_head-mark.new.self in let old = fields _ v c.self.view_is c.requires.taking.reader in shown _ v c.self.view_is c.requires.taking.reader new.shape (reader_table new) after (record v.part.reader { phase = ring.loading_done l.page l.fill; hint = l.fill }) _ c.requires.taking.again c.load_head-mark.ensures.same.shape
+          (at_header v l after read at c.in-Header.is).0 (refl, refl, old.2, old.3) c.load_head-mark.ensures.spare c.load_head-mark.ensures.fits.page_fits;
+    }
 
-pub returns-in-Header-clause-reader : goal.returns-in-Header-clause-reader
-returns-in-Header-clause-reader c =
-    let v : ReaderValue = c.args.self.now in let l : Link = c.load_head-mark.result in let new = c.load_head-mark.new.self in let after : Reading = reading_in new in
+pub returns-in-Update : goal.returns-in-Update
+returns-in-Update c =
+    let v : ReaderValue = c.args.self.now in
+    let l : Link = c.load_head-mark.result in
+    let after : Reading = reading_in c.load_head-mark.new.self in
     let read = subst (λ (w : ReaderValue). IsRead w.shape w.part (SeesLink w l) after) c.self.view_is c.load_head-mark.ensures.step in
-    let at = c.requires.reader.phase_is ∙ ap reader_phase_of c.requires.phase in
-    let old = fields _ v c.self.view_is c.requires.reader in
-    shown _ v c.self.view_is c.requires.reader new.shape (reader_table new) after (record v.part.reader { phase = ring.loading_done l.page l.fill; hint = l.fill }) _ c.requires.again c.load_head-mark.ensures.shape
-    (at_header v l after read at c.in-Header.is).0 (refl, refl, old.2, old.3) c.load_head-mark.ensures.spare c.load_head-mark.ensures.fits.page_fits
+    let at = c.requires.taking.reader.phase_is ∙ ap reader_phase_of c.requires.phase in
+    record {
+      turn = let (s, low) = at_update v l after read at c.in-Update.is in (refl, sent_away v after (record v.part.reader { phase = ring.loading_link; hint = l.fill + 1 }) (l.fill + 1) s refl refl refl refl low);
+      answered = record { told = model.moving (l.fill + 1); step = update_answers_so v l after read at c.in-Update.is; tells = refl };
+      empty = search rules;
+      empty_at = search rules;
+      ring = search rules;
+      reader = let new = c.load_head-mark.new.self in let old = fields _ v c.self.view_is c.requires.taking.reader in let link : c.self.inside.at.phase ≡ LoadingLink = ap (λ (w : ReaderValue). w.at.phase) c.self.view_is ∙ c.requires.phase in shown _ v c.self.view_is c.requires.taking.reader new.shape (reader_table new) after (record v.part.reader { phase = ring.loading_link; hint = l.fill + 1 }) _ c.requires.taking.again c.load_head-mark.ensures.same.shape
+          (at_update v l after read at c.in-Update.is).0 (ap reader_phase_of (sym link), refl, old.2, old.3) (subst (λ (p : ReaderPhase). KeepsSlot p after.keeps_spare) (sym link) tt) (subst SawPage (sym link) tt);
+    }
 
-pub returns-in-Update-clause-turn : goal.returns-in-Update-clause-turn
-returns-in-Update-clause-turn c =
-    let v : ReaderValue = c.args.self.now in let l : Link = c.load_head-mark.result in let after : Reading = reading_in c.load_head-mark.new.self in
+pub returns-in-Normal : goal.returns-in-Normal
+returns-in-Normal c =
+    let v : ReaderValue = c.args.self.now in
+    let l : Link = c.load_head-mark.result in
+    let after : Reading = reading_in c.load_head-mark.new.self in
     let read = subst (λ (w : ReaderValue). IsRead w.shape w.part (SeesLink w l) after) c.self.view_is c.load_head-mark.ensures.step in
-    let at = c.requires.reader.phase_is ∙ ap reader_phase_of c.requires.phase in
-    let (s, low) = at_update v l after read at c.in-Update.is in
-    (refl, sent_away v after (record v.part.reader { phase = ring.loading_link; hint = l.fill + 1 }) (l.fill + 1) s refl refl refl refl low)
+    let at = c.requires.taking.reader.phase_is ∙ ap reader_phase_of c.requires.phase in
+    let hint = (fields _ v c.self.view_is c.requires.taking.reader).1 in
+    record {
+      turn = let s = at_owed v l after read at c.in-Normal.is (c.if-fill-hint.true ∙ sym hint) in (refl, sent_away v after v.part.reader c.self.inside.at.hint s refl refl refl hint (omega arith));
+      answered = record { told = model.moving v.part.reader.hint; step = owed_answers_so v l after read at c.in-Normal.is (c.if-fill-hint.true ∙ sym hint); tells = ap model.moving hint };
+      empty = search rules;
+      empty_at = search rules;
+      ring = search rules;
+      reader = search rules;
+    }
 
-pub returns-in-Update-clause-reader : goal.returns-in-Update-clause-reader
-returns-in-Update-clause-reader c =
-    let v : ReaderValue = c.args.self.now in let l : Link = c.load_head-mark.result in let new = c.load_head-mark.new.self in let after : Reading = reading_in new in
+pub returns-in-Normal-2 : goal.returns-in-Normal-2
+returns-in-Normal-2 c =
+    let v : ReaderValue = c.args.self.now in
+    let l : Link = c.load_head-mark.result in
+    let after : Reading = reading_in c.load_head-mark.new.self in
     let read = subst (λ (w : ReaderValue). IsRead w.shape w.part (SeesLink w l) after) c.self.view_is c.load_head-mark.ensures.step in
-    let at = c.requires.reader.phase_is ∙ ap reader_phase_of c.requires.phase in
-    let old = fields _ v c.self.view_is c.requires.reader in
-    let link : c.self.inside.at.phase ≡ LoadingLink = ap (λ (w : ReaderValue). w.at.phase) c.self.view_is ∙ c.requires.phase in
-    shown _ v c.self.view_is c.requires.reader new.shape (reader_table new) after (record v.part.reader { phase = ring.loading_link; hint = l.fill + 1 }) _ c.requires.again c.load_head-mark.ensures.shape
-    (at_update v l after read at c.in-Update.is).0 (ap reader_phase_of (sym link), refl, old.2, old.3) (subst (λ (p : ReaderPhase). KeepsSlot p after.keeps_spare) (sym link) tt) (subst SawPage (sym link) tt)
-
-pub returns-in-Normal-clause-turn : goal.returns-in-Normal-clause-turn
-returns-in-Normal-clause-turn c =
-    let v : ReaderValue = c.args.self.now in let l : Link = c.load_head-mark.result in let after : Reading = reading_in c.load_head-mark.new.self in
-    let read = subst (λ (w : ReaderValue). IsRead w.shape w.part (SeesLink w l) after) c.self.view_is c.load_head-mark.ensures.step in
-    let at = c.requires.reader.phase_is ∙ ap reader_phase_of c.requires.phase in
-    let hint = (fields _ v c.self.view_is c.requires.reader).1 in
-    let s = at_owed v l after read at c.in-Normal.is (c.if-fill-hint.true ∙ sym hint) in
-    (refl, sent_away v after v.part.reader c.self.inside.at.hint s refl refl refl hint (omega arith))
-
-pub returns-in-Normal-2-clause-turn : goal.returns-in-Normal-2-clause-turn
-returns-in-Normal-2-clause-turn c =
-    let v : ReaderValue = c.args.self.now in let l : Link = c.load_head-mark.result in let after : Reading = reading_in c.load_head-mark.new.self in
-    let read = subst (λ (w : ReaderValue). IsRead w.shape w.part (SeesLink w l) after) c.self.view_is c.load_head-mark.ensures.step in
-    let at = c.requires.reader.phase_is ∙ ap reader_phase_of c.requires.phase in
-    let hint = (fields _ v c.self.view_is c.requires.reader).1 in
-    let (s, low) = at_passed v l after read at c.in-Normal-2.is (λ e. c.if-fill-hint.false (e ∙ hint)) in
-    (refl, nothing v.shape v.part after (record v.part.reader { phase = ring.loading_link; hint = l.fill + 1 - v.shape.pages }) s refl refl (omega arith) (omega arith))
-
-pub returns-in-Normal-2-clause-reader : goal.returns-in-Normal-2-clause-reader
-returns-in-Normal-2-clause-reader c =
-    let v : ReaderValue = c.args.self.now in let l : Link = c.load_head-mark.result in let new = c.load_head-mark.new.self in let after : Reading = reading_in new in
-    let read = subst (λ (w : ReaderValue). IsRead w.shape w.part (SeesLink w l) after) c.self.view_is c.load_head-mark.ensures.step in
-    let at = c.requires.reader.phase_is ∙ ap reader_phase_of c.requires.phase in
-    let old = fields _ v c.self.view_is c.requires.reader in
-    let link : c.self.inside.at.phase ≡ LoadingLink = ap (λ (w : ReaderValue). w.at.phase) c.self.view_is ∙ c.requires.phase in
-    let pages : c.len-pages.result ≡ v.shape.pages = c.len-pages.ensures ∙ (c.self.inside.order.ok.0 ∙ (ap (λ (w : ReaderValue). length w.order) c.self.view_is ∙ positions v c.requires.reader)) in
-    shown _ v c.self.view_is c.requires.reader new.shape (reader_table new) after (record v.part.reader { phase = ring.loading_link; hint = l.fill + 1 - v.shape.pages }) _ c.requires.again c.load_head-mark.ensures.shape
-    (at_passed v l after read at c.in-Normal-2.is (λ e. c.if-fill-hint.false (e ∙ old.1))).0
-    (ap reader_phase_of (sym link), ap (λ (n : ℕ). l.fill + 1 - n) (sym pages), old.2, old.3) (subst (λ (p : ReaderPhase). KeepsSlot p after.keeps_spare) (sym link) tt) (subst SawPage (sym link) tt)
-
--- ---- what the model answers
-
-pub returns-in-Header-clause-answered : goal.returns-in-Header-clause-answered
-returns-in-Header-clause-answered c =
-    let v : ReaderValue = c.args.self.now in let l : Link = c.load_head-mark.result in let after : Reading = reading_in c.load_head-mark.new.self in
-    let read = subst (λ (w : ReaderValue). IsRead w.shape w.part (SeesLink w l) after) c.self.view_is c.load_head-mark.ensures.step in
-    let at = c.requires.reader.phase_is ∙ ap reader_phase_of c.requires.phase in
-    record { told = model.reading; step = header_answers_so v l after read at c.in-Header.is; tells = refl }
-
-pub returns-in-Update-clause-answered : goal.returns-in-Update-clause-answered
-returns-in-Update-clause-answered c =
-    let v : ReaderValue = c.args.self.now in let l : Link = c.load_head-mark.result in let after : Reading = reading_in c.load_head-mark.new.self in
-    let read = subst (λ (w : ReaderValue). IsRead w.shape w.part (SeesLink w l) after) c.self.view_is c.load_head-mark.ensures.step in
-    let at = c.requires.reader.phase_is ∙ ap reader_phase_of c.requires.phase in
-    record { told = model.moving (l.fill + 1); step = update_answers_so v l after read at c.in-Update.is; tells = refl }
-
-pub returns-in-Normal-clause-answered : goal.returns-in-Normal-clause-answered
-returns-in-Normal-clause-answered c =
-    let v : ReaderValue = c.args.self.now in let l : Link = c.load_head-mark.result in let after : Reading = reading_in c.load_head-mark.new.self in
-    let read = subst (λ (w : ReaderValue). IsRead w.shape w.part (SeesLink w l) after) c.self.view_is c.load_head-mark.ensures.step in
-    let at = c.requires.reader.phase_is ∙ ap reader_phase_of c.requires.phase in
-    let hint = (fields _ v c.self.view_is c.requires.reader).1 in
-    record { told = model.moving v.part.reader.hint; step = owed_answers_so v l after read at c.in-Normal.is (c.if-fill-hint.true ∙ sym hint); tells = ap model.moving hint }
-
-pub returns-in-Normal-2-clause-answered : goal.returns-in-Normal-2-clause-answered
-returns-in-Normal-2-clause-answered c =
-    let v : ReaderValue = c.args.self.now in let l : Link = c.load_head-mark.result in let after : Reading = reading_in c.load_head-mark.new.self in
-    let read = subst (λ (w : ReaderValue). IsRead w.shape w.part (SeesLink w l) after) c.self.view_is c.load_head-mark.ensures.step in
-    let at = c.requires.reader.phase_is ∙ ap reader_phase_of c.requires.phase in
-    let hint = (fields _ v c.self.view_is c.requires.reader).1 in
-    record { told = model.reading; step = passed_answers_so v l after read at c.in-Normal-2.is (λ e. c.if-fill-hint.false (e ∙ hint)); tells = refl }
+    let at = c.requires.taking.reader.phase_is ∙ ap reader_phase_of c.requires.phase in
+    let hint = (fields _ v c.self.view_is c.requires.taking.reader).1 in
+    record {
+      turn = let (s, low) = at_passed v l after read at c.in-Normal-2.is (λ e. c.if-fill-hint.false (e ∙ hint)) in (refl, nothing v.shape v.part after (record v.part.reader { phase = ring.loading_link; hint = l.fill + 1 - v.shape.pages }) s refl refl (omega arith) (omega arith));
+      answered = record { told = model.reading; step = passed_answers_so v l after read at c.in-Normal-2.is (λ e. c.if-fill-hint.false (e ∙ hint)); tells = refl };
+      empty = search rules;
+      empty_at = search rules;
+      ring = search rules;
+      reader = let new = c.load_head-mark.new.self in let old = fields _ v c.self.view_is c.requires.taking.reader in let link : c.self.inside.at.phase ≡ LoadingLink = ap (λ (w : ReaderValue). w.at.phase) c.self.view_is ∙ c.requires.phase in let pages : c.len-pages.result ≡ v.shape.pages = c.len-pages.ensures ∙ (c.self.inside.order.ok.0 ∙ (ap (λ (w : ReaderValue). length w.order) c.self.view_is ∙ positions v c.requires.taking.reader)) in shown _ v c.self.view_is c.requires.taking.reader new.shape (reader_table new) after (record v.part.reader { phase = ring.loading_link; hint = l.fill + 1 - v.shape.pages }) _ c.requires.taking.again c.load_head-mark.ensures.same.shape
+          (at_passed v l after read at c.in-Normal-2.is (λ e. c.if-fill-hint.false (e ∙ old.1))).0
+          (ap reader_phase_of (sym link), ap (λ (n : ℕ). l.fill + 1 - n) (sym pages), old.2, old.3) (subst (λ (p : ReaderPhase). KeepsSlot p after.keeps_spare) (sym link) tt) (subst SawPage (sym link) tt);
+    }

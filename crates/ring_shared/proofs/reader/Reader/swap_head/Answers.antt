@@ -17,69 +17,51 @@ use Rattle.ring_shared.proofs.Swapped.{takes, misses, swap_answers, miss_answers
 use Rattle.ring_shared.proofs.reader.Reader.swap_head.Goals as goal
 
 pub swap_head-swapped-requires-clause-fits : goal.swap_head-swapped-requires-clause-fits
-swap_head-swapped-requires-clause-fits c = subst SawPage c.requires.phase c.requires.reader.saw
+swap_head-swapped-requires-clause-fits c = subst SawPage c.requires.phase c.requires.taking.reader.saw
 
-pub returns-in-Ok-clause-turn : goal.returns-in-Ok-clause-turn
-returns-in-Ok-clause-turn c =
-    let v : ReaderValue = c.args.self.now in let after : Reading = reading_in c.swap_head-swapped.new.self in let taken : Contents = c.in-Ok.taken in
+pub returns-in-Ok : goal.returns-in-Ok
+returns-in-Ok c =
+    let v : ReaderValue = c.args.self.now in
+    let after : Reading = reading_in c.swap_head-swapped.new.self in
+    let taken : Contents = c.in-Ok.taken in
     let h = subst (λ (w : ReaderValue). HeadTaken w.shape w.part c.args.page c.args.fill taken after) c.self.view_is c.in-Ok.ensures.taken in
-    let at = c.requires.reader.phase_is ∙ ap reader_phase_of c.requires.phase in
-    let old = fields _ v c.self.view_is c.requires.reader in
-    subst (λ (missed : ℕ). IsPageTaken v.shape v.part taken missed after) (λ i. sym c.first-first.ensures i - old.3 i) (takes v.shape v.part c.args.page c.args.fill after at taken (search rules) h).1
-
-pub returns-in-Ok-clause-reader : goal.returns-in-Ok-clause-reader
-returns-in-Ok-clause-reader c =
-    let v : ReaderValue = c.args.self.now in let new = c.swap_head-swapped.new.self in let after : Reading = reading_in new in let taken : Contents = c.in-Ok.taken in
-    let h = subst (λ (w : ReaderValue). HeadTaken w.shape w.part c.args.page c.args.fill taken after) c.self.view_is c.in-Ok.ensures.taken in
-    let at = c.requires.reader.phase_is ∙ ap reader_phase_of c.requires.phase in
-    let old = fields _ v c.self.view_is c.requires.reader in
-    let order = c.requires.reader.order_is ∙ ap (λ (w : ReaderValue). w.order) (sym c.self.view_is) in
-    let spare = c.requires.reader.spare_is ∙ ap (λ (w : ReaderValue). w.spare) (sym c.self.view_is) in
-    let pages : c.len-pages.result ≡ v.shape.pages = c.len-pages.ensures ∙ (c.self.inside.order.ok.0 ∙ (ap (λ (w : ReaderValue). length w.order) c.self.view_is ∙ positions v c.requires.reader)) in
-    let known = (takes v.shape v.part c.args.page c.args.fill after at taken (search rules) h).0 in
+    let at = c.requires.taking.reader.phase_is ∙ ap reader_phase_of c.requires.phase in
+    let old = fields _ v c.self.view_is c.requires.taking.reader in
     record {
-      part = subst (λ (x : Shape). IsReaderPart x after) (sym (c.swap_head-swapped.ensures.shape ∙ ap (λ (w : ReaderValue). w.shape) c.self.view_is)) known;
-      order_is = h.order_is ∙ (λ i. slice_set (order i) (c.args.fill % sym pages i) (spare i));
-      spare_is = h.spare_is;
-      phase_is = ap (λ (x : ring.Reader). x.phase) h.reader_is;
-      hint_is = ap (λ (x : ring.Reader). x.hint) h.reader_is;
-      seen_is = ap (λ (x : ring.Reader). x.seen) h.reader_is ∙ old.2;
-      expected_is = ap (λ (x : ring.Reader). x.expected) h.reader_is ∙ (λ i. sym c.first-first.ensures i + sym c.count.ensures.count i);
-      keeps = tt;
-      saw = tt;
-      empty = λ done e. (let none : c.self.inside.empty_at ≡ None = ap (λ (w : ReaderValue). w.empty_at) c.self.view_is ∙ c.requires.again in let both = sym none ∙ e in absurd (cc));
+      turn = subst (λ (missed : ℕ). IsPageTaken v.shape v.part taken missed after) (λ i. sym c.first-first.ensures i - old.3 i) (takes v.shape v.part c.args.page c.args.fill after at taken (search rules) h).1;
+      answered = subst (λ (missed : ℕ). IsAnswered v.shape v.part (Done (Page taken missed)) after) (λ i. sym c.first-first.ensures i - old.3 i) (swap_answers v.shape v.part c.args.page c.args.fill after taken h);
+      empty = search rules;
+      empty_at = search rules;
+      ring = search rules;
+      reader = let new = c.swap_head-swapped.new.self in let order = c.requires.taking.reader.order_is ∙ ap (λ (w : ReaderValue). w.order) (sym c.self.view_is) in let spare = c.requires.taking.reader.spare_is ∙ ap (λ (w : ReaderValue). w.spare) (sym c.self.view_is) in let pages : c.len-pages.result ≡ v.shape.pages = c.len-pages.ensures ∙ (c.self.inside.order.ok.0 ∙ (ap (λ (w : ReaderValue). length w.order) c.self.view_is ∙ positions v c.requires.taking.reader)) in let known = (takes v.shape v.part c.args.page c.args.fill after at taken (search rules) h).0 in record {
+            part = subst (λ (x : Shape). IsReaderPart x after) (sym (c.swap_head-swapped.ensures.same.shape ∙ ap (λ (w : ReaderValue). w.shape) c.self.view_is)) known;
+            order_is = h.order_is ∙ (λ i. slice_set (order i) (c.args.fill % sym pages i) (spare i));
+            spare_is = h.spare_is;
+            phase_is = ap (λ (x : ring.Reader). x.phase) h.reader_is;
+            hint_is = ap (λ (x : ring.Reader). x.hint) h.reader_is;
+            seen_is = ap (λ (x : ring.Reader). x.seen) h.reader_is ∙ old.2;
+            expected_is = ap (λ (x : ring.Reader). x.expected) h.reader_is ∙ (λ i. sym c.first-first.ensures i + sym c.count.ensures.count i);
+            keeps = tt;
+            saw = tt;
+            empty = λ done e. (let none : c.self.inside.empty_at ≡ None = ap (λ (w : ReaderValue). w.empty_at) c.self.view_is ∙ c.requires.taking.again in let both = sym none ∙ e in absurd (cc));
+          };
     }
 
-pub returns-in-Err-clause-turn : goal.returns-in-Err-clause-turn
-returns-in-Err-clause-turn c =
-    let v : ReaderValue = c.args.self.now in let after : Reading = reading_in c.swap_head-swapped.new.self in
+pub returns-in-Err : goal.returns-in-Err
+returns-in-Err c =
+    let v : ReaderValue = c.args.self.now in
+    let after : Reading = reading_in c.swap_head-swapped.new.self in
     let h = subst (λ (w : ReaderValue). HeadMissed w.shape w.part c.args.page c.args.fill after) c.self.view_is c.in-Err.ensures.missed in
-    let at = c.requires.reader.phase_is ∙ ap reader_phase_of c.requires.phase in
-    let (s, low) = misses v.shape v.part c.args.page c.args.fill after at h in (
-      c.in-Err.ensures.given_back,
-      nothing v.shape v.part after (record v.part.reader { phase = ring.loading_link; hint = c.args.fill + 1 }) s refl refl low (omega arith),
-    )
-
-pub returns-in-Err-clause-reader : goal.returns-in-Err-clause-reader
-returns-in-Err-clause-reader c =
-    let v : ReaderValue = c.args.self.now in let new = c.swap_head-swapped.new.self in let after : Reading = reading_in new in
-    let h = subst (λ (w : ReaderValue). HeadMissed w.shape w.part c.args.page c.args.fill after) c.self.view_is c.in-Err.ensures.missed in
-    let at = c.requires.reader.phase_is ∙ ap reader_phase_of c.requires.phase in
-    let old = fields _ v c.self.view_is c.requires.reader in
-    shown _ v c.self.view_is c.requires.reader new.shape (reader_table new) after (record v.part.reader { phase = ring.loading_link; hint = c.args.fill + 1 }) _ c.requires.again c.swap_head-swapped.ensures.shape
-    (misses v.shape v.part c.args.page c.args.fill after at h).0 (refl, refl, old.2, old.3) tt tt
-
--- ---- what the model answers
-
-pub returns-in-Ok-clause-answered : goal.returns-in-Ok-clause-answered
-returns-in-Ok-clause-answered c =
-    let v : ReaderValue = c.args.self.now in let after : Reading = reading_in c.swap_head-swapped.new.self in let taken : Contents = c.in-Ok.taken in
-    let h = subst (λ (w : ReaderValue). HeadTaken w.shape w.part c.args.page c.args.fill taken after) c.self.view_is c.in-Ok.ensures.taken in
-    let old = fields _ v c.self.view_is c.requires.reader in
-    subst (λ (missed : ℕ). IsAnswered v.shape v.part (Done (Page taken missed)) after) (λ i. sym c.first-first.ensures i - old.3 i) (swap_answers v.shape v.part c.args.page c.args.fill after taken h)
-
-pub returns-in-Err-clause-answered : goal.returns-in-Err-clause-answered
-returns-in-Err-clause-answered c =
-    let v : ReaderValue = c.args.self.now in let after : Reading = reading_in c.swap_head-swapped.new.self in
-    let h = subst (λ (w : ReaderValue). HeadMissed w.shape w.part c.args.page c.args.fill after) c.self.view_is c.in-Err.ensures.missed in
-    record { told = model.reading; step = miss_answers v.shape v.part c.args.page c.args.fill after h; tells = refl }
+    let at = c.requires.taking.reader.phase_is ∙ ap reader_phase_of c.requires.phase in
+    record {
+      turn = let (s, low) = misses v.shape v.part c.args.page c.args.fill after at h in (
+            c.in-Err.ensures.given_back,
+            nothing v.shape v.part after (record v.part.reader { phase = ring.loading_link; hint = c.args.fill + 1 }) s refl refl low (omega arith),
+          );
+      answered = record { told = model.reading; step = miss_answers v.shape v.part c.args.page c.args.fill after h; tells = refl };
+      empty = search rules;
+      empty_at = search rules;
+      ring = search rules;
+      reader = let new = c.swap_head-swapped.new.self in let old = fields _ v c.self.view_is c.requires.taking.reader in shown _ v c.self.view_is c.requires.taking.reader new.shape (reader_table new) after (record v.part.reader { phase = ring.loading_link; hint = c.args.fill + 1 }) _ c.requires.taking.again c.swap_head-swapped.ensures.same.shape
+          (misses v.shape v.part c.args.page c.args.fill after at h).0 (refl, refl, old.2, old.3) tt tt;
+    }

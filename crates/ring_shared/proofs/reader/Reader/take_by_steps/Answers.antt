@@ -9,7 +9,7 @@ use Rattle.ring_shared.proofs.Onward.{nothing_yet, nothing_more, answered, given
 use Rattle.ring_shared.proofs.reader.Reader.take_by_steps.Goals as goal
 
 pub loop-made-init : goal.loop-made-init
-loop-made-init c = record { reader = c.requires.reader; ring = (refl, refl); made = no_step; nothing = nothing_yet c.args.self.now.part; empty_at = c.requires.again; body = refl }
+loop-made-init c = record { reader = c.requires.taking.reader; ring = (refl, refl); made = no_step; nothing = nothing_yet c.args.self.now.part; empty_at = c.requires.taking.again; body = refl }
 
 pub loop-made-preserved : goal.loop-made-preserved
 loop-made-preserved c = let kept = c.loop-made.invariant in let turn = c.in-Looking.ensures.turn in record {
@@ -43,7 +43,7 @@ returns-in-Done-clause-steps c = let kept = c.loop-made.invariant in
 pub returns-clause-steps : goal.returns-clause-steps
 returns-clause-steps c = let kept = c.loop-made.invariant in
     let v : ReaderValue = c.args.self.now in
-    let pages : c.len.result ≡ v.shape.pages = c.len.ensures ∙ (c.self.inside.order.ok.0 ∙ (ap (λ (w : ReaderValue). length w.order) c.self.view_is ∙ positions v c.requires.reader)) in
+    let pages : c.len.result ≡ v.shape.pages = c.len.ensures ∙ (c.self.inside.order.ok.0 ∙ (ap (λ (w : ReaderValue). length w.order) c.self.view_is ∙ positions v c.requires.taking.reader)) in
     let all : c.loop-made.made ≡ most_steps v.shape = search rules in
     has_none record { 0 = c.self-2.inside.at.hint } c.loop-made.body
     (subst (λ (steps : ℕ). ReadsOn v.shape v.part steps c.loop-made.self.part) all kept.made)

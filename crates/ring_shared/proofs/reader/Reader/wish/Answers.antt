@@ -21,7 +21,7 @@ returns-clause-reader c =
     let old = fields _ v c.self.view_is is in
     let slot = c.store_wish.ensures.spare ∙ ap (λ (w : ReaderValue). w.part.keeps_spare) c.self.view_is in
     let phase = ap (λ (w : ReaderValue). w.at.phase) c.self.view_is in
-    shown_as _ v c.self.view_is is new.shape (reader_table new) after v.part.reader _ after.wish c.store_wish.ensures.shape s old
+    shown_as _ v c.self.view_is is new.shape (reader_table new) after v.part.reader _ after.wish c.store_wish.ensures.same.shape s old
     (subst (λ (p : ReaderPhase). KeepsSlot p after.keeps_spare) (sym phase) (subst (KeepsSlot v.at.phase) (sym slot) is.keeps))
     (subst SawPage (sym phase) is.saw)
     (λ done e. let found = is.empty done (ap (λ (w : ReaderValue). w.empty_at) (sym c.self.view_is) ∙ e) in record {

@@ -14,22 +14,25 @@ use Rattle.ring_shared.proofs.Nearing.{nearer_quietly, quiet_late}
 use Rattle.ring_shared.proofs.writer.Writer.begin_again.Goals as goal
 
 pub note-requires : goal.note-requires
+unfolding IsWriter
 note-requires c = record {
-  due = step_leads _ (subst IsWriter (sym c.self.view_is) c.requires.writer)
+  due = step_leads _ (subst IsWriter (sym c.self.view_is) c.requires.framed.writer)
       (subst (λ (x : WriterValue). PhaseIsPrivate (phase_of x.frames.phase) (opened x.frames.stack)) (sym c.self.view_is) c.requires.private);
 }
 
 pub returns-clause-makes : goal.returns-clause-makes
+unfolding IsWriter
 returns-clause-makes c =
     let own = subst (λ (x : WriterValue). PhaseIsPrivate (phase_of x.frames.phase) (opened x.frames.stack)) (sym c.self.view_is) c.requires.private in
     let made = c.begin_again.ensures.late own in
-    seen_call _ _ (λ _. steps) (told c.begin_again.result) _ c.self.view_is c.requires.writer c.note.ensures.shape c.note.ensures.table c.note.ensures.noted refl made
+    seen_call _ _ (λ _. steps) (told c.begin_again.result) _ c.self.view_is c.requires.framed.writer c.note.ensures.same.shape c.note.ensures.same.table c.note.ensures.noted refl made
 
 pub returns-clause-nearer : goal.returns-clause-nearer
+unfolding IsWriter
 returns-clause-nearer c =
     let x : WriterValue = c.args.self.now in
     let m = returns-clause-makes c in
     let (noted, is, late) = c.requires.passed in
-    nearer_quietly x _ m.shape_is (subst (λ (y : WriterValue). y.passed ≤ passed_in c.note.new.self) c.self.view_is c.note.ensures.knows) _
-    (phase_of x.frames.phase) m (phase_shown x c.requires.writer (phase_of x.frames.phase) c.requires.top refl)
-    (quiet_late x.part.opened (phase_of x.frames.phase) noted is (λ now. late (now ∙ sym (opened_now x c.requires.writer))))
+    nearer_quietly x _ m.shape_is (subst (λ (y : WriterValue). y.passed ≤ passed_in c.note.new.self) c.self.view_is c.note.ensures.same.knows) _
+    (phase_of x.frames.phase) m (phase_shown x c.requires.framed.writer (phase_of x.frames.phase) c.requires.framed.top refl)
+    (quiet_late x.part.opened (phase_of x.frames.phase) noted is (λ now. late (now ∙ sym (opened_now x c.requires.framed.writer))))

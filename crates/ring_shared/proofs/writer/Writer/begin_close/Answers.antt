@@ -3,20 +3,25 @@ use Rattle.trace_model.specs.Steps.{pushes_close}
 use Rattle.ring_steps.specs.Ends.{writing_in}
 use Rattle.ring_shared.proofs.Privately.{close_leads, seen_call}
 use Rattle.ring_shared.proofs.Rooms.{close_rooms}
+use Rattle.ring_shared.specs.Calls.{IsWriter}
 use Rattle.ring_shared.proofs.writer.Writer.begin_close.Goals as goal
 
 pub note-requires : goal.note-requires
 note-requires c = record { due = close_leads c.self.inside.seat.shape (writing_in c.self.inside.seat) }
 
 pub returns-clause-makes : goal.returns-clause-makes
+unfolding IsWriter
 returns-clause-makes c =
-    seen_call _ _ (λ _. pushes_close) c.push_close.result _ c.self.view_is c.requires.writer c.note.ensures.shape c.note.ensures.table c.note.ensures.noted refl c.push_close.ensures.step
+    seen_call _ _ (λ _. pushes_close) c.push_close.result _ c.self.view_is c.requires.writer c.note.ensures.same.shape c.note.ensures.same.table c.note.ensures.noted refl c.push_close.ensures.step
 
 pub returns-clause-room : goal.returns-clause-room
+unfolding IsWriter
 returns-clause-room c pushed = close_rooms _ _ c.push_close.result _ (returns-clause-makes c).call pushed
 
 pub returns-clause-ring : goal.returns-clause-ring
+unfolding IsWriter
 returns-clause-ring c = ((returns-clause-makes c).shape_is, (returns-clause-makes c).table_is)
 
 pub returns-clause-writer : goal.returns-clause-writer
+unfolding IsWriter
 returns-clause-writer c = (returns-clause-makes c).writer

@@ -25,22 +25,24 @@ use Rattle.ring_shared.proofs.writer.Writer.claim_head.Goals.{then-claim_head, e
 use Rattle.ring_shared.proofs.writer.Writer.claim_head.Goals as goal
 
 pub overflow_sub-lost : goal.overflow_sub-lost
+unfolding IsWriter
 overflow_sub-lost c =
     let v : WriterValue = the_view c.self.inside in
-    let w : IsWriter v = writer_seen c.self.view_is c.requires.writer in
+    let w : IsWriter v = writer_seen c.self.view_is c.requires.framed.writer in
     let pages : c.pages.result ≡ v.shape.pages = c.pages.ensures.pages ∙ w.frames_are.pages_is in
     let most = c.pages.ensures.most in let few : v.shape.pages ≤ MAX_PAGES = omega arith in
-    let (round, low, seen) = fits v w (claiming c.args.noted c.args.page) (top_seen c.self.view_is c.requires.top)
+    let (round, low, seen) = fits v w (claiming c.args.noted c.args.page) (top_seen c.self.view_is c.requires.framed.top)
     (phase_seen c.self.view_is c.requires.phase) few in omega arith
 
 pub claim_head-requires-clause-due : goal.claim_head-requires-clause-due
 claim_head-requires-clause-due c = let v : WriterValue = the_view c.self.inside in leads_nowhere v.shape v.part
 
 pub claim_head-requires-clause-phase : goal.claim_head-requires-clause-phase
+unfolding IsWriter
 claim_head-requires-clause-phase c =
     let v : WriterValue = the_view c.self.inside in
-    let w : IsWriter v = writer_seen c.self.view_is c.requires.writer in
-    phase_shown v w (claiming v.part.opened c.args.page) (top_seen c.self.view_is c.requires.top)
+    let w : IsWriter v = writer_seen c.self.view_is c.requires.framed.writer in
+    phase_shown v w (claiming v.part.opened c.args.page) (top_seen c.self.view_is c.requires.framed.top)
     (phase_seen c.self.view_is c.requires.phase
     ∙ ap (λ noted. claiming noted c.args.page) (c.if-noted-opened.false ∙ c.opened.ensures.begun ∙ opened_now v w))
 
@@ -48,29 +50,32 @@ pub claim_head-requires-clause-tail : goal.claim_head-requires-clause-tail
 claim_head-requires-clause-tail c = c.tail-tail.ensures ∙ ap (λ (x : WriterValue). tail_in x.part) (sym c.self.view_is)
 
 pub claim_head-requires-clause-lost : goal.claim_head-requires-clause-lost
+unfolding IsWriter
 claim_head-requires-clause-lost c =
     let v : WriterValue = the_view c.self.inside in
-    let w : IsWriter v = writer_seen c.self.view_is c.requires.writer in
+    let w : IsWriter v = writer_seen c.self.view_is c.requires.framed.writer in
     let pages : c.pages.result ≡ v.shape.pages = c.pages.ensures.pages ∙ w.frames_are.pages_is in
     let most = c.pages.ensures.most in let few : v.shape.pages ≤ MAX_PAGES = omega arith in
-    let (round, low, seen) = fits v w (claiming c.args.noted c.args.page) (top_seen c.self.view_is c.requires.top)
+    let (round, low, seen) = fits v w (claiming c.args.noted c.args.page) (top_seen c.self.view_is c.requires.framed.top)
     (phase_seen c.self.view_is c.requires.phase) few in
     let now : c.args.noted ≡ v.part.opened = c.if-noted-opened.false ∙ c.opened.ensures.begun ∙ opened_now v w in omega arith
 
 pub claim_head-requires-clause-fits : goal.claim_head-requires-clause-fits
+unfolding IsWriter
 claim_head-requires-clause-fits c =
     let v : WriterValue = the_view c.self.inside in
-    let w : IsWriter v = writer_seen c.self.view_is c.requires.writer in
+    let w : IsWriter v = writer_seen c.self.view_is c.requires.framed.writer in
     let pages : c.pages.result ≡ v.shape.pages = c.pages.ensures.pages ∙ w.frames_are.pages_is in
     let most = c.pages.ensures.most in
-    (fits v w (claiming c.args.noted c.args.page) (top_seen c.self.view_is c.requires.top)
+    (fits v w (claiming c.args.noted c.args.page) (top_seen c.self.view_is c.requires.framed.top)
     (phase_seen c.self.view_is c.requires.phase) (omega arith)).1
 
 pub returns-clause-makes : goal.returns-clause-makes
+unfolding IsWriter
 returns-clause-makes c =
     let v : WriterValue = the_view c.self.inside in
-    let w : IsWriter v = writer_seen c.self.view_is c.requires.writer in
-    let some = top_seen c.self.view_is c.requires.top in
+    let w : IsWriter v = writer_seen c.self.view_is c.requires.framed.writer in
+    let some = top_seen c.self.view_is c.requires.framed.top in
     let at : phase_of v.frames.phase ≡ claiming c.args.noted c.args.page = phase_seen c.self.view_is c.requires.phase in
     let now : c.args.noted ≡ v.part.opened = c.if-noted-opened.false ∙ c.opened.ensures.begun ∙ opened_now v w in
     let pages : c.pages.result ≡ v.shape.pages = c.pages.ensures.pages ∙ w.frames_are.pages_is in
@@ -83,7 +88,7 @@ returns-clause-makes c =
     let here : c.args.noted ≡ s.core.opened = now ∙ ap (λ (p : Writing). p.opened) (sym s.before_is) in
     let there = ap (link_into v.shape.pages s.core.links) now in
     let goes : (p : Phase) → noted_fill (phase_of p) ≡ Some c.args.noted → c.if-claim_head.phase ≡ p → Moves v (claiming c.args.noted c.args.page) (phase_of p) s.core s.next → MakesSome v model.steps Going new =
-    λ p noted_is is moves. goes_on v new w some (claiming c.args.noted c.args.page) c.args.noted c.if-claim_head.phase p _ at refl noted_is is c.claim_head.ensures.shape c.claim_head.ensures.table refl c.go_on.ensures.goes_on s moves in
+    λ p noted_is is moves. goes_on v new w some (claiming c.args.noted c.args.page) c.args.noted c.if-claim_head.phase p _ at refl noted_is is c.claim_head.ensures.same.shape c.claim_head.ensures.same.table refl c.go_on.ensures.goes_on s moves in
     as_called v c.args.self.now new (told c.go_on.result) c.self.view_is (ap told c.go_on.ensures.answer)
     (elim c.if-claim_head.branch [
       | then-claim_head b ↦ goes (LookingNext Owner c.args.noted c.args.page) refl b.phase-is
@@ -94,15 +99,16 @@ returns-clause-makes c =
     ])
 
 pub returns-clause-nearer : goal.returns-clause-nearer
+unfolding IsWriter
 returns-clause-nearer c =
     let v : WriterValue = the_view c.self.inside in
-    let w : IsWriter v = writer_seen c.self.view_is c.requires.writer in
+    let w : IsWriter v = writer_seen c.self.view_is c.requires.framed.writer in
     let x : WriterValue = c.args.self.now in
     let m = returns-clause-makes c in
     let pages : c.pages.result ≡ v.shape.pages = c.pages.ensures.pages ∙ w.frames_are.pages_is in
     let most = c.pages.ensures.most in let few : v.shape.pages ≤ MAX_PAGES = omega arith in
-    let round : v.shape.pages ≤ c.args.noted = (fits v w (claiming c.args.noted c.args.page) (top_seen c.self.view_is c.requires.top) (phase_seen c.self.view_is c.requires.phase) few).0 in
+    let round : v.shape.pages ≤ c.args.noted = (fits v w (claiming c.args.noted c.args.page) (top_seen c.self.view_is c.requires.framed.top) (phase_seen c.self.view_is c.requires.phase) few).0 in
     let same = ap (λ (y : WriterValue). y.shape.pages) c.self.view_is in
     let lost = c.claim_head.ensures.passed in
-    nearer_claiming x _ m.shape_is (subst (λ (y : WriterValue). y.passed ≤ passed_in c.claim_head.new.self) c.self.view_is c.claim_head.ensures.knows) _ c.args.noted c.args.page m
-    (phase_shown x c.requires.writer (claiming c.args.noted c.args.page) c.requires.top (ap phase_of c.requires.phase)) (omega arith)
+    nearer_claiming x _ m.shape_is (subst (λ (y : WriterValue). y.passed ≤ passed_in c.claim_head.new.self) c.self.view_is c.claim_head.ensures.same.knows) _ c.args.noted c.args.page m
+    (phase_shown x c.requires.framed.writer (claiming c.args.noted c.args.page) c.requires.framed.top (ap phase_of c.requires.phase)) (omega arith)

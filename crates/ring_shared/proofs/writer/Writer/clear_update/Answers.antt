@@ -19,27 +19,30 @@ use Rattle.ring_shared.proofs.Nearing.{nearer_quietly}
 use Rattle.ring_shared.proofs.writer.Writer.clear_update.Goals as goal
 
 pub overflow_sub-noted : goal.overflow_sub-noted
+unfolding IsWriter
 overflow_sub-noted c =
     let v : WriterValue = the_view c.self.inside in
-    let (low, high, room, numbers) = noted_bounds v (writer_seen c.self.view_is c.requires.writer) (clearing c.args.noted c.args.page)
-    (top_seen c.self.view_is c.requires.top)
+    let (low, high, room, numbers) = noted_bounds v (writer_seen c.self.view_is c.requires.framed.writer) (clearing c.args.noted c.args.page)
+    (top_seen c.self.view_is c.requires.framed.top)
     (phase_seen c.self.view_is c.requires.phase) c.args.noted refl in omega arith
 
 pub overflow_sub-noted-2 : goal.overflow_sub-noted-2
+unfolding IsWriter
 overflow_sub-noted-2 c =
     let v : WriterValue = the_view c.self.inside in
-    let w : IsWriter v = writer_seen c.self.view_is c.requires.writer in
+    let w : IsWriter v = writer_seen c.self.view_is c.requires.framed.writer in
     let (low, high, room, numbers) = noted_bounds v w (clearing c.args.noted c.args.page)
-    (top_seen c.self.view_is c.requires.top)
+    (top_seen c.self.view_is c.requires.framed.top)
     (phase_seen c.self.view_is c.requires.phase) c.args.noted refl in
     let done = c.done.ensures ∙ done_now v w in omega arith
 
 pub index-front-requires : goal.index-front-requires
+unfolding IsWriter
 index-front-requires c =
     let v : WriterValue = the_view c.self.inside in
-    let w : IsWriter v = writer_seen c.self.view_is c.requires.writer in
+    let w : IsWriter v = writer_seen c.self.view_is c.requires.framed.writer in
     let (low, high, room, numbers) = noted_bounds v w (clearing c.args.noted c.args.page)
-    (top_seen c.self.view_is c.requires.top)
+    (top_seen c.self.view_is c.requires.framed.top)
     (phase_seen c.self.view_is c.requires.phase) c.args.noted refl in
     let done = c.done.ensures ∙ done_now v w in let count = count_now v w in let wide = c.self.inside.pages.ok.0 in omega arith
 
@@ -47,37 +50,41 @@ pub clear_update-cleared-requires-clause-due : goal.clear_update-cleared-require
 clear_update-cleared-requires-clause-due c = let v : WriterValue = the_view c.self.inside in leads_nowhere v.shape v.part
 
 pub clear_update-cleared-requires-clause-phase : goal.clear_update-cleared-requires-clause-phase
+unfolding IsWriter
 clear_update-cleared-requires-clause-phase c =
     let v : WriterValue = the_view c.self.inside in
-    phase_shown v (writer_seen c.self.view_is c.requires.writer) (clearing c.args.noted c.args.page) (top_seen c.self.view_is c.requires.top)
+    phase_shown v (writer_seen c.self.view_is c.requires.framed.writer) (clearing c.args.noted c.args.page) (top_seen c.self.view_is c.requires.framed.top)
     (phase_seen c.self.view_is c.requires.phase)
 
 pub clear_update-cleared-requires-clause-front : goal.clear_update-cleared-requires-clause-front
+unfolding IsWriter
 clear_update-cleared-requires-clause-front c =
     let v : WriterValue = the_view c.self.inside in
-    let w : IsWriter v = writer_seen c.self.view_is c.requires.writer in
+    let w : IsWriter v = writer_seen c.self.view_is c.requires.framed.writer in
     let (low, high, room, numbers) = noted_bounds v w (clearing c.args.noted c.args.page)
-    (top_seen c.self.view_is c.requires.top)
+    (top_seen c.self.view_is c.requires.framed.top)
     (phase_seen c.self.view_is c.requires.phase) c.args.noted refl in
     let done = c.done.ensures ∙ done_now v w in let count = count_now v w in
     get_or_read_under v.pages (c.args.noted - 1 - c.done.result) _ c.index-front.result.now 0 c.index-front.ensures (omega arith) refl
     ∙ (ap (λ (pages : List ℕ). slice_index_or pages (c.args.noted - 1 - c.done.result) 0) (sym w.pages_are) ∙ ap (λ (d : ℕ). slice_index_or v.part.open_pages (c.args.noted - 1 - d) 0) done)
 
 pub returns-clause-makes : goal.returns-clause-makes
+unfolding IsWriter
 returns-clause-makes c =
     let v : WriterValue = the_view c.self.inside in
-    let w : IsWriter v = writer_seen c.self.view_is c.requires.writer in
-    let some = top_seen c.self.view_is c.requires.top in
+    let w : IsWriter v = writer_seen c.self.view_is c.requires.framed.writer in
+    let some = top_seen c.self.view_is c.requires.framed.top in
     let at : phase_of v.frames.phase ≡ clearing c.args.noted c.args.page = phase_seen c.self.view_is c.requires.phase in
     let new : WriterValue = the_view record { seat = c.clear_update-cleared.new.self; frames = c.go_on.new.self; pages = c.self.inside.pages } in
     let s = c.clear_update-cleared.ensures.step in
     as_called v c.args.self.now new (told c.go_on.result) c.self.view_is (ap told c.go_on.ensures.answer)
-    (goes_on v new w some (clearing c.args.noted c.args.page) c.args.noted (Opening c.args.noted c.args.page) (Opening c.args.noted c.args.page) _ at refl refl refl c.clear_update-cleared.ensures.shape c.clear_update-cleared.ensures.table refl c.go_on.ensures.goes_on s
+    (goes_on v new w some (clearing c.args.noted c.args.page) c.args.noted (Opening c.args.noted c.args.page) (Opening c.args.noted c.args.page) _ at refl refl refl c.clear_update-cleared.ensures.same.shape c.clear_update-cleared.ensures.same.table refl c.go_on.ensures.goes_on s
     (λ frame below step. cleared v.shape.pages s.core frame below model.going s.next c.args.noted c.args.page step))
 
 pub returns-clause-nearer : goal.returns-clause-nearer
+unfolding IsWriter
 returns-clause-nearer c =
     let x : WriterValue = c.args.self.now in
     let m = returns-clause-makes c in
-    nearer_quietly x _ m.shape_is (subst (λ (y : WriterValue). y.passed ≤ passed_in c.clear_update-cleared.new.self) c.self.view_is c.clear_update-cleared.ensures.knows) _
-    (clearing c.args.noted c.args.page) m (phase_shown x c.requires.writer (clearing c.args.noted c.args.page) c.requires.top (ap phase_of c.requires.phase)) tt
+    nearer_quietly x _ m.shape_is (subst (λ (y : WriterValue). y.passed ≤ passed_in c.clear_update-cleared.new.self) c.self.view_is c.clear_update-cleared.ensures.same.knows) _
+    (clearing c.args.noted c.args.page) m (phase_shown x c.requires.framed.writer (clearing c.args.noted c.args.page) c.requires.framed.top (ap phase_of c.requires.phase)) tt

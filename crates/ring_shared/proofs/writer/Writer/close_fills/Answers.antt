@@ -1,4 +1,4 @@
-use Rattle.std.proofs.Common.{length, refl, sym, ap, ◌∙◌, subst}
+use Rattle.std.proofs.Common.{rules, length, refl, sym, ap, ◌∙◌, subst}
 use Rattle.trace_model.specs.Frames.{Frame}
 use Rattle.trace_model.specs.Steps as model
 use Rattle.ring_frames.specs.declared.answer.Answer.{Answer}
@@ -6,7 +6,7 @@ use Rattle.ring_frames.specs.Value.{phase_of}
 use Rattle.ring_frames.specs.Phases.{told}
 use Rattle.ring_steps.specs.declared.rule.Shape.{Shape}
 use Rattle.ring_shared.specs.Value.{WriterValue}
-use Rattle.ring_shared.specs.Calls.{IsCall}
+use Rattle.ring_shared.specs.Calls.{IsWriter, IsCall}
 use Rattle.ring_shared.specs.Finishing.{at_once}
 use Rattle.ring_shared.proofs.Depths.{leaving_top}
 use Rattle.ring_shared.proofs.Finishes.{leaving_unnumbered, call_in, same_writer}
@@ -16,6 +16,7 @@ use Rattle.ring_frames.proofs.Payloads.{same_stack, kept_then}
 use Rattle.ring_shared.proofs.writer.Writer.close_fills.Goals as goal
 
 pub loop-self-init : goal.loop-self-init
+unfolding IsWriter
 loop-self-init c =
     let (frame, below, top, leaves) = c.requires.top in
     record {
@@ -26,21 +27,28 @@ loop-self-init c =
       payloads = same_stack c.args.self.now.frames.stack c.args.self.now.frames.stack refl;
     }
 
-pub release_fill-requires-clause-top : goal.release_fill-requires-clause-top
-release_fill-requires-clause-top c =
-    let h = c.loop-self.invariant in
-    let (frame, below, top) = h.some in
-    let (next, at, leaves, goes) = h.closes frame below top in
-    some_stand c.loop-self.self h.writer next below at
+pub release_fill-requires-clause-framed : goal.release_fill-requires-clause-framed
+unfolding IsWriter
+release_fill-requires-clause-framed c = record {
+  writer = search rules;
+  top = let h = c.loop-self.invariant in
+      let (frame, below, top) = h.some in
+      let (next, at, leaves, goes) = h.closes frame below top in
+      some_stand c.loop-self.self h.writer next below at;
+}
 
-pub load_wish-requires-clause-top : goal.load_wish-requires-clause-top
-load_wish-requires-clause-top c =
-    let h = c.loop-self.invariant in
-    let (frame, below, top) = h.some in
-    let (next, at, leaves, goes) = h.closes frame below top in
-    some_stand c.loop-self.self h.writer next below at
+pub load_wish-requires-clause-framed : goal.load_wish-requires-clause-framed
+unfolding IsWriter
+load_wish-requires-clause-framed c = record {
+  writer = search rules;
+  top = let h = c.loop-self.invariant in
+      let (frame, below, top) = h.some in
+      let (next, at, leaves, goes) = h.closes frame below top in
+      some_stand c.loop-self.self h.writer next below at;
+}
 
 pub loop-self-preserved : goal.loop-self-preserved
+unfolding IsWriter
 loop-self-preserved c =
     let h = c.loop-self.invariant in
     let old : WriterValue = c.loop-self.self in let new : WriterValue = c.release_fill.new.self in let shape : Shape = c.args.self.now.shape in

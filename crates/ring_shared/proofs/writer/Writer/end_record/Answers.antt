@@ -5,9 +5,11 @@ use Rattle.ring_shared.specs.Value.{WriterValue}
 use Rattle.ring_shared.specs.Finishing.{Finishes}
 use Rattle.ring_shared.proofs.WholeWrites.{reserved_top, ends_above, ends_alone, left_above, alone_left}
 use Rattle.ring_shared.proofs.Covered.{ends_covered, covered_then}
+use Rattle.ring_shared.specs.Calls.{IsWriter}
 use Rattle.ring_shared.proofs.writer.Writer.end_record.Goals as goal
 
 pub returns-then-stands_alone-clause-ends : goal.returns-then-stands_alone-clause-ends
+unfolding IsWriter
 returns-then-stands_alone-clause-ends c =
     let x : WriterValue = c.args.self.now in let one : WriterValue = c.end.new.self in let two : WriterValue = c.finish_top.new.self in
     let payload : List ℕ = top_bytes x.frames.stack x.frames.stack.frames in
@@ -20,6 +22,7 @@ returns-then-stands_alone-clause-ends c =
     record { ended = one.part; how = how; end = end; goes = goes; others = others }
 
 pub returns-else-stands_alone-clause-ends : goal.returns-else-stands_alone-clause-ends
+unfolding IsWriter
 returns-else-stands_alone-clause-ends c =
     let x : WriterValue = c.args.self.now in let one : WriterValue = c.end.new.self in
     let payload : List ℕ = top_bytes x.frames.stack x.frames.stack.frames in
@@ -32,7 +35,7 @@ returns-else-stands_alone-clause-ends c =
 pub returns-then-stands_alone-clause-covered : goal.returns-then-stands_alone-clause-covered
 returns-then-stands_alone-clause-covered c =
     let x : WriterValue = c.args.self.now in let one : WriterValue = c.end.new.self in let two : WriterValue = c.finish_top.new.self in
-    covered_then x.frames.stack one.frames.stack two.frames.stack (ends_covered x.frames.stack one.frames.stack c.end.ensures.payloads) c.finish_top.ensures.payloads
+    covered_then x.frames.stack one.frames.stack two.frames.stack (ends_covered x.frames.stack one.frames.stack c.end.ensures.payloads) c.finish_top.ensures.slots.payloads
 
 pub returns-else-stands_alone-clause-covered : goal.returns-else-stands_alone-clause-covered
 returns-else-stands_alone-clause-covered c = ends_covered c.args.self.now.frames.stack c.end.new.self.frames.stack c.end.ensures.payloads

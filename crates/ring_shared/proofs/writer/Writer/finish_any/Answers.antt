@@ -1,5 +1,5 @@
 use Rattle.std.specs.Prelude.{Option, Some, None}
-use Rattle.std.proofs.Common.{◌≡◌, sym, ◌∙◌, subst}
+use Rattle.std.proofs.Common.{rules, ◌≡◌, sym, ◌∙◌, subst}
 use Rattle.nested_writer.specs.declared.frame.Frame as stack
 use Rattle.nested_writer.specs.Calls.{top_of}
 use Rattle.ring_frames.specs.declared.answer.Answer.{Answer}
@@ -10,6 +10,7 @@ use Rattle.ring_shared.proofs.Targets.{reserving_on_top, leaving_on_top, finishe
 use Rattle.ring_shared.proofs.FinishParts.{gone_unrefused, reserving_tells, number_or_refused, finished_so}
 use Rattle.ring_shared.proofs.TopAnswers.{step_tells}
 use Rattle.ring_shared.proofs.WholeWrites.{met_refusal, not_refused}
+use Rattle.ring_shared.specs.Calls.{IsWriter}
 use Rattle.ring_shared.proofs.writer.Writer.finish_any.Goals as goal
 
 -- the target is that of the stack's top
@@ -18,22 +19,28 @@ targets top v now found to at same is e =
     subst (λ (x : WriterValue). IsTarget (top_of x.frames.stack.frames) to) same (subst (λ (t : Option stack.Frame). IsTarget t to) at (subst (IsTarget top) e is))
 
 pub reserve_top-requires-clause-top : goal.reserve_top-requires-clause-top
+unfolding IsWriter
 reserve_top-requires-clause-top c =
     let t = reserving_on_top c.args.self.now c.requires.writer (targets c.top.result _ c.args.self.now c.target_of.result _ c.top.ensures c.self.view_is c.target_of.ensures c.in-Record.is) in
     (t.frame, t.below, t.top, t.is)
 
-pub leave_on-requires-clause-top : goal.leave_on-requires-clause-top
-leave_on-requires-clause-top c =
-    let t = leaving_on_top c.args.self.now c.requires.writer (targets c.top.result _ c.args.self.now c.target_of.result _ c.top.ensures c.self.view_is c.target_of.ensures c.in-End.is) in
-    (t.frame, t.below, t.top, t.is)
+pub leave_on-requires : goal.leave_on-requires
+unfolding IsWriter
+leave_on-requires c = record {
+  writer = search rules;
+  top = let t = leaving_on_top c.args.self.now c.requires.writer (targets c.top.result _ c.args.self.now c.target_of.result _ c.top.ensures c.self.view_is c.target_of.ensures c.in-End.is) in
+      (t.frame, t.below, t.top, t.is);
+}
 
 pub brief-requires : goal.brief-requires
+unfolding IsWriter
 brief-requires c =
     let t = reserving_on_top c.args.self.now c.requires.writer (targets c.top.result _ c.args.self.now c.target_of.result _ c.top.ensures c.self.view_is c.target_of.ensures c.in-Record.is) in
     number_or_refused c.reserve_top.result c.reserve_top.new.self.part.frames
     (reserving_tells t.frame.kind t.below c.reserve_top.result c.reserve_top.new.self.part.frames (c.reserve_top.ensures.reserves t.frame t.below t.top).ends)
 
 pub brief-requires-in-Step : goal.brief-requires-in-Step
+unfolding IsWriter
 brief-requires-in-Step c =
     let v : WriterValue = c.args.self.now in
     number_or_refused c.step.result c.step.new.self.part.frames
@@ -41,6 +48,7 @@ brief-requires-in-Step c =
     (targets c.top.result _ v c.target_of.result _ c.top.ensures c.self.view_is c.target_of.ensures c.in-Step.is) c.step.ensures.makes.call)
 
 pub returns-in-Record-clause-finished : goal.returns-in-Record-clause-finished
+unfolding IsWriter
 returns-in-Record-clause-finished c =
     let v : WriterValue = c.args.self.now in let new : WriterValue = c.reserve_top.new.self in
     let t = reserving_on_top v c.requires.writer (targets c.top.result _ v c.target_of.result _ c.top.ensures c.self.view_is c.target_of.ensures c.in-Record.is) in
@@ -49,6 +57,7 @@ returns-in-Record-clause-finished c =
     (finishes_reserving v.shape v.part c.reserve_top.result new.part t c.reserve_top.ensures.reserves)
 
 pub returns-in-Some-clause-finished : goal.returns-in-Some-clause-finished
+unfolding IsWriter
 returns-in-Some-clause-finished c =
     let v : WriterValue = c.args.self.now in let new : WriterValue = c.leave_on.new.self in
     let (answer, told, how, leaves) = c.leave_on.ensures.leaves in
@@ -57,6 +66,7 @@ returns-in-Some-clause-finished c =
     (leaving_on_top v c.requires.writer (targets c.top.result _ v c.target_of.result _ c.top.ensures c.self.view_is c.target_of.ensures c.in-End.is)) leaves)
 
 pub returns-in-None-clause-finished : goal.returns-in-None-clause-finished
+unfolding IsWriter
 returns-in-None-clause-finished c =
     let v : WriterValue = c.args.self.now in let new : WriterValue = c.leave_on.new.self in
     let (answer, told, how, leaves) = c.leave_on.ensures.leaves in
@@ -66,6 +76,7 @@ returns-in-None-clause-finished c =
     (leaving_on_top v c.requires.writer (targets c.top.result _ v c.target_of.result _ c.top.ensures c.self.view_is c.target_of.ensures c.in-End.is)) leaves)
 
 pub returns-in-Step-clause-finished : goal.returns-in-Step-clause-finished
+unfolding IsWriter
 returns-in-Step-clause-finished c =
     let v : WriterValue = c.args.self.now in let new : WriterValue = c.step.new.self in
     let target = targets c.top.result _ v c.target_of.result _ c.top.ensures c.self.view_is c.target_of.ensures c.in-Step.is in

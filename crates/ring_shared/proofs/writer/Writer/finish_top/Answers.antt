@@ -1,5 +1,5 @@
 use Rattle.std.specs.Prelude.{Option, Some, IfSome, List, []}
-use Rattle.std.proofs.Common.{◌≡◌, ◌≢◌, refl, sym, ◌∙◌, subst}
+use Rattle.std.proofs.Common.{rules, ◌≡◌, ◌≢◌, refl, sym, ◌∙◌, subst}
 use Rattle.link_marks.specs.FrameOutcomes.{IsLeaving}
 use Rattle.nested_writer.specs.declared.frame.Frame as stack
 use Rattle.nested_writer.specs.Calls.{top_of}
@@ -25,6 +25,7 @@ some_in : (found : Option Pushed) (pushed : Pushed) (holds : Pushed → Type 0) 
 some_in found pushed holds is all = subst (λ (f : Option Pushed). IfSome f holds) is all
 
 pub returns-in-Some-clause-finished : goal.returns-in-Some-clause-finished
+unfolding IsWriter
 returns-in-Some-clause-finished c =
     let v : WriterValue = c.args.self.now in let new : WriterValue = c.reserve_plain.new.self in
     let plain : IsPlainTop v.frames.stack c.in-Some.pushed = subst (λ (x : WriterValue). IsPlainTop x.frames.stack c.in-Some.pushed) c.self.view_is (some_in c.plain_top.result c.in-Some.pushed (λ pushed. IsPlainTop c.self.inside.frames.stack pushed) c.in-Some.is c.plain_top.ensures) in
@@ -35,17 +36,22 @@ returns-in-Some-clause-finished c =
 
 -- the frame on top looks for the reader's wish, so that it has left
 wishing : (v now : WriterValue) → IsWriter now → v ≡ now → v.frames.stack.frames ≢ [] → v.frames.phase ≡ Wishing → IsOnTop now.part.frames IsLeaving
+unfolding IsWriter
 wishing v now w same some at =
     wishing_on_top now w (subst (λ (x : WriterValue). x.frames.stack.frames ≢ []) same some) (subst (λ (x : WriterValue). x.frames.phase ≡ Wishing) same at)
 
-pub finish_wishing-requires-clause-top : goal.finish_wishing-requires-clause-top
-finish_wishing-requires-clause-top c =
-    let t = wishing (the_view c.self.inside) c.args.self.now c.requires.writer c.self.view_is
-    (λ none. let yes = c.is_empty.ensures.1 none in let no = c.if-not-is_empty.true in cc)
-    (elim c.match-matches.branch [ in-Wishing w ↦ sym c.phase.ensures ∙ w.in-Wishing.is | in_default w ↦ absurd (let no = w.matches-is in let yes = c.if-matches.true in cc) ]) in
-    (t.frame, t.below, t.top, t.is)
+pub finish_wishing-requires-clause-leaving : goal.finish_wishing-requires-clause-leaving
+unfolding IsWriter
+finish_wishing-requires-clause-leaving c = record {
+  writer = search rules;
+  top = let t = wishing (the_view c.self.inside) c.args.self.now c.requires.writer c.self.view_is
+      (λ none. let yes = c.is_empty.ensures.1 none in let no = c.if-not-is_empty.true in cc)
+      (elim c.match-matches.branch [ in-Wishing w ↦ sym c.phase.ensures ∙ w.in-Wishing.is | in_default w ↦ absurd (let no = w.matches-is in let yes = c.if-matches.true in cc) ]) in
+      (t.frame, t.below, t.top, t.is);
+}
 
 pub returns-then-not-is_empty-clause-finished : goal.returns-then-not-is_empty-clause-finished
+unfolding IsWriter
 returns-then-not-is_empty-clause-finished c =
     let v : WriterValue = c.args.self.now in
     finishes_leaving v.shape v.part c.finish_wishing.result c.finish_wishing.new.self.part
@@ -56,13 +62,28 @@ returns-then-not-is_empty-clause-finished c =
 
 -- ---- rooms
 
-pub returns-then-not-is_empty-clause-gone : goal.returns-then-not-is_empty-clause-gone
-returns-then-not-is_empty-clause-gone c gone = finished_gone _ _ c.finish_wishing.result _ (returns-then-not-is_empty-clause-finished c) gone
+pub returns-then-not-is_empty-clause-slots : goal.returns-then-not-is_empty-clause-slots
+unfolding IsWriter
+returns-then-not-is_empty-clause-slots c = record {
+  payloads = search rules;
+  zeros = search rules;
+  room = search rules;
+  gone = λ gone. finished_gone _ _ c.finish_wishing.result _ (returns-then-not-is_empty-clause-finished c) gone;
+}
 
-pub returns-in-Gone-clause-gone : goal.returns-in-Gone-clause-gone
-returns-in-Gone-clause-gone c gone = finished_gone _ _ Gone _ c.in-Gone.ensures.finished refl
+pub returns-in-Gone-clause-slots : goal.returns-in-Gone-clause-slots
+returns-in-Gone-clause-slots c = record {
+  payloads = search rules;
+  zeros = search rules;
+  room = search rules;
+  gone = λ gone. finished_gone _ _ Gone _ c.in-Gone.ensures.finished refl;
+}
 
-pub returns-in-Ok-clause-room : goal.returns-in-Ok-clause-room
-returns-in-Ok-clause-room c number told =
-    let (slot, on_top, finishes) = c.in-Reserved.ensures.finished in
-    finished_rooms _ _ _ _ finishes record { 0 = slot.number } refl
+pub returns-in-Ok-clause-slots : goal.returns-in-Ok-clause-slots
+returns-in-Ok-clause-slots c = record {
+  payloads = search rules;
+  zeros = search rules;
+  room = λ number told. let (slot, on_top, finishes) = c.in-Reserved.ensures.finished in
+      finished_rooms _ _ _ _ finishes record { 0 = slot.number } refl;
+  gone = search rules;
+}

@@ -1,4 +1,4 @@
-use Rattle.std.proofs.Common.{refl, subst, inl}
+use Rattle.std.proofs.Common.{rules, refl, subst, inl}
 use Rattle.ring_frames.specs.declared.answer.Answer.TheVariants.{Gone}
 use Rattle.ring_frames.specs.declared.phase.Turned.{Turned}
 use Rattle.ring_shared.specs.Value.{WriterValue}
@@ -12,11 +12,13 @@ returns-in-Gone-clause-leaves c =
     let v : WriterValue = c.args.self.now in let new : WriterValue = c.close_fills.new.self in
     (Gone, refl, inl refl, λ frame below top. subst (λ (t : Turned). Closes v.shape below v.part t new.part) c.in-Gone.is (c.close_fills.ensures.closes frame below top))
 
-pub leave_top-requires-clause-top : goal.leave_top-requires-clause-top
-leave_top-requires-clause-top c =
-    let (frame, below, top, is) = c.requires.top in
-    let v : WriterValue = c.args.self.now in
-    closes_still v.shape below v.part c.close_fills.new.self.part c.close_fills.result (c.close_fills.ensures.closes frame below top) c.in_default.is
+pub leave_top-requires : goal.leave_top-requires
+leave_top-requires c = record {
+  writer = search rules;
+  top = let (frame, below, top, is) = c.requires.top in
+      let v : WriterValue = c.args.self.now in
+      closes_still v.shape below v.part c.close_fills.new.self.part c.close_fills.result (c.close_fills.ensures.closes frame below top) c.in_default.is;
+}
 
 pub returns-clause-leaves : goal.returns-clause-leaves
 returns-clause-leaves c =

@@ -1,5 +1,5 @@
 use Rattle.std.specs.Prelude.{◌<◌, Option}
-use Rattle.std.proofs.Common.{◌≡◌, length, refl, sym, ◌∙◌, subst, arith}
+use Rattle.std.proofs.Common.{rules, ◌≡◌, length, refl, sym, ◌∙◌, subst, arith}
 use Rattle.nested_writer.specs.declared.fault.WriteFault.{WriteFault}
 use Rattle.ring_frames.specs.declared.answer.Answer.{Answer}
 use Rattle.ring_steps.specs.declared.rule.Shape.{Shape}
@@ -9,9 +9,11 @@ use Rattle.ring_shared.specs.Finishing.{Leaves, IsGoneOrRefused}
 use Rattle.ring_shared.proofs.Depths.{depth_is, leaving_top}
 use Rattle.ring_shared.proofs.Finishes.{IsAmidLeaving, leaving_unnumbered, leaving_first, leaving_on, leaving_stands, leaving_ends, leaving_told, call_in, same_writer}
 use Rattle.ring_frames.proofs.Payloads.{same_stack, kept_then}
+use Rattle.ring_shared.specs.Calls.{IsWriter}
 use Rattle.ring_shared.proofs.writer.Writer.leave_top.Goals as goal
 
 pub loop-answer-init : goal.loop-answer-init
+unfolding IsWriter
 loop-answer-init c =
     let (frame, below, top, leaves) = c.requires.top in
     let v : WriterValue = c.args.self.now in
@@ -25,23 +27,30 @@ loop-answer-init c =
     }
 
 pub step-answer-requires : goal.step-answer-requires
+unfolding IsWriter
 step-answer-requires c = record { writer = c.loop-answer.invariant.writer }
 
-pub returns-then-depth-clause-leaves : goal.returns-then-depth-clause-leaves
-returns-then-depth-clause-leaves c = λ frame below top.
-    let h = c.loop-answer.invariant in
-    let old : WriterValue = c.loop-answer.self in let new : WriterValue = c.step-answer.new.self in let shape : Shape = c.args.self.now.shape in
-    let makes = c.step-answer.ensures.makes in
-    let less = c.if-depth.true in let now_deep = c.depth.ensures.stack ∙ depth_is new makes.writer in let deep = h.depth in
-    subst (λ (x : Answer). Leaves shape below c.args.self.now.part x new.part) (sym c.told.ensures)
-    (leaving_ends shape below c.args.self.now.part c.loop-answer.met old.part new.part c.step-answer.result (h.amid frame below top)
-    (call_in shape old new c.step-answer.result h.ring.0 makes) (omega arith))
-
-pub returns-then-depth-clause-ring : goal.returns-then-depth-clause-ring
-returns-then-depth-clause-ring c =
-    same_writer c.args.self.now c.loop-answer.self c.step-answer.new.self c.step-answer.result c.loop-answer.invariant.ring c.step-answer.ensures.makes
+pub returns-then-depth : goal.returns-then-depth
+unfolding IsWriter
+returns-then-depth c = record {
+  leaves = λ frame below top.
+      let h = c.loop-answer.invariant in
+      let old : WriterValue = c.loop-answer.self in let new : WriterValue = c.step-answer.new.self in let shape : Shape = c.args.self.now.shape in
+      let makes = c.step-answer.ensures.makes in
+      let less = c.if-depth.true in let now_deep = c.depth.ensures.stack ∙ depth_is new makes.writer in let deep = h.depth in
+      subst (λ (x : Answer). Leaves shape below c.args.self.now.part x new.part) (sym c.told.ensures)
+      (leaving_ends shape below c.args.self.now.part c.loop-answer.met old.part new.part c.step-answer.result (h.amid frame below top)
+      (call_in shape old new c.step-answer.result h.ring.0 makes) (omega arith));
+  gone = let h = c.loop-answer.invariant in let old : WriterValue = c.loop-answer.self in let new : WriterValue = c.step-answer.new.self in let shape : Shape = c.args.self.now.shape in let makes = c.step-answer.ensures.makes in let less = c.if-depth.true in let now_deep = c.depth.ensures.stack ∙ depth_is new makes.writer in let deep = h.depth in let (frame, below, top) = h.some in subst IsGoneOrRefused (sym c.told.ensures)
+      (leaving_told shape below c.args.self.now.part c.loop-answer.met old.part new.part c.step-answer.result (h.amid frame below top)
+      (call_in shape old new c.step-answer.result h.ring.0 makes) (omega arith));
+  payloads = kept_then c.args.self.now.frames.stack c.loop-answer.self.frames.stack c.step-answer.new.self.frames.stack c.loop-answer.invariant.payloads c.step-answer.ensures.slots.payloads;
+  ring = same_writer c.args.self.now c.loop-answer.self c.step-answer.new.self c.step-answer.result c.loop-answer.invariant.ring c.step-answer.ensures.makes;
+  writer = search rules;
+}
 
 pub loop-answer-smaller : goal.loop-answer-smaller
+unfolding IsWriter
 loop-answer-smaller c =
     let h = c.loop-answer.invariant in
     let old : WriterValue = c.loop-answer.self in let new : WriterValue = c.step-answer.new.self in let shape : Shape = c.args.self.now.shape in
@@ -54,6 +63,7 @@ loop-answer-smaller c =
     (call_in shape old new c.step-answer.result h.ring.0 makes) (λ less. omega arith))
 
 pub loop-answer-preserved : goal.loop-answer-preserved
+unfolding IsWriter
 loop-answer-preserved c =
     let h = c.loop-answer.invariant in
     let old : WriterValue = c.loop-answer.self in let new : WriterValue = c.step-answer.new.self in let shape : Shape = c.args.self.now.shape in
@@ -72,20 +82,5 @@ loop-answer-preserved c =
       amid = λ other others is.
           subst (λ (m : Option WriteFault). IsAmidLeaving shape others first m new.part) (sym c.met_first-met.ensures)
           (leaving_on shape others first c.loop-answer.met old.part new.part c.step-answer.result (h.amid other others is) call stands);
-      payloads = kept_then c.args.self.now.frames.stack old.frames.stack new.frames.stack h.payloads c.step-answer.ensures.payloads;
+      payloads = kept_then c.args.self.now.frames.stack old.frames.stack new.frames.stack h.payloads c.step-answer.ensures.slots.payloads;
     }
-
-pub returns-then-depth-clause-gone : goal.returns-then-depth-clause-gone
-returns-then-depth-clause-gone c =
-    let h = c.loop-answer.invariant in
-    let old : WriterValue = c.loop-answer.self in let new : WriterValue = c.step-answer.new.self in let shape : Shape = c.args.self.now.shape in
-    let makes = c.step-answer.ensures.makes in
-    let less = c.if-depth.true in let now_deep = c.depth.ensures.stack ∙ depth_is new makes.writer in let deep = h.depth in
-    let (frame, below, top) = h.some in
-    subst IsGoneOrRefused (sym c.told.ensures)
-    (leaving_told shape below c.args.self.now.part c.loop-answer.met old.part new.part c.step-answer.result (h.amid frame below top)
-    (call_in shape old new c.step-answer.result h.ring.0 makes) (omega arith))
-
-pub returns-then-depth-clause-payloads : goal.returns-then-depth-clause-payloads
-returns-then-depth-clause-payloads c =
-    kept_then c.args.self.now.frames.stack c.loop-answer.self.frames.stack c.step-answer.new.self.frames.stack c.loop-answer.invariant.payloads c.step-answer.ensures.payloads

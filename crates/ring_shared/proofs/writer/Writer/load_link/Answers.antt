@@ -30,20 +30,22 @@ pub load_link-link-requires-clause-due : goal.load_link-link-requires-clause-due
 load_link-link-requires-clause-due c = let v : WriterValue = the_view c.self.inside in leads_nowhere v.shape v.part
 
 pub load_link-link-requires-clause-phase : goal.load_link-link-requires-clause-phase
+unfolding IsWriter
 load_link-link-requires-clause-phase c =
     let v : WriterValue = the_view c.self.inside in
-    let w : IsWriter v = writer_seen c.self.view_is c.requires.writer in
-    phase_shown v w (looking v.part.opened) (top_seen c.self.view_is c.requires.top)
+    let w : IsWriter v = writer_seen c.self.view_is c.requires.framed.writer in
+    phase_shown v w (looking v.part.opened) (top_seen c.self.view_is c.requires.framed.top)
     (phase_seen c.self.view_is c.requires.phase ∙ ap looking (c.if-noted-opened.false ∙ c.opened.ensures.begun ∙ opened_now v w))
 
 pub load_link-link-requires-clause-tail : goal.load_link-link-requires-clause-tail
 load_link-link-requires-clause-tail c = c.tail-tail.ensures ∙ ap (λ (x : WriterValue). tail_in x.part) (sym c.self.view_is)
 
 pub returns-clause-makes : goal.returns-clause-makes
+unfolding IsWriter
 returns-clause-makes c =
     let v : WriterValue = the_view c.self.inside in
-    let w : IsWriter v = writer_seen c.self.view_is c.requires.writer in
-    let some = top_seen c.self.view_is c.requires.top in
+    let w : IsWriter v = writer_seen c.self.view_is c.requires.framed.writer in
+    let some = top_seen c.self.view_is c.requires.framed.top in
     let at : phase_of v.frames.phase ≡ looking c.args.noted = phase_seen c.self.view_is c.requires.phase in
     let now : c.args.noted ≡ v.part.opened = c.if-noted-opened.false ∙ c.opened.ensures.begun ∙ opened_now v w in
     let new : WriterValue = the_view record { seat = c.load_link-link.new.self; frames = c.go_on.new.self; pages = c.self.inside.pages } in
@@ -55,7 +57,7 @@ returns-clause-makes c =
     λ m e frame below step. subst (λ (k : Mark). writing_of s.next ≡ writing_of (model.in_phase s.core frame below (found_at (mark_of k) c.args.noted l.page))) e
     (looked v.shape.pages s.core frame below model.going s.next c.args.noted (link_of l) here link step) in
     let goes : (p : Phase) → noted_fill (phase_of p) ≡ Some c.args.noted → c.match-link.phase ≡ p → Moves v (looking c.args.noted) (phase_of p) s.core s.next → MakesSome v model.steps Going new =
-    λ p noted_is is moves. goes_on v new w some (looking c.args.noted) c.args.noted c.match-link.phase p _ at refl noted_is is c.load_link-link.ensures.shape c.load_link-link.ensures.table refl c.go_on.ensures.goes_on s moves in
+    λ p noted_is is moves. goes_on v new w some (looking c.args.noted) c.args.noted c.match-link.phase p _ at refl noted_is is c.load_link-link.ensures.same.shape c.load_link-link.ensures.same.table refl c.go_on.ensures.goes_on s moves in
     as_called v c.args.self.now new (told c.go_on.result) c.self.view_is (ap told c.go_on.ensures.answer)
     (elim c.match-link.branch [
       | in-Normal b ↦ goes (Opening c.args.noted l.page) refl b.phase-is (found Normal b.in-Normal.is)
@@ -64,11 +66,12 @@ returns-clause-makes c =
     ])
 
 pub returns-clause-nearer : goal.returns-clause-nearer
+unfolding IsWriter
 returns-clause-nearer c =
     let v : WriterValue = the_view c.self.inside in
-    let w : IsWriter v = writer_seen c.self.view_is c.requires.writer in
+    let w : IsWriter v = writer_seen c.self.view_is c.requires.framed.writer in
     let new : WriterValue = the_view record { seat = c.load_link-link.new.self; frames = c.go_on.new.self; pages = c.self.inside.pages } in
     let s = c.load_link-link.ensures.step in
     subst (λ (x : WriterValue). IsNearer x new) c.self.view_is
-    (nearer_looking v new c.load_link-link.ensures.shape c.load_link-link.ensures.knows c.args.noted _ model.going s
-    (phase_shown v w (looking c.args.noted) (top_seen c.self.view_is c.requires.top) (phase_seen c.self.view_is c.requires.phase)) s.seen.0)
+    (nearer_looking v new c.load_link-link.ensures.same.shape c.load_link-link.ensures.same.knows c.args.noted _ model.going s
+    (phase_shown v w (looking c.args.noted) (top_seen c.self.view_is c.requires.framed.top) (phase_seen c.self.view_is c.requires.phase)) s.seen.0)

@@ -25,28 +25,31 @@ use Rattle.ring_shared.proofs.writer.Writer.load_next.Goals.{in-Normal, in_defau
 use Rattle.ring_shared.proofs.writer.Writer.load_next.Goals as goal
 
 pub overflow_add-behind : goal.overflow_add-behind
+unfolding IsWriter
 overflow_add-behind c =
     let v : WriterValue = the_view c.self.inside in
-    let (low, high, room, numbers) = noted_bounds v (writer_seen c.self.view_is c.requires.writer) (looking_next (role_of c.args.role) c.args.noted c.args.page)
-    (top_seen c.self.view_is c.requires.top)
+    let (low, high, room, numbers) = noted_bounds v (writer_seen c.self.view_is c.requires.framed.writer) (looking_next (role_of c.args.role) c.args.noted c.args.page)
+    (top_seen c.self.view_is c.requires.framed.top)
     (phase_seen c.self.view_is c.requires.phase) c.args.noted refl in omega arith
 
 pub overflow_sub-behind : goal.overflow_sub-behind
+unfolding IsWriter
 overflow_sub-behind c =
     let v : WriterValue = the_view c.self.inside in
-    let w : IsWriter v = writer_seen c.self.view_is c.requires.writer in
+    let w : IsWriter v = writer_seen c.self.view_is c.requires.framed.writer in
     let pages : c.pages.result ≡ v.shape.pages = c.pages.ensures.pages ∙ w.frames_are.pages_is in
-    let round : v.shape.pages ≤ c.args.noted = advances v w (looking_next (role_of c.args.role) c.args.noted c.args.page) (top_seen c.self.view_is c.requires.top)
+    let round : v.shape.pages ≤ c.args.noted = advances v w (looking_next (role_of c.args.role) c.args.noted c.args.page) (top_seen c.self.view_is c.requires.framed.top)
     (phase_seen c.self.view_is c.requires.phase) in omega arith
 
 pub load_next-link-requires-clause-due : goal.load_next-link-requires-clause-due
 load_next-link-requires-clause-due c = let v : WriterValue = the_view c.self.inside in leads_nowhere v.shape v.part
 
 pub load_next-link-requires-clause-phase : goal.load_next-link-requires-clause-phase
+unfolding IsWriter
 load_next-link-requires-clause-phase c =
     let v : WriterValue = the_view c.self.inside in
-    let w : IsWriter v = writer_seen c.self.view_is c.requires.writer in
-    let some = top_seen c.self.view_is c.requires.top in
+    let w : IsWriter v = writer_seen c.self.view_is c.requires.framed.writer in
+    let some = top_seen c.self.view_is c.requires.framed.top in
     let at : phase_of v.frames.phase ≡ looking_next (role_of c.args.role) c.args.noted c.args.page = phase_seen c.self.view_is c.requires.phase in
     let pages : c.pages.result ≡ v.shape.pages = c.pages.ensures.pages ∙ w.frames_are.pages_is in
     let round : v.shape.pages ≤ c.args.noted = advances v w (looking_next (role_of c.args.role) c.args.noted c.args.page) some at in record {
@@ -58,10 +61,11 @@ load_next-link-requires-clause-phase c =
     }
 
 pub returns-clause-makes : goal.returns-clause-makes
+unfolding IsWriter
 returns-clause-makes c =
     let v : WriterValue = the_view c.self.inside in
-    let w : IsWriter v = writer_seen c.self.view_is c.requires.writer in
-    let some = top_seen c.self.view_is c.requires.top in
+    let w : IsWriter v = writer_seen c.self.view_is c.requires.framed.writer in
+    let some = top_seen c.self.view_is c.requires.framed.top in
     let from : ModelPhase = looking_next (role_of c.args.role) c.args.noted c.args.page in
     let at : phase_of v.frames.phase ≡ from = phase_seen c.self.view_is c.requires.phase in
     let new : WriterValue = the_view record { seat = c.load_next-link.new.self; frames = c.go_on.new.self; pages = c.self.inside.pages } in
@@ -75,7 +79,7 @@ returns-clause-makes c =
     let l = c.load_next-link.result in
     let marked : Mark → Link = λ (m : Mark). record { mark = mark_of m; page = l.page; fill = l.fill } in
     let goes : (p : Phase) → noted_fill (phase_of p) ≡ Some c.args.noted → c.match-link.phase ≡ p → Moves v from (phase_of p) s.core s.next → MakesSome v model.steps Going new =
-    λ p noted_is is moves. goes_on v new w some from c.args.noted c.match-link.phase p _ at refl noted_is is c.load_next-link.ensures.shape c.load_next-link.ensures.table refl c.go_on.ensures.goes_on s moves in
+    λ p noted_is is moves. goes_on v new w some from c.args.noted c.match-link.phase p _ at refl noted_is is c.load_next-link.ensures.same.shape c.load_next-link.ensures.same.table refl c.go_on.ensures.goes_on s moves in
     as_called v c.args.self.now new (told c.go_on.result) c.self.view_is (ap told c.go_on.ensures.answer)
     (elim c.match-link.branch [
       | in-Normal b ↦ goes (Marking c.args.role c.args.noted c.args.page l.page) refl b.phase-is
@@ -91,8 +95,9 @@ returns-clause-makes c =
     ])
 
 pub returns-clause-nearer : goal.returns-clause-nearer
+unfolding IsWriter
 returns-clause-nearer c =
     let x : WriterValue = c.args.self.now in
     let m = returns-clause-makes c in
-    nearer_quietly x _ m.shape_is (subst (λ (y : WriterValue). y.passed ≤ passed_in c.load_next-link.new.self) c.self.view_is c.load_next-link.ensures.knows) _
-    (looking_next (role_of c.args.role) c.args.noted c.args.page) m (phase_shown x c.requires.writer (looking_next (role_of c.args.role) c.args.noted c.args.page) c.requires.top (ap phase_of c.requires.phase)) tt
+    nearer_quietly x _ m.shape_is (subst (λ (y : WriterValue). y.passed ≤ passed_in c.load_next-link.new.self) c.self.view_is c.load_next-link.ensures.same.knows) _
+    (looking_next (role_of c.args.role) c.args.noted c.args.page) m (phase_shown x c.requires.framed.writer (looking_next (role_of c.args.role) c.args.noted c.args.page) c.requires.framed.top (ap phase_of c.requires.phase)) tt

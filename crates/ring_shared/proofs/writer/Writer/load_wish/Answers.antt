@@ -18,24 +18,27 @@ pub load_wish-wish-requires-clause-due : goal.load_wish-wish-requires-clause-due
 load_wish-wish-requires-clause-due c = let v : WriterValue = the_view c.self.inside in leads_nowhere v.shape v.part
 
 pub load_wish-wish-requires-clause-phase : goal.load_wish-wish-requires-clause-phase
+unfolding IsWriter
 load_wish-wish-requires-clause-phase c =
     let v : WriterValue = the_view c.self.inside in
-    phase_shown v (writer_seen c.self.view_is c.requires.writer) wishing (top_seen c.self.view_is c.requires.top)
+    phase_shown v (writer_seen c.self.view_is c.requires.framed.writer) wishing (top_seen c.self.view_is c.requires.framed.top)
     (phase_seen c.self.view_is c.requires.phase)
 
 pub returns-clause-makes : goal.returns-clause-makes
+unfolding IsWriter
 returns-clause-makes c =
     let v : WriterValue = the_view c.self.inside in
-    let w : IsWriter v = writer_seen c.self.view_is c.requires.writer in
+    let w : IsWriter v = writer_seen c.self.view_is c.requires.framed.writer in
     let new : WriterValue = the_view record { seat = c.load_wish-wish.new.self; frames = c.load_wish.new.self; pages = c.self.inside.pages } in
     let (answer, step) = c.load_wish-wish.ensures.step in
     subst (λ (x : WriterValue). MakesSome x model.steps (told c.load_wish.result) new) c.self.view_is
-    (looks_for_wish v new w (top_seen c.self.view_is c.requires.top) c.load_wish-wish.ensures.shape c.load_wish-wish.ensures.table _ c.load_wish-wish.result (told c.load_wish.result) answer
+    (looks_for_wish v new w (top_seen c.self.view_is c.requires.framed.top) c.load_wish-wish.ensures.same.shape c.load_wish-wish.ensures.same.table _ c.load_wish-wish.result (told c.load_wish.result) answer
     c.load_wish.ensures.looks refl step (λ is. is))
 
 pub returns-clause-nearer : goal.returns-clause-nearer
+unfolding IsWriter
 returns-clause-nearer c =
     let x : WriterValue = c.args.self.now in
     let m = returns-clause-makes c in
-    nearer_quietly x _ m.shape_is (subst (λ (y : WriterValue). y.passed ≤ passed_in c.load_wish-wish.new.self) c.self.view_is c.load_wish-wish.ensures.knows) _
-    (wishing) m (phase_shown x c.requires.writer (wishing) c.requires.top (ap phase_of c.requires.phase)) tt
+    nearer_quietly x _ m.shape_is (subst (λ (y : WriterValue). y.passed ≤ passed_in c.load_wish-wish.new.self) c.self.view_is c.load_wish-wish.ensures.same.knows) _
+    (wishing) m (phase_shown x c.requires.framed.writer (wishing) c.requires.framed.top (ap phase_of c.requires.phase)) tt

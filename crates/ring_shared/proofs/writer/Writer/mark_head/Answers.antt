@@ -19,28 +19,31 @@ use Rattle.ring_shared.proofs.Nearing.{nearer_quietly}
 use Rattle.ring_shared.proofs.writer.Writer.mark_head.Goals as goal
 
 pub overflow_add-behind : goal.overflow_add-behind
+unfolding IsWriter
 overflow_add-behind c =
     let v : WriterValue = the_view c.self.inside in
-    let (low, high, room, numbers) = noted_bounds v (writer_seen c.self.view_is c.requires.writer) (marking (role_of c.args.role) c.args.noted c.args.page c.args.next)
-    (top_seen c.self.view_is c.requires.top)
+    let (low, high, room, numbers) = noted_bounds v (writer_seen c.self.view_is c.requires.framed.writer) (marking (role_of c.args.role) c.args.noted c.args.page c.args.next)
+    (top_seen c.self.view_is c.requires.framed.top)
     (phase_seen c.self.view_is c.requires.phase) c.args.noted refl in omega arith
 
 pub overflow_sub-behind : goal.overflow_sub-behind
+unfolding IsWriter
 overflow_sub-behind c =
     let v : WriterValue = the_view c.self.inside in
-    let w : IsWriter v = writer_seen c.self.view_is c.requires.writer in
+    let w : IsWriter v = writer_seen c.self.view_is c.requires.framed.writer in
     let pages : c.pages.result ≡ v.shape.pages = c.pages.ensures.pages ∙ w.frames_are.pages_is in
-    let round : v.shape.pages ≤ c.args.noted = advances v w (marking (role_of c.args.role) c.args.noted c.args.page c.args.next) (top_seen c.self.view_is c.requires.top)
+    let round : v.shape.pages ≤ c.args.noted = advances v w (marking (role_of c.args.role) c.args.noted c.args.page c.args.next) (top_seen c.self.view_is c.requires.framed.top)
     (phase_seen c.self.view_is c.requires.phase) in omega arith
 
 pub mark_head-marked-requires-clause-due : goal.mark_head-marked-requires-clause-due
 mark_head-marked-requires-clause-due c = let v : WriterValue = the_view c.self.inside in leads_nowhere v.shape v.part
 
 pub mark_head-marked-requires-clause-phase : goal.mark_head-marked-requires-clause-phase
+unfolding IsWriter
 mark_head-marked-requires-clause-phase c =
     let v : WriterValue = the_view c.self.inside in
-    let w : IsWriter v = writer_seen c.self.view_is c.requires.writer in
-    let some = top_seen c.self.view_is c.requires.top in
+    let w : IsWriter v = writer_seen c.self.view_is c.requires.framed.writer in
+    let some = top_seen c.self.view_is c.requires.framed.top in
     let at : phase_of v.frames.phase ≡ marking (role_of c.args.role) c.args.noted c.args.page c.args.next = phase_seen c.self.view_is c.requires.phase in
     let pages : c.pages.result ≡ v.shape.pages = c.pages.ensures.pages ∙ w.frames_are.pages_is in
     let round : v.shape.pages ≤ c.args.noted = advances v w (marking (role_of c.args.role) c.args.noted c.args.page c.args.next) some at in record {
@@ -52,19 +55,21 @@ mark_head-marked-requires-clause-phase c =
     }
 
 pub mark_head-marked-requires-clause-fits : goal.mark_head-marked-requires-clause-fits
+unfolding IsWriter
 mark_head-marked-requires-clause-fits c =
     let v : WriterValue = the_view c.self.inside in
-    let w : IsWriter v = writer_seen c.self.view_is c.requires.writer in
+    let w : IsWriter v = writer_seen c.self.view_is c.requires.framed.writer in
     let pages : c.pages.result ≡ v.shape.pages = c.pages.ensures.pages ∙ w.frames_are.pages_is in
     let most = c.pages.ensures.most in
-    fits v w (marking (role_of c.args.role) c.args.noted c.args.page c.args.next) (top_seen c.self.view_is c.requires.top)
+    fits v w (marking (role_of c.args.role) c.args.noted c.args.page c.args.next) (top_seen c.self.view_is c.requires.framed.top)
     (phase_seen c.self.view_is c.requires.phase) (omega arith)
 
 pub returns-clause-makes : goal.returns-clause-makes
+unfolding IsWriter
 returns-clause-makes c =
     let v : WriterValue = the_view c.self.inside in
-    let w : IsWriter v = writer_seen c.self.view_is c.requires.writer in
-    let some = top_seen c.self.view_is c.requires.top in
+    let w : IsWriter v = writer_seen c.self.view_is c.requires.framed.writer in
+    let some = top_seen c.self.view_is c.requires.framed.top in
     let from : ModelPhase = marking (role_of c.args.role) c.args.noted c.args.page c.args.next in
     let at : phase_of v.frames.phase ≡ from = phase_seen c.self.view_is c.requires.phase in
     let new : WriterValue = the_view record { seat = c.mark_head-marked.new.self; frames = c.go_on.new.self; pages = c.self.inside.pages } in
@@ -74,13 +79,14 @@ returns-clause-makes c =
     let next : Phase = c.after_next.result in
     as_called v c.args.self.now new (told c.go_on.result) c.self.view_is (ap told c.go_on.ensures.answer)
     (goes_on v new w some from c.args.noted next next _ at refl (ap noted_fill c.after_next.ensures ∙ noted_after (role_of c.args.role) c.args.noted c.args.page) refl
-    c.mark_head-marked.ensures.shape c.mark_head-marked.ensures.table refl c.go_on.ensures.goes_on s
+    c.mark_head-marked.ensures.same.shape c.mark_head-marked.ensures.same.table refl c.go_on.ensures.goes_on s
     (λ frame below step. subst (λ (p : ModelPhase). writing_of s.next ≡ writing_of (model.in_phase s.core frame below p)) (sym c.after_next.ensures)
     (marked v.shape.pages s.core frame below model.going s.next (role_of c.args.role) c.args.noted c.args.page c.args.next on step)))
 
 pub returns-clause-nearer : goal.returns-clause-nearer
+unfolding IsWriter
 returns-clause-nearer c =
     let x : WriterValue = c.args.self.now in
     let m = returns-clause-makes c in
-    nearer_quietly x _ m.shape_is (subst (λ (y : WriterValue). y.passed ≤ passed_in c.mark_head-marked.new.self) c.self.view_is c.mark_head-marked.ensures.knows) _
-    (marking (role_of c.args.role) c.args.noted c.args.page c.args.next) m (phase_shown x c.requires.writer (marking (role_of c.args.role) c.args.noted c.args.page c.args.next) c.requires.top (ap phase_of c.requires.phase)) tt
+    nearer_quietly x _ m.shape_is (subst (λ (y : WriterValue). y.passed ≤ passed_in c.mark_head-marked.new.self) c.self.view_is c.mark_head-marked.ensures.same.knows) _
+    (marking (role_of c.args.role) c.args.noted c.args.page c.args.next) m (phase_shown x c.requires.framed.writer (marking (role_of c.args.role) c.args.noted c.args.page c.args.next) c.requires.framed.top (ap phase_of c.requires.phase)) tt

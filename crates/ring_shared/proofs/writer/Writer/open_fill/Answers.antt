@@ -20,23 +20,26 @@ pub open_fill-body-requires-clause-due : goal.open_fill-body-requires-clause-due
 open_fill-body-requires-clause-due c = let v : WriterValue = the_view c.self.inside in leads_nowhere v.shape v.part
 
 pub open_fill-body-requires-clause-phase : goal.open_fill-body-requires-clause-phase
+unfolding IsWriter
 open_fill-body-requires-clause-phase c =
     let v : WriterValue = the_view c.self.inside in
-    let w : IsWriter v = writer_seen c.self.view_is c.requires.writer in
-    phase_shown v w (opening c.args.noted c.args.page) (top_seen c.self.view_is c.requires.top)
+    let w : IsWriter v = writer_seen c.self.view_is c.requires.framed.writer in
+    phase_shown v w (opening c.args.noted c.args.page) (top_seen c.self.view_is c.requires.framed.top)
     (phase_seen c.self.view_is c.requires.phase)
 
 pub open_fill-body-requires-clause-next : goal.open_fill-body-requires-clause-next
+unfolding IsWriter
 open_fill-body-requires-clause-next c =
     let v : WriterValue = the_view c.self.inside in
-    c.if-noted-opened.false ∙ c.opened.ensures.begun ∙ opened_now v (writer_seen c.self.view_is c.requires.writer)
+    c.if-noted-opened.false ∙ c.opened.ensures.begun ∙ opened_now v (writer_seen c.self.view_is c.requires.framed.writer)
 
 pub push_back_reserved-requires : goal.push_back_reserved-requires
+unfolding IsWriter
 push_back_reserved-requires c =
     let v : WriterValue = the_view c.self.inside in
-    let w : IsWriter v = writer_seen c.self.view_is c.requires.writer in
+    let w : IsWriter v = writer_seen c.self.view_is c.requires.framed.writer in
     let now : c.args.noted ≡ v.part.opened = c.if-noted-opened.false ∙ c.opened.ensures.begun ∙ opened_now v w in
-    let (low, high, room, numbers) = noted_bounds v w (opening c.args.noted c.args.page) (top_seen c.self.view_is c.requires.top)
+    let (low, high, room, numbers) = noted_bounds v w (opening c.args.noted c.args.page) (top_seen c.self.view_is c.requires.framed.top)
     (phase_seen c.self.view_is c.requires.phase) c.args.noted refl in
     let count = count_now v w in let wide = c.self.inside.pages.ok.0 in let has_room = c.self.invariant in omega arith
 
@@ -45,18 +48,20 @@ open_fill-requires-clause-phase c =
     (c.args.page, ap (λ (x : WriterValue). x.frames.phase) c.self.view_is ∙ c.requires.phase ∙ ap (λ noted. Opening noted c.args.page) (c.if-noted-opened.false ∙ c.opened.ensures.begun))
 
 pub returns-clause-makes : goal.returns-clause-makes
+unfolding IsWriter
 returns-clause-makes c =
     let v : WriterValue = the_view c.self.inside in
-    let w : IsWriter v = writer_seen c.self.view_is c.requires.writer in
+    let w : IsWriter v = writer_seen c.self.view_is c.requires.framed.writer in
     let new : WriterValue = the_view record { seat = c.open_fill-body.new.self; frames = c.open_fill.new.self; pages = c.push_back_reserved.new.self } in
     subst (λ (x : WriterValue). MakesSome x model.steps (told c.open_fill.result) new) c.self.view_is
-    (opens_fill v new w (top_seen c.self.view_is c.requires.top) c.open_fill-body.ensures.shape c.open_fill-body.ensures.table _ c.args.noted c.args.page (told c.open_fill.result)
+    (opens_fill v new w (top_seen c.self.view_is c.requires.framed.top) c.open_fill-body.ensures.same.shape c.open_fill-body.ensures.same.table _ c.args.noted c.args.page (told c.open_fill.result)
     (phase_seen c.self.view_is c.requires.phase) (c.if-noted-opened.false ∙ c.opened.ensures.begun ∙ opened_now v w)
     c.open_fill.ensures.opens c.push_back_reserved.ensures.items c.open_fill-body.ensures.step)
 
 pub returns-clause-nearer : goal.returns-clause-nearer
+unfolding IsWriter
 returns-clause-nearer c =
     let x : WriterValue = c.args.self.now in
     let m = returns-clause-makes c in
-    nearer_quietly x _ m.shape_is (subst (λ (y : WriterValue). y.passed ≤ passed_in c.open_fill-body.new.self) c.self.view_is c.open_fill-body.ensures.knows) _
-    (opening c.args.noted c.args.page) m (phase_shown x c.requires.writer (opening c.args.noted c.args.page) c.requires.top (ap phase_of c.requires.phase)) tt
+    nearer_quietly x _ m.shape_is (subst (λ (y : WriterValue). y.passed ≤ passed_in c.open_fill-body.new.self) c.self.view_is c.open_fill-body.ensures.same.knows) _
+    (opening c.args.noted c.args.page) m (phase_shown x c.requires.framed.writer (opening c.args.noted c.args.page) c.requires.framed.top (ap phase_of c.requires.phase)) tt

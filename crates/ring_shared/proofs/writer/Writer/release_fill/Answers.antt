@@ -20,40 +20,46 @@ pub release_fill-requires-clause-due : goal.release_fill-requires-clause-due
 release_fill-requires-clause-due c = let v : WriterValue = the_view c.self.inside in leads_nowhere v.shape v.part
 
 pub release_fill-requires-clause-phase : goal.release_fill-requires-clause-phase
+unfolding IsWriter
 release_fill-requires-clause-phase c =
     let v : WriterValue = the_view c.self.inside in
-    phase_shown v (writer_seen c.self.view_is c.requires.writer) releasing (top_seen c.self.view_is c.requires.top)
+    phase_shown v (writer_seen c.self.view_is c.requires.framed.writer) releasing (top_seen c.self.view_is c.requires.framed.top)
     (phase_seen c.self.view_is c.requires.phase)
 
 pub release_fill-requires-clause-oldest : goal.release_fill-requires-clause-oldest
+unfolding IsWriter
 release_fill-requires-clause-oldest c =
     let v : WriterValue = the_view c.self.inside in
-    let w : IsWriter v = writer_seen c.self.view_is c.requires.writer in
+    let w : IsWriter v = writer_seen c.self.view_is c.requires.framed.writer in
     sym (ap (λ (pages : List ℕ). slice_index_or pages 0 0) (w.pages_are ∙ c.in-Some.ensures.items))
 
 pub release_fill-requires-clause-written : goal.release_fill-requires-clause-written
+unfolding IsWriter
 release_fill-requires-clause-written c =
     let v : WriterValue = the_view c.self.inside in
-    is_written v (writer_seen c.self.view_is c.requires.writer) c.release_fill-page.result c.release_fill-page.new.self c.release_fill-page.ensures.releases
+    is_written v (writer_seen c.self.view_is c.requires.framed.writer) c.release_fill-page.result c.release_fill-page.new.self c.release_fill-page.ensures.releases
 
 pub unreachable-requires : goal.unreachable-requires
+unfolding IsWriter
 unreachable-requires c =
-    let some = some_open (the_view c.self.inside) (writer_seen c.self.view_is c.requires.writer) in
+    let some = some_open (the_view c.self.inside) (writer_seen c.self.view_is c.requires.framed.writer) in
     let wide = c.self.inside.pages.ok.0 in
     let there = subst IsSome c.in-None.is (c.pop_front.ensures.variant.1 (omega arith)) in cc
 
 pub returns-clause-makes : goal.returns-clause-makes
+unfolding IsWriter
 returns-clause-makes c =
     let v : WriterValue = the_view c.self.inside in
-    let w : IsWriter v = writer_seen c.self.view_is c.requires.writer in
+    let w : IsWriter v = writer_seen c.self.view_is c.requires.framed.writer in
     let new : WriterValue = the_view record { seat = c.release_fill.new.self; frames = c.release_fill-page.new.self; pages = c.pop_front.new.self } in
     subst (λ (x : WriterValue). MakesSome x model.steps Going new) c.self.view_is
-    (closes_fill v new w (top_seen c.self.view_is c.requires.top) c.release_fill.ensures.shape c.release_fill.ensures.table _ c.release_fill-page.result c.release_fill-page.ensures.releases
+    (closes_fill v new w (top_seen c.self.view_is c.requires.framed.top) c.release_fill.ensures.same.shape c.release_fill.ensures.same.table _ c.release_fill-page.result c.release_fill-page.ensures.releases
     (sym (ap (drop 1) c.in-Some.ensures.items)) c.release_fill.ensures.step)
 
 pub returns-clause-nearer : goal.returns-clause-nearer
+unfolding IsWriter
 returns-clause-nearer c =
     let x : WriterValue = c.args.self.now in
     let m = returns-clause-makes c in
-    nearer_quietly x _ m.shape_is (subst (λ (y : WriterValue). y.passed ≤ passed_in c.release_fill.new.self) c.self.view_is c.release_fill.ensures.knows) _
-    (releasing) m (phase_shown x c.requires.writer (releasing) c.requires.top (ap phase_of c.requires.phase)) tt
+    nearer_quietly x _ m.shape_is (subst (λ (y : WriterValue). y.passed ≤ passed_in c.release_fill.new.self) c.self.view_is c.release_fill.ensures.same.knows) _
+    (releasing) m (phase_shown x c.requires.framed.writer (releasing) c.requires.framed.top (ap phase_of c.requires.phase)) tt

@@ -16,22 +16,25 @@ use Rattle.ring_shared.proofs.Nearing.{nearer_quietly}
 use Rattle.ring_shared.proofs.writer.Writer.reserve.Goals as goal
 
 pub note-requires : goal.note-requires
+unfolding IsWriter
 note-requires c = let idle = ap (λ (x : WriterValue). x.frames.phase) c.self.view_is ∙ c.requires.phase in
     record {
-      due = step_leads _ (subst IsWriter (sym c.self.view_is) c.requires.writer)
+      due = step_leads _ (subst IsWriter (sym c.self.view_is) c.requires.framed.writer)
           (subst (λ (p : Phase). PhaseIsPrivate (phase_of p) (opened c.self.inside.frames.stack)) (sym idle) tt);
     }
 
 pub returns-clause-makes : goal.returns-clause-makes
+unfolding IsWriter
 returns-clause-makes c =
-    seen_call _ _ (λ _. steps) c.reserve.result _ c.self.view_is c.requires.writer c.note.ensures.shape c.note.ensures.table c.note.ensures.noted refl c.reserve.ensures.step
+    seen_call _ _ (λ _. steps) c.reserve.result _ c.self.view_is c.requires.framed.writer c.note.ensures.same.shape c.note.ensures.same.table c.note.ensures.noted refl c.reserve.ensures.step
 
 pub returns-clause-nearer : goal.returns-clause-nearer
+unfolding IsWriter
 returns-clause-nearer c =
     let x : WriterValue = c.args.self.now in
     let m = returns-clause-makes c in
-    nearer_quietly x _ m.shape_is (subst (λ (y : WriterValue). y.passed ≤ passed_in c.note.new.self) c.self.view_is c.note.ensures.knows) _
-    (idle) m (phase_shown x c.requires.writer (idle) c.requires.top (ap phase_of c.requires.phase)) tt
+    nearer_quietly x _ m.shape_is (subst (λ (y : WriterValue). y.passed ≤ passed_in c.note.new.self) c.self.view_is c.note.ensures.same.knows) _
+    (idle) m (phase_shown x c.requires.framed.writer (idle) c.requires.framed.top (ap phase_of c.requires.phase)) tt
 
 pub returns-clause-zeros : goal.returns-clause-zeros
 returns-clause-zeros c = subst (λ (x : WriterValue). ZerosSlot x.frames.stack c.reserve.result c.reserve.new.self.stack) c.self.view_is c.reserve.ensures.zeros

@@ -11,6 +11,7 @@ use Rattle.ring_shared.proofs.Depths.{depth_is}
 use Rattle.ring_shared.proofs.WholeWrites.{met_refusal, not_refused, has_record, is_reserved_by, refused_gone, refused_left, top_slot_of}
 use Rattle.ring_frames.proofs.Payloads.{kept_then}
 use Rattle.ring_shared.proofs.Covered.{reserved_covers}
+use Rattle.ring_shared.specs.Calls.{IsWriter}
 use Rattle.ring_shared.proofs.writer.Writer.reserve_record.Goals as goal
 
 -- what is finished is so in the ring that it was
@@ -18,6 +19,7 @@ finished_in : (shape : Shape) (v new : WriterValue) (result : Answer) → v.shap
 finished_in shape v new result same f = subst (λ (s : Shape). Finishes s v.part result new.part) same f
 
 pub returns-then-depth-clause-refused : goal.returns-then-depth-clause-refused
+unfolding IsWriter
 returns-then-depth-clause-refused c = λ fault e.
     let x : WriterValue = c.args.self.now in let one : WriterValue = c.begin.new.self in let two : WriterValue = c.finish_top.new.self in
     let shape_is = c.begin.ensures.makes.shape_is in
@@ -35,6 +37,7 @@ returns-then-depth-clause-refused c = λ fault e.
     (finished_in x.shape two c.finish_top-then-depth.new.self c.finish_top-then-depth.result (c.finish_top.ensures.ring.0 ∙ shape_is) c.finish_top-then-depth.ensures.finished))
 
 pub unreachable-requires : goal.unreachable-requires
+unfolding IsWriter
 unreachable-requires c =
     let x : WriterValue = c.args.self.now in let one : WriterValue = c.begin.new.self in let two : WriterValue = c.finish_top.new.self in
     let (slot, is) = top_slot_of two c.finish_top.ensures.writer (for_record c.args.moment c.args.len) x.part.frames
@@ -53,6 +56,7 @@ returns-clause-reserved c = λ slot e.
     (not_refused c.finish_top.result (λ f is. c.in_default-met_first.not-Some f (c.met_first-2.ensures ∙ is)))
 
 pub returns-else-depth-clause-refused : goal.returns-else-depth-clause-refused
+unfolding IsWriter
 returns-else-depth-clause-refused c = λ fault e.
     let x : WriterValue = c.args.self.now in let one : WriterValue = c.begin.new.self in let two : WriterValue = c.finish_top.new.self in
     let why : WriteFault = c.in-Some-met_first.fault in
@@ -72,17 +76,18 @@ returns-else-depth-clause-refused c = λ fault e.
 pub returns-then-depth-clause-payloads : goal.returns-then-depth-clause-payloads
 returns-then-depth-clause-payloads c =
     let x : WriterValue = c.args.self.now in let one : WriterValue = c.begin.new.self in let two : WriterValue = c.finish_top.new.self in let three : WriterValue = c.finish_top-then-depth.new.self in
-    kept_then x.frames.stack two.frames.stack three.frames.stack (kept_then x.frames.stack one.frames.stack two.frames.stack c.begin.ensures.payloads c.finish_top.ensures.payloads) c.finish_top-then-depth.ensures.payloads
+    kept_then x.frames.stack two.frames.stack three.frames.stack (kept_then x.frames.stack one.frames.stack two.frames.stack c.begin.ensures.payloads c.finish_top.ensures.slots.payloads) c.finish_top-then-depth.ensures.slots.payloads
 
 pub returns-else-depth-clause-payloads : goal.returns-else-depth-clause-payloads
 returns-else-depth-clause-payloads c =
-    kept_then c.args.self.now.frames.stack c.begin.new.self.frames.stack c.finish_top.new.self.frames.stack c.begin.ensures.payloads c.finish_top.ensures.payloads
+    kept_then c.args.self.now.frames.stack c.begin.new.self.frames.stack c.finish_top.new.self.frames.stack c.begin.ensures.payloads c.finish_top.ensures.slots.payloads
 
 pub returns-clause-payloads : goal.returns-clause-payloads
 returns-clause-payloads c =
-    kept_then c.args.self.now.frames.stack c.begin.new.self.frames.stack c.finish_top.new.self.frames.stack c.begin.ensures.payloads c.finish_top.ensures.payloads
+    kept_then c.args.self.now.frames.stack c.begin.new.self.frames.stack c.finish_top.new.self.frames.stack c.begin.ensures.payloads c.finish_top.ensures.slots.payloads
 
 pub returns-clause-covers : goal.returns-clause-covers
+unfolding IsWriter
 returns-clause-covers c = λ slot e.
     let x : WriterValue = c.args.self.now in let two : WriterValue = c.finish_top.new.self in
     reserved_covers x.shape x two c.args.moment c.args.len c.requires.writer c.finish_top.ensures.writer

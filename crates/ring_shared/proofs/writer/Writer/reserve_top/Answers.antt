@@ -9,9 +9,11 @@ use Rattle.ring_shared.proofs.Depths.{reserving_top}
 use Rattle.ring_shared.proofs.Finishes.{IsAmidReserving, reserving_unnumbered, reserving_first, reserving_on, reserving_stands, reserving_ends, call_in, same_writer}
 use Rattle.ring_shared.proofs.Turning.{amid_turned, same_turned}
 use Rattle.ring_frames.proofs.Payloads.{same_stack, kept_then}
+use Rattle.ring_shared.specs.Calls.{IsWriter}
 use Rattle.ring_shared.proofs.writer.Writer.reserve_top.Goals as goal
 
 pub loop-last-init : goal.loop-last-init
+unfolding IsWriter
 loop-last-init c =
     let (frame, below, top, reserves) = c.requires.top in
     let v : WriterValue = c.args.self.now in
@@ -24,6 +26,7 @@ loop-last-init c =
     }
 
 pub step-requires : goal.step-requires
+unfolding IsWriter
 step-requires c = record { writer = c.loop-last.invariant.writer }
 
 pub returns-in-Some-clause-reserves : goal.returns-in-Some-clause-reserves
@@ -60,6 +63,7 @@ loop-last-smaller c =
     let further = c.turn_over.ensures.nearer in omega arith
 
 pub loop-last-preserved : goal.loop-last-preserved
+unfolding IsWriter
 loop-last-preserved c =
     let h = c.loop-last.invariant in
     let old : WriterValue = c.loop-last.self in let one : WriterValue = c.step.new.self in let new : WriterValue = c.turn_over.new.self in let shape : Shape = c.args.self.now.shape in
@@ -73,17 +77,18 @@ loop-last-preserved c =
           amid_turned shape frame.kind below c.args.self.now.part one new ring.0
           (reserving_on shape frame.kind below c.args.self.now.part old.part one.part c.step.result (h.amid frame below top)
           (call_in shape old one c.step.result h.ring.0 makes) (c.unless_going.ensures.going c.in_default.is)) turns;
-      payloads = kept_then c.args.self.now.frames.stack one.frames.stack new.frames.stack (kept_then c.args.self.now.frames.stack old.frames.stack one.frames.stack h.payloads c.step.ensures.payloads) turns.payloads;
+      payloads = kept_then c.args.self.now.frames.stack one.frames.stack new.frames.stack (kept_then c.args.self.now.frames.stack old.frames.stack one.frames.stack h.payloads c.step.ensures.slots.payloads) turns.payloads;
     }
 
 pub returns-in-Some-clause-payloads : goal.returns-in-Some-clause-payloads
 returns-in-Some-clause-payloads c =
-    kept_then c.args.self.now.frames.stack c.loop-last.self.frames.stack c.step.new.self.frames.stack c.loop-last.invariant.payloads c.step.ensures.payloads
+    kept_then c.args.self.now.frames.stack c.loop-last.self.frames.stack c.step.new.self.frames.stack c.loop-last.invariant.payloads c.step.ensures.slots.payloads
 
 pub returns-in-Some-clause-zeros : goal.returns-in-Some-clause-zeros
+unfolding IsWriter
 returns-in-Some-clause-zeros c = λ number slot e lacks at.
     let h = c.loop-last.invariant in
     let (frame, below, top) = h.some in
     let a = h.amid frame below top in
     let (same, other) = c.unless_going.ensures.other c.in-Some.last c.in-Some.is in
-    c.step.ensures.zeros number slot (sym same ∙ e) (lacks_slot c.loop-last.self h.writer a.frame below a.top a.reserves) at
+    c.step.ensures.slots.zeros number slot (sym same ∙ e) (lacks_slot c.loop-last.self h.writer a.frame below a.top a.reserves) at

@@ -1,4 +1,4 @@
-use Rattle.std.proofs.Common.{◌≡◌, length, refl, sym, ap, ◌∙◌, subst}
+use Rattle.std.proofs.Common.{rules, ◌≡◌, length, refl, sym, ap, ◌∙◌, subst}
 use Rattle.trace_model.specs.Steps as model
 use Rattle.ring_frames.specs.declared.answer.Answer.TheVariants.{Going, Gone}
 use Rattle.ring_frames.specs.Value.{FramesValue}
@@ -23,40 +23,39 @@ pub returns-in_default-clause-refused : goal.returns-in_default-clause-refused
 returns-in_default-clause-refused c = λ fault e. subst (λ (x : WriterValue). IsRefusedWrite x.shape x.part c.args.moment (length c.args.payload.now) fault c.write_by_steps.new.self.part) c.self.view_is (c.write_by_steps.ensures.refused fault e)
 
 pub load_wish-wish-requires-clause-due : goal.load_wish-wish-requires-clause-due
+unfolding IsWriter
 load_wish-wish-requires-clause-due c =
     let v : WriterValue = the_view c.self.inside in
     leads_write v (writer_seen c.self.view_is c.requires.writer) c.args.moment c.args.payload.now c.write.new.self (c.write.ensures.wrote c.in-Record.is) (c.write.ensures.alone c.in-Record.is)
 
 pub load_wish-wish-requires-clause-phase : goal.load_wish-wish-requires-clause-phase
+unfolding IsWriter
 load_wish-wish-requires-clause-phase c =
     let v : WriterValue = the_view c.self.inside in
     wishing_mid v (writer_seen c.self.view_is c.requires.writer) c.args.moment c.args.payload.now c.write.new.self (c.write.ensures.wrote c.in-Record.is) (c.write.ensures.alone c.in-Record.is)
 
 pub stay-requires-clause-none : goal.stay-requires-clause-none
+unfolding IsWriter
 stay-requires-clause-none c =
     let v : WriterValue = the_view c.self.inside in
     none_left v (writer_seen c.self.view_is c.requires.writer) c.args.moment c.args.payload.now c.write.new.self (c.write.ensures.wrote c.in-Record.is) (c.write.ensures.alone c.in-Record.is)
 
 pub stay-requires-clause-frames : goal.stay-requires-clause-frames
+unfolding IsWriter
 stay-requires-clause-frames c =
     let v : WriterValue = the_view c.self.inside in
     frames_mid v (writer_seen c.self.view_is c.requires.writer) c.args.moment c.args.payload.now c.write.new.self (c.write.ensures.wrote c.in-Record.is) (c.write.ensures.alone c.in-Record.is)
 
-pub returns-then-not-is_wished-clause-writer : goal.returns-then-not-is_wished-clause-writer
-returns-then-not-is_wished-clause-writer c =
-    let v : WriterValue = the_view c.self.inside in
-    let w : IsWriter v = writer_seen c.self.view_is c.requires.writer in
-    let gone : FramesValue = c.write.new.self in
-    let wrote = c.write.ensures.wrote c.in-Record.is in let alone = c.write.ensures.alone c.in-Record.is in
-    let new : WriterValue = the_view record { seat = c.load_wish-wish.new.self; frames = gone; pages = c.self.inside.pages } in
-    let (answer, step) = c.load_wish-wish.ensures.step in
-    let makes : MakesSome (mid v w c.args.moment c.args.payload.now gone wrote alone) model.steps Gone new =
-    looks_for_wish (mid v w c.args.moment c.args.payload.now gone wrote alone) new (writer_mid v w c.args.moment c.args.payload.now gone wrote alone)
-    (some_mid v w c.args.moment c.args.payload.now gone wrote alone) c.load_wish-wish.ensures.shape c.load_wish-wish.ensures.table _ c.load_wish-wish.result Gone answer
-    (c.is_wished.ensures.unasked c.if-not-is_wished.true c.args.moment (length c.args.payload.now) (none_left v w c.args.moment c.args.payload.now gone wrote alone) alone.below alone.closed) refl step (λ is. is) in
-    makes.writer
+pub returns-then-not-is_wished-clause-keeps : goal.returns-then-not-is_wished-clause-keeps
+unfolding IsWriter
+returns-then-not-is_wished-clause-keeps c = record {
+  payloads = subst (λ (x : WriterValue). KeepsPayloads x.frames.stack c.write.new.self.stack) c.self.view_is c.write.ensures.payloads;
+  ring = search rules;
+  writer = let v : WriterValue = the_view c.self.inside in let w : IsWriter v = writer_seen c.self.view_is c.requires.writer in let gone : FramesValue = c.write.new.self in let wrote = c.write.ensures.wrote c.in-Record.is in let alone = c.write.ensures.alone c.in-Record.is in let new : WriterValue = the_view record { seat = c.load_wish-wish.new.self; frames = gone; pages = c.self.inside.pages } in let (answer, step) = c.load_wish-wish.ensures.step in let makes : MakesSome (mid v w c.args.moment c.args.payload.now gone wrote alone) model.steps Gone new = looks_for_wish (mid v w c.args.moment c.args.payload.now gone wrote alone) new (writer_mid v w c.args.moment c.args.payload.now gone wrote alone) (some_mid v w c.args.moment c.args.payload.now gone wrote alone) c.load_wish-wish.ensures.same.shape c.load_wish-wish.ensures.same.table _ c.load_wish-wish.result Gone answer (c.is_wished.ensures.unasked c.if-not-is_wished.true c.args.moment (length c.args.payload.now) (none_left v w c.args.moment c.args.payload.now gone wrote alone) alone.below alone.closed) refl step (λ is. is) in makes.writer;
+}
 
 pub returns-then-not-is_wished-clause-written : goal.returns-then-not-is_wished-clause-written
+unfolding IsWriter
 returns-then-not-is_wished-clause-written c = λ _.
     let v : WriterValue = the_view c.self.inside in
     let w : IsWriter v = writer_seen c.self.view_is c.requires.writer in
@@ -66,26 +65,24 @@ returns-then-not-is_wished-clause-written c = λ _.
     let (answer, step) = c.load_wish-wish.ensures.step in
     let makes : MakesSome (mid v w c.args.moment c.args.payload.now gone wrote alone) model.steps Gone new =
     looks_for_wish (mid v w c.args.moment c.args.payload.now gone wrote alone) new (writer_mid v w c.args.moment c.args.payload.now gone wrote alone)
-    (some_mid v w c.args.moment c.args.payload.now gone wrote alone) c.load_wish-wish.ensures.shape c.load_wish-wish.ensures.table _ c.load_wish-wish.result Gone answer
+    (some_mid v w c.args.moment c.args.payload.now gone wrote alone) c.load_wish-wish.ensures.same.shape c.load_wish-wish.ensures.same.table _ c.load_wish-wish.result Gone answer
     (c.is_wished.ensures.unasked c.if-not-is_wished.true c.args.moment (length c.args.payload.now) (none_left v w c.args.moment c.args.payload.now gone wrote alone) alone.below alone.closed) refl step (λ is. is) in
     subst (λ (x : WriterValue). IsWritten x.shape x.part c.args.moment c.args.payload.now new.part) c.self.view_is
     (written_at_once v w c.args.moment c.args.payload.now gone wrote alone Gone new.part makes.call (λ e. cc))
 
-pub returns-in-Gone-clause-writer : goal.returns-in-Gone-clause-writer
-returns-in-Gone-clause-writer c =
+pub returns-in-Gone-clause-keeps : goal.returns-in-Gone-clause-keeps
+unfolding IsWriter
+returns-in-Gone-clause-keeps c =
     let v : WriterValue = the_view c.self.inside in
-    let w : IsWriter v = writer_seen c.self.view_is c.requires.writer in
-    let gone : FramesValue = c.write.new.self in
-    let wrote = c.write.ensures.wrote c.in-Record.is in let alone = c.write.ensures.alone c.in-Record.is in
-    let new : WriterValue = the_view record { seat = c.load_wish-wish.new.self; frames = c.stay.new.self; pages = c.self.inside.pages } in
-    let (answer, step) = c.load_wish-wish.ensures.step in
-    let makes : MakesSome (mid v w c.args.moment c.args.payload.now gone wrote alone) model.steps (told c.stay.result) new =
-    looks_for_wish (mid v w c.args.moment c.args.payload.now gone wrote alone) new (writer_mid v w c.args.moment c.args.payload.now gone wrote alone)
-    (some_mid v w c.args.moment c.args.payload.now gone wrote alone) c.load_wish-wish.ensures.shape c.load_wish-wish.ensures.table _ c.load_wish-wish.result (told c.stay.result) answer
-    c.stay.ensures.looks refl step (λ is. is) in
-    makes.writer
+    record {
+      payloads = subst (λ (x : WriterValue). KeepsPayloads x.frames.stack c.stay.new.self.stack) c.self.view_is
+          (kept_then v.frames.stack c.write.new.self.stack c.stay.new.self.stack c.write.ensures.payloads c.stay.ensures.payloads);
+      ring = search rules;
+      writer = let w : IsWriter v = writer_seen c.self.view_is c.requires.writer in let gone : FramesValue = c.write.new.self in let wrote = c.write.ensures.wrote c.in-Record.is in let alone = c.write.ensures.alone c.in-Record.is in let new : WriterValue = the_view record { seat = c.load_wish-wish.new.self; frames = c.stay.new.self; pages = c.self.inside.pages } in let (answer, step) = c.load_wish-wish.ensures.step in let makes : MakesSome (mid v w c.args.moment c.args.payload.now gone wrote alone) model.steps (told c.stay.result) new = looks_for_wish (mid v w c.args.moment c.args.payload.now gone wrote alone) new (writer_mid v w c.args.moment c.args.payload.now gone wrote alone) (some_mid v w c.args.moment c.args.payload.now gone wrote alone) c.load_wish-wish.ensures.same.shape c.load_wish-wish.ensures.same.table _ c.load_wish-wish.result (told c.stay.result) answer c.stay.ensures.looks refl step (λ is. is) in makes.writer;
+    }
 
 pub returns-in-Gone-clause-written : goal.returns-in-Gone-clause-written
+unfolding IsWriter
 returns-in-Gone-clause-written c = λ _.
     let v : WriterValue = the_view c.self.inside in
     let w : IsWriter v = writer_seen c.self.view_is c.requires.writer in
@@ -95,14 +92,15 @@ returns-in-Gone-clause-written c = λ _.
     let (answer, step) = c.load_wish-wish.ensures.step in
     let makes : MakesSome (mid v w c.args.moment c.args.payload.now gone wrote alone) model.steps (told c.stay.result) new =
     looks_for_wish (mid v w c.args.moment c.args.payload.now gone wrote alone) new (writer_mid v w c.args.moment c.args.payload.now gone wrote alone)
-    (some_mid v w c.args.moment c.args.payload.now gone wrote alone) c.load_wish-wish.ensures.shape c.load_wish-wish.ensures.table _ c.load_wish-wish.result (told c.stay.result) answer
+    (some_mid v w c.args.moment c.args.payload.now gone wrote alone) c.load_wish-wish.ensures.same.shape c.load_wish-wish.ensures.same.table _ c.load_wish-wish.result (told c.stay.result) answer
     c.stay.ensures.looks refl step (λ is. is) in
     subst (λ (x : WriterValue). IsWritten x.shape x.part c.args.moment c.args.payload.now new.part) c.self.view_is
     (written_at_once v w c.args.moment c.args.payload.now gone wrote alone (told c.stay.result) new.part makes.call
     (λ e. let both : Gone ≡ Going = sym (ap told c.in-Gone.is) ∙ e in cc))
 
-pub leave_on-refusal-requires-clause-writer : goal.leave_on-refusal-requires-clause-writer
-leave_on-refusal-requires-clause-writer c =
+pub leave_on-refusal-requires : goal.leave_on-refusal-requires
+unfolding IsWriter
+leave_on-refusal-requires c =
     let v : WriterValue = the_view c.self.inside in
     let w : IsWriter v = writer_seen c.self.view_is c.requires.writer in
     let gone : FramesValue = c.write.new.self in
@@ -111,25 +109,15 @@ leave_on-refusal-requires-clause-writer c =
     let (answer, step) = c.load_wish-wish.ensures.step in
     let makes : MakesSome (mid v w c.args.moment c.args.payload.now gone wrote alone) model.steps (told c.stay.result) new =
     looks_for_wish (mid v w c.args.moment c.args.payload.now gone wrote alone) new (writer_mid v w c.args.moment c.args.payload.now gone wrote alone)
-    (some_mid v w c.args.moment c.args.payload.now gone wrote alone) c.load_wish-wish.ensures.shape c.load_wish-wish.ensures.table _ c.load_wish-wish.result (told c.stay.result) answer
+    (some_mid v w c.args.moment c.args.payload.now gone wrote alone) c.load_wish-wish.ensures.same.shape c.load_wish-wish.ensures.same.table _ c.load_wish-wish.result (told c.stay.result) answer
     c.stay.ensures.looks refl step (λ is. is) in
-    makes.writer
-
-pub leave_on-refusal-requires-clause-top : goal.leave_on-refusal-requires-clause-top
-leave_on-refusal-requires-clause-top c =
-    let v : WriterValue = the_view c.self.inside in
-    let w : IsWriter v = writer_seen c.self.view_is c.requires.writer in
-    let gone : FramesValue = c.write.new.self in
-    let wrote = c.write.ensures.wrote c.in-Record.is in let alone = c.write.ensures.alone c.in-Record.is in
-    let new : WriterValue = the_view record { seat = c.load_wish-wish.new.self; frames = c.stay.new.self; pages = c.self.inside.pages } in
-    let (answer, step) = c.load_wish-wish.ensures.step in
-    let makes : MakesSome (mid v w c.args.moment c.args.payload.now gone wrote alone) model.steps (told c.stay.result) new =
-    looks_for_wish (mid v w c.args.moment c.args.payload.now gone wrote alone) new (writer_mid v w c.args.moment c.args.payload.now gone wrote alone)
-    (some_mid v w c.args.moment c.args.payload.now gone wrote alone) c.load_wish-wish.ensures.shape c.load_wish-wish.ensures.table _ c.load_wish-wish.result (told c.stay.result) answer
-    c.stay.ensures.looks refl step (λ is. is) in
-    stands_still v w c.args.moment c.args.payload.now gone wrote alone (told c.stay.result) new.part makes.call (ap told c.in-Going.is)
+    record {
+      writer = makes.writer;
+      top = stands_still v w c.args.moment c.args.payload.now gone wrote alone (told c.stay.result) new.part makes.call (ap told c.in-Going.is);
+    }
 
 pub returns-in-Going-clause-written : goal.returns-in-Going-clause-written
+unfolding IsWriter
 returns-in-Going-clause-written c = λ _.
     let v : WriterValue = the_view c.self.inside in
     let w : IsWriter v = writer_seen c.self.view_is c.requires.writer in
@@ -139,37 +127,32 @@ returns-in-Going-clause-written c = λ _.
     let (answer, step) = c.load_wish-wish.ensures.step in
     let makes : MakesSome (mid v w c.args.moment c.args.payload.now gone wrote alone) model.steps (told c.stay.result) new =
     looks_for_wish (mid v w c.args.moment c.args.payload.now gone wrote alone) new (writer_mid v w c.args.moment c.args.payload.now gone wrote alone)
-    (some_mid v w c.args.moment c.args.payload.now gone wrote alone) c.load_wish-wish.ensures.shape c.load_wish-wish.ensures.table _ c.load_wish-wish.result (told c.stay.result) answer
+    (some_mid v w c.args.moment c.args.payload.now gone wrote alone) c.load_wish-wish.ensures.same.shape c.load_wish-wish.ensures.same.table _ c.load_wish-wish.result (told c.stay.result) answer
     c.stay.ensures.looks refl step (λ is. is) in
     let end : Writing = c.leave_on-refusal.new.self.part in
     let (last, refusal, how, leaves) = c.leave_on-refusal.ensures.leaves in
     subst (λ (x : WriterValue). IsWritten x.shape x.part c.args.moment c.args.payload.now end) c.self.view_is
     (written_behind v w c.args.moment c.args.payload.now gone wrote alone (told c.stay.result) new.part makes.call last end (ap told c.in-Going.is)
-    (λ frame below top. subst (λ (s : Shape). Leaves s below new.part last end) c.load_wish-wish.ensures.shape (leaves frame below top)))
+    (λ frame below top. subst (λ (s : Shape). Leaves s below new.part last end) c.load_wish-wish.ensures.same.shape (leaves frame below top)))
 
 -- ---- payloads
 
-pub returns-in_default-clause-payloads : goal.returns-in_default-clause-payloads
-returns-in_default-clause-payloads c =
-    let v : WriterValue = the_view c.self.inside in
-    subst (λ (x : WriterValue). KeepsPayloads x.frames.stack c.write_by_steps.new.self.frames.stack) c.self.view_is
-    (kept_then v.frames.stack c.write.new.self.stack c.write_by_steps.new.self.frames.stack c.write.ensures.payloads c.write_by_steps.ensures.payloads)
+pub returns-in_default-clause-keeps : goal.returns-in_default-clause-keeps
+returns-in_default-clause-keeps c = record {
+  payloads = let v : WriterValue = the_view c.self.inside in subst (λ (x : WriterValue). KeepsPayloads x.frames.stack c.write_by_steps.new.self.frames.stack) c.self.view_is
+      (kept_then v.frames.stack c.write.new.self.stack c.write_by_steps.new.self.frames.stack c.write.ensures.payloads c.write_by_steps.ensures.keeps.payloads);
+  ring = search rules;
+  writer = search rules;
+}
 
-pub returns-then-not-is_wished-clause-payloads : goal.returns-then-not-is_wished-clause-payloads
-returns-then-not-is_wished-clause-payloads c = subst (λ (x : WriterValue). KeepsPayloads x.frames.stack c.write.new.self.stack) c.self.view_is c.write.ensures.payloads
-
-pub returns-in-Gone-clause-payloads : goal.returns-in-Gone-clause-payloads
-returns-in-Gone-clause-payloads c =
-    let v : WriterValue = the_view c.self.inside in
-    subst (λ (x : WriterValue). KeepsPayloads x.frames.stack c.stay.new.self.stack) c.self.view_is
-    (kept_then v.frames.stack c.write.new.self.stack c.stay.new.self.stack c.write.ensures.payloads c.stay.ensures.payloads)
-
-pub returns-in-Going-clause-payloads : goal.returns-in-Going-clause-payloads
-returns-in-Going-clause-payloads c =
-    let v : WriterValue = the_view c.self.inside in
-    let end : WriterValue = c.leave_on-refusal.new.self in
-    subst (λ (x : WriterValue). KeepsPayloads x.frames.stack end.frames.stack) c.self.view_is
-    (kept_then v.frames.stack c.stay.new.self.stack end.frames.stack (kept_then v.frames.stack c.write.new.self.stack c.stay.new.self.stack c.write.ensures.payloads c.stay.ensures.payloads) c.leave_on-refusal.ensures.payloads)
+pub returns-in-Going-clause-keeps : goal.returns-in-Going-clause-keeps
+unfolding IsWriter
+returns-in-Going-clause-keeps c = record {
+  payloads = let v : WriterValue = the_view c.self.inside in let end : WriterValue = c.leave_on-refusal.new.self in subst (λ (x : WriterValue). KeepsPayloads x.frames.stack end.frames.stack) c.self.view_is
+      (kept_then v.frames.stack c.stay.new.self.stack end.frames.stack (kept_then v.frames.stack c.write.new.self.stack c.stay.new.self.stack c.write.ensures.payloads c.stay.ensures.payloads) c.leave_on-refusal.ensures.payloads);
+  ring = search rules;
+  writer = search rules;
+}
 
 -- ---- rooms
 
@@ -179,10 +162,13 @@ returns-in_default-clause-rooms c =
     write_rooms v.shape v.part c.write_by_steps.new.self.part c.args.moment c.args.payload.now c.write_by_steps.result c.write_by_steps.ensures.written c.write_by_steps.ensures.refused ∙ ap rooms c.self.view_is
 
 pub returns-then-not-is_wished-clause-rooms : goal.returns-then-not-is_wished-clause-rooms
+unfolding IsWriter
 returns-then-not-is_wished-clause-rooms c = ap rooms_of (returns-then-not-is_wished-clause-written c refl).frames
 
 pub returns-in-Gone-clause-rooms : goal.returns-in-Gone-clause-rooms
+unfolding IsWriter
 returns-in-Gone-clause-rooms c = ap rooms_of (returns-in-Gone-clause-written c refl).frames
 
 pub returns-in-Going-clause-rooms : goal.returns-in-Going-clause-rooms
+unfolding IsWriter
 returns-in-Going-clause-rooms c = ap rooms_of (returns-in-Going-clause-written c refl).frames

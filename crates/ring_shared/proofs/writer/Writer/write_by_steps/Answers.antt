@@ -1,5 +1,5 @@
 use Rattle.std.specs.Prelude.{Result, Err, ◌-◌, ◌++◌, replicate}
-use Rattle.std.proofs.Common.{◌≡◌, ℕ, List, length, sym, ap, ◌∙◌, arith}
+use Rattle.std.proofs.Common.{rules, ◌≡◌, ℕ, List, length, sym, ap, ◌∙◌, arith}
 use Rattle.trace_model.specs.Words.{slot_len, padded}
 use Rattle.trace_model.proofs.Lengths.{slot_len_ge, length-padded}
 use Rattle.std.proofs.lemmas.Result.{err_from_is_err_and}
@@ -55,11 +55,11 @@ returns-clause-written c = λ _.
     (written_top two slot part (written_is two p lent part (c.in_ok-top_mut.ensures.written part long)) ∙ same)
     (ends_is two p lent part c.end_record.new.self c.end_record.ensures.ends)
 
-pub returns-clause-payloads : goal.returns-clause-payloads
-returns-clause-payloads c =
-    let x : WriterValue = c.args.self.now in let two : WriterValue = c.reserve_record.new.self in
-    let p : Lent = c.in_ok-top_mut.field-0.now in
-    let lent : IsLent two.frames.stack p = c.in_ok-top_mut.ensures.lent in
-    kept_under x.frames.stack two.frames.stack c.end_record.new.self.frames.stack lent.slot c.put_padded.new.slot
-    (c.reserve_record.ensures.covers c.in_ok-slot.slot c.in_ok-slot.was) (c.in_ok-top_mut.ensures.others lent.slot lent.on_top)
-    (covered_is two p lent c.put_padded.new.slot c.end_record.new.self.frames.stack c.end_record.ensures.covered)
+pub returns-clause-keeps : goal.returns-clause-keeps
+returns-clause-keeps c = record {
+  payloads = let x : WriterValue = c.args.self.now in let two : WriterValue = c.reserve_record.new.self in let p : Lent = c.in_ok-top_mut.field-0.now in let lent : IsLent two.frames.stack p = c.in_ok-top_mut.ensures.lent in kept_under x.frames.stack two.frames.stack c.end_record.new.self.frames.stack lent.slot c.put_padded.new.slot
+      (c.reserve_record.ensures.covers c.in_ok-slot.slot c.in_ok-slot.was) (c.in_ok-top_mut.ensures.others lent.slot lent.on_top)
+      (covered_is two p lent c.put_padded.new.slot c.end_record.new.self.frames.stack c.end_record.ensures.covered);
+  ring = search rules;
+  writer = search rules;
+}

@@ -48,13 +48,13 @@ returns-in_default-clause-step c =
     let v : LaneValue = lane_of c.self.inside in
     subst (λ (x : LaneValue). AsksTop x c.step.result c.step.new.self) c.self.view_is
     (asked_step v c.step.result c.step.new.self
-    (λ slot top. let no : false ≡ true = c.in_default.ensures.held slot.place (top_has_place v.core.stack.frames slot top) in absurd (let e = no in cc)) c.step.ensures.step)
+    (λ slot top. let no : false ≡ true = c.in_default.ensures.slot.held slot.place (top_has_place v.core.stack.frames slot top) in absurd (let e = no in cc)) c.step.ensures.step)
 
 -- ---- it has one
 
 pub overflow_sub-len : goal.overflow_sub-len
 overflow_sub-len c =
-    let lent = c.in-Ok.ensures.lent in
+    let lent = c.in-Ok.ensures.slot.lent in
     let has = top_payload c.self.inside _ lent.slot c.self.view_is c.requires lent.on_top
     (c.in-Ok.ensures.fits lent.slot lent.on_top) in
     let ok = c.self.inside.payloads.ok in
@@ -63,7 +63,7 @@ overflow_sub-len c =
 
 pub index-payload-requires : goal.index-payload-requires
 index-payload-requires c =
-    let lent = c.in-Ok.ensures.lent in
+    let lent = c.in-Ok.ensures.slot.lent in
     let has = top_payload c.self.inside _ lent.slot c.self.view_is c.requires lent.on_top
     (c.in-Ok.ensures.fits lent.slot lent.on_top) in
     let ok = c.self.inside.payloads.ok in
@@ -72,7 +72,7 @@ index-payload-requires c =
 
 pub put_padded-requires : goal.put_padded-requires
 put_padded-requires c =
-    let lent = c.in-Ok.ensures.lent in
+    let lent = c.in-Ok.ensures.slot.lent in
     let has = top_payload c.self.inside _ lent.slot c.self.view_is c.requires lent.on_top
     (c.in-Ok.ensures.fits lent.slot lent.on_top) in
     let kept = c.self.inside.payloads in
@@ -86,7 +86,7 @@ put_padded-requires c =
 pub returns-clause-step : goal.returns-clause-step
 returns-clause-step c =
     let v : LaneValue = lane_of c.self.inside in
-    let lent = c.in-Ok.ensures.lent in
+    let lent = c.in-Ok.ensures.slot.lent in
     let fits = c.in-Ok.ensures.fits lent.slot lent.on_top in
     let has = top_payload c.self.inside _ lent.slot c.self.view_is c.requires lent.on_top fits in
     let kept = c.self.inside.payloads in
@@ -97,8 +97,8 @@ returns-clause-step c =
     subst (λ (x : LaneValue). AsksTop x c.step-2.result c.step-2.new.self) c.self.view_is
     (asked_end v lent.slot payload part c.step-2.result c.step-2.new.self lent.on_top fits
     (c.in-Ok.ensures.stays lent.slot lent.on_top)
-    (ap (λ (l : List ℕ). length l) (sym c.in-Ok.ensures.payload) ∙ lent.long ∙ place)
-    (λ bs fills. ap (λ (t : Stack). top_bytes t v.core.stack.frames) (sym (lent.in_slot bs)) ∙ c.in-Ok.ensures.written bs (fills ∙ sym place ∙ sym lent.long))
+    (ap (λ (l : List ℕ). length l) (sym c.in-Ok.ensures.slot.payload) ∙ lent.long ∙ place)
+    (λ bs fills. ap (λ (t : Stack). top_bytes t v.core.stack.frames) (sym (lent.in_slot bs)) ∙ c.in-Ok.ensures.slot.written bs (fills ∙ sym place ∙ sym lent.long))
     (is_first bytes kept.items (c.len.result - 1) c.index-payload.result.now last c.index-payload.ensures)
     (c.put_padded.ensures ∙ ap (λ (k : ℕ). payload ++ replicate (k - length payload) 0) (c.deref_mut.ensures.len ∙ place))
     (subst (λ (t : Stack). Makes (record v.core { stack = t }) (ends (top_bytes t t.frames)) c.step-2.result c.step-2.new.self) (lent.in_slot part) c.step-2.ensures.step))

@@ -16,12 +16,12 @@ returns c = subst (λ (v : LaneValue).
           (sym w.self-is)
           (stands_pushed (lane_of c.self.inside) c.args.event c.args.payload.now c.step-answer.result
           c.step-answer.new.self (reverse (map (λ (b : Bor (List ℕ)). b.now) w.push.new.self.items)) c.requires.push
-          c.step-answer.ensures.step w.in-Pushed.is
+          c.step-answer.ensures.obeys.step w.in-Pushed.is
           (ap (λ (l : List (Bor (List ℕ))). reverse (map (λ b. b.now) l)) w.in_ok-push.ensures.items
           ∙ pushed_first (λ b. b.now) c.self.inside.payloads.items c.args.payload))
       | in_default w ↦ subst (λ (v : LaneValue).
           Pushes (push_event c.args.event) c.args.payload.now (lane_of c.self.inside) c.step-answer.result v)
           (sym w.self-is)
           (fails_pushed (lane_of c.self.inside) c.args.event c.args.payload.now c.step-answer.result
-          c.step-answer.new.self c.requires.push c.step-answer.ensures.step w.in_default.not-Pushed)
+          c.step-answer.new.self c.requires.push c.step-answer.ensures.obeys.step w.in_default.not-Pushed)
     ])

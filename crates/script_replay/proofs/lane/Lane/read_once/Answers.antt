@@ -10,8 +10,8 @@ pub keep-requires : goal.keep-requires
 keep-requires c =
     may_keep c.args.at.cpu.0 c.args.self.now c.step-answer.result c.step-answer.new.self c.in_ok-body.body c.requires
     (subst (λ (w : LaneValue). Makes w.core reads c.step-answer.result c.step-answer.new.self)
-    (c.self.view_is ∙ c.in_ok-body.ensures.rest) c.step-answer.ensures.step)
-    c.step-answer.ensures.given_back
+    (c.self.view_is ∙ c.in_ok-body.ensures.rest) c.step-answer.ensures.obeys.step)
+    c.step-answer.ensures.obeys.given_back
 
 pub returns : goal.returns
 returns c =
@@ -21,9 +21,9 @@ returns c =
     c.step-answer.result goes_on c.args.log.now.items c.tell_any.new.log.items
     c.in_ok-body.ensures.size
     (subst (λ (w : LaneValue). Makes w.core reads c.step-answer.result c.step-answer.new.self) same
-    c.step-answer.ensures.step)
+    c.step-answer.ensures.obeys.step)
     (ap (λ (w : LaneValue). record w { core = c.step-answer.new.self }) same)
-    c.step-answer.ensures.given_back
+    c.step-answer.ensures.obeys.given_back
     c.in_ok-tell_any.ensures
     keeps)
     c.keep.ensures

@@ -11,7 +11,7 @@ returns c = IfOk-weaker c.tell.result _ _
     (λ _ told. wishes_of c.args.at.line c.args.at.cpu.0 c.args.self.now c.step-answer.result _ c.args.log.now.items
     c.tell.new.log.items
     (subst (λ (w : LaneValue). Makes w.core wishes c.step-answer.result c.step-answer.new.self) c.self.view_is
-    c.step-answer.ensures.step)
+    c.step-answer.ensures.obeys.step)
     (ap (λ (w : LaneValue). record w { core = c.step-answer.new.self }) c.self.view_is)
     told)
     c.tell.ensures

@@ -1,0 +1,47 @@
+-- What a writer's calls promise, each in one word: a call and its rarer cases, which are functions of their own, promise
+-- the same.
+use Rattle.std.specs.Prelude.{◌≡◌, ◌≢◌, ℕ, List, [], ◌∷◌}
+use Rattle.trace_model.specs.declared.numbers.RecordNo.{RecordNo}
+use Rattle.trace_model.specs.Frames.{Frame}
+use Rattle.link_marks.specs.FrameOutcomes.{IsLeaving}
+use Rattle.ring_frames.specs.declared.answer.Answer.{Answer}
+use Rattle.ring_frames.specs.declared.answer.Answer.TheVariants.{Reserved, Gone}
+use Rattle.ring_frames.specs.Answers.{KeepsPayloads, ZerosSlot}
+use Rattle.ring_shared.specs.Value.{WriterValue, SameWriter}
+use Rattle.ring_shared.specs.Calls.{IsWriter}
+use Rattle.ring_shared.specs.Rooms.{rooms, IsOneMore}
+use Rattle.ring_shared.specs.Finishing.{Leaves, IsGoneOrRefused}
+
+-- a frame is on the stack of this writer
+pub record HasFrame (v : WriterValue) : Type 0 where
+  pub writer : IsWriter v
+  pub top : v.frames.stack.frames ≢ []
+
+-- the frame on its top is one that leaves
+pub record HasLeavingTop (v : WriterValue) : Type 0 where
+  pub writer : IsWriter v
+  pub top : (frame : Frame) × (below : List Frame) × (v.part.frames ≡ frame ∷ below) × IsLeaving frame.kind frame.state
+
+-- What an answer says of the slots: the payloads that aren't ended stay in theirs; a slot that was reserved holds only
+-- zeros; the frames are the same if the one on top has reserved, and it was on top of the others if it is gone.
+pub record KeepsSlots (old : WriterValue) (result : Answer) (new : WriterValue) : Type 0 where
+  pub payloads : KeepsPayloads old.frames.stack new.frames.stack
+  pub zeros : ZerosSlot old.frames.stack result new.frames.stack
+  pub room : (number : RecordNo) → result ≡ Reserved number → rooms new ≡ rooms old
+  pub gone : result ≡ Gone → IsOneMore (rooms old) (rooms new)
+
+-- the end stays the writer's of the same ring, and the payloads stay in their slots
+pub record KeepsWriter (old new : WriterValue) : Type 0 where
+  pub payloads : KeepsPayloads old.frames.stack new.frames.stack
+  pub ring : SameWriter old new
+  pub writer : IsWriter new
+
+-- The frame on top makes steps until it is gone, and so it is answered, or the refusal that it met.
+pub record LeavesTop (old : WriterValue) (result : Answer) (new : WriterValue) : Type 0 where
+  pub leaves : (frame : Frame) (below : List Frame)
+      → old.part.frames ≡ frame ∷ below
+      → Leaves old.shape below old.part result new.part
+  pub gone : IsGoneOrRefused result
+  pub payloads : KeepsPayloads old.frames.stack new.frames.stack
+  pub ring : SameWriter old new
+  pub writer : IsWriter new
