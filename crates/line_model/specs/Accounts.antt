@@ -115,7 +115,7 @@ pub record IsShownOf (start : ℕ) (events : ℕ → List RingEvent) (fills : Li
 -- the fill was taken, and a line of the script delivers it to the collector
 abbrev pub IsDelivered : Script → (ℕ → List RingEvent) → (collector : ℕ) → ℕ × ℕ → Type 0
 IsDelivered script events collector fill =
-    Contains (commands_of script.commands) (deliver collector fill.0 fill.1)
+    ((line : ℕ) × Contains script.commands (line, deliver collector fill.0 fill.1))
     × Contains (fills_taken script.start (events fill.0)) fill.1
 
 -- These bytes are the collectors of the script, each as it is shown, after the log, if that is asked for.

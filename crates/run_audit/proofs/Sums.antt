@@ -65,23 +65,20 @@ module _ (n size start : ℕ) (cores : ℕ → Core) (ledgers : List Ledger) (ri
       all : IsBelow taken (taken_in ledgers)
       all = below_more taken (taken_in ledgers) (λ p has. of_all ledgers cpu ledger p at has)
 
-      exact : IsExact (cores cpu).history start (is_cut n size start (cores cpu) reached cpu taken (rings cpu ledger at).1).events cpu taken
+      exact : IsExact (cores cpu).history start (is_cut n size start (cores cpu) reached cpu taken (rings cpu ledger at).1).events cpu taken taken
       exact = is_exact n size start (cores cpu) reached cpu taken (λ parcel one. page_of_one n size start (cores cpu) reached cpu taken (rings cpu ledger at).1 parcel one.0)
-
-      of_cpu : (parcel : Parcel) → Contains taken parcel → parcel.cpu ≡ cpu
-      of_cpu parcel has = let (k, there) = element_at taken parcel has in own cpu ledger at k parcel there
 
       pub is_kept : IsKept n size start cpu (cores cpu) kept taken
       is_kept = record {
         cut = is_cut n size start (cores cpu) reached cpu taken (rings cpu ledger at).1;
         exact = record {
           has = λ number r. (
-            λ h. let (committed, parcel, one, stands) = (exact.has number r).0 (has_own number r (same.below.has cpu number r h)) in (committed, parcel, one.0, stands),
-            λ (committed, parcel, has, stands). same.above.has cpu number r (all.has cpu number r ((exact.has number r).1 (committed, parcel, (has, of_cpu parcel has), stands))),
+            λ h. (exact.has number r).0 (has_own number r (same.below.has cpu number r h)),
+            λ stands. same.above.has cpu number r (all.has cpu number r ((exact.has number r).1 stands)),
           );
           misses = λ number. (
-            λ m. let (parcel, one, over) = (exact.misses number).0 (misses_own number (same.below.misses cpu number m)) in (parcel, one.0, over),
-            λ (parcel, has, over). same.above.misses cpu number (all.misses cpu number ((exact.misses number).1 (parcel, (has, of_cpu parcel has), over))),
+            λ m. (exact.misses number).0 (misses_own number (same.below.misses cpu number m)),
+            λ over. same.above.misses cpu number (all.misses cpu number ((exact.misses number).1 over)),
           );
         };
       }

@@ -1,15 +1,13 @@
 -- What an audit without a fault says of a collector, if the ledgers are those of rings.
-use Rattle.std.specs.Prelude.{◌≡◌, ℕ, ◌≤◌, ◌↔◌, List, length, map, Contains, Some}
+use Rattle.std.specs.Prelude.{◌≡◌, ℕ, ◌≤◌, List, length, map, Some}
 use Rattle.std.specs.List.{slice_get}
 use Rattle.trace_model.specs.Record.{Record}
-use Rattle.trace_model.specs.History.{HistoryEvent, committed_records}
 use Rattle.trace_model.specs.Parcel.{Parcel}
 use Rattle.trace_model.specs.Collection.{Has, Misses}
 use Rattle.trace_model.specs.Ring.{Core}
-use Rattle.trace_model.specs.Window.{RingEvent}
 use Rattle.link_marks.specs.Reached.{IsReached}
 use Rattle.world_model.specs.World.{parcel_of}
-use Rattle.world_model.specs.Headline.{StandsIn, IsOverwrittenBefore, IsCut}
+use Rattle.world_model.specs.Headline.{IsCut, IsExact}
 use Rattle.run_audit.specs.declared.ledger.Ledger.{Ledger}
 
 -- Each ledger is that of a ring of n pages: steps led from a new ring to a state in which its reader had taken these
@@ -20,28 +18,11 @@ AreOfRings n size start cores ledgers = (cpu : ℕ) (ledger : Ledger)
     → IsReached n size start (cores cpu)
     × (ledger.taken.items ≡ map (parcel_of cpu) (cores cpu).reader.taken)
 
--- What is kept has the committed records of a CPU that are in a fill that was taken, under their own numbers, and no
--- others; and it misses the numbers that were overwritten unread before such a fill, and no others.
-pub record KeepsExactly (history : List HistoryEvent) (start : ℕ) (events : List RingEvent) (cpu : ℕ)
-    (kept taken : List Parcel)
-    : Type 0 where
-  pub has : (number : ℕ) (r : Record)
-      → Has kept cpu number r
-      ↔ ((slice_get (committed_records history) number ≡ Some r)
-      × (parcel : Parcel)
-      × Contains taken parcel
-      × StandsIn history start parcel.fill number)
-  pub misses : (number : ℕ)
-      → Misses kept cpu number
-      ↔ ((parcel : Parcel)
-      × Contains taken parcel
-      × IsOverwrittenBefore history start events parcel.fill number)
-
 -- The history of a CPU's ring is cut into the parcels that were taken from it, by what happened in a run of that ring,
 -- and of that CPU exactly this is kept.
 pub record IsKept (n size start cpu : ℕ) (c : Core) (kept taken : List Parcel) : Type 0 where
   pub cut : IsCut n size start c taken
-  pub exact : KeepsExactly c.history start cut.events cpu kept taken
+  pub exact : IsExact c.history start cut.events cpu kept taken
 
 -- nothing of this CPU is kept
 pub record IsUnknown (cpu : ℕ) (kept : List Parcel) : Type 0 where

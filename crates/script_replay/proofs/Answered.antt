@@ -20,10 +20,10 @@ pub is_replay : (script : Script) (state : ReplayState) → (amid : IsAmid scrip
 is_replay script state amid = record { world = amid.behind; log_is = amid.log_is; collectors_are = amid.collectors_are }
 
 module _ (script : Script) (collectors : List (List Parcel)) (log : List LogLine) (w : World) (limits : IsWithinLimits script) (r : IsReplay script collectors log w) where
-  pub genuine : IsGenuineWorld script w
+  genuine : IsGenuineWorld script w
   genuine = world_genuine script script.commands w limits r.world
 
-  pub exact : (g : IsGenuineWorld script w) → AreExact script collectors w g
+  exact : (g : IsGenuineWorld script w) → AreExact script collectors w g
   exact g = λ collector cpu kept delivered lane at there lane_at.
       let same = (r.collectors_are.each collector kept delivered at there).same in
       let e = g.exact collector cpu delivered lane there lane_at in
@@ -32,7 +32,7 @@ module _ (script : Script) (collectors : List (List Parcel)) (log : List LogLine
         misses = λ number. (λ here. (e.misses number).0 (same.below.misses cpu number here), λ lost. same.above.misses cpu number ((e.misses number).1 lost));
       }
 
-  pub alike : AreAlike collectors w
+  alike : AreAlike collectors w
   alike = λ one other kept others delivered others_delivered at at' there there' each.
       same_same kept delivered others (r.collectors_are.each one kept delivered at there).same
       (same_same delivered others_delivered others (same_parcels delivered others_delivered each)
@@ -46,7 +46,7 @@ module _ (script : Script) (collectors : List (List Parcel)) (log : List LogLine
       let there : slice_get w.delivered collector ≡ Some (get_or w.delivered collector []) = slice_get-get_or w.delivered collector [] (omega arith) in
       genuine.delivered collector (get_or w.delivered collector []) parcel there ((r.collectors_are.each collector kept (get_or w.delivered collector []) at there).among parcel has)
 
-  pub join : Join collectors
+  join : Join collectors
   join = λ one other kept others at at'. joined_least kept others
       (taken_agree script w (kept ++ others) genuine
       (λ parcel has. ⊎_elim (λ here. was_taken one kept parcel at here) (λ there. was_taken other others parcel at' there) (Contains-append_cases kept others parcel has)))

@@ -113,10 +113,6 @@ module _ (script : Script) (lines : List (ℕ × Command)) (state : ReplayState)
 
 -- ---- a line of a ring
 
--- a delivery asks nothing of a ring
-pub nothing_happens : (line cpu collector fill : ℕ) (v : LaneValue) (log : List LogLine) → HasLine (deliver collector cpu fill) line cpu v log v log
-nothing_happens line cpu collector fill v log = λ n size start lane is. record { exchanges = []; after = lane; happened = (refl, refl); is_lane = is; log = sym (append-nil (shown_log log)) }
-
 module _ (script : Script) (line : ℕ) (command : Command) (cpu : ℕ) (old new : ReplayState) (v after : LaneValue)
     (limits : IsWithinLimits script)
     (named : cpu ≡ cpu_of command)

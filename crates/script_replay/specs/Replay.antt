@@ -1,16 +1,13 @@
 -- What a replay of a script answers: the script's world; and what holds between two of its lines.
 use Rattle.std.specs.Prelude.{◌≡◌, ℕ, [], ◌∷◌, ◌++◌, ◌↔◌, List, Some, Contains}
 use Rattle.std.specs.List.{slice_get}
-use Rattle.trace_model.specs.Record.{Record}
-use Rattle.trace_model.specs.History.{HistoryEvent, committed_records}
-use Rattle.trace_model.specs.Window.{RingEvent}
 use Rattle.trace_model.specs.Parcel.{Parcel}
-use Rattle.trace_model.specs.Collection.{Has, Misses, IsSame, IsLeastUpperBound}
+use Rattle.trace_model.specs.Collection.{IsSame, IsLeastUpperBound}
 use Rattle.text_model.specs.Script.{Command, begin_frame, step_frame, finish_frame, write, close, step_reader, take_page, wish, deliver, Script}
 use Rattle.text_model.specs.ScriptLimits.{IsWithinLimits, IsCommandWithin}
 use Rattle.world_model.specs.Lanes.{Lane}
 use Rattle.world_model.specs.World.{World, WorldBehind, WorldOf}
-use Rattle.world_model.specs.Headline.{StandsIn, IsOverwrittenBefore, IsOneOf, IsGenuineWorld}
+use Rattle.world_model.specs.Headline.{IsExact, IsGenuineWorld}
 use Rattle.replay_log.specs.declared.line.LogLine.{LogLine}
 use Rattle.script_replay.specs.declared.replaying.ReplayState.{ReplayState}
 use Rattle.replay_log.specs.LogTypes.{shown_log}
@@ -26,31 +23,13 @@ pub record IsReplay (script : Script) (collectors : List (List Parcel)) (log : L
   pub log_is : shown_log log ≡ w.log
   pub collectors_are : AreCollected collectors w.delivered
 
--- What a collector keeps makes of a CPU's history: it has exactly the committed records that are in the fill of one of
--- the pages that were delivered to it, under their own numbers, and misses exactly the numbers that were overwritten
--- unread before one of them.
-pub record KeepsExactly (history : List HistoryEvent) (start : ℕ) (events : List RingEvent) (cpu : ℕ)
-    (kept delivered : List Parcel)
-    : Type 0 where
-  pub has : (number : ℕ) (r : Record)
-      → Has kept cpu number r
-      ↔ ((slice_get (committed_records history) number ≡ Some r)
-      × (parcel : Parcel)
-      × IsOneOf delivered cpu parcel
-      × StandsIn history start parcel.fill number)
-  pub misses : (number : ℕ)
-      → Misses kept cpu number
-      ↔ ((parcel : Parcel)
-      × IsOneOf delivered cpu parcel
-      × IsOverwrittenBefore history start events parcel.fill number)
-
--- so it is of each collector, for each CPU
+-- what each collector keeps of the pages that were delivered to it is exact, for each CPU
 abbrev pub AreExact : (script : Script) → List (List Parcel) → (w : World) → IsGenuineWorld script w → Type 0
 AreExact script collectors w genuine = (collector cpu : ℕ) (kept delivered : List Parcel) (lane : Lane)
     → slice_get collectors collector ≡ Some kept
     → slice_get w.delivered collector ≡ Some delivered
     → (at : slice_get w.lanes cpu ≡ Some lane)
-    → KeepsExactly lane.core.history script.start (genuine.cut cpu lane at).events cpu kept delivered
+    → IsExact lane.core.history script.start (genuine.cut cpu lane at).events cpu kept delivered
 
 -- two collectors to which the same pages were delivered have and miss the same
 abbrev pub AreAlike : List (List Parcel) → World → Type 0

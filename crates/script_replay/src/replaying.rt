@@ -4,13 +4,11 @@ ghost use Rattle.text_model.specs.Log as model;
 ghost use Rattle.text_model.specs.Script as model_script;
 ghost use Rattle.text_model.specs.Script.{deliver as delivers};
 ghost use Rattle.text_model.specs.ScriptLimits.{IsWithinLimits};
-ghost use Rattle.world_model.specs.World.{World as WorldSeen};
-ghost use Rattle.world_model.specs.Headline.{IsGenuineWorld};
 ghost use Rattle.trace_script.specs.ScriptTypes.{shown_command, shown_line};
 ghost use Rattle.replay_log.specs.LogTypes.{shown_log_line};
 ghost use Rattle.script_replay.specs.Lanes.{IsLaneOf, HasLine};
 ghost use Rattle.script_replay.specs.Collected.{delivery_of};
-ghost use Rattle.script_replay.specs.Replay.{cpu_of, IsOfRing, IsAmid, IsReady, LeadsOn, IsReplay, AreExact, AreAlike, Join, IsHeadline};
+ghost use Rattle.script_replay.specs.Replay.{cpu_of, IsOfRing, IsAmid, IsReady, LeadsOn, IsHeadline};
 ghost use Rattle.trace_script.specs.declared.replay_fault.ReplayFault.TheVariants.{NoMemory as no_memory};
 
 use crate::delivery::taken_page;
@@ -32,7 +30,7 @@ pub(crate) struct ReplayState<'a> {
     log: Vec<LogLine>,
 }
 
-/// A lane does what a command asks for of it; of a delivery nothing.
+/// A lane does what a command asks of it, which is no delivery.
 #[inline(always)]
 fn run_line<'a>(
     alloc: Global,
@@ -41,7 +39,8 @@ fn run_line<'a>(
     command: Command<'a>,
     log: &mut Vec<LogLine>,
 ) -> Result<(), NoMemory>
-    requires { IsLaneOf at.cpu.0 lane.old }
+    requires lane { IsLaneOf at.cpu.0 lane.old }
+    requires ring { IsOfRing (shown_command command) }
     ensures { OnOk result (HasLine (shown_command command.entry) at.line at.cpu.0
         lane.old log.old.items lane.new log.new.items) }
 {
@@ -62,7 +61,7 @@ fn run_line<'a>(
         Command::StepReader { count, .. } => lane.step_reader(alloc, at, count, log),
         Command::Take { .. } => lane.take(alloc, at, log),
         Command::Wish { .. } => lane.wish(at, log),
-        Command::Deliver { .. } => Ok(()),
+        Command::Deliver { .. } => unreachable!(),
     }
 }
 
@@ -200,16 +199,6 @@ fn obey_all<'a>(alloc: Global, script: &'a Script) -> Result<ReplayState<'a>, No
 
 /// Replays a script over rings, one for each CPU that its lines name. It answers no fault but `NoMemory`.
 pub fn replay(alloc: Global, script: &Script) -> Result<World, ReplayFault>
-    ensures world { IfOk result (λ world. (w : WorldSeen)
-        × IsReplay script.now world.collectors.items world.log.items w) }
-    ensures genuine { IfOk result (λ world. (w : WorldSeen)
-        → IsReplay script.now world.collectors.items world.log.items w → IsGenuineWorld script.now w) }
-    ensures exact { IfOk result (λ world. (w : WorldSeen) (genuine : IsGenuineWorld script.now w)
-        → IsReplay script.now world.collectors.items world.log.items w
-        → AreExact script.now world.collectors.items w genuine) }
-    ensures alike { IfOk result (λ world. (w : WorldSeen)
-        → IsReplay script.now world.collectors.items world.log.items w → AreAlike world.collectors.items w) }
-    ensures join { IfOk result (λ world. Join world.collectors.items) }
     ensures headline { IfOk result (λ world. IsHeadline script.now world.collectors.items world.log.items) }
     ensures memory { IsOkUnless result no_memory }
 {

@@ -338,7 +338,7 @@ module _ (n size start : ℕ) (c : Core) (r : IsReached n size start c) where
       missing_of parcel number one = let p = pages parcel one in
           subst (λ (x : Parcel). IsMissingOf x cpu number ↔ IsOverwrittenBefore c.history start events x.fill number) p.parcel_is (is_missing p.index p.taken_page number p.page_at)
 
-      pub is_exact : IsExact c.history start events cpu parcels
+      pub is_exact : IsExact c.history start events cpu parcels parcels
       is_exact = record {
         has = λ number x. (has_stands number x, λ (committed, parcel, one, stands). stands_has number x parcel committed one stands);
         misses = λ number. (

@@ -8,6 +8,7 @@ pub mod LanePayloads
 -- worlds: what every line keeps
 pub mod Lookups
 pub mod WorldsKept
+pub mod DeliveredLines
 pub mod OneWorld
 pub mod RunEvents
 pub mod Cuts

@@ -75,20 +75,20 @@ pub record IsCut (n size start : ℕ) (c : Core) (parcels : List Parcel) : Type 
 abbrev pub IsOneOf : List Parcel → (cpu : ℕ) → Parcel → Type 0
 IsOneOf parcels cpu parcel = Contains parcels parcel × (parcel.cpu ≡ cpu)
 
--- What the parcels that were delivered to a collector make of a CPU's history: the collector has exactly the committed
--- records that are in the fill of one of them, under their own numbers, and misses exactly the numbers that were
--- overwritten unread before one of them.
+-- What is kept of the parcels that were delivered to a collector makes of a CPU's history: it has exactly the committed
+-- records that are in the fill of one of these, under their own numbers, and misses exactly the numbers that were
+-- overwritten unread before one of these.
 pub record IsExact (history : List HistoryEvent) (start : ℕ) (events : List RingEvent) (cpu : ℕ)
-    (delivered : List Parcel)
+    (kept delivered : List Parcel)
     : Type 0 where
   pub has : (number : ℕ) (r : Record)
-      → Has delivered cpu number r
+      → Has kept cpu number r
       ↔ ((slice_get (committed_records history) number ≡ Some r)
       × (parcel : Parcel)
       × IsOneOf delivered cpu parcel
       × StandsIn history start parcel.fill number)
   pub misses : (number : ℕ)
-      → Misses delivered cpu number
+      → Misses kept cpu number
       ↔ ((parcel : Parcel)
       × IsOneOf delivered cpu parcel
       × IsOverwrittenBefore history start events parcel.fill number)
@@ -112,4 +112,4 @@ pub record IsGenuineWorld (script : Script) (w : World) : Type 0 where
   pub exact : (collector cpu : ℕ) (parcels : List Parcel) (lane : Lane)
       → slice_get w.delivered collector ≡ Some parcels
       → (at : slice_get w.lanes cpu ≡ Some lane)
-      → IsExact lane.core.history script.start (cut cpu lane at).events cpu parcels
+      → IsExact lane.core.history script.start (cut cpu lane at).events cpu parcels parcels

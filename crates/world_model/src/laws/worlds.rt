@@ -7,7 +7,7 @@ ghost use Rattle.trace_model.specs.Steps.{Exchange};
 ghost use Rattle.trace_model.specs.Parcel.{Parcel};
 ghost use Rattle.trace_model.specs.Collection.{Agree, IsSame, IsLeastUpperBound};
 ghost use Rattle.link_marks.specs.ToldRuns.{IsToldBy};
-ghost use Rattle.text_model.specs.Script.{Script, Command};
+ghost use Rattle.text_model.specs.Script.{Script, Command, deliver};
 ghost use Rattle.text_model.specs.ScriptLimits.{IsWithinLimits};
 ghost use Rattle.world_model.specs.World.{World, Obeys, WorldBehind, WorldOf};
 ghost use Rattle.world_model.specs.RunEvents.{AreEventsOf, IsRunToldBy};
@@ -58,4 +58,11 @@ pub fn collectors_join()
     ensures same { (script : Script) (w : World) (one other : ℕ) (parcels others : List Parcel) →
         IsGenuineWorld script w → slice_get w.delivered one ≡ Some parcels → slice_get w.delivered other ≡ Some others →
         ((parcel : Parcel) → (Contains parcels parcel ↔ Contains others parcel)) → IsSame parcels others }
+{}
+
+/// What was delivered to a collector, a line of the script delivers to it.
+pub fn deliveries_are_of_lines()
+    ensures { (script : Script) (w : World) (collector : ℕ) (parcels : List Parcel) (parcel : Parcel) →
+        WorldOf script w → slice_get w.delivered collector ≡ Some parcels → Contains parcels parcel →
+        (line : ℕ) × Contains script.commands (line, deliver collector parcel.cpu parcel.fill) }
 {}

@@ -1,4 +1,3 @@
-use Rattle.script_replay.proofs.LinesObeyed.{nothing_happens}
 use Rattle.script_replay.proofs.replaying.run_line.Goals as goal
 
 pub returns-in-Begin : goal.returns-in-Begin
@@ -24,6 +23,3 @@ returns-in-Take c = rw c.in-Take.is c.take.ensures
 
 pub returns-in-Wish : goal.returns-in-Wish
 returns-in-Wish c = rw c.in-Wish.is c.wish.ensures
-
-pub returns-in-Deliver : goal.returns-in-Deliver
-returns-in-Deliver c = rw c.in-Deliver.is (nothing_happens c.args.at.line c.args.at.cpu.0 c.in-Deliver.collector c.in-Deliver.fill.0 c.args.lane.now c.args.log.now.items)
