@@ -1,5 +1,5 @@
 -- Two collectors side by side: whether they are the same, and whether they fit together, number by number.
-use Rattle.std.proofs.Common.{◌≡◌, ◌≢◌, ◌⊎◌, inl, inr, ⊎_elim, ℕ, ◌+◌, ◌-◌, ◌<◌, ◌≤◌, ◌^◌, List, ◌++◌, Option, Some, None, sym, ap, ◌∙◌, subst, arith}
+use Rattle.std.proofs.Common.{◌≡◌, ◌≢◌, ◌⊎◌, inl, inr, ⊎_elim, ℕ, ◌+◌, ◌-◌, ◌<◌, ◌≤◌, ◌^◌, List, ◌++◌, length, Option, Some, None, sym, ap, ◌∙◌, subst, arith}
 use Rattle.std.specs.List.{slice_get}
 use Rattle.std.proofs.lemmas.Bool.{cases_lt}
 use Rattle.std.proofs.lemmas.Option.{slice_get_within}
@@ -11,14 +11,17 @@ use Rattle.trace_model.proofs.Elements.{some_is, get_in_either}
 use Rattle.trace_model.proofs.Joined.{joined_left, joined_right}
 use Rattle.collector.specs.declared.ranges.Content.{Content}
 use Rattle.collector.specs.declared.ranges.Content.TheVariants.{Kept, Missing}
+use Rattle.collector.specs.declared.beside.Beside.{Beside}
+use Rattle.collector.specs.declared.beside.Both.{Both}
 use Rattle.collector.specs.declared.beside.Beside.TheVariants.{Alike, Records, AtOdds, OneKnows}
 use Rattle.collector.specs.Sound.{AreSound}
 use Rattle.collector.specs.Index.{IsIn}
 use Rattle.collector.specs.Entries.{record_of}
 use Rattle.collector.specs.Shown.{IsUnknown, IsContentAt}
-use Rattle.collector.specs.Beside.{pair_of, IsTaken, IsBeside, IsSameAt, FitTogether}
+use Rattle.collector.specs.Beside.{pair_of, IsTaken, IsBeside, IsSeen, IsSameAt, FitTogether}
 use Rattle.collector.specs.Faults.{IsClashAt, IsTakenAndMissingAt, IsInFront, AgreeInFront}
 use Rattle.collector.proofs.Indexing.{record_at}
+use Rattle.collector.proofs.Looking.{in_within}
 
 in_taken : (ps : List Parcel) (i cpu n : ℕ) → IsIn ps i cpu n → IsTaken ps cpu n
 in_taken ps i cpu n x = let found = record_at x.parcel cpu n x.cpu_is x.from x.below in
@@ -122,6 +125,28 @@ module _ (ps qs : List Parcel) (i j cpu n : ℕ) (p q : Parcel) (agree : Agree p
     has_other = (joined_right ps qs).has cpu n that.0 that.2;
     differ = differ apart;
   }
+
+-- the same, of all numbers at which both have records in the same parcels
+module _ (ps qs : List Parcel) (cpu at : ℕ) (both : Both) (seen : IsSeen ps qs cpu at both) where
+  seen_as : (beside : Beside) → both.beside ≡ beside → (n : ℕ) → at ≤ n → n < both.end → IsBeside ps qs cpu n beside
+  seen_as beside is n from below = subst (IsBeside ps qs cpu n) is (seen.shown n from below)
+
+  pub own_within : (i j : ℕ) → both.beside ≡ Records i j → at < both.end → i < length ps
+  own_within i j is some = in_within ps i cpu at (seen_as (Records i j) is at (omega arith) some).0
+
+  module _ (i j : ℕ) (p q : Parcel) (is : both.beside ≡ Records i j) (own : slice_get ps i ≡ Some p) (others : slice_get qs j ≡ Some q)
+      (n : ℕ) (from : at ≤ n) (below : n < both.end) where
+    pub fit_seen : record_of p n ≡ record_of q n → FitTogether ps qs cpu n
+    fit_seen = records_fit ps qs i j cpu n p q seen.agree seen.others_agree own others (seen_as (Records i j) is n from below)
+
+    pub clash_seen : record_of p n ≢ record_of q n → IsClashAt (ps ++ qs) cpu n
+    clash_seen = records_clash ps qs i j cpu n p q seen.agree seen.others_agree own others (seen_as (Records i j) is n from below)
+
+    pub same_seen : record_of p n ≡ record_of q n → IsSameAt ps qs cpu n
+    same_seen = records_same ps qs i j cpu n p q seen.agree seen.others_agree own others (seen_as (Records i j) is n from below)
+
+    pub not_same_seen : record_of p n ≢ record_of q n → IsSameAt ps qs cpu n → ⊥
+    not_same_seen = records_not_same ps qs i j cpu n p q seen.agree seen.others_agree own others (seen_as (Records i j) is n from below)
 
 -- ---- fitting together
 

@@ -1,11 +1,12 @@
 -- What two collectors know of one number, side by side.
-use Rattle.std.specs.Prelude.{◌≡◌, ℕ, ◌↔◌, ◌⊎◌, List, Option, Some, None}
+use Rattle.std.specs.Prelude.{◌≡◌, ℕ, ◌-◌, ◌^◌, ◌<◌, ◌≤◌, ◌↔◌, ◌⊎◌, List, Option, Some, None}
 use Rattle.trace_model.specs.Record.{Record}
 use Rattle.trace_model.specs.Parcel.{Parcel}
-use Rattle.trace_model.specs.Collection.{Has, Misses}
+use Rattle.trace_model.specs.Collection.{Has, Misses, Agree}
 use Rattle.collector.specs.declared.ranges.Content.{Content}
 use Rattle.collector.specs.declared.ranges.Content.TheVariants.{Kept, Missing}
 use Rattle.collector.specs.declared.beside.Beside.{Beside}
+use Rattle.collector.specs.declared.beside.Both.{Both}
 use Rattle.collector.specs.declared.beside.Beside.TheVariants.{Alike, Records, AtOdds, OneKnows}
 use Rattle.collector.specs.Index.{IsIn}
 use Rattle.collector.specs.Shown.{IsUnknown}
@@ -32,6 +33,14 @@ IsBeside parcels others cpu number AtOdds = (IsTaken parcels cpu number × Misse
 IsBeside parcels others cpu number OneKnows =
     (IsUnknown parcels cpu number × (IsTaken others cpu number ⊎ Misses others cpu number))
     ⊎ ((IsTaken parcels cpu number ⊎ Misses parcels cpu number) × IsUnknown others cpu number)
+
+-- What was seen of the numbers from this one on, up to the end that is stated, in both collections.
+pub record IsSeen (parcels others : List Parcel) (cpu number : ℕ) (both : Both) : Type 0 where
+  pub shown : (n : ℕ) → number ≤ n → n < both.end → IsBeside parcels others cpu n both.beside
+  pub goes_on : number < 2 ^ 64 - 1 → number < both.end
+  pub up_to : both.end ≤ 2 ^ 64 - 1
+  pub agree : Agree parcels
+  pub others_agree : Agree others
 
 -- both have and miss the same under the number
 pub record IsSameAt (parcels others : List Parcel) (cpu number : ℕ) : Type 0 where

@@ -52,6 +52,12 @@ pub record KeepsEdges (old new : Ranges) : Type 0 where
   pub marks : (place : ℕ) → IsMarked old place → IsMarked new place
   pub cuts : (place : ℕ) → IsCut old place → IsCut new place
 
+-- a parcel may be laid whose missing numbers begin at `low` and whose records are numbered from `first` up to `end`
+pub record MayLay (ranges : Ranges) (low first end : ℕ) : Type 0 where
+  pub apart : AreApart ranges
+  pub missing : low ≤ first
+  pub forward : first ≤ end
+
 -- After a parcel is laid whose missing numbers begin at `low` and whose records are numbered from `first` up to `end`:
 -- these numbers are stated as its own, and all others as before.
 pub record IsLaid (old new : ℕ → Content → Type 0) (low first end parcel : ℕ) : Type 0 where

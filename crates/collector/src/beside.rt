@@ -44,18 +44,12 @@ fn pair(own: Option<Content>, other: Option<Content>) -> Beside
 
 impl Collector {
     ghost use Rattle.std.specs.Prelude.{ℕ, ◌<◌, ◌≤◌};
-    ghost use Rattle.trace_model.specs.Collection.{Agree};
-    ghost use Rattle.collector.specs.Beside.{IsBeside};
+    ghost use Rattle.collector.specs.Beside.{IsSeen};
     ghost use Rattle.collector.specs.Shown.{IsUnknown};
 
     /// What is known here and there of a number of a CPU and of those after it.
     pub(crate) fn beside(&self, other: &Collector, cpu: CpuId, number: u64) -> Both
-        ensures shown { (n : ℕ) → number ≤ n → n < result.end
-            → IsBeside self.now other.now cpu.0 n result.beside }
-        ensures goes_on { number < u64.MAX → number < result.end }
-        ensures up_to { result.end ≤ u64.MAX }
-        ensures agree { Agree self.now }
-        ensures others_agree { Agree other.now }
+        ensures { IsSeen self.now other.now cpu.0 number result }
     {
         let own = self.stretch(cpu, number);
         let that = other.stretch(cpu, number);
@@ -69,14 +63,9 @@ impl Collector {
 
     /// The same, and then the next number of which something may be known there.
     pub(crate) fn beside_known(&self, other: &Collector, cpu: CpuId, number: u64) -> Both
-        ensures shown { (n : ℕ) → number ≤ n → n < result.end
-            → IsBeside self.now other.now cpu.0 n result.beside }
-        ensures goes_on { number < u64.MAX → number < result.end }
-        ensures up_to { result.end ≤ u64.MAX }
+        ensures seen { IsSeen self.now other.now cpu.0 number result }
         ensures next { result.end ≤ result.next }
         ensures unknown { (n : ℕ) → result.end ≤ n → n < result.next → IsUnknown other.now cpu.0 n }
-        ensures agree { Agree self.now }
-        ensures others_agree { Agree other.now }
     {
         let both = self.beside(other, cpu, number);
         Both {

@@ -9,6 +9,13 @@ use trace_model::{CpuId, NoMemory};
 
 /// What the parcels that were added have and miss together. It keeps those that add something, and shares their
 /// pages.
+///
+/// ```
+/// let mut collector = Collector::new(rt.alloc());
+/// assert!(rt; collector.add(parcel.share()?) == Ok(Added::New));
+/// assert!(rt; collector.add(parcel) == Ok(Added::Known));
+/// assert!(rt; collector.get(CpuId(0), RecordNo(1)).is_some());
+/// ```
 #[derive(Drop)]
 pub struct Collector {
     parcels: Vec<Parcel>,

@@ -2,7 +2,7 @@
 ghost use Rattle.std.specs.Prelude.{◌≡◌, ◌≢◌, ℕ, ◌+◌, ◌^◌, ◌<◌, ◌≤◌, ◌↔◌, Some, None, IsSome, IsTrue, IfSome, IfNone, IfOk, OnOk, OnErr};
 ghost use Rattle.std.specs.Ordering.{nat_cmp};
 ghost use Rattle.std.specs.BTreeMap.{get};
-ghost use Rattle.collector.specs.Ranges.{HasSpan, AreApart, HasContent, TellSame, IsMarked, IsCut, IsFree, KeepsEdges, IsLaid, IsCopy};
+ghost use Rattle.collector.specs.Ranges.{HasSpan, AreApart, MayLay, HasContent, TellSame, IsMarked, IsCut, IsFree, KeepsEdges, IsLaid, IsCopy};
 ghost use Rattle.collector.specs.declared.ranges.Content.{Content};
 ghost use Rattle.collector.specs.declared.ranges.Span.{Span};
 
@@ -226,9 +226,7 @@ impl Ranges {
 
     /// States of free numbers what `lay` does.
     fn lay_free(&mut self, low: u64, first: u64, end: u64, parcel: usize) -> Result<(), NoMemory>
-        requires apart { AreApart self.old }
-        requires low { low ≤ first }
-        requires forward { first ≤ end }
+        requires may { MayLay self.old low first end }
         requires free { IsFree self.old low end }
         ensures apart { AreApart self.new }
         ensures laid { OnOk result (IsLaid (HasContent self.old) (HasContent self.new) low first end parcel) }
@@ -253,9 +251,7 @@ impl Ranges {
         end: u64,
         parcel: usize,
     ) -> Result<(), NoMemory>
-        requires apart { AreApart self.old }
-        requires low { low ≤ first }
-        requires forward { first ≤ end }
+        requires { MayLay self.old low first end }
         ensures apart { AreApart self.new }
         ensures laid { OnOk result (IsLaid (HasContent self.old) (HasContent self.new) low first end parcel) }
         ensures refused { OnErr result (TellSame self.old self.new) }

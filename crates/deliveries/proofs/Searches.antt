@@ -1,6 +1,6 @@
 -- A search by fill among parcels whose fills rise.
-use Rattle.std.proofs.Common.{◌≡◌, ◌≢◌, ℕ, ◌+◌, ◌<◌, List, length, get_or, sym, ap, ◌∙◌, arith, ⊎_elim}
-use Rattle.std.specs.Prelude.{All, Contains}
+use Rattle.std.proofs.Common.{◌≡◌, ◌≢◌, ℕ, ◌+◌, List, get_or, sym, ap, ◌∙◌, arith, ⊎_elim}
+use Rattle.std.specs.Prelude.{All}
 use Rattle.std.specs.Cmp.{ranked, nat_cmp_is}
 use Rattle.std.specs.Ordering.{nat_cmp, is_lt, ordering_index}
 use Rattle.std.specs.declared.cmp.Ordering.TheVariants.{Less, Equal, Greater}
@@ -8,7 +8,6 @@ use Rattle.std.specs.List.Sorted.{IsNonDecreasingBy, IsPartitionPoint, IsSortedB
 use Rattle.std.proofs.lemmas.Cmp.{nat_cmp_total}
 use Rattle.std.proofs.lemmas.List.Sorted.{searchable_from_sorted}
 use Rattle.std.proofs.lemmas.Bool.{cases_lt}
-use Rattle.std.proofs.lemmas.List.{get_or-map, length-map}
 use Rattle.std.proofs.lemmas.List.Elements.{All-map}
 use Rattle.trace_model.specs.Parcel.{Parcel}
 use Rattle.page_numbers.specs.Parcels.{ParcelValue, as_parcel, as_parcels}
@@ -25,11 +24,6 @@ fills_sorted parcels up = λ k d _ inside.
 pub found_fill : (fill : ℕ) (parcels : List ParcelValue) (at : ℕ) (parcel : ParcelValue) → parcel ≡ get_or parcels at parcel → nat_cmp (get_or parcels at parcel).page.fill fill ≡ Equal → parcel.page.fill ≡ fill
 found_fill fill parcels at parcel is tied =
     ap (λ (x : ParcelValue). x.page.fill) is ∙ ranked (get_or parcels at parcel).page.fill fill Equal (sym tied)
-
--- it is among them
-pub found_among : (parcels : List ParcelValue) (at : ℕ) (parcel : ParcelValue) → at < length parcels → parcel ≡ get_or parcels at parcel → Contains (as_parcels parcels) (as_parcel parcel)
-found_among parcels at parcel within is =
-    (at, omega (arith, length-map parcels as_parcel), get_or-map as_parcel parcels at parcel (as_parcel parcel) within ∙ ap as_parcel (sym is))
 
 -- the search found no parcel of this fill
 pub found_nowhere : (fill : ℕ) (parcels : List ParcelValue) (i : ℕ) → AreRising (as_parcels parcels) → (IsNonDecreasingBy (λ y. ordering_index (nat_cmp y.page.fill fill)) parcels → IsPartitionPoint (λ y. nat_cmp y.page.fill fill ≡ Less) (λ y. nat_cmp y.page.fill fill ≡ Greater) parcels i) → All (λ parcel. parcel.fill ≢ fill) (as_parcels parcels)

@@ -1,7 +1,6 @@
 pub mod Stack
 pub mod Inside
 pub mod Lent
-pub mod Putting
 pub mod Calls
 pub mod IsStack
 pub mod Released

@@ -1,13 +1,13 @@
 //! An open page, and the payload in it that is lent to be written.
-ghost use Rattle.std.specs.Prelude.{◌≡◌, ◌+◌, ◌-◌, ◌*◌, ◌≤◌, ◌<◌, false, length, replicate, IfSome};
-ghost use Rattle.record_words.specs.declared.format.TheConstants.{EXTEND_FROM, SHORT_LIMIT};
+ghost use Rattle.std.specs.Prelude.{◌≡◌, ◌+◌, ◌-◌, ◌*◌, ◌≤◌, ◌<◌, length, replicate, IfSome};
 ghost use Rattle.trace_model.specs.declared.limits.TheConstants.{MOMENT_LIMIT, MAX_SIZE};
-ghost use Rattle.trace_model.specs.Words.{encoded_len, padded, slot_len};
+ghost use Rattle.trace_model.specs.Words.{padded, slot_len};
 ghost use Rattle.trace_model.specs.Reading.{EndsInRecord};
 ghost use Rattle.trace_model.specs.Order.{moment_of_last};
 ghost use Rattle.page_image.specs.Contents.{records_of_page, is_blank};
+ghost use Rattle.page_image.specs.Plain.{IsPlainIn};
+ghost use Rattle.page_image.specs.Putting.{CanPut, HasPut};
 ghost use Rattle.nested_writer.specs.Lent.{lent_bytes};
-ghost use Rattle.nested_writer.specs.Putting.{HasPut};
 
 use page_image::Page;
 use record_words::Place;
@@ -139,12 +139,7 @@ impl Payload {
     /// `Page::put`.
     #[inline(always)]
     pub(crate) fn put(&mut self, prev: u64, moment: u64, len: usize) -> Place
-        requires room { length self.old.page.bytes + encoded_len len (moment - prev) (is_blank self.old.page.bytes)
-            ≤ self.old.page.size }
-        requires order { prev ≤ moment }
-        requires moment { moment < MOMENT_LIMIT }
-        requires last { IfSome (moment_of_last (records_of_page self.old.page)) (λ last. last ≡ prev) }
-        requires open { EndsInRecord self.old.page.bytes }
+        requires { CanPut self.old.page prev moment len }
         ensures { HasPut self.old.page self.new.page prev moment len (replicate (slot_len len) 0) result }
     {
         self.page.put(prev, moment, len)
@@ -153,11 +148,8 @@ impl Payload {
     /// `Page::put_plain`.
     #[inline(always)]
     pub(crate) fn put_plain(&mut self, prev: u64, moment: u64, len: usize) -> Place
-        requires behind { is_blank self.old.page.bytes ≡ false }
-        requires some { 1 ≤ len }
-        requires short { len ≤ SHORT_LIMIT }
-        requires near { moment - prev < EXTEND_FROM }
-        requires far { length self.old.page.bytes + (4 + SHORT_LIMIT) ≤ self.old.page.size }
+        requires plain { IsPlainIn self.old.page.size (length self.old.page.bytes) (moment - prev)
+            (is_blank self.old.page.bytes) len }
         requires order { prev ≤ moment }
         requires moment { moment < MOMENT_LIMIT }
         requires last { IfSome (moment_of_last (records_of_page self.old.page)) (λ last. last ≡ prev) }
@@ -170,13 +162,7 @@ impl Payload {
     /// `Page::put_payload`.
     #[inline(always)]
     pub(crate) fn put_payload(&mut self, prev: u64, moment: u64, payload: &[u8]) -> Place
-        requires room { length self.old.page.bytes
-            + encoded_len (length payload.now) (moment - prev) (is_blank self.old.page.bytes)
-            ≤ self.old.page.size }
-        requires order { prev ≤ moment }
-        requires moment { moment < MOMENT_LIMIT }
-        requires last { IfSome (moment_of_last (records_of_page self.old.page)) (λ last. last ≡ prev) }
-        requires open { EndsInRecord self.old.page.bytes }
+        requires { CanPut self.old.page prev moment (length payload.now) }
         ensures { HasPut self.old.page self.new.page prev moment (length payload.now) (padded payload.now) result }
     {
         self.page.put_payload(prev, moment, payload)

@@ -1,10 +1,9 @@
 //! The calls by which a page lends its records and its payloads.
 ghost use Rattle.std.specs.Prelude.{◌≡◌, ℕ, ◌+◌, ◌<◌, ◌^◌, List, length, slice_range, IfSome};
 ghost use Rattle.std.specs.Borrow.{sem};
-ghost use Rattle.trace_model.specs.Reading.{EndsInRecord, IsPlaceIn};
-ghost use Rattle.trace_model.specs.Order.{moment_of_last};
-ghost use Rattle.page_image.specs.Contents.{IsPage, is_blank, records_of_page};
-ghost use Rattle.page_image.specs.Lending.{LendsPayload, PayloadWritten, with_payload};
+ghost use Rattle.trace_model.specs.Reading.{IsPlaceIn};
+ghost use Rattle.page_image.specs.Contents.{IsPage};
+ghost use Rattle.page_image.specs.Lending.{LendsPayload, PayloadWritten, StaysWritten};
 ghost use Rattle.page_borrow.specs.Entries.{entries_of, AllStandInPage};
 
 use crate::entries::Records;
@@ -29,20 +28,7 @@ pub fn slot_mut(page: &mut Page, place: Place) -> &mut [u8]
     ensures payload { result.now ≡ slice_range page.old.bytes place.start (place.start + place.len) }
     ensures len { length result.now ≡ place.len }
     ensures written { (part : List ℕ) → length part ≡ place.len → PayloadWritten page.old place.start part }
-    ensures length_stays { (part : List ℕ) → length part ≡ length result.now
-        → length (with_payload page.old place.start part).bytes ≡ length page.old.bytes }
-    ensures blank_stays { (part : List ℕ) → length part ≡ length result.now
-        → is_blank (with_payload page.old place.start part).bytes ≡ is_blank page.old.bytes }
-    ensures page_reads { (part : List ℕ) → length part ≡ length result.now
-        → IsPage page.old → IsPage (with_payload page.old place.start part) }
-    ensures open_stays { (part : List ℕ) → length part ≡ length result.now
-        → EndsInRecord page.old.bytes → EndsInRecord (with_payload page.old place.start part).bytes }
-    ensures last_stays { (part : List ℕ) → length part ≡ length result.now
-        → moment_of_last (records_of_page (with_payload page.old place.start part))
-        ≡ moment_of_last (records_of_page page.old) }
-    ensures payloads_stay { (part : List ℕ) → length part ≡ length result.now
-        → (at len : ℕ) → IsPlaceIn page.old.bytes at len
-        → IsPlaceIn (with_payload page.old place.start part).bytes at len }
+    ensures stays { StaysWritten page.old place.start (length result.now) }
 {
     page.payload_mut(place)
 }

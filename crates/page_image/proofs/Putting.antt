@@ -13,7 +13,9 @@ use Rattle.trace_model.proofs.Unique.{records_in-Decodes, words_in-IsJoined}
 use Rattle.trace_model.proofs.Appended.{data_word-delta, moment_after-push, moment_after-last, Decodes-first, Decodes-appended, EndsInRecord-first, EndsInRecord-appended, moment_of_last-push, IsJoined-whole, records_of-push_data, each-append, written-each, data_word-IsWord}
 use Rattle.trace_model.specs.Overwriting.{IsPlaceOf}
 use Rattle.trace_model.proofs.Places.{IsPlaceOf-appended, IsPlaceOf-first, IsPlaceOf-new}
+use Rattle.record_words.specs.declared.put.Place.{Place}
 use Rattle.page_image.specs.Contents.{Contents, IsPage, records_of_page, is_blank}
+use Rattle.page_image.specs.Putting.{HasPut}
 use Rattle.std.proofs.Math.Dec.{eqb-suc-zero}
 use Rattle.page_image.proofs.Blank.{records_in-blank}
 
@@ -219,26 +221,16 @@ pub place_of : (bytes : List ℕ) (start len : ℕ) → (place : IsPlaceIn bytes
 place_of bytes start len place = record { place = place; number_is = refl }
 
 -- The page after a record was put, whatever else of it has changed.
-pub record PutPage (old new : Contents) (prev moment : ℕ) (payload : List ℕ) (start len : ℕ) : Type 0 where
-  pub page : IsPage old → IsPage new
-  pub records : IsPage old → records_of_page new ≡ records_of_page old ++ record { moment = moment; bytes = payload } ∷ []
-  pub longer : length new.bytes ≡ length old.bytes + encoded_len len (moment - prev) (is_blank old.bytes)
-  pub filled : is_blank new.bytes ≡ false
-  pub ends : EndsInRecord new.bytes
-  pub place : IsPlaceIn new.bytes start (slot_len len)
-  pub number : IsPage old → IsPlaceOf new.bytes old.count start (slot_len len)
-  pub places_stay : (number at size : ℕ) → IsPlaceOf old.bytes number at size → IsPlaceOf new.bytes number at size
-  pub payloads_stay : (at size : ℕ) → IsPlaceIn old.bytes at size → IsPlaceIn new.bytes at size
-  pub last : IfSome (moment_of_last (records_of_page new)) (λ last. last ≡ moment)
-
-pub put_page : (old new : Contents) (prev moment : ℕ) (payload : List ℕ) (start len : ℕ) → EndsInRecord old.bytes → IfSome (moment_of_last (records_of_page old)) (λ last. last ≡ prev) → prev ≤ moment → moment < MOMENT_LIMIT → len ≤ 2 ^ 30 → length payload ≡ slot_len len
-    → new.bytes ≡ old.bytes ++ encoding (moment - prev) (is_blank old.bytes) payload → length new.bytes ≡ length old.bytes + encoded_len len (moment - prev) (is_blank old.bytes) → new.time ≡ cond (is_blank old.bytes) moment old.time → new.count ≡ old.count + 1 → start + slot_len len ≡ length new.bytes
-    → PutPage old new prev moment payload start len
-put_page old new prev moment payload start len ends last order small limit size bytes_is longer time_is count_is end_is =
+pub has_put : (old new : Contents) (prev moment len : ℕ) (payload : List ℕ) (at : Place) → EndsInRecord old.bytes → IfSome (moment_of_last (records_of_page old)) (λ last. last ≡ prev) → prev ≤ moment → moment < MOMENT_LIMIT → len ≤ 2 ^ 30 → length payload ≡ slot_len len
+    → new.bytes ≡ old.bytes ++ encoding (moment - prev) (is_blank old.bytes) payload → length new.bytes ≡ length old.bytes + encoded_len len (moment - prev) (is_blank old.bytes) → new.time ≡ cond (is_blank old.bytes) moment old.time → new.count ≡ old.count + 1 → new.first ≡ old.first → new.fill ≡ old.fill → new.size ≡ old.size → at.start + at.len ≡ length new.bytes → at.len ≡ slot_len len
+    → HasPut old new prev moment len payload at
+has_put old new prev moment len payload at ends last order small limit size bytes_is longer time_is count_is first_is fill_is size_is end_is len_is =
+    let start : ℕ = at.start in
+    let size_at : length payload ≡ at.len = size ∙ sym len_is in
     let r : Record = record { moment = moment; bytes = payload } in
     let slot : IsSlot payload = IsSlot-of payload len size limit in
     let end = put_end old.bytes prev moment payload ends small slot in
-    let there : start + length payload ≡ length (old.bytes ++ encoding (moment - prev) (is_blank old.bytes) payload) = ap (λ (n : ℕ). start + n) size ∙ end_is ∙ ap length bytes_is in
+    let there : start + length payload ≡ length (old.bytes ++ encoding (moment - prev) (is_blank old.bytes) payload) = ap (λ (n : ℕ). start + n) size_at ∙ end_is ∙ ap length bytes_is in
     let reads : IsPage old → Decodes new.bytes new.time (records_of_page old ++ r ∷ []) = λ page.
     subst (λ (t : ℕ). Decodes new.bytes t (records_of_page old ++ r ∷ [])) (sym time_is)
     (subst (λ (b : List ℕ). Decodes b (cond (is_blank old.bytes) moment old.time) (records_of_page old ++ r ∷ [])) (sym bytes_is) (put_data old.bytes old.time prev moment payload ends page.reads last order small slot)) in
@@ -251,15 +243,23 @@ put_page old new prev moment payload start len ends last order small limit size 
         in_time = fits_either (is_blank old.bytes) new.time moment old.time time_is (omega arith) page.in_time;
       };
       records = now;
+      bytes = bytes_is;
+      time = time_is;
+      count = count_is;
+      first = first_is;
+      fill = fill_is;
+      size = size_is;
       longer = longer;
       filled = not_blank new.bytes (omega (arith, longer, encoded_len_ge len (moment - prev) (is_blank old.bytes)));
       ends = subst EndsInRecord (sym bytes_is) end.ends;
-      place = subst (λ (n : ℕ). IsPlaceIn new.bytes start n) size (subst (λ (b : List ℕ). IsPlaceIn b start (length payload)) (sym bytes_is) (end.place start there));
-      number = λ page. subst (λ (n : ℕ). IsPlaceOf new.bytes old.count start n) size (subst (λ (b : List ℕ). IsPlaceOf b old.count start (length payload)) (sym bytes_is)
+      place = subst (λ (n : ℕ). IsPlaceIn new.bytes start n) size_at (subst (λ (b : List ℕ). IsPlaceIn b start (length payload)) (sym bytes_is) (end.place start there));
+      number = λ page. subst (λ (n : ℕ). IsPlaceOf new.bytes old.count start n) size_at (subst (λ (b : List ℕ). IsPlaceOf b old.count start (length payload)) (sym bytes_is)
           (subst (λ (n : ℕ). IsPlaceOf (old.bytes ++ encoding (moment - prev) (is_blank old.bytes) payload) n start (length payload)) (sym page.counted)
           (put_number old.bytes old.time prev moment payload start ends page.reads small slot there)));
       places_stay = stay;
       payloads_stay = λ at size was. (stay _ at size (place_of old.bytes at size was)).place;
       last = subst (λ (o : Option ℕ). IfSome o (λ last. last ≡ moment))
           (sym (ap (λ (b : List ℕ). moment_of_last (records_in new.time b)) bytes_is ∙ ap (λ (t : ℕ). moment_of_last (records_in t (old.bytes ++ encoding (moment - prev) (is_blank old.bytes) payload))) time_is ∙ newest old.bytes old.time prev moment payload ends last order small slot)) refl;
+      end = end_is;
+      len_is = len_is;
     }

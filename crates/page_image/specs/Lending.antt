@@ -16,6 +16,29 @@ with_payload page start part = record page { bytes = take (length page.bytes) (o
 abbrev pub LendsPayload : MutBor Contents → ℕ → MutBor (List ℕ) → Fml
 LendsPayload page start result = Lends the_row (Array u8 0) page result (with_payload page.now start)
 
+-- Whatever is written over the len bytes from start on, the page can be read and put into as before.
+pub record StaysWritten (page : Contents) (start len : ℕ) : Type 0 where
+  pub length_stays :
+      (part : List ℕ) → length part ≡ len → length (with_payload page start part).bytes ≡ length page.bytes
+  pub blank_stays :
+      (part : List ℕ) → length part ≡ len → is_blank (with_payload page start part).bytes ≡ is_blank page.bytes
+  pub page_reads : (part : List ℕ) → length part ≡ len → IsPage page → IsPage (with_payload page start part)
+  pub open_stays :
+      (part : List ℕ)
+      → length part ≡ len
+      → EndsInRecord page.bytes
+      → EndsInRecord (with_payload page start part).bytes
+  pub last_stays :
+      (part : List ℕ)
+      → length part ≡ len
+      → moment_of_last (records_of_page (with_payload page start part)) ≡ moment_of_last (records_of_page page)
+  pub payloads_stay :
+      (part : List ℕ)
+      → length part ≡ len
+      → (at size : ℕ)
+      → IsPlaceIn page.bytes at size
+      → IsPlaceIn (with_payload page start part).bytes at size
+
 -- What an overwritten payload makes of its page: it still reads, the one record has these bytes, and all
 -- others are as they were, in their places.
 pub record PayloadWritten (page : Contents) (start : ℕ) (part : List ℕ) : Type 0 where

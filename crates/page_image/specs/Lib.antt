@@ -1,4 +1,5 @@
 pub mod Contents
+pub mod Putting
 pub mod Lending
 pub mod Walk
 pub mod Counting

@@ -12,6 +12,13 @@ use std::marker::Model;
 use trace_model::{FillNo, RecordNo};
 
 /// The records of one fill of a ring, in the layout of the kernel's pages.
+///
+/// ```
+/// let mut page = Page::fresh(Body::new(rt.alloc(), 32)?, RecordNo(7), FillNo(3));
+/// let place = page.put(0, 100, 4);
+/// page.payload_mut(place).copy_from_slice(b"next");
+/// let image = page.write_image(rt.alloc(), 0)?;
+/// ```
 #[derive(Debug, Drop)]
 pub struct Page {
     body: Vec<u8>,
@@ -44,16 +51,15 @@ impl Model for Page {
 }
 
 impl Page {
-    ghost use Rattle.std.specs.Prelude.{◌≡◌, ◌+◌, ◌-◌, ◌≤◌, ◌<◌, false, [], ◌∷◌, ◌++◌, length, replicate, if◌then◌else◌, IfSome, slice_range, ℕ, List};
-    ghost use Rattle.record_words.specs.declared.format.TheConstants.{EXTEND_FROM, SHORT_LIMIT};
+    ghost use Rattle.std.specs.Prelude.{◌≡◌, ◌+◌, ◌-◌, ◌≤◌, ◌<◌, false, [], length, replicate, IfSome, slice_range, ℕ, List};
     ghost use Rattle.page_image.specs.declared.put.Records.TheVariants.{Plain};
     ghost use Rattle.page_image.specs.Plain.{IsPlainIn};
     ghost use Rattle.std.specs.Borrow.{sem};
-    ghost use Rattle.page_image.specs.Lending.{LendsPayload, PayloadWritten, with_payload};
-    ghost use Rattle.trace_model.specs.Words.{encoded_len, encoding, padded, slot_len};
+    ghost use Rattle.page_image.specs.Lending.{LendsPayload, PayloadWritten, StaysWritten};
+    ghost use Rattle.page_image.specs.Putting.{CanPut, HasPut};
+    ghost use Rattle.trace_model.specs.Words.{padded, slot_len};
     ghost use Rattle.trace_model.specs.Reading.{EndsInRecord, IsPlaceIn};
     ghost use Rattle.trace_model.specs.Order.{moment_of_last};
-    ghost use Rattle.trace_model.specs.Overwriting.{IsPlaceOf};
     ghost use Rattle.page_image.specs.Contents.{records_of_page, is_blank, IsPage};
     ghost use Rattle.trace_model.specs.declared.limits.TheConstants.{MOMENT_LIMIT};
 
@@ -84,39 +90,8 @@ impl Page {
     /// last record, if there is one, and not above `moment`.
     #[inline(always)]
     pub fn put(&mut self, prev: u64, moment: u64, len: usize) -> Place
-        requires room { length self.old.bytes + encoded_len len (moment - prev) (is_blank self.old.bytes)
-            ≤ self.old.size }
-        requires order { prev ≤ moment }
-        requires moment { moment < MOMENT_LIMIT }
-        requires last { IfSome (moment_of_last (records_of_page self.old)) (λ last. last ≡ prev) }
-        requires open { EndsInRecord self.old.bytes }
-        ensures page { IsPage self.old → IsPage self.new }
-        ensures records { IsPage self.old
-            → records_of_page self.new
-            ≡ records_of_page self.old ++ record { moment = moment; bytes = replicate (slot_len len) 0 } ∷ [] }
-        ensures bytes { self.new.bytes
-            ≡ self.old.bytes ++ encoding (moment - prev) (is_blank self.old.bytes) (replicate (slot_len len) 0) }
-        ensures time { self.new.time ≡ (if is_blank self.old.bytes then moment else self.old.time) }
-        ensures count { self.new.count ≡ self.old.count + 1 }
-        ensures first { self.new.first ≡ self.old.first }
-        ensures fill { self.new.fill ≡ self.old.fill }
-        ensures size { self.new.size ≡ self.old.size }
-        ensures longer { length self.new.bytes
-            ≡ length self.old.bytes + encoded_len len (moment - prev) (is_blank self.old.bytes) }
-        ensures filled { is_blank self.new.bytes ≡ false }
-        ensures last { IfSome (moment_of_last (records_of_page self.new)) (λ last. last ≡ moment) }
-        ensures open { EndsInRecord self.new.bytes }
-        ensures place { IsPlaceIn self.new.bytes result.start result.len }
-        ensures number { IsPage self.old
-            → IsPlaceOf self.new.bytes self.old.count result.start result.len }
-        ensures places_stay { (number start len : ℕ)
-            → IsPlaceOf self.old.bytes number start len
-            → IsPlaceOf self.new.bytes number start len }
-        ensures payloads_stay { (start len : ℕ)
-            → IsPlaceIn self.old.bytes start len
-            → IsPlaceIn self.new.bytes start len }
-        ensures end { result.start + result.len ≡ length self.new.bytes }
-        ensures len { result.len ≡ slot_len len }
+        requires { CanPut self.old prev moment len }
+        ensures { HasPut self.old self.new prev moment len (replicate (slot_len len) 0) result }
     {
         self.put_as(Records::Any, prev, moment, len)
     }
@@ -125,42 +100,13 @@ impl Page {
     /// it on the page, and so far from the page's end that the longest such record would have room.
     #[inline(always)]
     pub fn put_plain(&mut self, prev: u64, moment: u64, len: usize) -> Place
-        requires behind { is_blank self.old.bytes ≡ false }
-        requires some { 1 ≤ len }
-        requires short { len ≤ SHORT_LIMIT }
-        requires near { moment - prev < EXTEND_FROM }
-        requires far { length self.old.bytes + (4 + SHORT_LIMIT) ≤ self.old.size }
+        requires plain { IsPlainIn self.old.size (length self.old.bytes) (moment - prev)
+            (is_blank self.old.bytes) len }
         requires order { prev ≤ moment }
         requires moment { moment < MOMENT_LIMIT }
         requires last { IfSome (moment_of_last (records_of_page self.old)) (λ last. last ≡ prev) }
         requires open { EndsInRecord self.old.bytes }
-        ensures page { IsPage self.old → IsPage self.new }
-        ensures records { IsPage self.old
-            → records_of_page self.new
-            ≡ records_of_page self.old ++ record { moment = moment; bytes = replicate (slot_len len) 0 } ∷ [] }
-        ensures bytes { self.new.bytes
-            ≡ self.old.bytes ++ encoding (moment - prev) (is_blank self.old.bytes) (replicate (slot_len len) 0) }
-        ensures time { self.new.time ≡ (if is_blank self.old.bytes then moment else self.old.time) }
-        ensures count { self.new.count ≡ self.old.count + 1 }
-        ensures first { self.new.first ≡ self.old.first }
-        ensures fill { self.new.fill ≡ self.old.fill }
-        ensures size { self.new.size ≡ self.old.size }
-        ensures longer { length self.new.bytes
-            ≡ length self.old.bytes + encoded_len len (moment - prev) (is_blank self.old.bytes) }
-        ensures filled { is_blank self.new.bytes ≡ false }
-        ensures last { IfSome (moment_of_last (records_of_page self.new)) (λ last. last ≡ moment) }
-        ensures open { EndsInRecord self.new.bytes }
-        ensures place { IsPlaceIn self.new.bytes result.start result.len }
-        ensures number { IsPage self.old
-            → IsPlaceOf self.new.bytes self.old.count result.start result.len }
-        ensures places_stay { (number start len : ℕ)
-            → IsPlaceOf self.old.bytes number start len
-            → IsPlaceOf self.new.bytes number start len }
-        ensures payloads_stay { (start len : ℕ)
-            → IsPlaceIn self.old.bytes start len
-            → IsPlaceIn self.new.bytes start len }
-        ensures end { result.start + result.len ≡ length self.new.bytes }
-        ensures len { result.len ≡ slot_len len }
+        ensures { HasPut self.old self.new prev moment len (replicate (slot_len len) 0) result }
     {
         self.put_as(Records::Plain, prev, moment, len)
     }
@@ -182,39 +128,8 @@ impl Page {
     fn put_as(&mut self, records: Records, prev: u64, moment: u64, len: usize) -> Place
         requires plain { records ≡ Plain → IsPlainIn self.old.size (length self.old.bytes) (moment - prev)
             (is_blank self.old.bytes) len }
-        requires room { length self.old.bytes + encoded_len len (moment - prev) (is_blank self.old.bytes)
-            ≤ self.old.size }
-        requires order { prev ≤ moment }
-        requires moment { moment < MOMENT_LIMIT }
-        requires last { IfSome (moment_of_last (records_of_page self.old)) (λ last. last ≡ prev) }
-        requires open { EndsInRecord self.old.bytes }
-        ensures page { IsPage self.old → IsPage self.new }
-        ensures records { IsPage self.old
-            → records_of_page self.new
-            ≡ records_of_page self.old ++ record { moment = moment; bytes = replicate (slot_len len) 0 } ∷ [] }
-        ensures bytes { self.new.bytes
-            ≡ self.old.bytes ++ encoding (moment - prev) (is_blank self.old.bytes) (replicate (slot_len len) 0) }
-        ensures time { self.new.time ≡ (if is_blank self.old.bytes then moment else self.old.time) }
-        ensures count { self.new.count ≡ self.old.count + 1 }
-        ensures first { self.new.first ≡ self.old.first }
-        ensures fill { self.new.fill ≡ self.old.fill }
-        ensures size { self.new.size ≡ self.old.size }
-        ensures longer { length self.new.bytes
-            ≡ length self.old.bytes + encoded_len len (moment - prev) (is_blank self.old.bytes) }
-        ensures filled { is_blank self.new.bytes ≡ false }
-        ensures last { IfSome (moment_of_last (records_of_page self.new)) (λ last. last ≡ moment) }
-        ensures open { EndsInRecord self.new.bytes }
-        ensures place { IsPlaceIn self.new.bytes result.start result.len }
-        ensures number { IsPage self.old
-            → IsPlaceOf self.new.bytes self.old.count result.start result.len }
-        ensures places_stay { (number start len : ℕ)
-            → IsPlaceOf self.old.bytes number start len
-            → IsPlaceOf self.new.bytes number start len }
-        ensures payloads_stay { (start len : ℕ)
-            → IsPlaceIn self.old.bytes start len
-            → IsPlaceIn self.new.bytes start len }
-        ensures end { result.start + result.len ≡ length self.new.bytes }
-        ensures len { result.len ≡ slot_len len }
+        requires can { CanPut self.old prev moment len }
+        ensures { HasPut self.old self.new prev moment len (replicate (slot_len len) 0) result }
     {
         let is_first = self.is_first(records);
         let place = put_behind_as(
@@ -235,40 +150,8 @@ impl Page {
     /// is. This is what `put` does, and then the payload written at the front of its place. `prev` is that of `put`.
     #[inline(always)]
     pub fn put_payload(&mut self, prev: u64, moment: u64, payload: &[u8]) -> Place
-        requires room { length self.old.bytes
-            + encoded_len (length payload.now) (moment - prev) (is_blank self.old.bytes)
-            ≤ self.old.size }
-        requires order { prev ≤ moment }
-        requires moment { moment < MOMENT_LIMIT }
-        requires last { IfSome (moment_of_last (records_of_page self.old)) (λ last. last ≡ prev) }
-        requires open { EndsInRecord self.old.bytes }
-        ensures page { IsPage self.old → IsPage self.new }
-        ensures records { IsPage self.old
-            → records_of_page self.new
-            ≡ records_of_page self.old ++ record { moment = moment; bytes = padded payload.now } ∷ [] }
-        ensures bytes { self.new.bytes
-            ≡ self.old.bytes ++ encoding (moment - prev) (is_blank self.old.bytes) (padded payload.now) }
-        ensures time { self.new.time ≡ (if is_blank self.old.bytes then moment else self.old.time) }
-        ensures count { self.new.count ≡ self.old.count + 1 }
-        ensures first { self.new.first ≡ self.old.first }
-        ensures fill { self.new.fill ≡ self.old.fill }
-        ensures size { self.new.size ≡ self.old.size }
-        ensures longer { length self.new.bytes
-            ≡ length self.old.bytes + encoded_len (length payload.now) (moment - prev) (is_blank self.old.bytes) }
-        ensures filled { is_blank self.new.bytes ≡ false }
-        ensures last { IfSome (moment_of_last (records_of_page self.new)) (λ last. last ≡ moment) }
-        ensures open { EndsInRecord self.new.bytes }
-        ensures place { IsPlaceIn self.new.bytes result.start result.len }
-        ensures number { IsPage self.old
-            → IsPlaceOf self.new.bytes self.old.count result.start result.len }
-        ensures places_stay { (number start len : ℕ)
-            → IsPlaceOf self.old.bytes number start len
-            → IsPlaceOf self.new.bytes number start len }
-        ensures payloads_stay { (start len : ℕ)
-            → IsPlaceIn self.old.bytes start len
-            → IsPlaceIn self.new.bytes start len }
-        ensures end { result.start + result.len ≡ length self.new.bytes }
-        ensures len { result.len ≡ slot_len (length payload.now) }
+        requires { CanPut self.old prev moment (length payload.now) }
+        ensures { HasPut self.old self.new prev moment (length payload.now) (padded payload.now) result }
     {
         let end = self.end;
         let is_first = end == 0;
@@ -287,20 +170,7 @@ impl Page {
         ensures payload { result.now ≡ slice_range self.old.bytes place.start (place.start + place.len) }
         ensures len { length result.now ≡ place.len }
         ensures written { (part : List ℕ) → length part ≡ place.len → PayloadWritten self.old place.start part }
-        ensures length_stays { (part : List ℕ) → length part ≡ length result.now
-            → length (with_payload self.old place.start part).bytes ≡ length self.old.bytes }
-        ensures blank_stays { (part : List ℕ) → length part ≡ length result.now
-            → is_blank (with_payload self.old place.start part).bytes ≡ is_blank self.old.bytes }
-        ensures page_reads { (part : List ℕ) → length part ≡ length result.now
-            → IsPage self.old → IsPage (with_payload self.old place.start part) }
-        ensures open_stays { (part : List ℕ) → length part ≡ length result.now
-            → EndsInRecord self.old.bytes → EndsInRecord (with_payload self.old place.start part).bytes }
-        ensures last_stays { (part : List ℕ) → length part ≡ length result.now
-            → moment_of_last (records_of_page (with_payload self.old place.start part))
-            ≡ moment_of_last (records_of_page self.old) }
-        ensures payloads_stay { (part : List ℕ) → length part ≡ length result.now
-            → (at len : ℕ) → IsPlaceIn self.old.bytes at len
-            → IsPlaceIn (with_payload self.old place.start part).bytes at len }
+        ensures stays { StaysWritten self.old place.start (length result.now) }
     {
         let body = &mut self.body;
         body.slice_mut(place.start..place.start + place.len)

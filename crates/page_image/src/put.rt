@@ -1,8 +1,8 @@
 //! A record written after others.
-ghost use Rattle.std.specs.Prelude.{◌≡◌, ◌+◌, ◌≤◌, ◌<◌, ◌++◌, ◌⊎◌, true, false, length, take, replicate, if◌then◌else◌};
-ghost use Rattle.trace_model.specs.Words.{encoded_len, encoding, padded, slot_len};
-ghost use Rattle.trace_model.specs.declared.limits.TheConstants.{MOMENT_LIMIT};
-ghost use Rattle.record_words.specs.declared.format.TheConstants.{EXTEND_FROM, MAX_PAYLOAD, SHORT_LIMIT};
+ghost use Rattle.std.specs.Prelude.{◌≡◌, ◌+◌, ◌≤◌, ◌<◌, false, length, replicate, if◌then◌else◌};
+ghost use Rattle.trace_model.specs.Words.{padded, slot_len};
+ghost use Rattle.record_words.specs.declared.format.TheConstants.{EXTEND_FROM, SHORT_LIMIT};
+ghost use Rattle.page_image.specs.Putting.{FitsBehind, PutsBehind};
 ghost use Rattle.page_image.specs.declared.put.Records.TheVariants.{Plain};
 ghost use Rattle.page_image.specs.Plain.{IsPlainIn};
 
@@ -19,13 +19,8 @@ fn delta_in_words(delta: u64, first: bool) -> u64
 /// `put_behind`, whatever the record's form, and however little room is left after it.
 #[inline(never)]
 fn put_any(body: &mut [u8], end: usize, delta: u64, first: bool, len: usize) -> Place
-    requires length { len ≤ MAX_PAYLOAD }
-    requires time { (first ≡ true) ⊎ (delta < MOMENT_LIMIT) }
-    requires room { end + encoded_len len delta first ≤ length body.old }
-    ensures bytes { take (result.start + result.len) body.new
-        ≡ take end body.old ++ encoding delta first (replicate (slot_len len) 0) }
-    ensures end { result.start + result.len ≡ end + encoded_len len delta first }
-    ensures len { result.len ≡ slot_len len }
+    requires { FitsBehind (length body.old) end delta first len }
+    ensures { PutsBehind body.old body.new end delta first len (replicate (slot_len len) 0) result }
 {
     let place = put_record(&mut body[end..], delta, first, len);
     Place {
@@ -38,13 +33,8 @@ fn put_any(body: &mut [u8], end: usize, delta: u64, first: bool, len: usize) -> 
 /// record ends where its payload does. What follows it may be lost.
 #[inline(always)]
 pub(crate) fn put_behind(body: &mut [u8], end: usize, delta: u64, first: bool, len: usize) -> Place
-    requires length { len ≤ MAX_PAYLOAD }
-    requires time { (first ≡ true) ⊎ (delta < MOMENT_LIMIT) }
-    requires room { end + encoded_len len delta first ≤ length body.old }
-    ensures bytes { take (result.start + result.len) body.new
-        ≡ take end body.old ++ encoding delta first (replicate (slot_len len) 0) }
-    ensures end { result.start + result.len ≡ end + encoded_len len delta first }
-    ensures len { result.len ≡ slot_len len }
+    requires { FitsBehind (length body.old) end delta first len }
+    ensures { PutsBehind body.old body.new end delta first len (replicate (slot_len len) 0) result }
 {
     let word_delta = delta_in_words(delta, first);
     if len <= SHORT_LIMIT && word_delta < EXTEND_FROM && end + (4 + SHORT_LIMIT) <= body.len() {
@@ -86,10 +76,7 @@ fn put_plain_behind(body: &mut [u8], end: usize, delta: u64, len: usize) -> Plac
     requires short { len ≤ SHORT_LIMIT }
     requires near { delta < EXTEND_FROM }
     requires far { end + (4 + SHORT_LIMIT) ≤ length body.old }
-    ensures bytes { take (result.start + result.len) body.new
-        ≡ take end body.old ++ encoding delta false (replicate (slot_len len) 0) }
-    ensures end { result.start + result.len ≡ end + encoded_len len delta false }
-    ensures len { result.len ≡ slot_len len }
+    ensures { PutsBehind body.old body.new end delta false len (replicate (slot_len len) 0) result }
 {
     let slot = plain_slot_len(len);
     put_short(&mut body[end..], delta as u32, slot);
@@ -110,13 +97,8 @@ pub(crate) fn put_behind_as(
     len: usize,
 ) -> Place
     requires plain { records ≡ Plain → IsPlainIn (length body.old) end delta first len }
-    requires length { len ≤ MAX_PAYLOAD }
-    requires time { (first ≡ true) ⊎ (delta < MOMENT_LIMIT) }
-    requires room { end + encoded_len len delta first ≤ length body.old }
-    ensures bytes { take (result.start + result.len) body.new
-        ≡ take end body.old ++ encoding delta first (replicate (slot_len len) 0) }
-    ensures end { result.start + result.len ≡ end + encoded_len len delta first }
-    ensures len { result.len ≡ slot_len len }
+    requires fits { FitsBehind (length body.old) end delta first len }
+    ensures { PutsBehind body.old body.new end delta first len (replicate (slot_len len) 0) result }
 {
     match records {
         Records::Any => put_behind(body, end, delta, first, len),
@@ -134,13 +116,8 @@ pub(crate) fn put_payload_behind(
     first: bool,
     payload: &[u8],
 ) -> Place
-    requires length { length payload.now ≤ MAX_PAYLOAD }
-    requires time { (first ≡ true) ⊎ (delta < MOMENT_LIMIT) }
-    requires room { end + encoded_len (length payload.now) delta first ≤ length body.old }
-    ensures bytes { take (result.start + result.len) body.new
-        ≡ take end body.old ++ encoding delta first (padded payload.now) }
-    ensures end { result.start + result.len ≡ end + encoded_len (length payload.now) delta first }
-    ensures len { result.len ≡ slot_len (length payload.now) }
+    requires { FitsBehind (length body.old) end delta first (length payload.now) }
+    ensures { PutsBehind body.old body.new end delta first (length payload.now) (padded payload.now) result }
 {
     let size = put_payload(&mut body[end..], delta, first, payload);
     let len = slot_len(payload.len());

@@ -1,5 +1,5 @@
 -- What contracts see of a parcel: the page that it shares, under its numbers; and the model's parcel that this is.
-use Rattle.std.specs.Prelude.{◌≡◌, ℕ, List, map}
+use Rattle.std.specs.Prelude.{◌≡◌, ℕ, List, length, map}
 use Rattle.std.specs.List.{enumerate_from}
 use Rattle.trace_model.specs.Record.{Record}
 use Rattle.trace_model.specs.Parcel.{Parcel}
@@ -29,6 +29,11 @@ as_parcel parcel = parcel_of parcel.cpu parcel.page parcel.missed
 
 abbrev pub as_parcels : List ParcelValue → List Parcel
 as_parcels parcels = map as_parcel parcels
+
+-- the parcel of this CPU that a page is, once it is copied to the length of its data
+abbrev pub fitted_parcel : ℕ → Contents → ℕ → ParcelValue
+fitted_parcel cpu page missed =
+    record { cpu = cpu; missed = missed; page = record page { size = length page.bytes } }
 
 -- What holds of each parcel: its page's data reads, its CPU is one, and its records have numbers.
 pub record IsParcelValue (parcel : ParcelValue) : Type 0 where

@@ -12,6 +12,13 @@ use trace_model::{CpuId, FillNo, MAX_CPUS, NoMemory, RecordNo};
 
 /// A taken page, shared: the records of one fill of a CPU under their numbers, and how many numbers are missing in
 /// front of them, those between the last record taken before and the first one of this page.
+///
+/// ```
+/// let parcel = Parcel::of(rt.alloc(), CpuId(0), page, 1)?;
+/// let bytes = parcel.to_bytes(rt.alloc())?;
+/// let again = Parcel::from_bytes(rt.alloc(), &bytes)?;
+/// assert!(rt; again.has_page_of(&parcel));
+/// ```
 #[derive(Debug, Drop)]
 pub struct Parcel {
     cpu: CpuId,
@@ -35,7 +42,7 @@ impl Parcel {
     ghost use Rattle.trace_model.specs.declared.limits.TheConstants.{MAX_CPUS};
     ghost use Rattle.page_image.specs.Contents.{IsPage, records_of_page};
     ghost use Rattle.page_borrow.specs.Entries.{AllStandInPage};
-    ghost use Rattle.page_numbers.specs.Parcels.{parcel_of, as_parcel, entries_of_parcel, AreAlike, HaveSameRecords};
+    ghost use Rattle.page_numbers.specs.Parcels.{parcel_of, as_parcel, fitted_parcel, entries_of_parcel, AreAlike, HaveSameRecords};
     ghost use Rattle.page_numbers.specs.Faults.{IsRefused, NumbersOverflow, MissesTooMany};
 
     /// The page as a parcel of this CPU, with `missed` numbers missing before its records. If it is refused, the
@@ -78,11 +85,7 @@ impl Parcel {
         requires cpu { cpu.0 < MAX_CPUS }
         requires numbers { page.now.first + length (records_of_page page.now) < 2 ^ 64 }
         requires missed { missed ≤ page.now.first }
-        ensures { IfOk result (λ parcel. parcel ≡ record {
-          cpu = cpu.0;
-          missed = missed;
-          page = record page.now { size = length page.now.bytes };
-        }) }
+        ensures { IfOk result (λ parcel. parcel ≡ fitted_parcel cpu.0 page.now missed) }
     {
         Ok(Parcel {
             cpu,

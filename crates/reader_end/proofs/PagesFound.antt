@@ -1,17 +1,18 @@
 -- A page that was taken, when its parcel is appended to the others.
-use Rattle.std.proofs.Common.{◌≡◌, ℕ, [], ◌∷◌, ◌++◌, ap, ◌∙◌}
+use Rattle.std.proofs.Common.{◌≡◌, ℕ, List, [], ◌∷◌, ◌++◌, ap, ◌∙◌}
+use Rattle.std.proofs.lemmas.List.{map-append}
 use Rattle.trace_model.specs.Parcel.{Parcel}
 use Rattle.trace_model.specs.Ring.{Taken}
-use Rattle.world_model.specs.World as world
+use Rattle.world_model.specs.World.{parcel_of}
 use Rattle.page_image.specs.Contents.{Contents}
-use Rattle.page_numbers.specs.Parcels as pages
+use Rattle.page_numbers.specs.Parcels.{ParcelValue, as_parcel, as_parcels, fitted_parcel}
 use Rattle.ring_frames.specs.Answers.{IsTakenPage}
 use Rattle.ring_shared.specs.Takes.{IsPageTaken}
 use Rattle.reader_end.specs.Value.{ReaderEndValue}
 use Rattle.reader_end.specs.Takes.{IsPageFound}
 
 -- the page's parcel is that of what was taken
-parcel_is : (cpu size : ℕ) (page : Contents) (missed : ℕ) (t : Taken) → IsTakenPage size page missed t → pages.parcel_of cpu page missed ≡ world.parcel_of cpu t
+parcel_is : (cpu size : ℕ) (page : Contents) (missed : ℕ) (t : Taken) → IsTakenPage size page missed t → as_parcel (fitted_parcel cpu page missed) ≡ parcel_of cpu t
 parcel_is cpu size page missed t is =
     let fill = is.written.fill_is in
     let first = is.written.first_is in
@@ -19,10 +20,18 @@ parcel_is cpu size page missed t is =
     let skipped = is.missed_is in
     cc
 
-pub page_found : (before after : ReaderEndValue) (page : Contents) (missed : ℕ) → IsPageTaken before.reader.shape before.reader.part page missed after.reader.part → after.taken ≡ before.taken ++ pages.parcel_of before.cpu page missed ∷ [] → IsPageFound before after
+-- one parcel more is that of what was taken
+pub one_more : (cpu size : ℕ) (before after : List ParcelValue) (page : Contents) (missed : ℕ) (t : Taken) → IsTakenPage size page missed t → after ≡ before ++ fitted_parcel cpu page missed ∷ [] → as_parcels after ≡ as_parcels before ++ parcel_of cpu t ∷ []
+one_more cpu size before after page missed t is kept =
+    ap as_parcels kept
+    ∙ map-append as_parcel before (fitted_parcel cpu page missed ∷ [])
+    ∙ ap (λ (parcel : Parcel). as_parcels before ++ parcel ∷ []) (parcel_is cpu size page missed t is)
+
+pub page_found : (before after : ReaderEndValue) (page : Contents) (missed : ℕ) → IsPageTaken before.reader.shape before.reader.part page missed after.reader.part → after.taken ≡ before.taken ++ fitted_parcel before.cpu page missed ∷ [] → IsPageFound before after
 page_found before after page missed is kept = record {
   page = page;
   missed = missed;
   is = is;
-  one_more = kept ∙ ap (λ (parcel : Parcel). before.taken ++ parcel ∷ []) (parcel_is before.cpu before.reader.shape.size page missed is.taken is.is);
+  fitted = kept;
+  one_more = one_more before.cpu before.reader.shape.size before.taken after.taken page missed is.taken is.is kept;
 }

@@ -2,17 +2,19 @@
 use Rattle.std.specs.Prelude.{◌≡◌, ℕ, [], ◌∷◌, ◌++◌, Some, None}
 use Rattle.world_model.specs.World.{parcel_of}
 use Rattle.page_image.specs.Contents.{Contents}
+use Rattle.page_numbers.specs.Parcels.{as_parcels, fitted_parcel}
 use Rattle.ring_shared.specs.Takes.{IsPageTaken, IsEmptyFound, IsSentAway}
 use Rattle.reader_end.specs.declared.end.Found.{Found}
 use Rattle.reader_end.specs.declared.end.Found.TheVariants.{Page, Empty, Moving}
 use Rattle.reader_end.specs.Value.{ReaderEndValue}
 
--- a page was taken, and its parcel is the last one
+-- a page was taken, and its parcel is the last one, in as many bytes as the page's data
 pub record IsPageFound (before after : ReaderEndValue) : Type 0 where
   pub page : Contents
   pub missed : ℕ
   pub is : IsPageTaken before.reader.shape before.reader.part page missed after.reader.part
-  pub one_more : after.taken ≡ before.taken ++ parcel_of before.cpu is.taken ∷ []
+  pub fitted : after.taken ≡ before.taken ++ fitted_parcel before.cpu page missed ∷ []
+  pub one_more : as_parcels after.taken ≡ as_parcels before.taken ++ parcel_of before.cpu is.taken ∷ []
 
 -- all closed fills are taken or lost, and the reader knows how many they are
 pub record IsNoneFound (before after : ReaderEndValue) : Type 0 where

@@ -1,8 +1,8 @@
 -- What contracts see of a reader's end with its parcels.
 use Rattle.std.specs.Prelude.{◌≡◌, ℕ, ◌<◌, ◌≤◌, ◌%◌, List, map, length, Option, IfSome}
 use Rattle.trace_model.specs.declared.limits.TheConstants.{MAX_CPUS, MIN_SIZE, MAX_SIZE}
-use Rattle.trace_model.specs.Parcel.{Parcel}
 use Rattle.world_model.specs.World.{parcel_of}
+use Rattle.page_numbers.specs.Parcels.{ParcelValue, as_parcels}
 use Rattle.ring_shared.specs.Value.{ReaderValue}
 use Rattle.ring_shared.specs.Takes.{IsReader}
 
@@ -12,14 +12,14 @@ pub record ReaderEndValue : Type 0 where
   pub cpu : ℕ
   pub size : ℕ
   pub reader : ReaderValue
-  pub taken : List Parcel
+  pub taken : List ParcelValue
   pub body : Option (List ℕ)
 
 -- The parcels are what the reader took, all of it and in order; the body for the next take fits.
 pub record IsReaderEnd (v : ReaderEndValue) : Type 0 where
   pub known : v.cpu < MAX_CPUS
   pub is : IsReader v.reader
-  pub taken_are : v.taken ≡ map (parcel_of v.cpu) v.reader.part.reader.taken
+  pub taken_are : as_parcels v.taken ≡ map (parcel_of v.cpu) v.reader.part.reader.taken
   pub size_is : v.reader.shape.size ≡ v.size
   pub small : MIN_SIZE ≤ v.size
   pub large : v.size ≤ MAX_SIZE

@@ -72,7 +72,7 @@ fn next_body(alloc: Global, size: usize, body: Option<Body>) -> Result<Body, NoM
 impl ReaderEnd {
     ghost use Rattle.std.specs.Prelude.{◌≡◌, ◌≢◌, ◌<◌, ◌≤◌, ◌%◌, ◌++◌, ◌↔◌, List, [], ◌∷◌, Some, MatchOption, IfOk, IsTrue};
     ghost use Rattle.trace_model.specs.declared.limits.TheConstants.{MAX_CPUS, MIN_SIZE, MAX_SIZE};
-    ghost use Rattle.trace_model.specs.Parcel.{Parcel as ParcelSeen};
+    ghost use Rattle.page_numbers.specs.Parcels.{ParcelValue};
     ghost use Rattle.ring_shared.specs.Calls.{IsWriter};
     ghost use Rattle.ring_shared.specs.Takes.{IsReader, SameRing};
     ghost use Rattle.reader_end.specs.Takes.{IsFound};
@@ -143,7 +143,7 @@ impl ReaderEnd {
     /// The parcel that was taken last.
     pub fn last(&self) -> Option<&Parcel>
         ensures { MatchOption result (self.now.taken ≡ [])
-            (λ parcel. (earlier : List ParcelSeen) × (self.now.taken ≡ earlier ++ parcel.now ∷ [])) }
+            (λ parcel. (earlier : List ParcelValue) × (self.now.taken ≡ earlier ++ parcel.now ∷ [])) }
     {
         self.taken.last()
     }

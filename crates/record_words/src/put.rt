@@ -1,8 +1,8 @@
 //! A record written in place.
-ghost use Rattle.std.specs.Prelude.{◌≡◌, ◌+◌, ◌≤◌, ◌<◌, ◌⊎◌, true, length, replicate, take};
+ghost use Rattle.std.specs.Prelude.{◌≡◌, ◌+◌, ◌≤◌, ◌<◌, length, replicate, take};
 ghost use Rattle.trace_model.specs.Words.{le32, first_word, slot_len, padded, encoded_len, encoding, data_word, bytes_of_word, time_extend};
 ghost use Rattle.trace_model.specs.declared.limits.TheConstants.{MOMENT_LIMIT};
-ghost use Rattle.record_words.specs.Puts.{Puts, data_header, header_len};
+ghost use Rattle.record_words.specs.Puts.{Puts, FitsIn, data_header, header_len};
 
 use crate::copy::copy_to_front;
 use crate::format::{EXTEND_FROM, MAX_PAYLOAD, SHORT_LIMIT, TIME_EXTEND};
@@ -87,9 +87,7 @@ fn put_data(out: &mut [u8], delta: u32, slot: usize) -> Place
 /// `delta` is the time since the record before it on the page. The first record of a page has none: its
 /// `delta` is ignored.
 pub fn put_record(out: &mut [u8], delta: u64, first: bool, len: usize) -> Place
-    requires length { len ≤ MAX_PAYLOAD }
-    requires time { (first ≡ true) ⊎ (delta < MOMENT_LIMIT) }
-    requires room { encoded_len len delta first ≤ length out.old }
+    requires { FitsIn (length out.old) delta first len }
     ensures put { Puts out.old out.new (encoding delta first (replicate (slot_len len) 0)) }
     ensures len { result.len ≡ slot_len len }
     ensures end { result.start + result.len ≡ encoded_len len delta first }
@@ -166,9 +164,7 @@ fn put_short_payload(out: &mut [u8], delta: u32, payload: &[u8]) -> usize
 /// `put_payload`, whatever the record's form.
 #[inline(never)]
 fn put_any_payload(out: &mut [u8], delta: u64, first: bool, payload: &[u8]) -> usize
-    requires length { length payload.now ≤ MAX_PAYLOAD }
-    requires time { (first ≡ true) ⊎ (delta < MOMENT_LIMIT) }
-    requires room { encoded_len (length payload.now) delta first ≤ length out.old }
+    requires { FitsIn (length out.old) delta first (length payload.now) }
     ensures put { Puts out.old out.new (encoding delta first (padded payload.now)) }
     ensures len { result ≡ encoded_len (length payload.now) delta first }
 {
@@ -186,9 +182,7 @@ fn put_any_payload(out: &mut [u8], delta: u64, first: bool, payload: &[u8]) -> u
 /// `delta` is that of `put_record`.
 #[inline(always)]
 pub fn put_payload(out: &mut [u8], delta: u64, first: bool, payload: &[u8]) -> usize
-    requires length { length payload.now ≤ MAX_PAYLOAD }
-    requires time { (first ≡ true) ⊎ (delta < MOMENT_LIMIT) }
-    requires room { encoded_len (length payload.now) delta first ≤ length out.old }
+    requires { FitsIn (length out.old) delta first (length payload.now) }
     ensures put { Puts out.old out.new (encoding delta first (padded payload.now)) }
     ensures len { result ≡ encoded_len (length payload.now) delta first }
 {

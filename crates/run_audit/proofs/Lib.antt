@@ -3,3 +3,4 @@ mod Flat
 mod EqualRecords
 mod Sums
 mod Answered
+mod Rising

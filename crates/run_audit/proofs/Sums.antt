@@ -14,7 +14,7 @@ use Rattle.world_model.specs.Headline.{IsExact}
 use Rattle.world_model.proofs.Lookups.{element_at, contains_at, get_from_map}
 use Rattle.world_model.proofs.Cuts.{is_cut, is_exact, page_of_one}
 use Rattle.run_audit.specs.declared.ledger.Ledger.{Ledger}
-use Rattle.run_audit.specs.Audit.{taken_in, AreHeld, IsAudited}
+use Rattle.run_audit.specs.Audit.{taken_of, taken_in, AreHeld, IsAudited}
 use Rattle.run_audit.specs.Order.{AreOwn}
 use Rattle.run_audit.specs.Headline.{AreOfRings, IsKept, IsUnknown, IsHeadline}
 use Rattle.run_audit.proofs.Flat.{of_all, in_own, in_none}
@@ -48,7 +48,7 @@ module _ (n size start : ℕ) (cores : ℕ → Core) (ledgers : List Ledger) (ri
   module _ (kept : List Parcel) (same : IsSame kept (taken_in ledgers)) where
     module _ (cpu : ℕ) (ledger : Ledger) (at : slice_get ledgers cpu ≡ Some ledger) where
       abbrev taken : List Parcel
-      taken = ledger.taken.items
+      taken = taken_of ledger
 
       reached : IsReached n size start (cores cpu)
       reached = (rings cpu ledger at).0

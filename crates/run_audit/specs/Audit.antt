@@ -3,11 +3,16 @@ use Rattle.std.specs.Prelude.{◌≡◌, ℕ, ◌≤◌, List, [], ◌∷◌, Co
 use Rattle.std.specs.List.{flat_map}
 use Rattle.trace_model.specs.Parcel.{Parcel}
 use Rattle.trace_model.specs.Collection.{IsBelow}
+use Rattle.page_numbers.specs.Parcels.{as_parcels}
 use Rattle.run_audit.specs.declared.ledger.Ledger.{Ledger}
+
+-- the parcels of a ledger
+abbrev pub taken_of : Ledger → List Parcel
+taken_of ledger = as_parcels ledger.taken.items
 
 -- all parcels that were taken in the run, ledger by ledger
 abbrev pub taken_in : List Ledger → List Parcel
-taken_in ledgers = flat_map (λ ledger. ledger.taken.items) ledgers
+taken_in ledgers = flat_map taken_of ledgers
 
 -- each kept parcel equals one that was taken: in its CPU, fill, first number, missed count and records
 abbrev pub WereTaken : (kept taken : List Parcel) → Type 0

@@ -9,6 +9,7 @@ use Rattle.link_marks.specs.Reached.{IsReached}
 use Rattle.world_model.specs.World.{parcel_of}
 use Rattle.world_model.specs.Headline.{IsCut, IsExact}
 use Rattle.run_audit.specs.declared.ledger.Ledger.{Ledger}
+use Rattle.run_audit.specs.Audit.{taken_of}
 
 -- Each ledger is that of a ring of n pages: steps led from a new ring to a state in which its reader had taken these
 -- parcels, in this order.
@@ -16,7 +17,7 @@ abbrev pub AreOfRings : (n size start : ℕ) → (ℕ → Core) → List Ledger 
 AreOfRings n size start cores ledgers = (cpu : ℕ) (ledger : Ledger)
     → slice_get ledgers cpu ≡ Some ledger
     → IsReached n size start (cores cpu)
-    × (ledger.taken.items ≡ map (parcel_of cpu) (cores cpu).reader.taken)
+    × (taken_of ledger ≡ map (parcel_of cpu) (cores cpu).reader.taken)
 
 -- The history of a CPU's ring is cut into the parcels that were taken from it, by what happened in a run of that ring,
 -- and of that CPU exactly this is kept.
@@ -34,5 +35,5 @@ pub record IsUnknown (cpu : ℕ) (kept : List Parcel) : Type 0 where
 pub record IsHeadline (n size start : ℕ) (cores : ℕ → Core) (kept : List Parcel) (ledgers : List Ledger) : Type 0 where
   pub each : (cpu : ℕ) (ledger : Ledger)
       → slice_get ledgers cpu ≡ Some ledger
-      → IsKept n size start cpu (cores cpu) kept ledger.taken.items
+      → IsKept n size start cpu (cores cpu) kept (taken_of ledger)
   pub no_others : (cpu : ℕ) → length ledgers ≤ cpu → IsUnknown cpu kept

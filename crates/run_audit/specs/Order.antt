@@ -4,6 +4,7 @@ use Rattle.std.specs.List.{slice_get}
 use Rattle.trace_model.specs.Parcel.{Parcel}
 use Rattle.deliveries.specs.Deliveries.{AreRising}
 use Rattle.run_audit.specs.declared.ledger.Ledger.{Ledger}
+use Rattle.run_audit.specs.Audit.{taken_of}
 
 -- all parcels are of this CPU
 abbrev pub AreOfCpu : ℕ → List Parcel → Type 0
@@ -11,9 +12,9 @@ AreOfCpu cpu parcels = (k : ℕ) (parcel : Parcel) → slice_get parcels k ≡ S
 
 -- each ledger has parcels of its own CPU alone
 abbrev pub AreOwn : List Ledger → Type 0
-AreOwn ledgers = (cpu : ℕ) (ledger : Ledger) → slice_get ledgers cpu ≡ Some ledger → AreOfCpu cpu ledger.taken.items
+AreOwn ledgers = (cpu : ℕ) (ledger : Ledger) → slice_get ledgers cpu ≡ Some ledger → AreOfCpu cpu (taken_of ledger)
 
 -- so it is, and their fills rise
 pub record AreInOrder (ledgers : List Ledger) : Type 0 where
   pub own : AreOwn ledgers
-  pub rising : (cpu : ℕ) (ledger : Ledger) → slice_get ledgers cpu ≡ Some ledger → AreRising ledger.taken.items
+  pub rising : (cpu : ℕ) (ledger : Ledger) → slice_get ledgers cpu ≡ Some ledger → AreRising (taken_of ledger)

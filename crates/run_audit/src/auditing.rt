@@ -5,6 +5,7 @@ ghost use Rattle.trace_model.specs.Collection.{Agree, IsSame, IsBelow};
 ghost use Rattle.trace_model.specs.Ring.{Core};
 ghost use Rattle.trace_model.specs.declared.numbers.CpuId.{CpuId as CpuSeen};
 ghost use Rattle.trace_model.specs.declared.numbers.FillNo.{FillNo as FillSeen};
+ghost use Rattle.page_numbers.specs.Parcels.{as_parcels};
 ghost use Rattle.run_audit.specs.Audit.{taken_in, WereTaken, IsAudited, IsStray, IsLacking, IsLeast};
 ghost use Rattle.run_audit.specs.Least.{IsLeastFault};
 ghost use Rattle.run_audit.specs.Headline.{AreOfRings, IsHeadline};
@@ -20,7 +21,7 @@ use page_numbers::Parcel;
 
 /// The least kept parcel that equals none of those that were taken.
 fn least_stray(kept: &[Parcel], ledgers: &[Ledger]) -> Option<ParcelKey>
-    ensures { IsLeastFault kept.now (Contains (taken_in ledgers.now)) result }
+    ensures { IsLeastFault (as_parcels kept.now) (Contains (taken_in ledgers.now)) result }
 {
     let order = order_of(ledgers);
     let mut found = None;
@@ -39,7 +40,7 @@ fn least_lacking_of(
     taken: &[Parcel],
 ) -> Option<ParcelKey>
     ensures { (these : List ParcelSeen) → IsLeastFault these (λ parcel. IsBelow (parcel ∷ []) collector.now) found
-        → IsLeastFault (these ++ taken.now) (λ parcel. IsBelow (parcel ∷ []) collector.now) result }
+        → IsLeastFault (these ++ as_parcels taken.now) (λ parcel. IsBelow (parcel ∷ []) collector.now) result }
 {
     let mut found = found;
     for parcel in taken {

@@ -1,13 +1,14 @@
 //! Whether two parcels are equal.
 ghost use Rattle.std.specs.Prelude.{◌≡◌, ◌↔◌, IsTrue};
+ghost use Rattle.page_numbers.specs.Parcels.{as_parcel};
 
 use page_numbers::Parcel;
 
 /// Whether both parcels have the same records, in the same order. If their pages are alike, as a shared page is to
 /// itself, no record is looked at.
 fn have_same_records(parcel: &Parcel, other: &Parcel) -> bool
-    requires { parcel.now.first ≡ other.now.first }
-    ensures { IsTrue result ↔ (parcel.now.records ≡ other.now.records) }
+    requires { parcel.now.page.first ≡ other.now.page.first }
+    ensures { IsTrue result ↔ ((as_parcel parcel.now).records ≡ (as_parcel other.now).records) }
 {
     if parcel.has_page_of(other) {
         return true;
@@ -29,7 +30,7 @@ fn have_same_records(parcel: &Parcel, other: &Parcel) -> bool
 /// Whether the parcels are equal: in their CPU, their fill, their first number, how many numbers are missing before
 /// it, and their records.
 pub(crate) fn are_equal(parcel: &Parcel, other: &Parcel) -> bool
-    ensures { IsTrue result ↔ (parcel.now ≡ other.now) }
+    ensures { IsTrue result ↔ (as_parcel parcel.now ≡ as_parcel other.now) }
 {
     parcel.cpu() == other.cpu()
         && parcel.fill() == other.fill()

@@ -1,5 +1,6 @@
 //! The least of the parcels at fault, by CPU and then by fill.
 ghost use Rattle.std.specs.Prelude.{◌≡◌, ◌⊎◌};
+ghost use Rattle.page_numbers.specs.Parcels.{as_parcel};
 ghost use Rattle.run_audit.specs.Least.{key_of, IsKeyUpTo, IsLeastKey};
 
 use page_numbers::Parcel;
@@ -14,7 +15,7 @@ pub(crate) struct ParcelKey {
 
 /// The key of a parcel.
 fn own_key(parcel: &Parcel) -> ParcelKey
-    ensures { result ≡ key_of parcel.now }
+    ensures { result ≡ key_of (as_parcel parcel.now) }
 {
     ParcelKey {
         cpu: parcel.cpu(),
@@ -42,7 +43,7 @@ fn lesser(key: ParcelKey, other: ParcelKey) -> ParcelKey
 
 /// The least of a key, if there is one, and the key of a parcel.
 pub(crate) fn least(found: Option<ParcelKey>, parcel: &Parcel) -> ParcelKey
-    ensures { IsLeastKey found parcel.now result }
+    ensures { IsLeastKey found (as_parcel parcel.now) result }
 {
     let own = own_key(parcel);
     match found {

@@ -25,6 +25,7 @@ use Rattle.world_model.proofs.GenuineWorlds.{world_genuine, taken_agree}
 use Rattle.collector.specs.declared.added.Added.{Added}
 use Rattle.collector.specs.declared.added.Added.TheVariants.{New, Known}
 use Rattle.replay_log.specs.declared.line.LogLine.{LogLine}
+use Rattle.page_numbers.specs.Parcels.{as_parcels}
 use Rattle.script_replay.specs.declared.replaying.ReplayState.{ReplayState}
 use Rattle.replay_log.specs.LogTypes.{shown_log, shown_log_line}
 use Rattle.script_replay.specs.Value.{LaneValue}
@@ -76,7 +77,7 @@ module _ (script : Script) (lines : List (ℕ × Command)) (state : ReplayState)
       let (lane, at) = lane_of script amid.world kept cpu low in
       (script.pages, script.size, script.start, lane, from_is_lane script cpu (lane_at state.lanes.items cpu) v lane limits low from (amid.lanes_are cpu lane at))
 
-  pub rises : (cpu : ℕ) → cpu < script.cpus → IfSome (lane_at state.lanes.items cpu) (λ v. AreRising v.taken)
+  pub rises : (cpu : ℕ) → cpu < script.cpus → IfSome (lane_at state.lanes.items cpu) (λ v. AreRising (as_parcels v.taken))
   rises cpu low =
       let (lane, at) = lane_of script amid.world kept cpu low in
       place_rises script amid.world kept cpu lane at (lane_at state.lanes.items cpu) (amid.lanes_are cpu lane at)
@@ -89,7 +90,7 @@ module _ (script : Script) (lines : List (ℕ × Command)) (state : ReplayState)
       let (lane, at) = lane_of script amid.world kept cpu low in
       found_taken script amid.world kept cpu lane at (lane_at state.lanes.items cpu) fill parcel (amid.lanes_are cpu lane at) found
 
-  pub none_taken : (cpu fill : ℕ) → cpu < script.cpus → IfSome (lane_at state.lanes.items cpu) (λ v. All (λ parcel. parcel.fill ≢ fill) v.taken) → All (λ parcel. IsFill cpu fill parcel → ⊥) amid.world.taken
+  pub none_taken : (cpu fill : ℕ) → cpu < script.cpus → IfSome (lane_at state.lanes.items cpu) (λ v. All (λ parcel. parcel.fill ≢ fill) (as_parcels v.taken)) → All (λ parcel. IsFill cpu fill parcel → ⊥) amid.world.taken
   none_taken cpu fill low none =
       let (lane, at) = lane_of script amid.world kept cpu low in
       not_taken script amid.world kept cpu lane at (lane_at state.lanes.items cpu) fill (amid.lanes_are cpu lane at) none
@@ -175,7 +176,7 @@ module _ (script : Script) (line collector cpu fill : ℕ) (lines : List (ℕ ×
     (low : cpu < script.cpus)
     (lanes : new.lanes.items ≡ old.lanes.items)
     (amid : IsAmid script lines old) where
-  pub untaken_line : IfSome (lane_at old.lanes.items cpu) (λ v. All (λ parcel. parcel.fill ≢ fill) v.taken)
+  pub untaken_line : IfSome (lane_at old.lanes.items cpu) (λ v. All (λ parcel. parcel.fill ≢ fill) (as_parcels v.taken))
       → new.collectors.items ≡ old.collectors.items
       → shown_log new.log.items ≡ shown_log old.log.items ++ delivery_line line collector cpu fill no_page ∷ []
       → IsAmid script (lines ++ (line, deliver collector cpu fill) ∷ []) new

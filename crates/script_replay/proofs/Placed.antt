@@ -18,6 +18,7 @@ use Rattle.world_model.specs.World.{World, IsNewWorld, parcel_of, IsFill, RunsLi
 use Rattle.world_model.specs.Headline.{parcels_from}
 use Rattle.world_model.proofs.Lookups.{element_at, contains_at, kept_by, get_from_map}
 use Rattle.world_model.proofs.WorldsKept.{IsWorldKept}
+use Rattle.page_numbers.specs.Parcels.{as_parcels}
 use Rattle.script_replay.specs.Value.{LaneValue}
 use Rattle.script_replay.specs.Lanes.{IsLane}
 use Rattle.script_replay.specs.Places.{IsLaneFrom, IsLaneAt}
@@ -89,7 +90,7 @@ ring_within cpus collectors (deliver collector cpu fill) within = within.1
 -- the pages that were taken from the ring in a place
 abbrev pub taken_of : Option LaneValue → List Parcel
 taken_of None = []
-taken_of (Some lane) = lane.taken
+taken_of (Some lane) = as_parcels lane.taken
 
 module _ (script : Script) (w : World) (kept : IsWorldKept script w) (cpu : ℕ) (lane : Lane) (lane_at : slice_get w.lanes cpu ≡ Some lane) where
   pub taken_at : (place : Option LaneValue) → IsLaneAt script cpu place lane → taken_of place ≡ parcels_from cpu w.taken
@@ -106,7 +107,7 @@ module _ (script : Script) (w : World) (kept : IsWorldKept script w) (cpu : ℕ)
       let other : q.fill ≡ later.fill = ap (λ (x : Parcel). x.fill) q_is in
       omega arith
 
-  pub place_rises : (place : Option LaneValue) → IsLaneAt script cpu place lane → IfSome place (λ v. AreRising v.taken)
+  pub place_rises : (place : Option LaneValue) → IsLaneAt script cpu place lane → IfSome place (λ v. AreRising (as_parcels v.taken))
   place_rises None at = tt
   place_rises (Some v) at = subst AreRising (sym (taken_at (Some v) at)) rising
 
@@ -123,11 +124,11 @@ module _ (script : Script) (w : World) (kept : IsWorldKept script w) (cpu : ℕ)
       let has' : Contains (parcels_from cpu w.taken) parcel = subst (λ (l : List Parcel). Contains l parcel) (taken_at (Some v) at) has in
       (among parcel has', (of_cpu parcel has', is))
 
-  none_in : (place : Option LaneValue) (fill : ℕ) → IfSome place (λ v. All (λ parcel. parcel.fill ≢ fill) v.taken) → All (λ parcel. parcel.fill ≢ fill) (taken_of place)
+  none_in : (place : Option LaneValue) (fill : ℕ) → IfSome place (λ v. All (λ parcel. parcel.fill ≢ fill) (as_parcels v.taken)) → All (λ parcel. parcel.fill ≢ fill) (taken_of place)
   none_in None fill none = λ k d low. absurd (omega arith)
   none_in (Some v) fill none = none
 
-  pub not_taken : (place : Option LaneValue) (fill : ℕ) → IsLaneAt script cpu place lane → IfSome place (λ v. All (λ parcel. parcel.fill ≢ fill) v.taken) → All (λ parcel. IsFill cpu fill parcel → ⊥) w.taken
+  pub not_taken : (place : Option LaneValue) (fill : ℕ) → IsLaneAt script cpu place lane → IfSome place (λ v. All (λ parcel. parcel.fill ≢ fill) (as_parcels v.taken)) → All (λ parcel. IsFill cpu fill parcel → ⊥) w.taken
   not_taken place fill at none = λ k d low is.
       let parcel : Parcel = get_or w.taken k d in
       let (i, there) = element_at w.taken parcel (Contains-get_or w.taken k d low) in

@@ -18,6 +18,7 @@ use Rattle.world_model.proofs.FramesMove.{stays}
 use Rattle.world_model.proofs.LanePayloads.{as_many, fit_moved}
 use Rattle.world_model.proofs.TakenPages.{taken_by, run_takes, parcels_of_is}
 use Rattle.page_numbers.specs.Parcels as page
+use Rattle.page_numbers.specs.Parcels.{as_parcels, fitted_parcel}
 use Rattle.ring_frames.specs.declared.answer.Answer.{Answer}
 use Rattle.ring_frames.specs.declared.answer.Answer.TheVariants.{Pushed, Going, Reserved, Ended, Gone, Refused, Looking, Empty, Moving, Taken, Wished}
 use Rattle.ring_core.specs.Value.{CoreValue}
@@ -50,7 +51,7 @@ module _ (n size start cpu : ℕ) (v : LaneValue) (lane : Lane) (is : IsLane n s
       ap (λ (k : ℕ). drop k lane.payloads)
       (let e : length lane.payloads - length after.frames ≡ zero = omega arith in e)
 
-  takes : map (parcel_of cpu) after.reader.taken ≡ v.taken ++ parcels_in cpu answer
+  takes : map (parcel_of cpu) after.reader.taken ≡ as_parcels v.taken ++ parcels_in cpu answer
   takes =
       ap (map (parcel_of cpu))
       (run_takes n size start lane.core after (x ∷ []) (reached_kept n size start lane.core is.is_core.reached)
@@ -62,7 +63,7 @@ module _ (n size start cpu : ℕ) (v : LaneValue) (lane : Lane) (is : IsLane n s
       → IsCore n size start new.core after
       → new.payloads ≡ v.payloads
       → IfSome new.body (λ body. length body ≡ size)
-      → new.taken ≡ v.taken ++ parcels_in cpu answer
+      → as_parcels new.taken ≡ as_parcels v.taken ++ parcels_in cpu answer
       → IsLane n size start cpu new (lane_behind lane after)
   reader_behind new core payloads body taken = record {
     most = is.most;
@@ -123,9 +124,9 @@ wishes_of line cpu v result new old_log new_log makes same told = λ n size star
           (ap (λ (w : LaneValue). w.payloads) same)
           (subst (λ (b : Option (List ℕ)). IfSome b (λ body. length body ≡ size))
           (sym (ap (λ (w : LaneValue). w.body) same)) is.body)
-          (ap (λ (w : LaneValue). w.taken) same
-          ∙ sym (append-nil v.taken)
-          ∙ ap (λ (l : List Parcel). v.taken ++ l)
+          (ap (λ (w : LaneValue). as_parcels w.taken) same
+          ∙ sym (append-nil (as_parcels v.taken))
+          ∙ ap (λ (l : List Parcel). as_parcels v.taken ++ l)
           (sym (brings_none n size cpu lane.core wishes s.answer s.after tt (cases_of s.step))));
       log = told_one line cpu x (shown_log old_log) (shown_log new_log) (told size s.answer s.tells);
     }
@@ -160,7 +161,7 @@ module _ (line cpu n size start : ℕ) (v : LaneValue) (lane : Lane) (is : IsLan
       → w.core ≡ core
       → w.payloads ≡ v.payloads
       → IfSome w.body (λ b. length b ≡ size)
-      → w.taken ≡ v.taken ++ parcels_in cpu given
+      → as_parcels w.taken ≡ as_parcels v.taken ++ parcels_in cpu given
       → Reads
   reads_to given told_is goes answers w new_is core_same payloads body_fits taken = (
     record {
@@ -175,7 +176,7 @@ module _ (line cpu n size start : ℕ) (v : LaneValue) (lane : Lane) (is : IsLan
     subst (λ (u : LaneValue). IsLane n size start cpu u (lane_behind lane after)) (sym new_is)
         (reader_behind n size start cpu v lane is reads told after tt step w
         (subst (λ (u : CoreValue). IsCore n size start u after) (sym core_same) core_is) payloads body_fits
-        (taken ∙ ap (λ (a : model.Answer). v.taken ++ parcels_in cpu a) (sym told_is))),
+        (taken ∙ ap (λ (a : model.Answer). as_parcels v.taken ++ parcels_in cpu a) (sym told_is))),
   )
 
   no_more : (given : model.Answer) → goes_on ≡ false → goes_on ≡ true → given ≡ reading
@@ -194,15 +195,16 @@ module _ (line cpu n size start : ℕ) (v : LaneValue) (lane : Lane) (is : IsLan
   keeps_reads (Refused fault) tells gives keeps = absurd gives
   keeps_reads (Looking back) tells gives (goes, is_new) =
       reads_to reading tells (λ e. refl) (λ e. absurd (false≢true (sym e ∙ goes)))
-      (record v { core = core; body = Some back }) is_new refl refl (ap length gives ∙ fits) (sym (append-nil v.taken))
+      (record v { core = core; body = Some back }) is_new refl refl (ap length gives ∙ fits) (sym (append-nil (as_parcels v.taken)))
   keeps_reads (Empty done back) tells gives (goes, is_new) =
       reads_to (empty done) tells (no_more (empty done) goes) (λ e same. let z : ⊥ = cc in z)
-      (record v { core = core; body = Some back }) is_new refl refl (ap length gives ∙ fits) (sym (append-nil v.taken))
+      (record v { core = core; body = Some back }) is_new refl refl (ap length gives ∙ fits) (sym (append-nil (as_parcels v.taken)))
   keeps_reads (Moving fill back) tells gives (goes, is_new) =
       reads_to (moving fill.0) tells (no_more (moving fill.0) goes) (λ e same. let z : ⊥ = cc in z)
-      (record v { core = core; body = Some back }) is_new refl refl (ap length gives ∙ fits) (sym (append-nil v.taken))
+      (record v { core = core; body = Some back }) is_new refl refl (ap length gives ∙ fits) (sym (append-nil (as_parcels v.taken)))
   keeps_reads (Taken contents missed) (t, told_is, whole) gives (goes, (body, body_is, is_new)) =
-      let parcel_is : page.parcel_of cpu contents missed ≡ parcel_of cpu t = (λ i. record {
+      let kept = fitted_parcel cpu contents missed in
+      let parcel_is : page.as_parcel kept ≡ parcel_of cpu t = (λ i. record {
         cpu = cpu;
         fill = whole.written.fill_is i;
         first = whole.written.first_is i;
@@ -210,8 +212,8 @@ module _ (line cpu n size start : ℕ) (v : LaneValue) (lane : Lane) (is : IsLan
         records = whole.written.records_are i;
       }) in
       reads_to (swapped t) told_is (no_more (swapped t) goes) (λ e same. let z : ⊥ = cc in z)
-      (record v { core = core; body = Some body; taken = v.taken ++ page.parcel_of cpu contents missed ∷ [] })
-      is_new refl refl (body_is ∙ whole.written.size_is) (ap (λ (p : Parcel). v.taken ++ p ∷ []) parcel_is)
+      (record v { core = core; body = Some body; taken = v.taken ++ kept ∷ [] })
+      is_new refl refl (body_is ∙ whole.written.size_is) (map-append page.as_parcel v.taken (kept ∷ []) ∙ ap (λ (p : Parcel). as_parcels v.taken ++ p ∷ []) parcel_is)
   keeps_reads (Wished fill) tells gives keeps = absurd gives
 
 pub reads_once : (line cpu : ℕ) (v between new : LaneValue) (body : List ℕ) (result : Answer) (goes_on : Bool)

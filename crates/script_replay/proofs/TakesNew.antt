@@ -5,6 +5,7 @@ use Rattle.trace_model.specs.declared.limits.TheConstants.{MAX_PAGES, MIN_SIZE, 
 use Rattle.trace_model.specs.Ring.{Reader}
 use Rattle.world_model.specs.World.{parcel_of}
 use Rattle.world_model.proofs.LanePayloads.{new_fits}
+use Rattle.page_numbers.specs.Parcels.{as_parcels}
 use Rattle.ring_core.specs.Steps.{IsNewRing}
 use Rattle.script_replay.specs.Value.{LaneValue}
 use Rattle.script_replay.specs.Lanes.{IsNewLaneOf}
@@ -32,6 +33,6 @@ new_lane n size start v most small large words (c, is_start, core) payloads body
     payloads_are = payloads;
     fit = new_fits n start (record { core = c; payloads = [] }) (is_start, refl);
     body = subst (λ (b : Option (List ℕ)). IfSome b (λ body. length body ≡ size)) (sym body) tt;
-    taken_are = taken ∙ ap (λ (r : Reader). map (parcel_of cpu) r.taken) (sym is_start.reader);
+    taken_are = ap as_parcels taken ∙ ap (λ (r : Reader). map (parcel_of cpu) r.taken) (sym is_start.reader);
   }),
 )

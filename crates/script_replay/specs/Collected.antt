@@ -4,6 +4,7 @@ use Rattle.std.specs.List.{slice_get}
 use Rattle.trace_model.specs.Parcel.{Parcel}
 use Rattle.trace_model.specs.Collection.{IsSame}
 use Rattle.text_model.specs.Log.{Delivery, new_page, known_page}
+use Rattle.page_numbers.specs.Parcels.{as_parcels}
 use Rattle.collector.specs.declared.added.Added.{Added}
 use Rattle.collector.specs.declared.added.Added.TheVariants.{New, Known}
 use Rattle.script_replay.specs.Value.{LaneValue}
@@ -11,7 +12,7 @@ use Rattle.script_replay.specs.Value.{LaneValue}
 -- the parcel of this fill was taken from the ring of a lane
 abbrev pub IsFound : Option LaneValue → (fill : ℕ) → Parcel → Type 0
 IsFound None fill parcel = ⊥
-IsFound (Some lane) fill parcel = Contains lane.taken parcel × (parcel.fill ≡ fill)
+IsFound (Some lane) fill parcel = Contains (as_parcels lane.taken) parcel × (parcel.fill ≡ fill)
 
 -- the outcome of a delivery, by what becomes of its parcel
 abbrev pub delivery_of : Added → Delivery

@@ -6,6 +6,7 @@ use Rattle.text_model.specs.Script.{Command}
 use Rattle.world_model.specs.Lanes.{Lane, IsNewLane, HasPayloads, LineRun}
 use Rattle.world_model.specs.World.{parcel_of}
 use Rattle.world_model.specs.Log.{log_of}
+use Rattle.page_numbers.specs.Parcels.{as_parcels}
 use Rattle.ring_core.specs.IsCore.{IsCore}
 use Rattle.replay_log.specs.declared.line.LogLine.{LogLine}
 use Rattle.replay_log.specs.LogTypes.{shown_log}
@@ -23,7 +24,7 @@ pub record IsLane (n size start cpu : ℕ) (v : LaneValue) (lane : Lane) : Type 
   pub payloads_are : v.payloads ≡ lane.payloads
   pub fit : HasPayloads lane
   pub body : IfSome v.body (λ body. length body ≡ size)
-  pub taken_are : v.taken ≡ map (parcel_of cpu) lane.core.reader.taken
+  pub taken_are : as_parcels v.taken ≡ map (parcel_of cpu) lane.core.reader.taken
 
 -- the value is a lane of this CPU
 abbrev pub IsLaneOf : (cpu : ℕ) → LaneValue → Type 0

@@ -6,7 +6,7 @@ use Rattle.trace_model.specs.Steps as model
 use Rattle.trace_model.specs.Steps.{reads, reading, Step, Exchange}
 use Rattle.world_model.specs.Lanes.{Lane, lane_behind, ReaderRun, IsAnswered, IsRead}
 use Rattle.page_image.specs.Contents.{Contents, IsPage, records_of_page}
-use Rattle.page_numbers.specs.Parcels.{parcel_of}
+use Rattle.page_numbers.specs.Parcels.{fitted_parcel}
 use Rattle.ring_frames.specs.declared.answer.Answer.{Answer}
 use Rattle.ring_frames.specs.declared.answer.Answer.TheVariants.{Pushed, Going, Reserved, Ended, Gone, Refused, Looking, Empty, Moving, Taken, Wished}
 use Rattle.script_replay.specs.Value.{LaneValue}
@@ -50,12 +50,12 @@ MayKeep cpu (Taken page missed) =
     IsPage page × (cpu < MAX_CPUS) × (page.first + length (records_of_page page) < 2 ^ 64) × (missed ≤ page.first)
 MayKeep cpu (Wished fill) = ⊥
 
--- the page is kept as a parcel of this CPU, and a body of its size for the next take
+-- the page is kept as a parcel of this CPU, in as many bytes as its data has, and a body of its size for the next take
 abbrev pub KeepsPage : (cpu : ℕ) → Contents → (missed : ℕ) → LaneValue → LaneValue → Type 0
 KeepsPage cpu page missed old new =
     (body : List ℕ)
     × (length body ≡ page.size)
-    × (new ≡ record old { body = Some body; taken = old.taken ++ parcel_of cpu page missed ∷ [] })
+    × (new ≡ record old { body = Some body; taken = old.taken ++ fitted_parcel cpu page missed ∷ [] })
 
 -- it is kept
 abbrev pub Keeps : (cpu : ℕ) → Answer → (goes_on : Bool) → LaneValue → LaneValue → Type 0

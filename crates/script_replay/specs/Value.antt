@@ -1,6 +1,6 @@
 -- What contracts see of a lane.
 use Rattle.std.specs.Prelude.{ℕ, List, Option, map, reverse}
-use Rattle.trace_model.specs.Parcel.{Parcel}
+use Rattle.page_numbers.specs.Parcels.{ParcelValue}
 use Rattle.ring_core.specs.Value.{CoreValue}
 use Rattle.script_replay.specs.declared.lane.Lane.TheInside.{Inside}
 
@@ -10,7 +10,7 @@ pub record LaneValue : Type 0 where
   pub core : CoreValue
   pub payloads : List (List ℕ)
   pub body : Option (List ℕ)
-  pub taken : List Parcel
+  pub taken : List ParcelValue
 
 abbrev pub lane_of : Inside → LaneValue
 lane_of w = record {

@@ -1,5 +1,6 @@
 //! A page that was taken from the ring of a CPU is found for its delivery.
 ghost use Rattle.std.specs.Prelude.{◌≡◌, ◌≢◌, None, IfSome, All};
+ghost use Rattle.page_numbers.specs.Parcels.{as_parcel, as_parcels};
 ghost use Rattle.deliveries.specs.Deliveries.{AreRising};
 ghost use Rattle.script_replay.specs.Collected.{IsFound};
 ghost use Rattle.script_replay.specs.Places.{lane_at};
@@ -15,10 +16,10 @@ pub(crate) fn taken_page<'l, 'a>(
     cpu: CpuId,
     fill: FillNo,
 ) -> Option<&'l Parcel>
-    requires { IfSome (lane_at places.now cpu.0) (λ lane. AreRising lane.taken) }
-    ensures found { IfSome result (λ parcel. IsFound (lane_at places.now cpu.0) fill.0 parcel.now) }
+    requires { IfSome (lane_at places.now cpu.0) (λ lane. AreRising (as_parcels lane.taken)) }
+    ensures found { IfSome result (λ parcel. IsFound (lane_at places.now cpu.0) fill.0 (as_parcel parcel.now)) }
     ensures not_found { result ≡ None
-        → IfSome (lane_at places.now cpu.0) (λ lane. All (λ parcel. parcel.fill ≢ fill.0) lane.taken) }
+        → IfSome (lane_at places.now cpu.0) (λ lane. All (λ parcel. parcel.fill ≢ fill.0) (as_parcels lane.taken)) }
 {
     match places.get(cpu.0 as usize) {
         Some(Some(lane)) => find(lane.taken(), fill),

@@ -3,6 +3,7 @@ use link_marks::{Link, Mark};
 use page_borrow::{Entry, records, slot_mut};
 use page_image::{Body, Image, ImageFault, Missed, Page, read_image};
 use record_words::{Place, Word, WordFault, next_word, put_record, size_of};
+use std::alloc::Global;
 use std::process::Abort;
 use std::test::Fail;
 use trace_model::{FillNo, Moment, RecordNo};
@@ -39,7 +40,7 @@ fn slots_are_written_between_puts(rt: HostRuntime) -> Result<(), Fail> {
 fn a_record_stands_in_its_page(rt: HostRuntime) -> Result<(), Fail> {
     let mut page = Page::fresh(Body::new(rt.alloc(), 32)?, RecordNo(7), FillNo(3));
     let place = page.put(0, 100, 4);
-    slot_mut(&mut page, place).copy_from_slice(b"next");
+    page.payload_mut(place).copy_from_slice(b"next");
     let mut entries = records(&page);
     let entry = Entry {
         number: RecordNo(7),
@@ -68,6 +69,23 @@ fn a_page_is_an_image(rt: HostRuntime) -> Result<(), Fail> {
     assert!(rt; read.data() == page.data() && read.count() == page.count());
     let fault: Option<ImageFault> = read_image(rt.alloc(), b"").err();
     assert!(rt; fault == Some(ImageFault::TooShort));
+    Ok(())
+}
+
+/// What an image states of events that were missed before its page.
+fn missed_in(alloc: Global, image: &[u8]) -> Result<Missed, Fail> {
+    let image = read_image(alloc, image)?;
+    Ok(image.missed)
+}
+
+#[test]
+fn a_full_page_has_no_room_for_a_count(rt: HostRuntime) -> Result<(), Fail> {
+    let mut page = Page::fresh(Body::new(rt.alloc(), 32)?, RecordNo(7), FillNo(3));
+    let _place = page.put(0, 100, 28);
+    let image = page.write_image(rt.alloc(), 0)?;
+    assert!(rt; missed_in(rt.alloc(), &image)? == Missed::None);
+    let image = page.write_image(rt.alloc(), 7)?;
+    assert!(rt; missed_in(rt.alloc(), &image)? == Missed::Unknown);
     Ok(())
 }
 

@@ -11,6 +11,7 @@ use Rattle.text_model.specs.Script.{Script}
 use Rattle.link_marks.specs.Reached.{IsReached}
 use Rattle.ring_steps.specs.Views.{Writing}
 use Rattle.run_audit.specs.declared.ledger.Ledger.{Ledger}
+use Rattle.run_audit.specs.Audit.{taken_of}
 use Rattle.threaded_run.specs.declared.running.Ran.{Ran}
 use Rattle.threaded_run.specs.Runs.{IsRunHistory, IsRunLedger, ring_of, IsRan}
 use Rattle.threaded_run.specs.Threads.{AreRunLedgers}
@@ -66,7 +67,7 @@ reached_of script cpu ledger core (run, is) =
     subst (λ (c : Core). IsReached script.pages script.size script.start c) (sym is) run.is_ledger.settled.parts.reached
 
 taken_of : (script : Script) (cpu : ℕ) (ledger : Ledger) (core : Core) → IsRunOf script cpu ledger core
-    → ledger.taken.items ≡ map (parcel_of cpu) core.reader.taken
+    → taken_of ledger ≡ map (parcel_of cpu) core.reader.taken
 taken_of script cpu ledger core (run, is) =
     run.is_ledger.parcels_are
     ∙ ap (λ (r : Reader). map (parcel_of cpu) r.taken) run.is_ledger.settled.parts.reading_is.reader_is

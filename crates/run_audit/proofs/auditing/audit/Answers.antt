@@ -1,6 +1,7 @@
 use Rattle.std.proofs.Common.{◌≡◌, List, Some, subst}
 use Rattle.std.specs.Prelude.{Contains}
 use Rattle.trace_model.specs.Parcel.{Parcel}
+use Rattle.page_numbers.specs.Parcels.{as_parcels}
 use Rattle.run_audit.specs.Audit.{taken_in, WereTaken, AreHeld, IsAudited}
 use Rattle.run_audit.specs.Least.{IsLeastFault}
 use Rattle.run_audit.proofs.Answered.{stray_is_stray, stray_is_no_lack, lack_is_no_stray, lack_is_lack}
@@ -40,15 +41,15 @@ whole kept own taken is all held = record { were_taken = subst (λ (l : List Par
 pub returns-clause-sum : goal.returns-clause-sum
 returns-clause-sum c =
     let own = c.args.collector.now in let taken = taken_in c.args.ledgers.now in
-    is_sum own taken (whole c.parcels.result.now own taken c.parcels.ensures.parcels c.in_default.ensures c.in_default-least_lacking.ensures)
+    is_sum own taken (whole (as_parcels c.parcels.result.now) own taken c.parcels.ensures.parcels c.in_default.ensures c.in_default-least_lacking.ensures)
 
 pub returns-clause-agree : goal.returns-clause-agree
 returns-clause-agree c =
     let own = c.args.collector.now in let taken = taken_in c.args.ledgers.now in
-    taken_agree own taken (whole c.parcels.result.now own taken c.parcels.ensures.parcels c.in_default.ensures c.in_default-least_lacking.ensures) c.parcels.ensures.agree
+    taken_agree own taken (whole (as_parcels c.parcels.result.now) own taken c.parcels.ensures.parcels c.in_default.ensures c.in_default-least_lacking.ensures) c.parcels.ensures.agree
 
 pub returns-clause-headline : goal.returns-clause-headline
 returns-clause-headline c = λ n size start cores rings.
     let own = c.args.collector.now in let taken = taken_in c.args.ledgers.now in
     headline n size start cores c.args.ledgers.now rings own
-    (is_sum own taken (whole c.parcels.result.now own taken c.parcels.ensures.parcels c.in_default.ensures c.in_default-least_lacking.ensures))
+    (is_sum own taken (whole (as_parcels c.parcels.result.now) own taken c.parcels.ensures.parcels c.in_default.ensures c.in_default-least_lacking.ensures))

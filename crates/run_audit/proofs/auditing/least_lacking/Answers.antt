@@ -2,6 +2,7 @@ use Rattle.std.proofs.Common.{List, [], ◌∷◌, ◌++◌, take, ap, sym, ◌�
 use Rattle.std.proofs.lemmas.List.{take_all}
 use Rattle.trace_model.specs.Parcel.{Parcel}
 use Rattle.trace_model.specs.Collection.{IsBelow}
+use Rattle.page_numbers.specs.Parcels.{as_parcels}
 use Rattle.run_audit.specs.declared.ledger.Ledger.{Ledger}
 use Rattle.run_audit.specs.Audit.{taken_in}
 use Rattle.run_audit.specs.Least.{IsLeastFault}
@@ -13,7 +14,7 @@ loop-ledger-preserved c =
     let l = c.loop-ledger in let ledgers = c.args.ledgers.now in
     let before : List Parcel = taken_in (take l.ledger-index ledgers) in
     subst (λ (these : List Parcel). IsLeastFault these (λ parcel. IsBelow (parcel ∷ []) c.args.collector.now) c.least_lacking_of-found.result)
-    (ap (λ (own : List Parcel). before ++ own) c.deref.ensures.value ∙ sym (ledger_more ledgers l.ledger-index c.ledger-item.result c.loop-ledger-test.true c.ledger-item.is))
+    (ap (λ (own : List Parcel). before ++ own) (ap as_parcels c.deref.ensures.value) ∙ sym (ledger_more ledgers l.ledger-index c.ledger-item.result c.loop-ledger-test.true c.ledger-item.is))
     (c.least_lacking_of-found.ensures before l.invariant)
 
 pub returns : goal.returns

@@ -1,7 +1,8 @@
 use Rattle.std.proofs.Common.{List, [], ◌∷◌, ◌++◌, ◌+◌, take, Option, sym, subst}
-use Rattle.std.proofs.lemmas.List.{take_all}
 use Rattle.trace_model.specs.Parcel.{Parcel}
 use Rattle.trace_model.specs.Collection.{IsBelow}
+use Rattle.page_numbers.specs.Parcels.{as_parcel, as_parcels}
+use Rattle.page_numbers.proofs.AsParcels.{within_all, parcel_of_all, take_all_of}
 use Rattle.run_audit.specs.declared.least.ParcelKey.{ParcelKey}
 use Rattle.run_audit.specs.Least.{IsLeastFault}
 use Rattle.run_audit.proofs.LeastFaults.{good_at, bad_at}
@@ -13,15 +14,15 @@ loop-parcel-preserved c = λ these start.
     let l = c.loop-parcel in
     let good : Parcel → Type 0 = λ parcel. IsBelow (parcel ∷ []) c.args.collector.now in
     elim c.if-not-holds.branch [
-      | then-not-holds w ↦ subst (λ (found : Option ParcelKey). IsLeastFault (these ++ take (l.parcel-index + 1) c.args.taken.now) good found) (sym w.found-is)
-          (bad_at good these c.args.taken.now l.parcel-index c.parcel-item.result l.found w.least.result c.loop-parcel-test.true c.parcel-item.is
+      | then-not-holds w ↦ subst (λ (found : Option ParcelKey). IsLeastFault (these ++ take (l.parcel-index + 1) (as_parcels c.args.taken.now)) good found) (sym w.found-is)
+          (bad_at good these (as_parcels c.args.taken.now) l.parcel-index (as_parcel c.parcel-item.result) l.found w.least.result (within_all c.args.taken.now l.parcel-index c.loop-parcel-test.true) (parcel_of_all c.args.taken.now l.parcel-index c.parcel-item.result c.loop-parcel-test.true c.parcel-item.is)
           (λ held. let yes = c.holds.ensures.1 held in let no = w.if-not-holds.true in cc) (l.invariant these start) w.least.ensures)
-      | else-not-holds w ↦ subst (λ (found : Option ParcelKey). IsLeastFault (these ++ take (l.parcel-index + 1) c.args.taken.now) good found) (sym w.found-is)
-          (good_at good these c.args.taken.now l.parcel-index c.parcel-item.result l.found c.loop-parcel-test.true c.parcel-item.is
+      | else-not-holds w ↦ subst (λ (found : Option ParcelKey). IsLeastFault (these ++ take (l.parcel-index + 1) (as_parcels c.args.taken.now)) good found) (sym w.found-is)
+          (good_at good these (as_parcels c.args.taken.now) l.parcel-index (as_parcel c.parcel-item.result) l.found (within_all c.args.taken.now l.parcel-index c.loop-parcel-test.true) (parcel_of_all c.args.taken.now l.parcel-index c.parcel-item.result c.loop-parcel-test.true c.parcel-item.is)
           (c.holds.ensures.0 (let yes = w.if-not-holds.false in cc)) (l.invariant these start))
     ]
 
 pub returns : goal.returns
 returns c = λ these start.
     let good : Parcel → Type 0 = λ parcel. IsBelow (parcel ∷ []) c.args.collector.now in
-    subst (λ (l : List Parcel). IsLeastFault (these ++ l) good c.loop-parcel.found) (take_all c.loop-parcel.parcel-index c.args.taken.now c.loop-parcel-test.false) (c.loop-parcel.invariant these start)
+    subst (λ (l : List Parcel). IsLeastFault (these ++ l) good c.loop-parcel.found) (take_all_of c.args.taken.now c.loop-parcel.parcel-index c.loop-parcel-test.false) (c.loop-parcel.invariant these start)

@@ -1,5 +1,6 @@
 use Rattle.std.proofs.Common.{◌≡◌, None, refl, sym, rules, arith}
 use Rattle.std.proofs.lemmas.Option.{slice_get_read}
+use Rattle.page_numbers.specs.Parcels.{as_parcel}
 use Rattle.script_replay.proofs.LinesObeyed.{log_more, rises, collectors_count, may_add, untaken_line, taken_line}
 use Rattle.script_replay.proofs.replaying.deliver.Goals as goal
 
@@ -24,7 +25,7 @@ pub collect-requires : goal.collect-requires
 collect-requires c = let (script, ready) = c.requires in
     let count = collectors_count script ready.lines c.args.state.now ready.limits ready.amid in
     let at = slice_get_read c.args.state.now.collectors.items script.collectors c.args.collector c.index_mut.result.now (sym count) ready.within.0 c.index_mut.ensures.value in
-    may_add script ready.lines c.args.state.now ready.limits ready.amid c.args.cpu.0 c.args.fill.0 c.args.collector c.index_mut.result.now c.in-Some.parcel.now ready.within.1
+    may_add script ready.lines c.args.state.now ready.limits ready.amid c.args.cpu.0 c.args.fill.0 c.args.collector c.index_mut.result.now (as_parcel c.in-Some.parcel.now) ready.within.1
     (rw c.as_slice.ensures.value at c.in-Some.ensures.found) at
 
 pub returns : goal.returns
@@ -32,6 +33,6 @@ returns c = λ script ready lines amid.
     let count = collectors_count script lines c.args.state.now ready.limits amid in
     let at = slice_get_read c.args.state.now.collectors.items script.collectors c.args.collector c.index_mut.result.now (sym count) ready.within.0 c.index_mut.ensures.value in
     taken_line script c.args.line c.args.collector c.args.cpu.0 c.args.fill.0 lines c.args.state.now _
-    ready.limits ready.within.1 refl amid c.in-Some.parcel.now c.in_ok-added.added c.index_mut.result.now c.collect.new.collector
+    ready.limits ready.within.1 refl amid (as_parcel c.in-Some.parcel.now) c.in_ok-added.added c.index_mut.result.now c.collect.new.collector
     (rw c.as_slice.ensures.value at c.in-Some.ensures.found) at c.in_ok-added.ensures refl
     (log_more c.args.state.now.log.items c.push-2.new.self.items _ _ c.in_ok-push-2.ensures.items c.told_delivery.ensures)

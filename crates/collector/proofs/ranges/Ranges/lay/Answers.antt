@@ -19,7 +19,7 @@ set-requires-2-clause-cut c = c.set.ensures.cuts c.args.end c.requires.forward c
 
 pub returns-clause-laid : goal.returns-clause-laid
 returns-clause-laid c = both_laid c.args.self.now c.cut.new.self c.set.new.self c.set-2.new.self c.args.low c.args.first c.args.end c.args.parcel
-    c.requires.low c.requires.forward
+    c.requires.missing c.requires.forward
     (tell_same c.args.self.now c.mark-2.new.self c.cut.new.self
     (tell_same c.args.self.now c.mark.new.self c.mark-2.new.self c.mark.ensures.same c.mark-2.ensures.same) c.cut.ensures.same)
     record { inside = c.set.ensures.inside; alone = c.set.ensures.alone; in_front = c.set.ensures.in_front; behind = c.set.ensures.behind }

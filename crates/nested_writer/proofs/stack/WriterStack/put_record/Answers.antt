@@ -1,4 +1,4 @@
-use Rattle.std.proofs.Common.{◌≡◌, ℕ, ◌+◌, ◌-◌, ◌≤◌, max, Bool, true, List, [], ◌∷◌, ◌++◌, length, Some, sym, ap, ◌∙◌, subst, arith}
+use Rattle.std.proofs.Common.{◌≡◌, ℕ, ◌+◌, ◌-◌, ◌≤◌, max, Bool, true, List, [], ◌∷◌, ◌++◌, length, Some, sym, ap, ◌∙◌, subst, arith, rules}
 use Rattle.trace_model.specs.History.{HistoryEvent, push, reserve, leave, reserved_records}
 use Rattle.trace_model.specs.Packing.{opens_of, is_wished}
 use Rattle.trace_model.specs.Words.{padded, encoded_len}
@@ -13,11 +13,16 @@ use Rattle.nested_writer.proofs.Bounds.{tail_ends_at}
 use Rattle.nested_writer.proofs.AtOnce.{IsPutWith, written_at_once, fits_page}
 use Rattle.nested_writer.proofs.stack.WriterStack.put_record.Goals as goal
 
-pub put_payload-requires-clause-last : goal.put_payload-requires-clause-last
+pub put_payload-requires : goal.put_payload-requires
 unfolding Stands
-put_payload-requires-clause-last c =
-    let (start, history, k) = c.requires.stack in
-    tail_ends_at start (opens_of history) (reserved_records history) (is_wished history) (stack_of c.self.inside) (subst (IsStack start history) (sym c.self.view_is) k).holds
+put_payload-requires c =
+    let (start, history, k) = c.requires.stack in record {
+      room = search rules;
+      order = search rules;
+      in_time = search rules;
+      last = tail_ends_at start (opens_of history) (reserved_records history) (is_wished history) (stack_of c.self.inside) (subst (IsStack start history) (sym c.self.view_is) k).holds;
+      ends = search rules;
+    }
 
 pub returns-clause-stack : goal.returns-clause-stack
 returns-clause-stack c = λ start history old.

@@ -1,4 +1,4 @@
-use Rattle.std.proofs.Common.{◌≡◌, ℕ, ◌+◌, ◌-◌, ◌≤◌, max, Bool, [], ◌∷◌, ◌++◌, List, length, sym, ap, ◌∙◌, subst, arith}
+use Rattle.std.proofs.Common.{◌≡◌, ℕ, ◌+◌, ◌-◌, ◌≤◌, max, Bool, [], ◌∷◌, ◌++◌, List, length, sym, ap, ◌∙◌, subst, arith, rules}
 use Rattle.trace_model.specs.History.{reserve, reserved_records}
 use Rattle.trace_model.specs.Packing.{opens_of, is_wished}
 use Rattle.trace_model.specs.Words.{encoded_len}
@@ -26,11 +26,16 @@ overflow_add-number c =
     let fits = number_fits start (opens_of history) (reserved_records history) (is_wished history) s k' (omega arith) in
     omega (arith, c.first_number.ensures, c.count.ensures.count)
 
-pub put-place-requires-clause-last : goal.put-place-requires-clause-last
+pub put-place-requires : goal.put-place-requires
 unfolding Stands
-put-place-requires-clause-last c =
-    let (start, history, k) = c.requires.stack in
-    tail_ends_at start (opens_of history) (reserved_records history) (is_wished history) (stack_of c.self.inside) (subst (IsStack start history) (sym c.self.view_is) k).holds
+put-place-requires c =
+    let (start, history, k) = c.requires.stack in record {
+      room = search rules;
+      order = search rules;
+      in_time = search rules;
+      last = tail_ends_at start (opens_of history) (reserved_records history) (is_wished history) (stack_of c.self.inside) (subst (IsStack start history) (sym c.self.view_is) k).holds;
+      ends = search rules;
+    }
 
 pub returns-clause-stack : goal.returns-clause-stack
 returns-clause-stack c = λ start history old.

@@ -49,11 +49,13 @@ returns c =
         payload = c.slice_mut.ensures.value ∙ range_within v.body.items v.end c.args.place.start c.args.place.len (omega arith);
         len = len_is;
         written = here;
-        length_stays = λ part fills. (here part (fills ∙ len_is)).length_stays;
-        blank_stays = λ part fills. (here part (fills ∙ len_is)).blank_stays;
-        page_reads = λ part fills. (here part (fills ∙ len_is)).page_reads;
-        open_stays = λ part fills. (here part (fills ∙ len_is)).open_stays;
-        last_stays = λ part fills. (here part (fills ∙ len_is)).last_stays;
-        payloads_stay = λ part fills. (here part (fills ∙ len_is)).payloads_stay;
+        stays = record {
+          length_stays = λ part fills. (here part (fills ∙ len_is)).length_stays;
+          blank_stays = λ part fills. (here part (fills ∙ len_is)).blank_stays;
+          page_reads = λ part fills. (here part (fills ∙ len_is)).page_reads;
+          open_stays = λ part fills. (here part (fills ∙ len_is)).open_stays;
+          last_stays = λ part fills. (here part (fills ∙ len_is)).last_stays;
+          payloads_stay = λ part fills. (here part (fills ∙ len_is)).payloads_stay;
+        };
       },
     )

@@ -4,12 +4,12 @@ use Rattle.std.proofs.lemmas.Bool.{cond-true, cond-false}
 use Rattle.std.specs.Vec.{with_items}
 use Rattle.trace_model.specs.Words.{encoding, encoded_len, slot_len}
 use Rattle.trace_model.proofs.Lengths.{slot_len_ge}
-use Rattle.trace_model.specs.Reading.{EndsInRecord, IsPlaceIn}
-use Rattle.trace_model.specs.Overwriting.{IsPlaceOf}
+use Rattle.trace_model.specs.Reading.{EndsInRecord}
 use Rattle.trace_model.specs.Order.{moment_of_last}
 use Rattle.page_image.specs.Contents.{Contents, is_blank, records_of_page}
+use Rattle.page_image.specs.Putting.{HasPut}
 use Rattle.trace_model.specs.declared.limits.TheConstants.{MAX_SIZE}
-use Rattle.page_image.proofs.Putting.{PutPage, put_page, encoded_len_ge}
+use Rattle.page_image.proofs.Putting.{has_put, encoded_len_ge}
 use Rattle.page_image.proofs.page.Page.put_as.Goals as goal
 use Rattle.page_image.proofs.page.Page.put_as.Goals.{then-is_first, else-is_first, After-self-4-1}
 
@@ -41,7 +41,7 @@ wrote c =
     let v = c.self.inside in
     let same : was c ≡ c.args.self.now = c.self.view_is in
     let room : length (was c).bytes + encoded_len c.args.len (c.args.moment - c.args.prev) (is_blank (was c).bytes) ≤ (was c).size =
-    subst (λ (p : Contents). length p.bytes + encoded_len c.args.len (c.args.moment - c.args.prev) (is_blank p.bytes) ≤ p.size) (sym same) c.requires.room in
+    subst (λ (p : Contents). length p.bytes + encoded_len c.args.len (c.args.moment - c.args.prev) (is_blank p.bytes) ≤ p.size) (sym same) c.requires.can.room in
     let items_len : v.body.len ≡ length v.body.items = v.body.ok.0 in
     let body_len : length c.put_behind_as-place.new.body ≡ v.body.len = omega arith in
     let items_is : (with_items v.body c.put_behind_as-place.new.body).items ≡ c.put_behind_as-place.new.body = with_items_is v.body c.put_behind_as-place.new.body body_len in
@@ -50,7 +50,7 @@ wrote c =
     let time_is : c.if-is_first.self ≡ cond (c.is_first-is_first.result) c.args.moment v.time =
     elim c.if-is_first.branch [ then-is_first w ↦ w.self-is ∙ sym (cond-true (c.is_first-is_first.result) _ _ (search rules)) | else-is_first w ↦ w.self-is ∙ sym (cond-false (c.is_first-is_first.result) _ _ (search rules)) ] in
     let end_is : c.put_behind_as-place.result.start + c.put_behind_as-place.result.len ≡ length (was c).bytes + encoded_len c.args.len (c.args.moment - c.args.prev) (is_blank (was c).bytes) =
-    c.put_behind_as-place.ensures.end ∙ ap (λ (b : Bool). v.end + encoded_len c.args.len (c.args.moment - c.args.prev) b) blank ∙ ap (λ (n : ℕ). n + encoded_len c.args.len (c.args.moment - c.args.prev) (is_blank (was c).bytes)) (sym end_len) in
+    c.put_behind_as-place.ensures.ends_at ∙ ap (λ (b : Bool). v.end + encoded_len c.args.len (c.args.moment - c.args.prev) b) blank ∙ ap (λ (n : ℕ). n + encoded_len c.args.len (c.args.moment - c.args.prev) (is_blank (was c).bytes)) (sym end_len) in
     record {
       same = same;
       items = ap length items_is ∙ body_len ∙ items_len;
@@ -69,17 +69,10 @@ put c = replicate (slot_len c.args.len) 0
 put_len : (c : After-self-4-1) → length (put c) ≡ slot_len c.args.len
 put_len c = length-replicate (slot_len c.args.len) 0
 
-whole : (c : After-self-4-1) → PutPage c.args.self.now (now c) c.args.prev c.args.moment (put c) c.put_behind_as-place.result.start c.args.len
-whole c =
+long : (c : After-self-4-1) → length (now c).bytes ≡ c.put_behind_as-place.result.start + c.put_behind_as-place.result.len
+long c =
     let w = wrote c in
-    let ends : EndsInRecord (was c).bytes = subst (λ (p : Contents). EndsInRecord p.bytes) (sym w.same) c.requires.open in
-    let last : IfSome (moment_of_last (records_of_page (was c))) (λ m. m ≡ c.args.prev) = subst (λ (p : Contents). IfSome (moment_of_last (records_of_page p)) (λ m. m ≡ c.args.prev)) (sym w.same) c.requires.last in
-    let limit = c.self.invariant.1 in
-    let short : c.args.len ≤ 2 ^ 30 = omega (arith, slot_len_ge c.args.len, w.end, w.room) in
-    let long : length (now c).bytes ≡ c.put_behind_as-place.result.start + c.put_behind_as-place.result.len = length-take-le (c.put_behind_as-place.result.start + c.put_behind_as-place.result.len) (with_items c.self.inside.body c.put_behind_as-place.new.body).items (omega (arith, w.room, w.items)) in
-    let end_is : c.put_behind_as-place.result.start + slot_len c.args.len ≡ length (now c).bytes = ap (λ (n : ℕ). c.put_behind_as-place.result.start + n) (sym c.put_behind_as-place.ensures.len) ∙ sym long in
-    subst (λ (p : Contents). PutPage p (now c) c.args.prev c.args.moment (put c) c.put_behind_as-place.result.start c.args.len) w.same
-    (put_page (was c) (now c) c.args.prev c.args.moment (put c) c.put_behind_as-place.result.start c.args.len ends last c.requires.order c.requires.moment short (put_len c) w.bytes (long ∙ w.end) w.time refl end_is)
+    length-take-le (c.put_behind_as-place.result.start + c.put_behind_as-place.result.len) (with_items c.self.inside.body c.put_behind_as-place.new.body).items (omega (arith, w.room, w.items))
 
 pub invariant_of-self : goal.invariant_of-self
 invariant_of-self c =
@@ -90,32 +83,12 @@ invariant_of-self c =
     let few : 4 * (c.self.inside.count + 1) ≤ c.put_behind_as-place.result.start + c.put_behind_as-place.result.len = let old = c.self.invariant.2 in omega (arith, w.end, encoded_len_ge c.args.len (c.args.moment - c.args.prev) (is_blank (was c).bytes)) in
     (fits, limit, few)
 
-pub returns-clause-page : goal.returns-clause-page
-returns-clause-page c = (whole c).page
-
-pub returns-clause-records : goal.returns-clause-records
-returns-clause-records c = (whole c).records
-
-pub returns-clause-longer : goal.returns-clause-longer
-returns-clause-longer c = (whole c).longer
-
-pub returns-clause-filled : goal.returns-clause-filled
-returns-clause-filled c = (whole c).filled
-
-pub returns-clause-last : goal.returns-clause-last
-returns-clause-last c = (whole c).last
-
-pub returns-clause-open : goal.returns-clause-open
-returns-clause-open c = (whole c).ends
-
-pub returns-clause-places_stay : goal.returns-clause-places_stay
-returns-clause-places_stay c = (whole c).places_stay
-
-pub returns-clause-payloads_stay : goal.returns-clause-payloads_stay
-returns-clause-payloads_stay c = (whole c).payloads_stay
-
-pub returns-clause-place : goal.returns-clause-place
-returns-clause-place c = subst (λ (n : ℕ). IsPlaceIn (now c).bytes c.put_behind_as-place.result.start n) (sym c.put_behind_as-place.ensures.len) (whole c).place
-
-pub returns-clause-number : goal.returns-clause-number
-returns-clause-number c = λ page. subst (λ (n : ℕ). IsPlaceOf (now c).bytes c.args.self.now.count c.put_behind_as-place.result.start n) (sym c.put_behind_as-place.ensures.len) ((whole c).number page)
+pub returns : goal.returns
+returns c =
+    let w = wrote c in
+    let ends : EndsInRecord (was c).bytes = subst (λ (p : Contents). EndsInRecord p.bytes) (sym w.same) c.requires.can.ends in
+    let last : IfSome (moment_of_last (records_of_page (was c))) (λ m. m ≡ c.args.prev) = subst (λ (p : Contents). IfSome (moment_of_last (records_of_page p)) (λ m. m ≡ c.args.prev)) (sym w.same) c.requires.can.last in
+    let limit = c.self.invariant.1 in
+    let short : c.args.len ≤ 2 ^ 30 = omega (arith, slot_len_ge c.args.len, w.end, w.room) in
+    subst (λ (p : Contents). HasPut p (now c) c.args.prev c.args.moment c.args.len (put c) c.put_behind_as-place.result) w.same
+    (has_put (was c) (now c) c.args.prev c.args.moment c.args.len (put c) c.put_behind_as-place.result ends last c.requires.can.order c.requires.can.in_time short (put_len c) w.bytes (long c ∙ w.end) w.time refl refl refl w.items (sym (long c)) c.put_behind_as-place.ensures.len_is)

@@ -4,11 +4,11 @@ use Rattle.std.proofs.lemmas.Bool.{cond-true, cond-false}
 use Rattle.std.specs.Vec.{with_items}
 use Rattle.trace_model.specs.Words.{encoding, encoded_len, padded, slot_len}
 use Rattle.trace_model.proofs.Lengths.{slot_len_ge, length-padded}
-use Rattle.trace_model.specs.Reading.{EndsInRecord, IsPlaceIn}
-use Rattle.trace_model.specs.Overwriting.{IsPlaceOf}
+use Rattle.trace_model.specs.Reading.{EndsInRecord}
 use Rattle.trace_model.specs.Order.{moment_of_last}
 use Rattle.page_image.specs.Contents.{Contents, is_blank, records_of_page}
-use Rattle.page_image.proofs.Putting.{PutPage, put_page, blank_is}
+use Rattle.page_image.specs.Putting.{HasPut}
+use Rattle.page_image.proofs.Putting.{has_put, blank_is}
 use Rattle.page_image.proofs.page.Page.put_payload.Goals as goal
 use Rattle.page_image.proofs.page.Page.put_payload.Goals.{then-is_first, else-is_first, After-self-4-1}
 
@@ -50,8 +50,8 @@ wrote c =
     let time_is : c.if-is_first.self ≡ cond (nat_eq v.end 0) c.args.moment v.time =
     elim c.if-is_first.branch [ then-is_first w ↦ w.self-is ∙ sym (cond-true (nat_eq v.end 0) _ _ (search rules)) | else-is_first w ↦ w.self-is ∙ sym (cond-false (nat_eq v.end 0) _ _ (search rules)) ] in
     let end_is : c.put_payload_behind.result.start + c.put_payload_behind.result.len ≡ length (was c).bytes + encoded_len (length c.args.payload.now) (c.args.moment - c.args.prev) (is_blank (was c).bytes) =
-    c.put_payload_behind.ensures.end ∙ ap (λ (b : Bool). v.end + encoded_len (length c.args.payload.now) (c.args.moment - c.args.prev) b) blank ∙ ap (λ (n : ℕ). n + encoded_len (length c.args.payload.now) (c.args.moment - c.args.prev) (is_blank (was c).bytes)) (sym end_len) in
-    let at : v.end + c.size_of.result ≡ c.put_payload_behind.result.start + c.put_payload_behind.result.len = ap (λ (n : ℕ). v.end + n) c.size_of.ensures ∙ sym c.put_payload_behind.ensures.end in
+    c.put_payload_behind.ensures.ends_at ∙ ap (λ (b : Bool). v.end + encoded_len (length c.args.payload.now) (c.args.moment - c.args.prev) b) blank ∙ ap (λ (n : ℕ). n + encoded_len (length c.args.payload.now) (c.args.moment - c.args.prev) (is_blank (was c).bytes)) (sym end_len) in
+    let at : v.end + c.size_of.result ≡ c.put_payload_behind.result.start + c.put_payload_behind.result.len = ap (λ (n : ℕ). v.end + n) c.size_of.ensures ∙ sym c.put_payload_behind.ensures.ends_at in
     record {
       at = at;
       same = same;
@@ -71,44 +71,17 @@ put c = padded c.args.payload.now
 put_len : (c : After-self-4-1) → length (put c) ≡ slot_len (length c.args.payload.now)
 put_len c = length-padded c.args.payload.now
 
-whole : (c : After-self-4-1) → PutPage c.args.self.now (now c) c.args.prev c.args.moment (put c) c.put_payload_behind.result.start (length c.args.payload.now)
-whole c =
+long : (c : After-self-4-1) → length (now c).bytes ≡ c.put_payload_behind.result.start + c.put_payload_behind.result.len
+long c =
     let w = wrote c in
-    let ends : EndsInRecord (was c).bytes = subst (λ (p : Contents). EndsInRecord p.bytes) (sym w.same) c.requires.open in
+    ap (λ (n : ℕ). length (take n (with_items c.self.inside.body c.put_payload_behind.new.body).items)) w.at ∙ length-take-le (c.put_payload_behind.result.start + c.put_payload_behind.result.len) (with_items c.self.inside.body c.put_payload_behind.new.body).items (omega (arith, w.room, w.items))
+
+pub returns : goal.returns
+returns c =
+    let w = wrote c in
+    let ends : EndsInRecord (was c).bytes = subst (λ (p : Contents). EndsInRecord p.bytes) (sym w.same) c.requires.ends in
     let last : IfSome (moment_of_last (records_of_page (was c))) (λ m. m ≡ c.args.prev) = subst (λ (p : Contents). IfSome (moment_of_last (records_of_page p)) (λ m. m ≡ c.args.prev)) (sym w.same) c.requires.last in
     let limit = c.self.invariant.1 in
     let short : (length c.args.payload.now) ≤ 2 ^ 30 = omega (arith, slot_len_ge (length c.args.payload.now), w.end, w.room) in
-    let long : length (now c).bytes ≡ c.put_payload_behind.result.start + c.put_payload_behind.result.len = ap (λ (n : ℕ). length (take n (with_items c.self.inside.body c.put_payload_behind.new.body).items)) w.at ∙ length-take-le (c.put_payload_behind.result.start + c.put_payload_behind.result.len) (with_items c.self.inside.body c.put_payload_behind.new.body).items (omega (arith, w.room, w.items)) in
-    let end_is : c.put_payload_behind.result.start + slot_len (length c.args.payload.now) ≡ length (now c).bytes = ap (λ (n : ℕ). c.put_payload_behind.result.start + n) (sym c.put_payload_behind.ensures.len) ∙ sym long in
-    subst (λ (p : Contents). PutPage p (now c) c.args.prev c.args.moment (put c) c.put_payload_behind.result.start (length c.args.payload.now)) w.same
-    (put_page (was c) (now c) c.args.prev c.args.moment (put c) c.put_payload_behind.result.start (length c.args.payload.now) ends last c.requires.order c.requires.moment short (put_len c) w.bytes (long ∙ w.end) w.time refl end_is)
-
-pub returns-clause-page : goal.returns-clause-page
-returns-clause-page c = (whole c).page
-
-pub returns-clause-records : goal.returns-clause-records
-returns-clause-records c = (whole c).records
-
-pub returns-clause-longer : goal.returns-clause-longer
-returns-clause-longer c = (whole c).longer
-
-pub returns-clause-filled : goal.returns-clause-filled
-returns-clause-filled c = (whole c).filled
-
-pub returns-clause-last : goal.returns-clause-last
-returns-clause-last c = (whole c).last
-
-pub returns-clause-open : goal.returns-clause-open
-returns-clause-open c = (whole c).ends
-
-pub returns-clause-places_stay : goal.returns-clause-places_stay
-returns-clause-places_stay c = (whole c).places_stay
-
-pub returns-clause-payloads_stay : goal.returns-clause-payloads_stay
-returns-clause-payloads_stay c = (whole c).payloads_stay
-
-pub returns-clause-place : goal.returns-clause-place
-returns-clause-place c = subst (λ (n : ℕ). IsPlaceIn (now c).bytes c.put_payload_behind.result.start n) (sym c.put_payload_behind.ensures.len) (whole c).place
-
-pub returns-clause-number : goal.returns-clause-number
-returns-clause-number c = λ page. subst (λ (n : ℕ). IsPlaceOf (now c).bytes c.args.self.now.count c.put_payload_behind.result.start n) (sym c.put_payload_behind.ensures.len) ((whole c).number page)
+    subst (λ (p : Contents). HasPut p (now c) c.args.prev c.args.moment (length c.args.payload.now) (put c) c.put_payload_behind.result) w.same
+    (has_put (was c) (now c) c.args.prev c.args.moment (length c.args.payload.now) (put c) c.put_payload_behind.result ends last c.requires.order c.requires.in_time short (put_len c) w.bytes (long c ∙ w.end) w.time refl refl refl w.items (sym (long c)) c.put_payload_behind.ensures.len_is)
