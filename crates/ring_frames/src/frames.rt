@@ -38,7 +38,7 @@ impl Model for Frames {
 }
 
 impl Frames {
-    ghost use Rattle.std.specs.Prelude.{◌≡◌, ◌≢◌, true, false, ◌+◌, ◌%◌, ◌≤◌, ◌<◌, ◌↔◌, [], length, IfOk, IsTrue};
+    ghost use Rattle.std.specs.Prelude.{◌≡◌, ◌≢◌, true, false, ◌+◌, ◌≤◌, ◌<◌, ◌↔◌, [], length, IfOk, IsTrue};
     ghost use Rattle.trace_model.specs.declared.limits.TheConstants.{MIN_PAGES, MAX_PAGES, MIN_SIZE, MAX_SIZE, MAX_FRAMES, LINK_FILLS};
     ghost use Rattle.trace_model.specs.Ring.{HasRingLimits};
     ghost use Rattle.trace_model.specs.Steps.{MayOpen};

@@ -1,6 +1,6 @@
--- What a writer's calls promise, each in one word: a call and its rarer cases, which are functions of their own, promise
--- the same.
-use Rattle.std.specs.Prelude.{◌≡◌, ◌≢◌, ℕ, List, [], ◌∷◌}
+-- What a writer's calls promise, each in one word: a call and its rarer cases, which are functions of their own,
+-- promise the same.
+use Rattle.std.specs.Prelude.{◌≡◌, ◌≢◌, List, [], ◌∷◌}
 use Rattle.trace_model.specs.declared.numbers.RecordNo.{RecordNo}
 use Rattle.trace_model.specs.Frames.{Frame}
 use Rattle.link_marks.specs.FrameOutcomes.{IsLeaving}

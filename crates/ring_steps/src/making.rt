@@ -2,7 +2,7 @@
 ghost use Rattle.std.specs.Prelude.{◌≡◌, [], ◌+◌, ◌<◌, IfOk};
 ghost use Rattle.trace_model.specs.declared.limits.TheConstants.{LINK_FILLS, START_FILL};
 ghost use Rattle.trace_model.specs.Ring.{HasRingLimits};
-ghost use Rattle.ring_steps.specs.Seats.{Sat, IsTableOf};
+ghost use Rattle.ring_steps.specs.Seats.{IsTableOf};
 ghost use Rattle.ring_steps.specs.NewRings.{IsShape, AreNewSeats, IsWholeSeat, first_writing, first_reading};
 ghost use Rattle.ring_steps.specs.Views.{laid};
 

@@ -15,15 +15,13 @@ pub enum Allot {
 }
 
 impl WriterStack {
-    ghost use Rattle.std.specs.Prelude.{◌≡◌, ℕ, ◌+◌, ◌-◌, ◌≤◌, ◌<◌, ◌↔◌, max, [], ◌∷◌, ◌++◌, List, Option, None, length, IsTrue, ◌⊎◌, IfSome, IfOk, IfErr, OnOk, OnErr, IsOk};
-    ghost use Rattle.trace_model.specs.declared.limits.TheConstants.{MAX_FRAMES, MOMENT_LIMIT};
+    ghost use Rattle.std.specs.Prelude.{◌≡◌, ℕ, ◌+◌, ◌-◌, ◌<◌, ◌↔◌, max, [], ◌∷◌, List, Option, None, length, IsTrue, IfSome, IfOk, IfErr, OnOk};
     ghost use Rattle.trace_model.specs.History.{HistoryEvent, reserve, leave};
-    ghost use Rattle.page_image.specs.Contents.{Contents};
-    ghost use Rattle.nested_writer.specs.Stack.{opened, tail_fill, next_number};
-    ghost use Rattle.nested_writer.specs.Calls.{with_progress, after_leave, IsTop, HasLeft, IsUnchanged, WantsPage, NeedsPage, IsCrowded, IsWorn, ReservesRecord, HasRecordRoom, HasTopLeft, IsTopSlot};
+    ghost use Rattle.nested_writer.specs.Stack.{opened, next_number};
+    ghost use Rattle.nested_writer.specs.Calls.{with_progress, after_leave, IsTop, WantsPage, NeedsPage, IsCrowded, IsWorn, ReservesRecord, HasRecordRoom, IsTopSlot};
     ghost use Rattle.nested_writer.specs.Ends.{MayEndTop};
     ghost use Rattle.nested_writer.specs.Kept.{SameFills, SamePages};
-    ghost use Rattle.nested_writer.specs.Next.{IsPlaced, IsReadyForPage, IsAllottedTo, IsSameFrame, IsRefusedTo};
+    ghost use Rattle.nested_writer.specs.Next.{IsReadyForPage, IsAllottedTo, IsSameFrame, IsRefusedTo};
     ghost use Rattle.nested_writer.specs.PlainTop.{IsPlainTop};
     ghost use Rattle.nested_writer.specs.IsStack.{IsStack, Stands};
     ghost use Rattle.nested_writer.specs.Allotted.{IsAllotted, HasActed};

@@ -13,16 +13,14 @@ pub enum Ended {
 }
 
 impl WriterStack {
-    ghost use Rattle.std.specs.Prelude.{◌≡◌, ◌≢◌, ℕ, ◌≤◌, ◌<◌, ◌↔◌, [], ◌∷◌, ◌++◌, List, Some, length, IsTrue, OnOk, OnErr, IsOk, IfOk};
+    ghost use Rattle.std.specs.Prelude.{◌≡◌, ◌≢◌, ℕ, ◌<◌, ◌↔◌, [], ◌∷◌, List, Some, IsTrue};
     ghost use Rattle.trace_model.specs.History.{HistoryEvent, wished};
     ghost use Rattle.trace_model.specs.Packing.{tail_of};
     ghost use Rattle.nested_writer.specs.Stack.{opened};
     ghost use Rattle.nested_writer.specs.Calls.{with_bottom, IsAtBottom, MayAddPage};
     ghost use Rattle.nested_writer.specs.Allotted.{HasActed};
-    ghost use Rattle.nested_writer.specs.Ends.{MayEndTop, MayNotEndTop, IsEnd};
     ghost use Rattle.nested_writer.specs.Promises.{EndsTop};
     ghost use Rattle.nested_writer.specs.Kept.{SamePages};
-    ghost use Rattle.nested_writer.specs.Next.{below_top, IsEndedTo};
     ghost use Rattle.nested_writer.specs.IsStack.{IsStack, Stands};
 
     /// `end`, however far the frame on top has come.

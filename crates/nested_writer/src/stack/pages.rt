@@ -10,12 +10,12 @@ use std::mem;
 use trace_model::{FillNo, RecordNo};
 
 impl WriterStack {
-    ghost use Rattle.std.specs.Prelude.{◌≡◌, ℕ, ◌+◌, ◌-◌, ◌≤◌, ◌<◌, [], ◌∷◌, ◌++◌, List, length, IsTrue};
+    ghost use Rattle.std.specs.Prelude.{◌≡◌, ℕ, ◌+◌, ◌-◌, ◌<◌, [], ◌∷◌, List, length, IsTrue};
     ghost use Rattle.trace_model.specs.declared.limits.TheConstants.{LINK_FILLS};
     ghost use Rattle.trace_model.specs.History.{HistoryEvent, open_fill, reserved_records, is_settled};
     ghost use Rattle.trace_model.specs.Ring.{fill_of};
-    ghost use Rattle.nested_writer.specs.Stack.{opened, tail_fill, next_number, blank_page};
-    ghost use Rattle.nested_writer.specs.Calls.{with_tail, MayAddPage, IsAtBottom, IsCrowded, IsWorn};
+    ghost use Rattle.nested_writer.specs.Stack.{opened, next_number, blank_page};
+    ghost use Rattle.nested_writer.specs.Calls.{with_tail, MayAddPage, IsAtBottom};
     ghost use Rattle.nested_writer.specs.Allotted.{HasActed};
     ghost use Rattle.nested_writer.specs.Released.{IsWrittenPage, AreCommitted};
     ghost use Rattle.nested_writer.specs.Kept.{SameShape};

@@ -13,14 +13,14 @@ pub enum Wrote {
 }
 
 impl WriterStack {
-    ghost use Rattle.std.specs.Prelude.{◌≡◌, ◌≢◌, ℕ, ◌-◌, ◌≤◌, ◌<◌, ◌↔◌, max, [], ◌∷◌, ◌++◌, List, Some, length, IsTrue};
+    ghost use Rattle.std.specs.Prelude.{◌≡◌, ◌-◌, ◌<◌, max, [], ◌∷◌, ◌++◌, Some, length};
     ghost use Rattle.record_words.specs.declared.format.TheConstants.{EXTEND_FROM, SHORT_LIMIT};
     ghost use Rattle.trace_model.specs.declared.limits.TheConstants.{MOMENT_LIMIT};
-    ghost use Rattle.trace_model.specs.History.{HistoryEvent, push, reserve, leave};
+    ghost use Rattle.trace_model.specs.History.{push, reserve, leave};
     ghost use Rattle.trace_model.specs.Words.{padded};
     ghost use Rattle.page_image.specs.Contents.{records_of_page};
     ghost use Rattle.nested_writer.specs.Allotted.{HasActed};
-    ghost use Rattle.nested_writer.specs.AtOnce.{MayStand, FitsAtOnce, with_written, with_left, with_record, IsPlain};
+    ghost use Rattle.nested_writer.specs.AtOnce.{MayStand, FitsAtOnce, with_written, with_record, IsPlain};
     ghost use Rattle.nested_writer.specs.Promises.{WritesWhatFits, StandsAgain};
     ghost use Rattle.nested_writer.specs.Calls.{IsAtBottom};
     ghost use Rattle.nested_writer.specs.IsStack.{Stands};

@@ -7,7 +7,7 @@ use ring_frames::{Reader, ReaderPhase};
 use trace_model::{FillNo, RecordNo};
 
 impl Core {
-    ghost use Rattle.std.specs.Prelude.{◌≡◌, ℕ, ◌+◌, ◌-◌, ◌^◌, ◌<◌, ◌≤◌, length, Some, None, slice_get, slice_set};
+    ghost use Rattle.std.specs.Prelude.{◌≡◌, ◌+◌, ◌-◌, ◌^◌, ◌<◌, ◌≤◌, length, Some, None, slice_get, slice_set};
     ghost use Rattle.trace_model.specs.declared.limits.TheConstants.{LINK_FILLS};
     ghost use Rattle.trace_model.specs.Steps as model;
     ghost use Rattle.ring_frames.specs.declared.reader.ReaderPhase.TheVariants.{LoadingLink, LoadingDone, StoringLink, Swapping};

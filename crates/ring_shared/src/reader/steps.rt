@@ -99,7 +99,9 @@ impl Reader {
     {
         let pages = self.order.len() as u64;
         let front = self.page_at(fill + pages - 1);
-        let swapped = self.seat.swap_head(front, page, FillNo(fill), self.spare, body);
+        let swapped = self
+            .seat
+            .swap_head(front, page, FillNo(fill), self.spare, body);
         self.at.phase = ReaderPhase::LoadingLink;
         self.at.hint = fill + 1;
         match swapped {

@@ -26,7 +26,7 @@ enum Target {
 }
 
 impl Writer {
-    ghost use Rattle.std.specs.Prelude.{◌≡◌, ℕ, ◌∷◌, List};
+    ghost use Rattle.std.specs.Prelude.{◌≡◌, ◌∷◌, List};
     ghost use Rattle.trace_model.specs.Frames.{Frame as ModelFrame};
     ghost use Rattle.link_marks.specs.FrameOutcomes.{IsReserving};
     ghost use Rattle.ring_shared.specs.Value.{SameWriter};

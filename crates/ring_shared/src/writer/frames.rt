@@ -6,7 +6,7 @@ use std::marker::Brand;
 use trace_model::RecordNo;
 
 impl Writer {
-    ghost use Rattle.std.specs.Prelude.{◌≡◌, ◌≢◌, ℕ, [], ◌∷◌, Some, None};
+    ghost use Rattle.std.specs.Prelude.{◌≡◌, ◌≢◌, ℕ, ◌∷◌, Some, None};
     ghost use Rattle.trace_model.specs.Steps as model;
     ghost use Rattle.trace_model.specs.Words.{slot_len};
     ghost use Rattle.trace_model.specs.Frames.{noted_fill};

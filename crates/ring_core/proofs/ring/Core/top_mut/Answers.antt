@@ -1,14 +1,10 @@
-use Rattle.std.proofs.Common.{◌≡◌, ℕ, List, Some, IfOk, length, refl, sym, ap, ◌∙◌, subst}
+use Rattle.std.proofs.Common.{◌≡◌, ℕ, List, IfOk, length, refl, sym, ap, ◌∙◌, subst}
 use Rattle.std.specs.Borrow.{MutBor}
 use Rattle.std.proofs.lemmas.Result.{IfOk-weaker}
-use Rattle.trace_model.specs.Words.{slot_len}
 use Rattle.nested_writer.specs.declared.frame.Slot.{Slot}
 use Rattle.nested_writer.specs.Calls.{IsTopSlot}
-use Rattle.nested_writer.specs.Next.{pushed_len}
 use Rattle.nested_writer.specs.Lent.{Lent, lent_bytes, with_bytes}
-use Rattle.nested_writer.specs.Lending.{IsLent, with_top}
 use Rattle.ring_frames.specs.Value.{FramesValue}
-use Rattle.ring_frames.specs.Answers.{top_bytes}
 use Rattle.ring_frames.specs.Lending.{LeavesOthers, LendsSlot}
 use Rattle.ring_core.specs.Value.{CoreValue, frames_of}
 use Rattle.ring_core.specs.Inside.{core_of}

@@ -28,11 +28,11 @@ returns-then-done-fill c =
       turn = (refl, (finds_none v.shape v.part after (λ core. core.done ≡ done) read.0 read.1 c.args.page c.args.fill at done read.1.seen c.if-done-fill.true).2);
       answered = record { told = model.empty done; step = none_answers v.shape v.part after (λ core. core.done ≡ done) read.0 read.1 c.args.page c.args.fill at done read.1.seen c.if-done-fill.true; tells = refl };
       empty = let (s, hint, found) = finds_none v.shape v.part after (λ core. core.done ≡ done) read.0 read.1 c.args.page c.args.fill at done read.1.seen c.if-done-fill.true in record {
-            hint_is = ap (λ (x : ring.Reader). x.hint) s.reader_is ∙ hint;
-            seen_is = ap (λ (x : ring.Reader). x.seen) s.reader_is;
-            phase_is = refl;
-            no_slot = c.load_done-done.ensures.spare ∙ (ap (λ (w : ReaderValue). w.part.keeps_spare) c.self.view_is ∙ subst (λ (p : ReaderPhase). KeepsSlot p v.part.keeps_spare) c.requires.phase c.requires.taking.reader.keeps);
-          };
+        hint_is = ap (λ (x : ring.Reader). x.hint) s.reader_is ∙ hint;
+        seen_is = ap (λ (x : ring.Reader). x.seen) s.reader_is;
+        phase_is = refl;
+        no_slot = c.load_done-done.ensures.spare ∙ (ap (λ (w : ReaderValue). w.part.keeps_spare) c.self.view_is ∙ subst (λ (p : ReaderPhase). KeepsSlot p v.part.keeps_spare) c.requires.phase c.requires.taking.reader.keeps);
+      };
       empty_at = search rules;
       ring = search rules;
       reader = let new = c.load_done-done.new.self in let old = fields _ v c.self.view_is c.requires.taking.reader in shown _ v c.self.view_is c.requires.taking.reader new.shape (reader_table new) after (record v.part.reader { phase = ring.loading_link; seen = done }) _ c.requires.taking.again c.load_done-done.ensures.same.shape

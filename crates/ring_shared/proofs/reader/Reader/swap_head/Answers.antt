@@ -34,17 +34,17 @@ returns-in-Ok c =
       empty_at = search rules;
       ring = search rules;
       reader = let new = c.swap_head-swapped.new.self in let order = c.requires.taking.reader.order_is ∙ ap (λ (w : ReaderValue). w.order) (sym c.self.view_is) in let spare = c.requires.taking.reader.spare_is ∙ ap (λ (w : ReaderValue). w.spare) (sym c.self.view_is) in let pages : c.len-pages.result ≡ v.shape.pages = c.len-pages.ensures ∙ (c.self.inside.order.ok.0 ∙ (ap (λ (w : ReaderValue). length w.order) c.self.view_is ∙ positions v c.requires.taking.reader)) in let known = (takes v.shape v.part c.args.page c.args.fill after at taken (search rules) h).0 in record {
-            part = subst (λ (x : Shape). IsReaderPart x after) (sym (c.swap_head-swapped.ensures.same.shape ∙ ap (λ (w : ReaderValue). w.shape) c.self.view_is)) known;
-            order_is = h.order_is ∙ (λ i. slice_set (order i) (c.args.fill % sym pages i) (spare i));
-            spare_is = h.spare_is;
-            phase_is = ap (λ (x : ring.Reader). x.phase) h.reader_is;
-            hint_is = ap (λ (x : ring.Reader). x.hint) h.reader_is;
-            seen_is = ap (λ (x : ring.Reader). x.seen) h.reader_is ∙ old.2;
-            expected_is = ap (λ (x : ring.Reader). x.expected) h.reader_is ∙ (λ i. sym c.first-first.ensures i + sym c.count.ensures.count i);
-            keeps = tt;
-            saw = tt;
-            empty = λ done e. (let none : c.self.inside.empty_at ≡ None = ap (λ (w : ReaderValue). w.empty_at) c.self.view_is ∙ c.requires.taking.again in let both = sym none ∙ e in absurd (cc));
-          };
+        part = subst (λ (x : Shape). IsReaderPart x after) (sym (c.swap_head-swapped.ensures.same.shape ∙ ap (λ (w : ReaderValue). w.shape) c.self.view_is)) known;
+        order_is = h.order_is ∙ (λ i. slice_set (order i) (c.args.fill % sym pages i) (spare i));
+        spare_is = h.spare_is;
+        phase_is = ap (λ (x : ring.Reader). x.phase) h.reader_is;
+        hint_is = ap (λ (x : ring.Reader). x.hint) h.reader_is;
+        seen_is = ap (λ (x : ring.Reader). x.seen) h.reader_is ∙ old.2;
+        expected_is = ap (λ (x : ring.Reader). x.expected) h.reader_is ∙ (λ i. sym c.first-first.ensures i + sym c.count.ensures.count i);
+        keeps = tt;
+        saw = tt;
+        empty = λ done e. (let none : c.self.inside.empty_at ≡ None = ap (λ (w : ReaderValue). w.empty_at) c.self.view_is ∙ c.requires.taking.again in let both = sym none ∙ e in absurd (cc));
+      };
     }
 
 pub returns-in-Err : goal.returns-in-Err
@@ -55,9 +55,9 @@ returns-in-Err c =
     let at = c.requires.taking.reader.phase_is ∙ ap reader_phase_of c.requires.phase in
     record {
       turn = let (s, low) = misses v.shape v.part c.args.page c.args.fill after at h in (
-            c.in-Err.ensures.given_back,
-            nothing v.shape v.part after (record v.part.reader { phase = ring.loading_link; hint = c.args.fill + 1 }) s refl refl low (omega arith),
-          );
+        c.in-Err.ensures.given_back,
+        nothing v.shape v.part after (record v.part.reader { phase = ring.loading_link; hint = c.args.fill + 1 }) s refl refl low (omega arith),
+      );
       answered = record { told = model.reading; step = miss_answers v.shape v.part c.args.page c.args.fill after h; tells = refl };
       empty = search rules;
       empty_at = search rules;
