@@ -21,6 +21,7 @@ use Rattle.ring_shared.proofs.WholeAppends.{writers_have_histories}
 use Rattle.line_writer.specs.declared.frames.LineWriter.{LineWriter}
 use Rattle.line_writer.specs.LineWriters.{writer_in, payloads_of, MakesLine, MakesLines, MakesRest, FinishesRest}
 use Rattle.line_writer.specs.Obeying.{IsLineAt, HasObeyed}
+use Rattle.ring_shared.specs.Calls.{IsWriter}
 use Rattle.line_writer.proofs.LineRuns.{same_then}
 
 -- ---- one more
@@ -172,6 +173,7 @@ module _ (cpu : ℕ) (commands : List (ℕ × Command)) (before : WriterValue) (
   last_shape = rest.makes.same.0 ∙ lines_are.same.0 ∙ shape_is
 
   enough : MIN_PAGES ≤ shape.pages
+  unfolding IsWriter
   enough =
       subst (λ (s : Shape). MIN_PAGES ≤ s.pages) last_shape rest.makes.is.writer.reached.may_start.some_pages
 
@@ -182,6 +184,7 @@ module _ (cpu : ℕ) (commands : List (ℕ × Command)) (before : WriterValue) (
       rest.none
 
   pub obeyed : HasObeyed cpu commands before last.writer
+  unfolding IsWriter
   obeyed =
       let h = writers_have_histories last.writer rest.makes.is.writer in
       record {

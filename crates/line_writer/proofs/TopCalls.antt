@@ -224,6 +224,7 @@ pub step_called : (old : LineWriter) (v : WriterValue) (result : Answer)
     → MakesSome old.writer steps result v
     → IsNearer old.writer v
     → CallsTop old record { writer = v; payloads = old.payloads }
+unfolding IsWriter
 step_called old v result is some none makes near =
     let w : WriterValue = old.writer in
     let shown : w.part.frames ≡ ring_frames w.frames.stack.frames (w.frames.phase ∷ w.frames.below) =
@@ -262,6 +263,7 @@ pub record IsTopPayload (old : LineWriter) (slot : Slot) (payload : List ℕ) : 
 
 -- there is room for each frame's payload
 pub few_frames : (old : LineWriter) (is : IsLineWriter old) → length old.writer.part.frames ≤ length old.payloads
+unfolding IsWriter
 few_frames old is =
     let w : WriterValue = old.writer in
     let r = reached_kept w.shape.pages w.shape.size w.shape.start is.writer.core is.writer.reached in
@@ -277,6 +279,7 @@ some_frames (top ∷ below) some = omega arith
 module _ (old : LineWriter) (is : IsLineWriter old) (slot : Slot)
     (at : IsTopSlot old.writer.frames.stack.frames slot) where
   t : HasReservedTop old.writer.part.frames
+  unfolding IsWriter
   t = reserved_top old.writer is.writer slot at
 
   some_depth : 0 < length old.writer.part.frames
@@ -289,6 +292,7 @@ module _ (old : LineWriter) (is : IsLineWriter old) (slot : Slot)
       → depth ≡ length old.writer.part.frames
       → FitsFrame old.writer slot
       → IsTopPayload old slot (get_or old.payloads (depth - 1) none).now
+  unfolding IsWriter
   is_top_payload depth none deep fits =
       let item : Bor (List ℕ) = get_or old.payloads (depth - 1) none in
       let some = some_depth in
@@ -329,6 +333,7 @@ module _ (old : LineWriter) (is : IsLineWriter old) (slot : Slot)
       absurd (let short = ap (λ (l : List Frame). length l) e in omega arith)
 
   rank_low : (v : WriterValue) → IsWriter v → rank_of v ≤ writer_limit v.shape.pages
+  unfolding IsWriter
   rank_low v w =
       subst (λ (p : Writing). writer_rank v.shape.pages v.passed p.done p.opened p.history p.frames
       ≤ writer_limit v.shape.pages) w.part_is
