@@ -1,5 +1,5 @@
 //! The calls by which a page lends its records and its payloads.
-ghost use Rattle.std.specs.Prelude.{◌≡◌, ℕ, ◌+◌, ◌<◌, ◌^◌, List, length, slice_range, IfSome};
+ghost use Rattle.std.specs.Prelude.{◌≡◌, ℕ, ◌+◌, ◌<◌, ◌^◌, List, length, slice_range};
 ghost use Rattle.std.specs.Borrow.{sem};
 ghost use Rattle.trace_model.specs.Reading.{IsPlaceIn};
 ghost use Rattle.page_image.specs.Contents.{IsPage};

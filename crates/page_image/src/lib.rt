@@ -1,6 +1,38 @@
 //! Pages of a trace ring: a header and the data that holds the records.
 //!
 //! The layout is that of the kernel's `struct buffer_data_page`, specified in `docs/FORMATS.md`.
+//!
+//! Code without loops names no fact of a page: `Page::fresh` gives what `Page::put` asks for, and `put` and a payload
+//! that is written give it again. A loop names what it keeps: that the page reads, the moment of its last record, and
+//! that its data ends in a record. So of a function that puts a record (`library_tests` has its body) and of a loop of
+//! such calls:
+//!
+//! ```text
+//! fn add(page: &mut Page, prev: u64, moment: u64, payload: &[u8])
+//!     requires page { IsPage page.old }
+//!     requires last { IfSome (moment_of_last (records_of_page page.old)) (λ last. last ≡ prev) }
+//!     requires open { EndsInRecord page.old.bytes }
+//!     ensures page { IsPage page.new }
+//!     ensures last { IfSome (moment_of_last (records_of_page page.new)) (λ last. last ≡ moment) }
+//!     ensures open { EndsInRecord page.new.bytes }
+//!
+//! let mut prev = 0;
+//! for given in records {
+//!     add(&mut page, prev, given.0, given.1);
+//!     prev = given.0;
+//! }
+//! ```
+//!
+//! and in the function's `Invariants.antt`, after its `use` lines:
+//!
+//! ```text
+//! abbrev pub invariant-loop-given : goal.invariant-loop-given
+//! invariant-loop-given l = record {
+//!   page : IsPage l.page;
+//!   last : IfSome (moment_of_last (records_of_page l.page)) (λ last. last ≡ l.prev);
+//!   open_end : EndsInRecord l.page.bytes;
+//! }
+//! ```
 #![tactic(auto)]
 
 mod body;

@@ -172,8 +172,7 @@ impl Page {
         ensures written { (part : List ℕ) → length part ≡ place.len → PayloadWritten self.old place.start part }
         ensures stays { StaysWritten self.old place.start (length result.now) }
     {
-        let body = &mut self.body;
-        body.slice_mut(place.start..place.start + place.len)
+        self.part_mut(place)
     }
 
     /// The bytes at this place, which is within the data, to be written. All other bytes of the page stay as they

@@ -37,7 +37,7 @@ impl Model for Parcel {
 }
 
 impl Parcel {
-    ghost use Rattle.std.specs.Prelude.{◌≡◌, ℕ, ◌+◌, ◌^◌, ◌<◌, ◌≤◌, ◌↔◌, IsTrue, length, IfOk, IfErr, OnOk};
+    ghost use Rattle.std.specs.Prelude.{◌≡◌, ◌+◌, ◌^◌, ◌<◌, ◌≤◌, ◌↔◌, IsTrue, length, IfOk, IfErr, OnOk};
     ghost use Rattle.trace_model.specs.ParcelBytes.{IsParcel};
     ghost use Rattle.trace_model.specs.declared.limits.TheConstants.{MAX_CPUS};
     ghost use Rattle.page_image.specs.Contents.{IsPage, records_of_page};
