@@ -6,7 +6,7 @@ use Rattle.trace_model.specs.Words.{padded, encoded_len}
 use Rattle.trace_model.specs.History.{HistoryEvent, IsHistory, is_settled, reserved_records, committed_records, last_moment}
 use Rattle.trace_model.specs.Packing.{tail_of, IsPacked}
 use Rattle.trace_model.specs.Window.{Window, RingEvent, history_events_of, WindowRun}
-use Rattle.text_model.specs.Script.{Command, begin_frame, step_frame, finish_frame, write, close, step_reader, take_page, wish, deliver}
+use Rattle.text_model.specs.Script.{Command, write, close}
 use Rattle.line_model.specs.Lines.{LineState, first_state, LinePart, LineParts, IsBegunByLines, IsMadeByLines}
 
 -- ---- the records of lines
@@ -55,7 +55,7 @@ FillsAreFew = (n size start : ℕ) (events : List RingEvent) (w : Window)
     → IsPacked (history_events_of events) size
     → (w.opened ≤ start + length (reserved_records (history_events_of events)) + 1)
     × (tail_of (history_events_of events) ≢ []
-        → w.opened ≤ start + length (reserved_records (history_events_of events)))
+    → w.opened ≤ start + length (reserved_records (history_events_of events)))
 
 -- No frame is on the stack, each push has its leave, and all fills but the tail are closed.
 pub record IsAtRest (p : LineState) : Type 0 where

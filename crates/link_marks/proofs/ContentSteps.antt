@@ -4,7 +4,7 @@ use Rattle.trace_model.specs.History.{HistoryEvent, push, push_close, open_fill,
 use Rattle.trace_model.specs.Packing.{opens_of}
 use Rattle.trace_model.specs.Frames.{Kind, for_record, for_close, FrameState, waiting, reserved, left, Phase, idle, looking, claiming, looking_next, marking, clearing, opening, releasing, wishing, Frame, pushed_onto, pushed_frames}
 use Rattle.trace_model.specs.Ring.{PageRecords, ReaderPhase, loading_link, loading_done, storing_link, swapping, Core, page_at, AreApart}
-use Rattle.trace_model.specs.Steps.{Event, Answer, tail_page, after_leave, held_with_payload, own_number, with_new_tail, after_begin, Step, after_swap}
+use Rattle.trace_model.specs.Steps.{Event, Answer, tail_page, after_leave, held_with_payload, own_number, with_new_tail, after_begin, after_swap}
 use Rattle.trace_model.proofs.StepCases.{StepCases, BeginsAgain, IdleStep, ReserveStep, reserves, finds_nothing, is_crowded, is_worn, notes, load_link_late, sees_free, sees_header, sees_update, claim_late, claims, claim_fails, load_next_late, sees_normal, sees_other, mark_late, marks, mark_fails, clears, OpenFillStep, open_late, opens, releases, releases_last, grants, closes_more, goes_away, FrameStep, push_step, push_refused, close_step, close_refused, frame_step, frame_lacks, end_step, end_lacks, end_early, read_step, store_wish_step, LoadHeadStep, loads_header, loads_update, loads_owed, loads_passed, LoadDoneStep, finds_none, finds_closed, SwapHeadStep, swaps, swap_fails, ReadStep}
 use Rattle.trace_model.proofs.NextEvent.{opened_stack}
 use Rattle.trace_model.proofs.NextRecords.{records_snoc, records_reserved, records_left_by}

@@ -10,9 +10,9 @@ use Rattle.trace_model.specs.Fitting.{tail_at, NeedsFill}
 use Rattle.trace_model.specs.Links.{Mark, normal, header, update, Link, header_link}
 use Rattle.trace_model.specs.Frames.{Kind, for_record, for_close, FrameState, waiting, reserved, left, number_of, Role, owner, helper, Phase, idle, looking, claiming, looking_next, marking, clearing, opening, releasing, wishing, Frame, pushed_frames}
 use Rattle.trace_model.specs.Ring.{link_into, Core}
-use Rattle.trace_model.specs.Steps.{pushes, pushes_close, steps, ends, reads, wishes, Answer, NeedsPage, closing_phase, in_phase, after_leave, after_next, with_link, with_new_tail, after_begin}
+use Rattle.trace_model.specs.Steps.{Answer, NeedsPage, closing_phase, in_phase, after_leave, after_next, with_link, with_new_tail, after_begin}
 use Rattle.trace_model.proofs.EventSteps.{top_step, top_ends}
-use Rattle.trace_model.proofs.StepCases.{BeginsAgain, IdleStep, ReserveStep, reserves, finds_nothing, is_crowded, is_worn, notes, LoadLinkStep, load_link_late, sees_free, sees_header, sees_update, ClaimHeadStep, claim_late, claims, claim_fails, LoadNextStep, load_next_late, sees_normal, sees_other, MarkHeadStep, mark_late, marks, mark_fails, ClearUpdateStep, clears, OpenFillStep, open_late, opens, ReleaseFillStep, releases, releases_last, LoadWishStep, grants, closes_more, goes_away, FrameStep, push_step, push_refused, close_step, close_refused, frame_step, frame_lacks, end_step, end_lacks, end_early, read_step, store_wish_step}
+use Rattle.trace_model.proofs.StepCases.{BeginsAgain, IdleStep, ReserveStep, reserves, finds_nothing, is_crowded, is_worn, notes, LoadLinkStep, load_link_late, sees_free, sees_header, sees_update, ClaimHeadStep, claim_late, claims, claim_fails, LoadNextStep, load_next_late, sees_normal, sees_other, MarkHeadStep, mark_late, marks, mark_fails, ClearUpdateStep, clears, OpenFillStep, open_late, opens, ReleaseFillStep, releases, releases_last, LoadWishStep, grants, closes_more, goes_away, FrameStep}
 use Rattle.trace_model.proofs.NextRecords.{records_snoc}
 use Rattle.trace_model.proofs.FillCuts.{opens_of-open_fill, opened_last}
 use Rattle.trace_model.proofs.PackedHistories.{tail_is, fit_open}
@@ -22,7 +22,6 @@ use Rattle.link_marks.specs.KeptPacking.{PackedAt}
 use Rattle.link_marks.specs.RingKept.{IsRingKept}
 use Rattle.link_marks.specs.Ranks.{state_rank, late_rank, claim_rank, tail_rank, idle_rank, wish_rank, phase_rank, top_rank, frame_rank, StepsComeToAnEnd, EndsComeToAnEnd, FramesAreNearTheirEnd}
 use Rattle.link_marks.proofs.Positions.{link_turn}
-use Rattle.link_marks.proofs.FramePhases.{none_some}
 use Rattle.link_marks.proofs.HistorySteps.{top_agrees, top_stack, wishing_left}
 
 -- ---- parts of a rank

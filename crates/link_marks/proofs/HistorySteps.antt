@@ -10,7 +10,7 @@ use Rattle.trace_model.specs.Links.{Link, header_link}
 use Rattle.trace_model.specs.Frames.{Kind, for_record, for_close, FrameState, waiting, reserved, left, Role, owner, helper, Phase, idle, looking, claiming, looking_next, marking, clearing, opening, releasing, wishing, Frame, pushed_frame, pushed_onto, pushed_frames}
 use Rattle.trace_model.specs.Window.{WindowEvent, opened_one, released_one, took_one, lost_one}
 use Rattle.trace_model.specs.Ring.{Taken, Reader, ReaderPhase, loading_link, loading_done, storing_link, swapping, Core, window_of}
-use Rattle.trace_model.specs.Steps.{Event, Answer, with_link, with_history_event, in_phase, closing_phase, after_leave, frames_after_leave, with_new_tail, after_begin, after_next, Step, taken_fill}
+use Rattle.trace_model.specs.Steps.{Event, Answer, with_link, with_history_event, in_phase, closing_phase, after_leave, frames_after_leave, with_new_tail, after_begin, after_next, taken_fill}
 use Rattle.trace_model.proofs.StepCases.{StepCases, BeginsAgain, ReserveStep, reserves, finds_nothing, is_crowded, is_worn, notes, LoadLinkStep, load_link_late, sees_free, sees_header, sees_update, ClaimHeadStep, claim_late, claims, claim_fails, LoadNextStep, load_next_late, sees_normal, sees_other, MarkHeadStep, mark_late, marks, mark_fails, ClearUpdateStep, clears, OpenFillStep, open_late, opens, ReleaseFillStep, releases, releases_last, LoadWishStep, grants, closes_more, goes_away, IdleStep, FrameStep, push_step, push_refused, close_step, close_refused, frame_step, frame_lacks, end_step, end_lacks, end_early, read_step, store_wish_step, LoadHeadStep, loads_header, loads_update, loads_owed, loads_passed, LoadDoneStep, finds_none, finds_closed, SwapHeadStep, swaps, swap_fails, ReadStep}
 use Rattle.trace_model.specs.Sublist.{IsPrefix}
 use Rattle.link_marks.specs.WindowLaws.{IsEventShown, MovesWindow}

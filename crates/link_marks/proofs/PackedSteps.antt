@@ -12,7 +12,7 @@ use Rattle.trace_model.specs.Packing.{opens_of, FitsBehind, is_wished}
 use Rattle.trace_model.specs.Fitting.{tail_at, IsFit, FitsPage, NeedsFill}
 use Rattle.trace_model.specs.Frames.{Kind, for_record, for_close, FrameState, waiting, reserved, left, Role, owner, helper, Phase, idle, looking, claiming, looking_next, marking, clearing, opening, releasing, wishing, Frame, pushed_onto, pushed_frames, noted_fill}
 use Rattle.trace_model.specs.Ring.{ReaderPhase, loading_link, loading_done, storing_link, swapping, Core, IsStart}
-use Rattle.trace_model.specs.Steps.{Event, Answer, IsTooLong, NeedsPage, closing_phase, in_phase, after_leave, after_next, frames_after_leave, own_number, with_new_tail, after_begin, Step}
+use Rattle.trace_model.specs.Steps.{Event, Answer, IsTooLong, NeedsPage, closing_phase, in_phase, after_leave, after_next, frames_after_leave, own_number, with_new_tail, after_begin}
 use Rattle.trace_model.proofs.StepCases.{StepCases, BeginsAgain, IdleStep, ReserveStep, reserves, finds_nothing, is_crowded, is_worn, notes, load_link_late, sees_free, sees_header, sees_update, claim_late, claims, claim_fails, load_next_late, sees_normal, sees_other, mark_late, marks, mark_fails, clears, OpenFillStep, open_late, opens, releases, releases_last, grants, closes_more, goes_away, FrameStep, push_step, push_refused, close_step, close_refused, frame_step, frame_lacks, end_step, end_lacks, end_early, read_step, store_wish_step, loads_header, loads_update, loads_owed, loads_passed, finds_none, finds_closed, swaps, swap_fails, ReadStep}
 use Rattle.trace_model.proofs.NextEvent.{opened_stack}
 use Rattle.trace_model.proofs.NextRecords.{records_snoc, records_reserved, records_left_by}

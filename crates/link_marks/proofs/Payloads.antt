@@ -10,9 +10,8 @@ use Rattle.trace_model.specs.History.{Reservation, PushedFrame, writer_after, re
 use Rattle.trace_model.specs.Packing.{opens_of, cut_from}
 use Rattle.trace_model.specs.Frames.{Kind, for_record, for_close, FrameState, waiting, reserved, left, number_of, Phase, Frame, pushed_onto, pushed_frames}
 use Rattle.trace_model.specs.Ring.{PageRecords, empty_page, Core, page_at}
-use Rattle.trace_model.specs.Steps.{Event, pushes, pushes_close, steps, ends, reads, wishes, contents_of, held_with_payload, own_number}
+use Rattle.trace_model.specs.Steps.{contents_of, held_with_payload, own_number}
 use Rattle.trace_model.proofs.EventSteps.{top_ends}
-use Rattle.trace_model.proofs.StepCases.{push_step, push_refused, close_step, close_refused, frame_step, frame_lacks, end_step, end_lacks, end_early, read_step, store_wish_step}
 use Rattle.trace_model.proofs.FillOfNumber.{LiesIn, lies_in, get_in_fill, ends_before}
 use Rattle.trace_model.proofs.Committed.{committed_len}
 use Rattle.trace_model.proofs.OpenNumbers.{IsOpenAt, HasNumber, AreOpen, open_at, numbers_open, numbers_uncommitted}
@@ -177,25 +176,6 @@ module _ (n size start : ℕ) (c : Core) (payload : List ℕ) (after : Core) (nu
         ∙ get_or_past (map (held_with_payload (Some number) (Some payload)) c.held) page empty_page (let same = length-map c.held (held_with_payload (Some number) (Some payload)) in omega arith)
         ∙ sym (get_or_past c.held page empty_page (omega arith)));
   }
-
--- the payload of an end
-payload_of : Event → List ℕ
-payload_of (pushes moment len) = []
-payload_of pushes_close = []
-payload_of steps = []
-payload_of (ends payload) = payload
-payload_of reads = []
-payload_of wishes = []
-
-same_payload : (one other : List ℕ) → ends one ≡ ends other → one ≡ other
-unfolding payload_of
-same_payload one other e = ap payload_of e
-
-same_top : (one other : Frame) (below below' : List Frame) → one ∷ below ≡ other ∷ below' → one ≡ other
-same_top one other below below' e = some_frame one other (ap (λ (fs : List Frame). slice_get fs 0) e)
-
-no_top : (frame : Frame) (below : List Frame) → frame ∷ below ≢ []
-no_top frame below e = cc
 
 -- the number that the frame reserved
 own_is : (kind : Kind) (state : FrameState) (moment len number : ℕ) → kind ≡ for_record moment len → state ≡ reserved number → own_number kind state ≡ Some number

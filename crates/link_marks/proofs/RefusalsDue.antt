@@ -1,12 +1,12 @@
 -- A frame that needs a page and gets none is refused.
-use Rattle.std.proofs.Common.{◌≡◌, ℕ, ◌+◌, ◌≤◌, List, [], ◌∷◌, refl, sym, ap, ◌∙◌, subst, arith}
+use Rattle.std.proofs.Common.{◌≡◌, ℕ, ◌+◌, ◌≤◌, List, refl, subst, arith}
 use Rattle.trace_model.specs.declared.limits.TheConstants.{LINK_FILLS}
 use Rattle.trace_model.specs.Packing.{FitsBehind, tail_of}
 use Rattle.trace_model.specs.Frames.{FrameState, waiting, Phase, idle, Frame, crowded, worn}
 use Rattle.trace_model.specs.Ring.{Core}
-use Rattle.trace_model.specs.Steps.{Event, pushes, pushes_close, steps, ends, reads, wishes, Answer, refused, NeedsPage, Step}
+use Rattle.trace_model.specs.Steps.{steps, Answer, refused, NeedsPage, Step}
 use Rattle.trace_model.proofs.EventSteps.{top_step}
-use Rattle.trace_model.proofs.StepCases.{ReserveStep, reserves, finds_nothing, is_crowded, is_worn, notes, IdleStep, FrameStep, push_step, push_refused, close_step, close_refused, frame_step, frame_lacks, end_step, end_lacks, end_early, read_step, store_wish_step}
+use Rattle.trace_model.proofs.StepCases.{ReserveStep, reserves, finds_nothing, is_crowded, is_worn, notes, IdleStep, FrameStep}
 use Rattle.link_marks.specs.AnswerLaws.{IsInNeed}
 
 abbrev pub Due : ℕ → Core → Answer → Type 0

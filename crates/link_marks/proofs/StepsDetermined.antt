@@ -1,5 +1,5 @@
 -- Every step is the one that the function computes: so an event has one answer and one state after it.
-use Rattle.std.proofs.Common.{◌≡◌, ℕ, List, [], ◌∷◌, length, Some, None, refl, sym, ap, ◌∙◌, subst, arith}
+use Rattle.std.proofs.Common.{◌≡◌, List, [], ◌∷◌, length, Some, None, refl, sym, ap, ◌∙◌, subst, arith}
 use Rattle.trace_model.specs.Ring.{Core}
 use Rattle.trace_model.specs.Events.{Event, Answer, Outcome}
 use Rattle.trace_model.specs.Steps.{Run, Step}

@@ -5,9 +5,9 @@ use mathlib.Core.Logic.{dite}
 use native.Mathlib.Decide.{dec_le}
 use Rattle.trace_model.specs.Links.{normal_link}
 use Rattle.trace_model.specs.Ring.{ReaderPhase, loading_link, loading_done, storing_link, swapping, Core}
-use Rattle.trace_model.specs.Steps.{pushes, pushes_close, steps, ends, reads, wishes, Answer, reading, moving, empty}
+use Rattle.trace_model.specs.Steps.{Answer, reading, moving, empty}
 use Rattle.trace_model.proofs.EventSteps.{reader_step}
-use Rattle.trace_model.proofs.StepCases.{LoadHeadStep, loads_header, loads_update, loads_owed, loads_passed, LoadDoneStep, finds_none, finds_closed, SwapHeadStep, swaps, swap_fails, ReadStep, push_step, push_refused, close_step, close_refused, frame_step, frame_lacks, end_step, end_lacks, end_early, read_step, store_wish_step}
+use Rattle.trace_model.proofs.StepCases.{LoadHeadStep, loads_header, loads_update, loads_owed, loads_passed, LoadDoneStep, finds_none, finds_closed, SwapHeadStep, swaps, swap_fails, ReadStep}
 use Rattle.link_marks.specs.KeptLinks.{ReaderKept, LinksKept}
 use Rattle.link_marks.specs.Ranks.{distance, reader_phase_rank, reader_rank, TakesComeToAnAnswer, TakesAreNearTheirAnswer}
 use Rattle.link_marks.proofs.LinkFills.{header_tells, normal_tells, fill_at}

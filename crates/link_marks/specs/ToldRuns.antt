@@ -1,7 +1,7 @@
 -- A run of a ring, as events: which fills they take, and which they lose.
 -- docs/FORMATS.md, "The ring".
 use Rattle.std.specs.Prelude.{◌≡◌, ℕ, ◌+◌, List, [], ◌∷◌, map}
-use Rattle.trace_model.specs.Window.{RingEvent, acts, closes, takes, loses, history_events_of, WindowRun}
+use Rattle.trace_model.specs.Window.{RingEvent, takes, loses, history_events_of, WindowRun}
 use Rattle.trace_model.specs.Ring.{Taken, Core, window_of}
 
 -- the fills that the events take, from this head on, in order

@@ -5,8 +5,8 @@ use Rattle.trace_model.specs.Ring.{Core}
 use Rattle.trace_model.specs.Steps as model
 use Rattle.trace_model.proofs.StepCases as cases
 use Rattle.trace_model.specs.Steps.{Step}
-use Rattle.trace_model.proofs.StepCases.{ReleaseFillStep, releases, releases_last, push_step, push_refused, close_step, close_refused, frame_step, frame_lacks, end_step, end_lacks, end_early, read_step, store_wish_step}
-use Rattle.trace_model.proofs.StepSound.{cases_of}
+use Rattle.trace_model.proofs.StepCases.{ReleaseFillStep, releases, releases_last}
+use Rattle.trace_model.proofs.EventSteps.{no_top_step}
 use Rattle.link_marks.specs.FrameOutcomes.{IsLeaving}
 use Rattle.link_marks.specs.KeptStack.{MayBeIn}
 use Rattle.link_marks.proofs.RingsKept.{reached_kept}
@@ -76,27 +76,6 @@ reserved_rests kind waiting phase number is may = absurd (cc)
 reserved_rests kind (reserved other) phase number is may = may.1
 reserved_rests kind left phase number is may = absurd (cc)
 
-abbrev IsSteps : model.Event → Type 0
-IsSteps (model.pushes moment len) = ⊥
-IsSteps model.pushes_close = ⊥
-IsSteps model.steps = Unit {0}
-IsSteps (model.ends payload) = ⊥
-IsSteps model.reads = ⊥
-IsSteps model.wishes = ⊥
-
-none_answers : (n size : ℕ) (c : Core) (answer : model.Answer) (after : Core) → c.frames ≡ [] → cases.StepCases n size c model.steps answer after → answer ≡ model.refused no_frame
-none_answers n size c answer after none (push_step moment len e few short early a is) = absurd (subst IsSteps e tt)
-none_answers n size c answer after none (push_refused moment len why e why_not a is) = absurd (subst IsSteps e tt)
-none_answers n size c answer after none (close_step e few a is) = absurd (subst IsSteps e tt)
-none_answers n size c answer after none (close_refused e many a is) = absurd (subst IsSteps e tt)
-none_answers n size c answer after none (frame_step frame below e top step) = let z = ap (length {A = Frame}) (sym none ∙ top) in absurd (omega arith)
-none_answers n size c answer after none (frame_lacks e lacks a is) = a
-none_answers n size c answer after none (end_step payload frame below number moment len e top at kind fits a is) = absurd (subst IsSteps e tt)
-none_answers n size c answer after none (end_lacks payload e lacks a is) = absurd (subst IsSteps e tt)
-none_answers n size c answer after none (end_early payload frame below e top lacks a is) = absurd (subst IsSteps e tt)
-none_answers n size c answer after none (read_step e step) = absurd (subst IsSteps e tt)
-none_answers n size c answer after none (store_wish_step e a is) = absurd (subst IsSteps e tt)
-
 module _ (shape : Shape) (before : Writing) (result : Answer) (after : Writing) (call : IsCall shape before model.steps result after) where
   -- one that has reserved answers its number again
   pub reserved_answers : (frame : Frame) (below : List Frame) (number : ℕ) → before.frames ≡ frame ∷ below → frame.state ≡ reserved number → HasNumber below result after.frames
@@ -119,7 +98,7 @@ module _ (shape : Shape) (before : Writing) (result : Answer) (after : Writing) 
   pub none_refused : before.frames ≡ [] → IsRefusal result
   none_refused none =
       is_refusal shape.size result call.answer no_frame call.tells
-      (none_answers shape.pages shape.size call.core call.answer call.next (ap (λ (p : Writing). p.frames) call.before_is ∙ none) (cases_of call.step))
+      (no_top_step (ap (λ (p : Writing). p.frames) call.before_is ∙ none) call.step).0
 
 -- one that makes a single step answers its record's number, or is refused
 step_in : (shape : Shape) (before : Writing) (result : Answer) (after : Writing) (frames : List stack.Frame) (phase : Phase) (below : List Phase) → before.frames ≡ ring_frames frames (phase ∷ below) → IsTarget (top_of frames) target.Step → IsCall shape before model.steps result after → TellsTop result after.frames

@@ -1,6 +1,6 @@
 -- Private steps of the writer: the same words and pages at home show the state after them.
 use Rattle.std.proofs.Common.{◌≡◌, ◌≢◌, ℕ, ◌+◌, ◌<◌, ◌≤◌, List, [], ◌∷◌, length, slice_index_or, sym, ap, ◌∙◌, subst, arith}
-use Rattle.trace_model.specs.Ring.{PageRecords, Core, page_at}
+use Rattle.trace_model.specs.Ring.{Core, page_at}
 use Rattle.trace_model.specs.Steps.{contents_of, Event, Answer, Exchange, Step}
 use Rattle.trace_model.proofs.StepSound.{cases_of}
 use Rattle.link_marks.specs.RingKept.{IsRingKept}

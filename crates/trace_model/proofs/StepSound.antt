@@ -1,6 +1,6 @@
 -- What the function makes of an event is one of the cases.
-use Rattle.std.proofs.Common.{◌≡◌, ◌≢◌, ℕ, suc, ◌+◌, ◌-◌, ◌≤◌, ◌++◌, inl, inr, ⊎_elim, Bool, true, false, if◌then◌else◌, ◌&&◌, ◌||◌, ◌==◌, nat_lt, nat_le, List, [], ◌∷◌, length, Option, Some, None, refl, sym, ap, ◌∙◌, subst, arith}
-use Rattle.std.proofs.lemmas.Bool.{ltb-true, ltb-false, leb-true, leb-false, le-leb, lt-ltb, eqb-true, eqb-false, eq-eqb, both_ways, and_parts, and_from, or_parts, or_cases}
+use Rattle.std.proofs.Common.{◌≡◌, ◌≢◌, ℕ, suc, ◌+◌, ◌-◌, ◌++◌, inl, inr, ⊎_elim, Bool, true, false, if◌then◌else◌, ◌&&◌, ◌||◌, ◌==◌, nat_lt, nat_le, List, [], ◌∷◌, length, Some, None, refl, sym, ap, ◌∙◌, subst, arith}
+use Rattle.std.proofs.lemmas.Bool.{ltb-true, ltb-false, leb-true, leb-false, le-leb, lt-ltb, eqb-true, eqb-false, eq-eqb, both_ways, and_parts, and_from, or_parts}
 use Rattle.trace_model.specs.declared.limits.TheConstants.{MAX_FRAMES, MOMENT_LIMIT, LINK_FILLS}
 use Rattle.trace_model.specs.Words.{encoded_len, slot_len}
 use Rattle.trace_model.specs.History.{Reservation}
@@ -11,7 +11,7 @@ use Rattle.trace_model.specs.Ring.{ReaderPhase, loading_link, loading_done, stor
 use Rattle.trace_model.specs.Events.{Event, pushes, pushes_close, steps, ends, reads, wishes, Answer, Outcome, only_if}
 use Rattle.trace_model.specs.WriterSteps.{new_reservation, tail_holds, unless_begun, is_full, is_too_long, push_record, push_close_frame, fits_in_tail, needs_page, reserve, sees_link, load_link, open_fill, idle_step, end_frame, end_top, release_fill, is_granted, load_wish}
 use Rattle.trace_model.specs.HeadMove.{claim_head, unless_passed, load_next, mark_head, clear_update}
-use Rattle.trace_model.specs.ReaderSteps.{reads_link, load_head, swap_head}
+use Rattle.trace_model.specs.ReaderSteps.{reads_link}
 use Rattle.trace_model.specs.StepConditions.{MayOpen, NeedsPage, IsGranted, IsTooLong}
 use Rattle.trace_model.specs.Steps.{frame_step_of, top_step_of, read_step_of, step_of, Step}
 use Rattle.trace_model.proofs.LinkWords.{mark_of}

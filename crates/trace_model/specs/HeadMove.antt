@@ -1,12 +1,12 @@
 -- How a frame moves the head away from the page that it needs: docs/FORMATS.md, "Writer frames", the rows from
 -- claiming to clearing. After kernel/trace/ring_buffer.c (rb_handle_head_page, rb_head_page_set_update,
 -- rb_head_page_set_head, rb_head_page_set_normal).
-use Rattle.std.specs.Prelude.{ℕ, suc, ◌+◌, ◌-◌, if◌then◌else◌, ◌&&◌, nat_le, List, Some}
+use Rattle.std.specs.Prelude.{ℕ, suc, ◌+◌, ◌-◌, if◌then◌else◌, ◌&&◌, nat_le, List}
 use Rattle.trace_model.specs.Links.{Link, normal_link, header_link, update_link, same_link}
 use Rattle.trace_model.specs.Frames.{Role, owner, helper, Phase, looking, looking_next, marking, clearing, opening, Frame}
 use Rattle.trace_model.specs.Ring.{Core, link_into}
-use Rattle.trace_model.specs.Events.{going, Outcome, only_if}
-use Rattle.trace_model.specs.WriterSteps.{in_phase, goes_on, with_link, unless_begun}
+use Rattle.trace_model.specs.Events.{Outcome, only_if}
+use Rattle.trace_model.specs.WriterSteps.{goes_on, with_link, unless_begun}
 
 -- lost: the fill that was at the position of the noted one before, noted - n if that is a number
 

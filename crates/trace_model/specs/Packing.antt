@@ -4,7 +4,7 @@
 use Rattle.std.specs.Prelude.{◌≡◌, ◌≢◌, ℕ, ◌+◌, ◌-◌, ◌<◌, ◌≤◌, Bool, true, false, IsTrue, fold, List, [], ◌∷◌, ◌++◌, length, take, drop, map, Option, Some, None, slice_index_or}
 use Rattle.std.specs.List.{AllByRecursion}
 use Rattle.trace_model.specs.Words.{encoded_len, page_encoding}
-use Rattle.trace_model.specs.History.{HistoryEvent, push, push_close, open_fill, reserve, leave, wished, Reservation, PushedFrame, record_frame, close_frame, writer_after, reserved_records, reservation_for, as_record}
+use Rattle.trace_model.specs.History.{HistoryEvent, open_fill, reserve, wished, Reservation, PushedFrame, record_frame, close_frame, writer_after, reserved_records, reservation_for, as_record}
 
 -- how many records were reserved before each open, in order
 abbrev pub opens_behind : List HistoryEvent → List HistoryEvent → List ℕ

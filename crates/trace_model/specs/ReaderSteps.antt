@@ -1,6 +1,6 @@
 -- The steps of the reader: docs/FORMATS.md, "The reader", row by row.
 -- After kernel/trace/ring_buffer.c (rb_get_reader_page, rb_head_page_replace).
-use Rattle.std.specs.Prelude.{ℕ, suc, ◌+◌, ◌-◌, ◌%◌, if◌then◌else◌, ◌&&◌, ◌==◌, nat_lt, nat_le, List, [], ◌∷◌, ◌++◌, length, Some, slice_set}
+use Rattle.std.specs.Prelude.{ℕ, suc, ◌+◌, ◌-◌, ◌%◌, if◌then◌else◌, ◌&&◌, ◌==◌, nat_lt, nat_le, [], ◌∷◌, ◌++◌, length, Some, slice_set}
 use Rattle.trace_model.specs.Links.{Mark, normal, header, update, Link, normal_link, header_link, same_link}
 use Rattle.trace_model.specs.Ring.{empty_page, Taken, Reader, ReaderPhase, loading_link, loading_done, storing_link, swapping, Core, link_into, links_with, page_at}
 use Rattle.trace_model.specs.Events.{reading, empty, moving, swapped, wished_for, Outcome, only_if}

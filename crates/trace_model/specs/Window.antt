@@ -2,7 +2,7 @@
 -- happen to these counts. After kernel/trace/ring_buffer.c (rb_move_tail, rb_handle_head_page,
 -- rb_get_reader_page) and docs/FORMATS.md, "The ring".
 use Rattle.std.specs.Prelude.{◌≡◌, ℕ, ◌+◌, ◌<◌, ◌≤◌, List, [], ◌∷◌, ◌++◌, IsTrue, Option, Some, None}
-use Rattle.trace_model.specs.History.{HistoryEvent, push, push_close, open_fill, reserve, leave, wished, is_settled}
+use Rattle.trace_model.specs.History.{HistoryEvent, open_fill, is_settled}
 
 -- head: the fills below it are taken or lost. done: those below it are closed, that is, released to
 -- the reader. opened: those below it are begun; the last of these is the tail.
