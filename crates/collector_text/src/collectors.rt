@@ -1,5 +1,5 @@
 //! The text of collectors.
-ghost use Rattle.std.specs.Prelude.{◌≡◌, ◌≤◌, ◌∷◌, [], ◌++◌, List, vec_capacity, OnOk, OnErr, IfOk, IfSome, codes, flat_map, length};
+ghost use Rattle.std.specs.Prelude.{◌≡◌, ◌≤◌, ◌∷◌, [], ◌++◌, List, OnOk, OnErr, IfOk, IfSome, codes, flat_map, length};
 ghost use Rattle.std.specs.Fmt.{decimal};
 ghost use Rattle.std.specs.List.{AllZip, enumerate_from, slice_range};
 ghost use Rattle.trace_model.specs.Sublist.{IsPrefix};
@@ -36,27 +36,20 @@ fn put_head(out: &mut Vec<u8>, number: u64) -> Result<(), NoMemory>
     Ok(())
 }
 
-/// A buffer for copies of parts of a text of this length.
-fn buffer_for(alloc: Global, text: usize) -> Result<Vec<u8>, NoMemory>
-    ensures { IfOk result (λ part. vec_capacity part ≤ text) }
-{
-    Ok(Vec::with_capacity(alloc, PART.min(text))?)
-}
-
 /// Puts this part of the text once more. On an error a part of that may be put.
-fn put_again(alloc: Global, out: &mut Vec<u8>, span: Span) -> Result<(), NoMemory>
+fn put_again(out: &mut Vec<u8>, span: Span) -> Result<(), NoMemory>
     requires forward { span.start ≤ span.end }
     requires inside { span.end ≤ length out.old.items }
     ensures text { OnOk result (out.new.items ≡ out.old.items ++ slice_range out.old.items span.start span.end) }
     ensures behind { IsPrefix out.old.items out.new.items }
 {
-    let mut part = buffer_for(alloc, span.end - span.start)?;
+    let mut buffer = [0u8; PART];
     let mut at = span.start;
     while at < span.end {
         let behind = at + PART.min(span.end - at);
-        part.clear();
-        part.extend_from_slice(&out[at..behind])?;
-        out.extend_from_slice(&part)?;
+        let part = &mut buffer[..behind - at];
+        part.copy_from_slice(&out[at..behind]);
+        out.extend_from_slice(part)?;
         at = behind;
     }
     Ok(())
@@ -79,7 +72,7 @@ fn put_below(
 {
     if let Some(other) = before {
         if other.same(collector) {
-            return put_again(alloc, out, span);
+            return put_again(out, span);
         }
     }
     put_lines(alloc, out, collector)?;

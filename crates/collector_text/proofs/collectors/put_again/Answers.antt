@@ -1,4 +1,4 @@
-use Rattle.std.proofs.Common.{◌+◌, ◌≤◌, ◌++◌, ◌∙◌, List, ℕ, ap, arith}
+use Rattle.std.proofs.Common.{◌≡◌, ◌+◌, ◌≤◌, ◌++◌, ◌∙◌, List, ℕ, ap, arith}
 use Rattle.std.specs.List.{slice_range}
 use Rattle.collector_text.proofs.Shown.{again_more}
 use Rattle.collector_text.proofs.collectors.put_again.Goals as goal
@@ -15,12 +15,9 @@ loop-at-preserved c =
     record {
       from = first;
       to = high;
-      text = again_more c.args.out.now.items c.loop-at.out.items c.extend_from_slice.new.self.items
-          c.extend_from_slice-in-loop-at.new.self.items c.args.span.start at behind from low
+      text = again_more c.args.out.now.items c.loop-at.out.items c.copy_from_slice.new.self
+          c.extend_from_slice.new.self.items c.args.span.start at behind from low
           (omega (arith, high, c.requires.inside)) kept.text
-          (c.in_ok-extend_from_slice.ensures.items
-          ∙ ap (λ (t : List ℕ). t ++ slice_range c.deref.result.now at behind) c.clear.ensures.items
-          ∙ ap (λ (t : List ℕ). slice_range t at behind) c.deref.ensures.value)
-          (c.in_ok-extend_from_slice-2.ensures.items
-          ∙ ap (λ (t : List ℕ). c.loop-at.out.items ++ t) c.deref-in-loop-at.ensures.value);
+          (c.copy_from_slice.ensures.after ∙ ap (λ (t : List ℕ). slice_range t at behind) c.deref.ensures.value)
+          c.in_ok-extend_from_slice.ensures.items;
     }
