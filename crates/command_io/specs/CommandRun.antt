@@ -6,12 +6,11 @@ use Rattle.command_io.specs.declared.command.TheConstants.{MEMORY_LINE}
 use Rattle.command_io.specs.declared.input.TheConstants.{READ_CHUNK}
 use Rattle.command_io.specs.declared.status.TheConstants.{DONE, REFUSED, USAGE, NO_MEMORY, END_FAILED}
 
--- In what follows the source has `unread` before the run and `left` after it, and the sink `contents` before it
--- and `contents_after` after it. An end whose bytes aren't known has `None`, and then nothing is said of them; but that
--- the source has given `count` bytes before the run and `count_after` after it is known of each.
--- Of known bytes std's words say: `Consumes unread left bytes`, that `unread` is `bytes` and then `left`;
--- `IsAtEnd left`, that none is left; `Appends contents contents_after bytes`, that `contents_after` is `contents`
--- and then `bytes`; `Keeps contents contents_after`, that they are the same.
+-- In what follows the source has `unread` before the run and `left` after it, and the sink `contents` before it and
+-- `contents_after` after it. An end whose bytes aren't known has `None`, and then nothing is said of them. Of known
+-- bytes std's words say: `Consumes unread left bytes`, that `unread` is `bytes` and then `left`; `IsAtEnd left`, that
+-- none is left; `Appends contents contents_after bytes`, that `contents_after` is `contents` and then `bytes`;
+-- `Keeps contents contents_after`, that they are the same.
 
 -- the text is all that the source had: it was taken, and nothing is left
 pub record ReadsAll (unread left : Option (List ℕ)) (text : List ℕ) : Type 0 where
@@ -55,67 +54,114 @@ pub record WritesOutput (gives : List ℕ → List ℕ → ℕ → Type 0)
   pub output : IsOutput gives unread left bytes status
   pub written : Appends contents contents_after bytes
 
+-- ---- the two ends
+
+-- What a run does with its source: `unread` are the bytes that it had to give before the run, and `left` those that it
+-- has after it; `count` and `count_after` say how many it had given; and whether a read has failed.
+pub record SourceRun : Type 0 where
+  pub unread : Option (List ℕ)
+  pub left : Option (List ℕ)
+  pub count : ℕ
+  pub count_after : ℕ
+  pub failed : Bool
+
+-- the same of its sink: the bytes that it had taken before the run and after it, and whether a write has failed
+pub record SinkRun : Type 0 where
+  pub contents : Option (List ℕ)
+  pub contents_after : Option (List ℕ)
+  pub failed : Bool
+
+-- a source and a sink, by what is seen of them before the run and after it
+abbrev pub source_run : {S : Type 0} → (S → Option (List ℕ)) → (S → ℕ) → (S → Bool) → (before after : S) → SourceRun
+source_run remaining count failed before after = record {
+  unread = remaining before;
+  left = remaining after;
+  count = count before;
+  count_after = count after;
+  failed = failed after;
+}
+
+abbrev pub sink_run : {S : Type 0} → (S → Option (List ℕ)) → (S → Bool) → (before after : S) → SinkRun
+sink_run contents failed before after = record {
+  contents = contents before;
+  contents_after = contents after;
+  failed = failed after;
+}
+
 -- a beginning of an output for the whole source was written, and not all of it
-pub record WritesOutputPrefix (gives : List ℕ → List ℕ → ℕ → Type 0)
-    (unread left contents contents_after : Option (List ℕ)) : Type 0 where
+pub record WritesOutputPrefix (gives : List ℕ → List ℕ → ℕ → Type 0) (source : SourceRun) (sink : SinkRun)
+    : Type 0 where
   pub bytes : List ℕ
   pub status : ℕ
-  pub output : IsOutput gives unread left bytes status
-  pub written : AppendsPrefix contents contents_after bytes
+  pub output : IsOutput gives source.unread source.left bytes status
+  pub written : AppendsPrefix sink.contents sink.contents_after bytes
 
 -- at most MAX_INPUT bytes were read, and the line that reports the refusal of memory was written
-pub record WritesMemoryLine (unread left contents contents_after : Option (List ℕ)) : Type 0 where
-  pub taken : TakesAtMost MAX_INPUT unread left
-  pub written : Appends contents contents_after MEMORY_LINE
+pub record WritesMemoryLine (source : SourceRun) (sink : SinkRun) : Type 0 where
+  pub taken : TakesAtMost MAX_INPUT source.unread source.left
+  pub written : Appends sink.contents sink.contents_after MEMORY_LINE
 
 -- at most MAX_INPUT bytes were read, and a beginning of that line was written, and not all of it
-pub record WritesMemoryPrefix (unread left contents contents_after : Option (List ℕ)) : Type 0 where
-  pub taken : TakesAtMost MAX_INPUT unread left
-  pub written : AppendsPrefix contents contents_after MEMORY_LINE
+pub record WritesMemoryPrefix (source : SourceRun) (sink : SinkRun) : Type 0 where
+  pub taken : TakesAtMost MAX_INPUT source.unread source.left
+  pub written : AppendsPrefix sink.contents sink.contents_after MEMORY_LINE
 
 -- nothing was written, and no write was tried that failed
-pub record WritesNothing (contents contents_after : Option (List ℕ)) (write_failed : Bool) : Type 0 where
-  pub kept : Keeps contents contents_after
-  pub sound : write_failed ≡ false
+pub record WritesNothing (sink : SinkRun) : Type 0 where
+  pub kept : Keeps sink.contents sink.contents_after
+  pub sound : sink.failed ≡ false
 
--- Both ends had not failed before the run; `read_failed` and `write_failed` say whether they have now.
-pub record IsCommandRun (gives : List ℕ → List ℕ → ℕ → Type 0)
-    (unread left contents contents_after : Option (List ℕ)) (count count_after : ℕ) (read_failed write_failed : Bool)
-    (status : ℕ)
+-- more than MAX_INPUT bytes were read, and nothing was written
+abbrev pub IsTooLong : SourceRun → SinkRun → Type 0
+IsTooLong source sink = TakesMoreThan MAX_INPUT source.unread source.left source.count_after × WritesNothing sink
+
+-- Neither end had failed before the run.
+pub record IsCommandRun (gives : List ℕ → List ℕ → ℕ → Type 0) (source : SourceRun) (sink : SinkRun) (status : ℕ)
     : Type 0 where
   -- of the source at most the limit and one chunk are read
-  pub bounded : count_after ≤ count + MAX_INPUT + READ_CHUNK
+  pub bounded : source.count_after ≤ source.count + MAX_INPUT + READ_CHUNK
   -- there is no other exit status
   pub one_of : (status ≡ DONE) ⊎ (status ≡ REFUSED) ⊎ (status ≡ NO_MEMORY) ⊎ (status ≡ END_FAILED)
   -- 0 and 1: all of the source was read and all of an output for it was written, which has this status
-  pub finished : (status ≡ DONE) ⊎ (status ≡ REFUSED) → WritesOutput gives unread left contents contents_after status
+  pub finished : (status ≡ DONE) ⊎ (status ≡ REFUSED)
+      → WritesOutput gives source.unread source.left sink.contents sink.contents_after status
   -- 3, for refused memory: nothing but the line for that was written
-  pub no_memory : status ≡ NO_MEMORY → WritesMemoryLine unread left contents contents_after
+  pub no_memory : status ≡ NO_MEMORY → WritesMemoryLine source sink
   -- 4 if a read failed, and then nothing was written
-  pub read_fault : read_failed ≡ true → (status ≡ END_FAILED) × WritesNothing contents contents_after write_failed
+  pub read_fault : source.failed ≡ true → (status ≡ END_FAILED) × WritesNothing sink
   -- and if a write failed, and then a beginning of what was to be written is there, and not all
-  pub write_fault : write_failed ≡ true
-      → (status ≡ END_FAILED)
-      × (WritesOutputPrefix gives unread left contents contents_after
-      ⊎ WritesMemoryPrefix unread left contents contents_after)
+  pub write_fault : sink.failed ≡ true
+      → (status ≡ END_FAILED) × (WritesOutputPrefix gives source sink ⊎ WritesMemoryPrefix source sink)
   -- and if more was read than may be, of a source that had given nothing before, and then nothing was written
-  pub long_fault : count ≡ 0 → MAX_INPUT < count_after
-      → (status ≡ END_FAILED)
-      × TakesMoreThan MAX_INPUT unread left count_after
-      × WritesNothing contents contents_after write_failed
+  pub long_fault : source.count ≡ 0
+      → MAX_INPUT < source.count_after
+      → (status ≡ END_FAILED) × IsTooLong source sink
   -- else 4 only if an output for the source has it, and then all of that was written
   pub end_fault : status ≡ END_FAILED
-      → (read_failed ≡ true) ⊎ (write_failed ≡ true)
-      ⊎ (TakesMoreThan MAX_INPUT unread left count_after × WritesNothing contents contents_after write_failed)
-      ⊎ WritesOutput gives unread left contents contents_after status
+      → (source.failed ≡ true)
+      ⊎ (sink.failed ≡ true)
+      ⊎ IsTooLong source sink
+      ⊎ WritesOutput gives source.unread source.left sink.contents sink.contents_after status
 
--- Of a command line that is refused: nothing is read or written, and the status is that of usage.
-pub record OnlyUsage (unread left contents contents_after : Option (List ℕ)) (count count_after : ℕ)
-    (read_failed write_failed : Bool) (status : ℕ)
-    : Type 0 where
-  pub not_read : left ≡ unread
-  pub not_counted : count_after ≡ count
-  pub not_written : contents_after ≡ contents
-  pub read_sound : read_failed ≡ false
-  pub write_sound : write_failed ≡ false
+-- ---- calls that are refused
+
+-- nothing is read or written, and the status is that of usage
+pub record OnlyUsage (source : SourceRun) (sink : SinkRun) (status : ℕ) : Type 0 where
+  pub not_read : source.left ≡ source.unread
+  pub not_counted : source.count_after ≡ source.count
+  pub not_written : sink.contents_after ≡ sink.contents
+  pub read_sound : source.failed ≡ false
+  pub write_sound : sink.failed ≡ false
   pub status_is : status ≡ USAGE
+
+-- The line that reports the refusal of memory is all that is written; if a write fails, a beginning of it.
+pub record OnlyMemoryLine (sink : SinkRun) (status : ℕ) : Type 0 where
+  pub written : sink.failed ≡ false
+      → (status ≡ NO_MEMORY) × Appends sink.contents sink.contents_after MEMORY_LINE
+  pub fault : sink.failed ≡ true
+      → (status ≡ END_FAILED) × AppendsPrefix sink.contents sink.contents_after MEMORY_LINE
+
+-- A call whose words are refused: they are no command line that is carried out, or memory was refused to them.
+pub record IsRefusedCall (usage no_memory : Type 0) (source : SourceRun) (sink : SinkRun) (status : ℕ) : Type 0 where
+  pub only_usage : usage → OnlyUsage source sink status
+  pub only_line : no_memory → OnlyMemoryLine sink status

@@ -2,7 +2,7 @@
 //! writes it to the sink. Nothing is written before the output is complete.
 ghost use Rattle.std.specs.Prelude.{◌≡◌, ℕ, ◌+◌, ◌<◌, ◌≤◌, ◌↔◌, ⊤, false, true, List, Err, IfOk};
 ghost use Rattle.std.specs.Io.KnownBytes.{Appends};
-ghost use Rattle.command_io.specs.CommandRun.{AppendsPrefix, IsCommandRun, IsOutput, TakesAtMost, TakesMoreThan};
+ghost use Rattle.command_io.specs.CommandRun.{AppendsPrefix, IsCommandRun, IsOutput, OnlyMemoryLine, TakesAtMost, TakesMoreThan, source_run, sink_run};
 ghost use Rattle.command_io.specs.Output.{bytes_of, status_of};
 
 use crate::ends::{Sink, Source};
@@ -72,12 +72,7 @@ fn print<W: Sink>(writer: &mut W, bytes: &[u8], status: u8) -> u8
 /// Reports that memory was refused: writes [`MEMORY_LINE`]. Gives the exit status 3, or 4 if a write fails.
 pub fn print_memory_line<W: Sink>(writer: &mut W) -> u8
     requires { W.failed writer.old ≡ false }
-    ensures written { W.failed writer.new ≡ false
-        → (result ≡ NO_MEMORY)
-        × Appends (W.contents writer.old) (W.contents writer.new) MEMORY_LINE }
-    ensures fault { W.failed writer.new ≡ true
-        → (result ≡ END_FAILED)
-        × AppendsPrefix (W.contents writer.old) (W.contents writer.new) MEMORY_LINE }
+    ensures { OnlyMemoryLine (sink_run W.contents W.failed writer.old writer.new) result }
 {
     print(writer, &MEMORY_LINE, NO_MEMORY)
 }
@@ -94,8 +89,8 @@ pub fn run_command<C: Command, R: Source, W: Sink>(
     requires sound_reader { R.failed reader.old ≡ false }
     requires sound_writer { W.failed writer.old ≡ false }
     ensures { IsCommandRun (C.gives command.now)
-        (R.remaining reader.old) (R.remaining reader.new) (W.contents writer.old) (W.contents writer.new)
-        (R.count reader.old) (R.count reader.new) (R.failed reader.new) (W.failed writer.new) result }
+        (source_run R.remaining R.count R.failed reader.old reader.new)
+        (sink_run W.contents W.failed writer.old writer.new) result }
 {
     match output_for(command, alloc, reader) {
         Ok(output) => print(writer, output.bytes(), output.status()),

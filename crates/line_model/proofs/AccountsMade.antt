@@ -1,12 +1,13 @@
 -- What the lines of a writer have begun is what they add to its history.
 use Rattle.std.proofs.Common.{◌≡◌, ℕ, suc, ◌+◌, ◌-◌, ◌≤◌, ◌⊎◌, Bool, true, false, if◌then◌else◌, List, [], ◌∷◌, ◌++◌, length, map, Some, None, refl, sym, ap, ◌∙◌, subst, inl, inr, ⊎_elim, arith}
+use Rattle.std.specs.Prelude.{filter}
 use Rattle.std.proofs.lemmas.List.{length-map}
 use Rattle.trace_model.specs.declared.limits.TheConstants.{MAX_FRAMES}
 use Rattle.trace_model.specs.History.{HistoryEvent, push, push_close, open_fill, reserve, leave, wished}
 use Rattle.trace_model.specs.Window.{Window, RingEvent, acts, closes, takes, loses, history_events_of, opened_one, released_one, took_one, lost_one, window_after}
 use Rattle.text_model.specs.Script.{Command, begin_frame, step_frame, finish_frame, write, close, step_reader, take_page, wish, deliver}
 use Rattle.link_marks.proofs.WindowRuns.{history_events-append}
-use Rattle.line_model.specs.Lines.{OpenFrame, LineState, first_state, frame_count, IsRefusedPush, IsQuiet, IsPush, finishing_after, state_moved, TopRun, with_top_stepped, MayGo, stays_on, goes, TopPart, FinishPart, BeginPart, begins, begins_none, WholePart, writes, writes_none, LinePart, LineParts}
+use Rattle.line_model.specs.Lines.{OpenFrame, LineState, first_state, frame_count, IsRefusedPush, IsQuiet, IsPush, finishing_after, state_moved, TopRun, with_top_stepped, MayGo, stays_on, goes, TopPart, FinishPart, begins, begins_none, writes, writes_none, LinePart, LineParts, writer_line, writer_lines}
 use Rattle.line_model.specs.Accounts.{Leave, Passes, IsRefused, IsIdle, Adds, AddAll, LinesAdd}
 use Rattle.line_model.proofs.LineWindows.{leads_lines}
 
@@ -231,3 +232,12 @@ lines_add n size start lines history begun =
       subst (λ (l : List HistoryEvent). AddAll size lines [] l (payloads_of begun.after.frames)) (sym all.history ∙ sym begun.history_is)
           (lines_add_all n size lines (first_state start) begun.after begun.events begun.parts),
     )
+
+-- the lines of a writer are those that pass the test
+pub lines_filtered : (cpu : ℕ) (lines : List Command) → writer_lines cpu lines ≡ filter (writer_line cpu) lines
+lines_filtered cpu [] = refl
+lines_filtered cpu (line ∷ lines) = by_test (writer_line cpu line) refl (lines_filtered cpu lines)
+  where
+    by_test : (b : Bool) → writer_line cpu line ≡ b → writer_lines cpu lines ≡ filter (writer_line cpu) lines → writer_lines cpu (line ∷ lines) ≡ filter (writer_line cpu) (line ∷ lines)
+    by_test true e rest = rw e (ap (λ (l : List Command). line ∷ l) rest)
+    by_test false e rest = rw e rest

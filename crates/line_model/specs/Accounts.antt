@@ -1,6 +1,6 @@
 -- What is printed of a script, by the histories of its CPUs alone: which records, under which numbers, and which
 -- numbers are missing. Neither links nor pages nor steps of a ring are spoken of. docs/MODEL.md, "The first storey".
-use Rattle.std.specs.Prelude.{◌≡◌, ℕ, suc, ◌-◌, ◌<◌, ◌≤◌, ◌⊎◌, ◌↔◌, Bool, true, false, List, [], ◌∷◌, ◌++◌, length, flat_map, Option, Some, None, Contains, slice_index_or}
+use Rattle.std.specs.Prelude.{◌≡◌, ℕ, suc, ◌-◌, ◌<◌, ◌≤◌, ◌⊎◌, ◌↔◌, Bool, true, false, List, [], ◌∷◌, ◌++◌, length, map, filter, flat_map, Option, Some, None, Contains, slice_index_or}
 use Rattle.std.specs.List.{slice_get, enumerate_from, AllZip}
 use Rattle.trace_model.specs.declared.limits.TheConstants.{MAX_FRAMES, MOMENT_LIMIT}
 use Rattle.trace_model.specs.Words.{padded, encoded_len}
@@ -11,8 +11,7 @@ use Rattle.link_marks.specs.ToldRuns.{fills_taken}
 use Rattle.text_model.specs.Script.{Command, begin_frame, step_frame, finish_frame, write, close, deliver, Script}
 use Rattle.world_model.specs.Headline.{StandsIn, IsOverwrittenBefore}
 use Rattle.world_model.specs.Printing.{Shown, printed_collector}
-use Rattle.line_model.specs.Lines.{writer_lines, IsBegunByLines}
-use Rattle.line_model.specs.ReplayedLines.{commands_of}
+use Rattle.line_model.specs.Lines.{writer_line, IsBegunByLines}
 
 -- ---- what lines write
 
@@ -44,8 +43,8 @@ IsRefused size moment len stack =
 abbrev pub IsIdle : List (List ℕ) → List HistoryEvent → List (List ℕ) → Type 0
 IsIdle stack history after = (history ≡ []) × (after ≡ stack)
 
--- What a line adds to its writer's history, if these frames are on the stack: `b` pushes one, `s` has the top one make steps,
--- `f` has it leave, `w` and `c` push one and have it leave.
+-- What a line adds to its writer's history, if these frames are on the stack: `b` pushes one, `s` has the top one make
+-- steps, `f` has it leave, `w` and `c` push one and have it leave.
 abbrev pub Adds : ℕ → Command → List (List ℕ) → List HistoryEvent → List (List ℕ) → Type 0
 Adds size (begin_frame cpu moment payload) stack history after =
     ((history ≡ push moment (length payload) ∷ []) × (after ≡ payload ∷ stack))
@@ -76,23 +75,20 @@ LinesAdd = (n size start : ℕ) (lines : List Command) (history : List HistoryEv
 
 -- ---- what becomes of records
 
--- One CPU, in a ring of n pages of this size whose first fill has the number start. The events are what its frames did,
--- and when a fill was closed, taken or lost, in one order, as the window allows. What the frames did is what the lines
--- add; and a frame that has reserved a record leaves with it.
-pub record IsAccount (n size start : ℕ) (lines : List Command) (events : List RingEvent) : Type 0 where
+-- One CPU of a script. The events are what its frames did, and when a fill was closed, taken or lost, in one order, as
+-- the window allows. What the frames did is what the lines of the CPU's writer add; and a frame that has reserved a
+-- record leaves with it.
+pub record IsAccount (script : Script) (cpu : ℕ) (events : List RingEvent) : Type 0 where
   pub stack : List (List ℕ)
-  pub written : AddAll size lines [] (history_events_of events) stack
+  pub written : AddAll script.size (filter (writer_line cpu) (map (λ line. line.1) script.commands))
+      [] (history_events_of events) stack
   pub leaves : (front behind : List HistoryEvent) (payload : Option (List ℕ))
       → history_events_of events ≡ front ++ leave payload ∷ behind
       → MayLeave (writer_after front).stack payload
   pub window : Window
-  pub run : WindowRun n start events window
+  pub run : WindowRun script.pages script.start events window
 
 -- ---- what is printed
-
--- the runs have the number
-abbrev pub IsInRuns : List (ℕ × ℕ) → ℕ → Type 0
-IsInRuns runs number = (run : ℕ × ℕ) × Contains runs run × (run.0 ≤ number) × (number ≤ run.1)
 
 -- What is shown of a collector, by the fills that were delivered to it, each with its CPU. A line is a committed record
 -- of one of these fills, under its own CPU and number, and each such record has its line. The runs have the numbers
@@ -107,29 +103,24 @@ pub record IsShownOf (start : ℕ) (events : ℕ → List RingEvent) (fills : Li
       × Contains fills (line.cpu, fill)
       × StandsIn (history_events_of (events line.cpu)) start fill line.number)
   pub missing : (cpu number : ℕ)
-      → IsInRuns (slice_index_or shown.runs cpu []) number
+      → ((run : ℕ × ℕ) × Contains (slice_index_or shown.runs cpu []) run × (run.0 ≤ number) × (number ≤ run.1))
       ↔ ((fill : ℕ)
       × Contains fills (cpu, fill)
       × IsOverwrittenBefore (history_events_of (events cpu)) start (events cpu) fill number)
 
--- the fill was taken, and a line of the script delivers it to the collector
-abbrev pub IsDelivered : Script → (ℕ → List RingEvent) → (collector : ℕ) → ℕ × ℕ → Type 0
-IsDelivered script events collector fill =
-    ((line : ℕ) × Contains script.commands (line, deliver collector fill.0 fill.1))
-    × Contains (fills_taken script.start (events fill.0)) fill.1
-
--- These bytes are the collectors of the script, each as it is shown, after the log, if that is asked for.
+-- These bytes are the collectors of the script, each as it is shown, after the log, if that is asked for. There is an
+-- account of each CPU; and each fill that was delivered was taken from its CPU's ring, and
+-- is one that a line of the script delivers to this collector.
 pub record IsAccounted (script : Script) (asked : Bool) (bytes : List ℕ) : Type 0 where
   pub events : ℕ → List RingEvent
-  pub accounts : (cpu : ℕ)
-      → cpu < script.cpus
-      → IsAccount script.pages script.size script.start (writer_lines cpu (commands_of script.commands)) (events cpu)
+  pub accounts : (cpu : ℕ) → cpu < script.cpus → IsAccount script cpu (events cpu)
   pub fills : List (List (ℕ × ℕ))
   pub collectors : length fills ≡ script.collectors
-  pub delivered : (collector : ℕ) (own : List (ℕ × ℕ)) (fill : ℕ × ℕ)
+  pub delivered : (collector cpu fill : ℕ) (own : List (ℕ × ℕ))
       → slice_get fills collector ≡ Some own
-      → Contains own fill
-      → IsDelivered script events collector fill
+      → Contains own (cpu, fill)
+      → ((line : ℕ) × Contains script.commands (line, deliver collector cpu fill))
+      × Contains (fills_taken script.start (events cpu)) fill
   pub shown : List Shown
   pub each : AllZip (IsShownOf script.start events) fills shown
   pub log : List ℕ

@@ -1,4 +1,5 @@
--- What the command `replay` prints for a text, with which exit status.
+-- What the command `replay` prints for a text, with which exit status: first by the histories of the CPUs alone, then
+-- exactly.
 use Rattle.std.specs.Prelude.{◌≡◌, ℕ, Bool, ◌⊎◌, List}
 use Rattle.std.specs.List.{AllZip}
 use Rattle.text_model.specs.ScriptLines.{LineFault}
@@ -7,8 +8,15 @@ use Rattle.text_model.specs.Script.{Script, ParsesScript, FirstScriptFault}
 use Rattle.world_model.specs.World.{World, WorldOf}
 use Rattle.world_model.specs.Headline.{IsGenuineWorld}
 use Rattle.world_model.specs.Printing.{Shown, printed_world}
+use Rattle.line_model.specs.Accounts.{IsAccounted}
 use Rattle.collector_text.specs.Prints.{IsPrintOf}
 use Rattle.command_io.specs.declared.status.TheConstants.{DONE, REFUSED}
+
+-- The text spells a script, and these bytes are an account of it, whatever they print of its log.
+pub record AccountGives (asked : Bool) (text bytes : List ℕ) (status : ℕ) : Type 0 where
+  pub script : Script
+  pub spelled : ParsesScript text script
+  pub account : IsAccounted script asked bytes
 
 -- These bytes are the printing of the script's world: its log, if it is asked for, and of each collector what the pages
 -- that were delivered to it have and miss.

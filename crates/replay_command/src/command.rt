@@ -4,15 +4,15 @@ ghost use Rattle.std.specs.List.{AllZip};
 ghost use Rattle.text_model.specs.Script.{ParsesScript};
 ghost use Rattle.world_model.specs.Printing.{Shown, printed_world};
 ghost use Rattle.collector_text.specs.Prints.{IsPrintOf};
-ghost use Rattle.command_io.specs.CommandRun.{IsCommandRun};
+ghost use Rattle.command_io.specs.CommandRun.{IsCommandRun, WritesOutput, source_run, sink_run};
 ghost use Rattle.command_io.specs.Output.{bytes_of, status_of};
 ghost use Rattle.trace_script.specs.ScriptFaults.{TellsFirstFault, script_fault_text};
 ghost use Rattle.replay_log.specs.LogTypes.{shown_log};
 ghost use Rattle.script_replay.specs.Replay.{IsHeadline};
-ghost use Rattle.replay_command.specs.Commands.{IsPrinting, ReplayGives};
+ghost use Rattle.replay_command.specs.Commands.{AccountGives, IsPrinting, ReplayGives};
 
 use collector_text::put_collectors;
-use command_io::{Command, Output, Sink, Source, run_command};
+use command_io::{Command, DONE, Output, Sink, Source, run_command};
 use replay_log::put_log;
 use script_replay::{World, replay};
 use std::alloc::Global;
@@ -107,9 +107,11 @@ fn replay_output(alloc: Global, text: Vec<u8>, log: bool) -> Result<Output, NoMe
 pub fn replay_to<R: Source, W: Sink>(alloc: Global, reader: &mut R, writer: &mut W, log: bool) -> u8
     requires sound_reader { R.failed reader.old ≡ false }
     requires sound_writer { W.failed writer.old ≡ false }
-    ensures { IsCommandRun (ReplayGives log)
-        (R.remaining reader.old) (R.remaining reader.new) (W.contents writer.old) (W.contents writer.new)
-        (R.count reader.old) (R.count reader.new) (R.failed reader.new) (W.failed writer.new) result }
+    ensures account { result ≡ DONE → WritesOutput (AccountGives log)
+        (R.remaining reader.old) (R.remaining reader.new) (W.contents writer.old) (W.contents writer.new) result }
+    ensures exact { IsCommandRun (ReplayGives log)
+        (source_run R.remaining R.count R.failed reader.old reader.new) (sink_run W.contents W.failed writer.old writer.new)
+        result }
 {
     run_command(&ReplayCommand { log }, alloc, reader, writer)
 }
