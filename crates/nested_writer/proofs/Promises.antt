@@ -4,23 +4,27 @@ use Rattle.trace_model.specs.declared.limits.TheConstants.{MAX_FRAMES, MOMENT_LI
 use Rattle.trace_model.specs.History.{HistoryEvent, push}
 use Rattle.trace_model.specs.Steps.{IsTooLong}
 use Rattle.nested_writer.specs.declared.fault.WriteFault.{WriteFault}
+use Rattle.record_words.specs.declared.put.Place.{Place}
+use Rattle.nested_writer.specs.declared.stack.allot.Allot.TheVariants.{Fits}
 use Rattle.nested_writer.specs.declared.stack.leave.Ended.{Ended}
 use Rattle.nested_writer.specs.declared.stack.leave.Ended.TheVariants.{Pending, Full}
 use Rattle.nested_writer.specs.declared.frame.Frame.{Frame}
 use Rattle.nested_writer.specs.declared.frame.Purpose.TheVariants.{Record}
 use Rattle.nested_writer.specs.declared.frame.Progress.TheVariants.{Waiting}
 use Rattle.nested_writer.specs.Stack.{Stack}
-use Rattle.nested_writer.specs.Calls.{with_frame, after_leave, IsAtBottom}
+use Rattle.nested_writer.specs.Calls.{with_frame, after_leave, IsAtBottom, NeedsPage, HasTopLeft}
 use Rattle.nested_writer.specs.AtOnce.{MayStand, with_left}
-use Rattle.nested_writer.specs.Allotted.{HasActed}
+use Rattle.nested_writer.specs.Allotted.{HasActed, IsAllotted}
+use Rattle.nested_writer.specs.Answered.{IsAnswered}
+use Rattle.nested_writer.specs.Kept.{SameFills}
 use Rattle.nested_writer.specs.Ends.{MayEnd, MayEndTop, MayNotEndTop, HasEnded, IsEnd}
-use Rattle.nested_writer.specs.Next.{below_top}
+use Rattle.nested_writer.specs.Next.{below_top, IsPlaced, IsSameFrame}
 use Rattle.nested_writer.specs.IsStack.{IsStack, Stands}
-use Rattle.nested_writer.specs.Promises.{Begins, EndsTop, StandsAgain}
+use Rattle.nested_writer.specs.Promises.{Begins, Allots, EndsTop, StandsAgain}
 use Rattle.nested_writer.proofs.AtOnce.{fits_page, stands_again}
 use Rattle.nested_writer.proofs.Keeping.{left_bottom, left_below, ended_to}
 use Rattle.nested_writer.proofs.Pushing.{pushed_record}
-use Rattle.nested_writer.proofs.Staying.{acted_stays, ended_stays}
+use Rattle.nested_writer.proofs.Staying.{acted_stays, allotted_stays, ended_stays}
 
 -- the frame of a record is pushed
 pub begins : (moment len : ℕ) (s after : Stack) → length s.frames < MAX_FRAMES → (IsTooLong s.size len → ⊥) → moment < MOMENT_LIMIT → after ≡ with_frame s record { purpose = Record moment len; progress = Waiting None } → Begins moment len s (Ok (tt {0})) after
@@ -98,3 +102,23 @@ ends_top s after top below ended frames may has is stands pending full =
     by_flat : (x : Stack) (e : Ended) → (e ≡ Pending → 1 < length x.frames) × (e ≡ Full → length x.frames ≤ 1) → length x.frames ≤ 1 → ◌≡◌ {A = Result Ended WriteFault} (Ok e) (Ok Full)
     by_flat x Pending depth flat = absurd (let deep = depth.0 refl in omega arith)
     by_flat x Full depth flat = refl
+
+-- the frame on top gets its place
+pub allots_place : (s after : Stack) (place : Place) → (NeedsPage s s.frames → ⊥) → (s.frames ≡ [] → ⊥) → (HasTopLeft s.frames → ⊥) → IsAllotted s s.frames (Ok (Fits place)) after
+    → ((start : ℕ) (history : List HistoryEvent) → IsStack start history s → IsAnswered s history s.frames (Ok (Fits place))) → SameFills s after → IsPlaced s after place → IsSameFrame s after → Stands s → Allots s (Ok (Fits place)) after
+allots_place s after place needs_none some stays is answered kept placed same stands = record {
+  crowded = ((λ e. absurd (let no = e in cc)), (λ n. absurd (needs_none n.0)));
+  worn = ((λ e. absurd (let no = e in cc)), (λ n. absurd (needs_none n.0)));
+  no_frame = ((λ e. absurd (let no = e in cc)), (λ none. absurd (some none)));
+  not_reserved = ((λ e. absurd (let no = e in cc)), (λ left. absurd (stays left)));
+  needs_page = ((λ e. absurd (let no = e in cc)), (λ n. absurd (needs_none n.0)));
+  after = is;
+  stays = allotted_stays s after (Ok (Fits place)) is stands;
+  answered = answered;
+  kept = kept;
+  fits = λ other e. let at : place ≡ other = cc in subst (IsPlaced s after) at placed;
+  page = λ e. absurd (let no = e in cc);
+  next = placed;
+  same = same;
+  refused = tt;
+}

@@ -4,7 +4,7 @@ use Rattle.nested_writer.specs.Stack.{Stack}
 use Rattle.nested_writer.specs.Allotted.{IsAllotted}
 use Rattle.nested_writer.proofs.Allotting.{plain_after}
 use Rattle.nested_writer.proofs.Answering.{plain_answer}
-use Rattle.nested_writer.proofs.Staying.{allotted_stays}
+use Rattle.nested_writer.proofs.Promises.{allots_place}
 use Rattle.nested_writer.proofs.stack.WriterStack.allot.Goals as goal
 
 pub returns : goal.returns
@@ -12,19 +12,6 @@ returns c =
     let s : Stack = c.args.self.now in
     let place = c.hold_plain.result.place in
     let after : IsAllotted s s.frames (Ok (Fits place)) c.hold_plain.new.self = plain_after s c.hold_plain.new.self c.in-Some.pushed place c.in-Some.ensures c.hold_plain.ensures.reserved c.hold_plain.ensures.stack in
-    record {
-      crowded = search rules;
-      worn = search rules;
-      no_frame = search rules;
-      not_reserved = search rules;
-      needs_page = search rules;
-      after = after;
-      stays = allotted_stays s c.hold_plain.new.self (Ok (Fits place)) after c.requires.stack;
-      answered = λ start history k. plain_answer start history s k c.in-Some.pushed place c.in-Some.ensures;
-      kept = search rules;
-      fits = search rules;
-      page = search rules;
-      next = search rules;
-      same = search rules;
-      refused = search rules;
-    }
+    allots_place s c.hold_plain.new.self place (search rules) (search rules) (search rules) after
+    (λ start history k. plain_answer start history s k c.in-Some.pushed place c.in-Some.ensures)
+    (search rules) (search rules) (search rules) c.requires.stack

@@ -10,6 +10,7 @@ use Rattle.nested_writer.specs.Allotted.{IsAllotted}
 use Rattle.nested_writer.specs.IsStack.{Stands}
 use Rattle.nested_writer.proofs.Allotting.{waited_through, stayed_through}
 use Rattle.nested_writer.proofs.Answering.{fits_answer, close_answer, through_closes}
+use Rattle.nested_writer.proofs.Promises.{allots_place}
 use Rattle.nested_writer.proofs.Staying.{allotted_stays}
 use Rattle.nested_writer.proofs.stack.WriterStack.allot_again.Goals as goal
 use Rattle.nested_writer.proofs.stack.WriterStack.allot_again.Goals.{in-Waiting, in-Through}
@@ -40,28 +41,15 @@ returns-in-Record c =
     let s : Stack = c.args.self.now in
     let place = c.reserve_any.result in
     let after : IsAllotted s s.frames (Ok (Fits place)) c.reserve_any.new.self = search rules in
-    record {
-      crowded = search rules;
-      worn = search rules;
-      no_frame = search rules;
-      not_reserved = search rules;
-      needs_page = search rules;
-      after = after;
-      stays = allotted_stays s c.reserve_any.new.self (Ok (Fits place)) after c.requires.stack;
-      answered = λ start history k.
-          let s : Stack = c.args.self.now in
-          let frames : s.frames ≡ c.in-Some.top ∷ c.self.inside.below.items = ap (λ (x : Stack). x.frames) (sym c.self.view_is) ∙ ap (λ (t : Option Frame). frames_from t c.self.inside.below.items) (sym c.get.ensures ∙ c.in-Some.is) in
-          elim c.match-top.branch [
-            | in-Waiting w ↦ fits_answer start history s k c.in-Some.top c.self.inside.below.items frames w.in-Waiting.noted c.reserve_any.result w.in-Waiting.is (search rules)
-            | in-Through w ↦ absurd (through_closes start history s k c.in-Some.top c.self.inside.below.items frames w.in-Through.noted c.in-Record.moment c.in-Record.len c.in-Record.is w.in-Through.is)
-          ];
-      kept = search rules;
-      fits = search rules;
-      page = search rules;
-      next = search rules;
-      same = search rules;
-      refused = search rules;
-    }
+    allots_place s c.reserve_any.new.self place (search rules) (search rules) (search rules) after
+    (λ start history k.
+    let s : Stack = c.args.self.now in
+    let frames : s.frames ≡ c.in-Some.top ∷ c.self.inside.below.items = ap (λ (x : Stack). x.frames) (sym c.self.view_is) ∙ ap (λ (t : Option Frame). frames_from t c.self.inside.below.items) (sym c.get.ensures ∙ c.in-Some.is) in
+    elim c.match-top.branch [
+      | in-Waiting w ↦ fits_answer start history s k c.in-Some.top c.self.inside.below.items frames w.in-Waiting.noted c.reserve_any.result w.in-Waiting.is (search rules)
+      | in-Through w ↦ absurd (through_closes start history s k c.in-Some.top c.self.inside.below.items frames w.in-Through.noted c.in-Record.moment c.in-Record.len c.in-Record.is w.in-Through.is)
+    ])
+    (search rules) (search rules) (search rules) c.requires.stack
 
 pub returns-in-Close : goal.returns-in-Close
 returns-in-Close c =
@@ -75,25 +63,12 @@ returns-in-Close c =
       | in-Through w ↦ stayed_through s c.go_on.new.self c.in-Some.top c.self.inside.below.items frames w.in-Through.noted _ c.in-Close.is w.in-Through.is refl
           (after ∙ ap (λ (n : ℕ). with_progress s c.in-Some.top c.self.inside.below.items (Through n)) (tried ∙ ap (λ (o : Option ℕ). unwrap_or o (opened s)) w.noted-is))
     ] in
-    record {
-      crowded = search rules;
-      worn = search rules;
-      no_frame = search rules;
-      not_reserved = search rules;
-      needs_page = search rules;
-      after = after;
-      stays = allotted_stays c.args.self.now c.go_on.new.self (Ok (Fits record { start = 0; len = 0 })) after c.requires.stack;
-      answered = λ start history k.
-          let s : Stack = c.args.self.now in
-          let frames : s.frames ≡ c.in-Some.top ∷ c.self.inside.below.items = ap (λ (x : Stack). x.frames) (sym c.self.view_is) ∙ ap (λ (t : Option Frame). frames_from t c.self.inside.below.items) (sym c.get.ensures ∙ c.in-Some.is) in
-          elim c.match-top.branch [
-            | in-Waiting w ↦ fits_answer start history s k c.in-Some.top c.self.inside.below.items frames w.in-Waiting.noted _ w.in-Waiting.is (search rules)
-            | in-Through w ↦ close_answer start history s k c.in-Some.top c.self.inside.below.items frames w.in-Through.noted _ c.in-Close.is w.in-Through.is (search rules)
-          ];
-      kept = search rules;
-      fits = search rules;
-      page = search rules;
-      next = search rules;
-      same = search rules;
-      refused = search rules;
-    }
+    allots_place c.args.self.now c.go_on.new.self (record { start = 0; len = 0 }) (search rules) (search rules) (search rules) after
+    (λ start history k.
+    let s : Stack = c.args.self.now in
+    let frames : s.frames ≡ c.in-Some.top ∷ c.self.inside.below.items = ap (λ (x : Stack). x.frames) (sym c.self.view_is) ∙ ap (λ (t : Option Frame). frames_from t c.self.inside.below.items) (sym c.get.ensures ∙ c.in-Some.is) in
+    elim c.match-top.branch [
+      | in-Waiting w ↦ fits_answer start history s k c.in-Some.top c.self.inside.below.items frames w.in-Waiting.noted _ w.in-Waiting.is (search rules)
+      | in-Through w ↦ close_answer start history s k c.in-Some.top c.self.inside.below.items frames w.in-Through.noted _ c.in-Close.is w.in-Through.is (search rules)
+    ])
+    (search rules) (search rules) (search rules) c.requires.stack

@@ -7,6 +7,7 @@ use Rattle.nested_writer.specs.Stack.{Stack}
 use Rattle.nested_writer.specs.Inside.{frames_from}
 use Rattle.nested_writer.specs.Allotted.{IsAllotted}
 use Rattle.nested_writer.proofs.Answering.{fits_answer}
+use Rattle.nested_writer.proofs.Promises.{allots_place}
 use Rattle.nested_writer.proofs.Staying.{allotted_stays}
 use Rattle.nested_writer.proofs.stack.WriterStack.allot_any.Goals as goal
 
@@ -37,19 +38,6 @@ returns c =
     let top : Frame = record { purpose = Record c.in-Some.pushed.moment c.in-Some.pushed.len; progress = Waiting c.in-Some.noted } in
     let frames : s.frames ≡ top ∷ c.self.inside.below.items = ap (λ (x : Stack). x.frames) (sym c.self.view_is) ∙ ap (λ (t : Option Frame). frames_from t c.self.inside.below.items) c.in-Some.ensures in
     let after : IsAllotted s s.frames (Ok (Fits place)) c.reserve_any.new.self = search rules in
-    record {
-      crowded = search rules;
-      worn = search rules;
-      no_frame = search rules;
-      not_reserved = search rules;
-      needs_page = search rules;
-      after = after;
-      stays = allotted_stays s c.reserve_any.new.self (Ok (Fits place)) after c.requires.stack;
-      answered = λ start history k. fits_answer start history s k top c.self.inside.below.items frames c.in-Some.noted place refl (search rules);
-      kept = search rules;
-      fits = search rules;
-      page = search rules;
-      next = search rules;
-      same = search rules;
-      refused = search rules;
-    }
+    allots_place s c.reserve_any.new.self place (search rules) (search rules) (search rules) after
+    (λ start history k. fits_answer start history s k top c.self.inside.below.items frames c.in-Some.noted place refl (search rules))
+    (search rules) (search rules) (search rules) c.requires.stack
