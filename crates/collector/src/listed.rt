@@ -8,6 +8,7 @@ use crate::collector::Collector;
 use crate::entries::records_from;
 use crate::ranges::Content;
 use page_borrow::{Entry, Records};
+use std::fmt;
 use std::iter::FusedIterator;
 use std::marker::Model;
 use trace_model::CpuId;
@@ -43,6 +44,16 @@ impl<'a> Model for CpuRecords<'a> {
     ghost view = { λ r. records_left r.collector.now r.cpu.0 r.number };
 
     ghost invariant = { λ r. GoOnIfAny r.collector.now r.cpu.0 r.entries r.number r.end };
+}
+
+/// The CPU, and from which number on the records are left.
+impl<'a> fmt::Debug for CpuRecords<'a> {
+    fn fmt<W: fmt::Write>(&self, f: &mut fmt::Formatter<W>) -> fmt::Result {
+        f.debug_struct("CpuRecords")
+            .field("cpu", &self.cpu)
+            .field("number", &self.number)
+            .finish_non_exhaustive()
+    }
 }
 
 /// The kept parcel that this names.

@@ -4,6 +4,7 @@ ghost use Rattle.trace_model.specs.Collection.{Misses};
 
 use crate::collector::Collector;
 use crate::ranges::Content;
+use std::fmt;
 use std::iter::FusedIterator;
 use std::marker::Model;
 use trace_model::{CpuId, RecordNo};
@@ -24,6 +25,16 @@ impl<'a> Model for MissingRuns<'a> {
     ghost Value = { List (ℕ × ℕ) };
 
     ghost view = { λ r. runs_from r.collector.now r.cpu.0 r.number };
+}
+
+/// The CPU, and from which number on the runs are left.
+impl<'a> fmt::Debug for MissingRuns<'a> {
+    fn fmt<W: fmt::Write>(&self, f: &mut fmt::Formatter<W>) -> fmt::Result {
+        f.debug_struct("MissingRuns")
+            .field("cpu", &self.cpu)
+            .field("number", &self.number)
+            .finish_non_exhaustive()
+    }
 }
 
 /// Whether this states that numbers are missing.

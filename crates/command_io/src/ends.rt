@@ -10,8 +10,8 @@ ghost use Rattle.std.specs.Io.KnownBytes.{ReadConsumes, WriteAppends};
 ghost use Rattle.command_io.specs.Counting.{count_more};
 ghost use Rattle.command_io.specs.Failing.{read_fails, write_fails};
 
-use std::io;
 use std::io::{Read, Write};
+use std::{fmt, io};
 
 /// What a command reads from.
 pub trait Source {
@@ -84,6 +84,16 @@ impl<T> Std<T> {
         ensures { result ≡ count_of self.now }
     {
         self.count
+    }
+}
+
+/// Whether it has failed, and how many bytes it has given.
+impl<T> fmt::Debug for Std<T> {
+    fn fmt<W: fmt::Write>(&self, f: &mut fmt::Formatter<W>) -> fmt::Result {
+        f.debug_struct("Std")
+            .field("failed", &self.failed)
+            .field("count", &self.count)
+            .finish_non_exhaustive()
     }
 }
 

@@ -72,7 +72,7 @@ pub enum Phase {
 }
 
 /// What a step answers by which a frame opens or closes a page, or has nothing left to do there.
-#[derive(Clone, Copy)]
+#[derive(Clone, Copy, Debug)]
 pub enum Turned {
     /// It is on the stack.
     Going,

@@ -8,6 +8,7 @@ ghost use Rattle.ring_steps.specs.Paging.{IsWriterReached};
 use crate::ghost_part::GhostPart;
 use crate::plays::Place;
 use crate::rule::{Board, Shape};
+use std::fmt;
 use std::sync::Arc;
 
 /// The writer's seat, and what the writer did in private since its last step on a word.
@@ -25,6 +26,14 @@ pub struct WriterSeat {
     ghost pending: { ∥ Leads shape (writing seat.me.0) ghost_part.now ∥₁ },
 }
 
+impl fmt::Debug for WriterSeat {
+    fn fmt<W: fmt::Write>(&self, f: &mut fmt::Formatter<W>) -> fmt::Result {
+        f.debug_struct("WriterSeat")
+            .field("shape", &self.shape)
+            .finish_non_exhaustive()
+    }
+}
+
 /// The reader's seat.
 #[derive(Drop)]
 pub struct ReaderSeat {
@@ -36,4 +45,12 @@ pub struct ReaderSeat {
     ghost seated: { seat.table_id ≡ (arc_value board).shared.table_id },
     ghost is_reading: { IsSeatOfReader seat.me },
     ghost within: { IsReaderWithin shape (reading seat.me.0) },
+}
+
+impl fmt::Debug for ReaderSeat {
+    fn fmt<W: fmt::Write>(&self, f: &mut fmt::Formatter<W>) -> fmt::Result {
+        f.debug_struct("ReaderSeat")
+            .field("shape", &self.shape)
+            .finish_non_exhaustive()
+    }
 }
