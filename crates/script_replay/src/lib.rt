@@ -5,6 +5,7 @@
 #![tactic(auto)]
 
 mod delivery;
+#[tactic(auto, unfolding(ring_core::specs::Steps::IsReachedCore))]
 mod lane;
 mod places;
 mod replaying;

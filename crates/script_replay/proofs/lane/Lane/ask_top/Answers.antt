@@ -48,7 +48,7 @@ returns-in_default-clause-step c =
     let v : LaneValue = lane_of c.self.inside in
     subst (λ (x : LaneValue). AsksTop x c.step.result c.step.new.self) c.self.view_is
     (asked_step v c.step.result c.step.new.self
-    (λ slot top. let no : false ≡ true = c.in_default.ensures.slot.held slot.place (top_has_place v.core.stack.frames slot top) in absurd (let e = no in cc)) c.step.ensures.step)
+    (λ slot top. let no : false ≡ true = c.in_default.ensures.slot.held slot.place (top_has_place v.core.stack.frames slot top) in absurd (let e = no in cc)) c.step.ensures.obeys.step)
 
 -- ---- it has one
 
@@ -101,4 +101,4 @@ returns-clause-step c =
     (λ bs fills. ap (λ (t : Stack). top_bytes t v.core.stack.frames) (sym (lent.in_slot bs)) ∙ c.in-Ok.ensures.slot.written bs (fills ∙ sym place ∙ sym lent.long))
     (is_first bytes kept.items (c.len.result - 1) c.index-payload.result.now last c.index-payload.ensures)
     (c.put_padded.ensures ∙ ap (λ (k : ℕ). payload ++ replicate (k - length payload) 0) (c.deref_mut.ensures.len ∙ place))
-    (subst (λ (t : Stack). Makes (record v.core { stack = t }) (ends (top_bytes t t.frames)) c.step-2.result c.step-2.new.self) (lent.in_slot part) c.step-2.ensures.step))
+    (subst (λ (t : Stack). Makes (record v.core { stack = t }) (ends (top_bytes t t.frames)) c.step-2.result c.step-2.new.self) (lent.in_slot part) c.step-2.ensures.obeys.step))

@@ -4,7 +4,8 @@ use Rattle.script_replay.proofs.lane.Lane.new.Goals as goal
 
 pub returns : goal.returns
 returns c =
-    new_lane c.args.pages c.args.size c.args.start _ c.requires.most c.requires.small c.requires.large
-    c.requires.words c.in_ok-new_at.ensures
+    let limits = c.requires.limits in
+    new_lane c.args.pages c.args.size c.args.start _ limits.most_pages limits.small limits.large limits.words
+    c.in_ok-new_at.ensures
     (ap (λ (l : List (Bor (List ℕ))). reverse (map (λ payload. payload.now) l)) c.in_ok-with_capacity.ensures.items)
     refl c.new.ensures.items
