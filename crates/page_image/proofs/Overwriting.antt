@@ -23,10 +23,6 @@ pub range_within : (items : List ℕ) (end start len : ℕ) → start + len ≤ 
 range_within items end start len within =
     same_lists _ _ (search (rules, places)) (λ k d h. grind (arith, places))
 
--- a part within a list is as long as it says
-pub range_len : (items : List ℕ) (start len : ℕ) → start + len ≤ length items → length (take (start + len - start) (drop start items)) ≡ len
-range_len items start len within = search (rules, places)
-
 -- the moment of the last record is the same if one has other bytes
 moment_of_last-replaced : (front behind : List Record) (m : ℕ) (old new : List ℕ) → moment_of_last (front ++ record { moment = m; bytes = old } ∷ behind) ≡ moment_of_last (front ++ record { moment = m; bytes = new } ∷ behind)
 moment_of_last-replaced [] [] m old new = refl

@@ -4,7 +4,7 @@ use Rattle.std.specs.Prelude.{Contains}
 use Rattle.std.specs.List.{slice_get}
 use Rattle.std.specs.Option.{option_map}
 use Rattle.std.proofs.lemmas.List.{get_or-map, length-map, take-map, take_all}
-use Rattle.std.proofs.lemmas.Option.{slice_get-map, slice_get-get_or, none-some}
+use Rattle.std.proofs.lemmas.Option.{slice_get-map, slice_get-get_or}
 use Rattle.trace_model.specs.Parcel.{Parcel}
 use Rattle.page_numbers.specs.Parcels.{ParcelValue, as_parcel, as_parcels}
 

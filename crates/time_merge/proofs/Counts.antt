@@ -1,20 +1,12 @@
 -- Parcels by their values: how many records they have, and whose they are.
-use Rattle.std.proofs.Common.{◌≡◌, ℕ, ◌+◌, List, [], ◌∷◌, length, Some, refl, sym, ap, ◌∙◌}
-use Rattle.std.specs.List.{slice_get, sum_by, fold}
-use Rattle.trace_model.specs.Parcel.{Parcel}
+use Rattle.std.proofs.Common.{◌≡◌, ℕ, List, length, Some, sym, ap, ◌∙◌}
+use Rattle.std.specs.List.{slice_get, sum_by}
 use Rattle.page_numbers.specs.Parcels.{ParcelValue, as_parcel, as_parcels}
-use Rattle.time_merge.specs.Lines.{AreOfCpu, record_count}
+use Rattle.time_merge.specs.Lines.{AreOfCpu}
 use Rattle.time_merge.proofs.Ordered.{mapped_at}
 
 abbrev pub count_of : List ParcelValue → ℕ
 count_of parcels = sum_by (λ parcel. length (as_parcel parcel).records) parcels
-
-counted_from : (parcels : List ParcelValue) (n : ℕ) → fold (λ m parcel. m + length (as_parcel parcel).records) n parcels ≡ fold (λ m (parcel : Parcel). m + length parcel.records) n (as_parcels parcels)
-counted_from [] n = refl
-counted_from (parcel ∷ parcels) n = counted_from parcels (n + length (as_parcel parcel).records)
-
-pub counted : (parcels : List ParcelValue) → count_of parcels ≡ record_count (as_parcels parcels)
-counted parcels = counted_from parcels 0
 
 pub all_of_cpu : (parcels : List ParcelValue) (cpu : ℕ) → ((k : ℕ) (parcel : ParcelValue) → slice_get parcels k ≡ Some parcel → parcel.cpu ≡ cpu) → AreOfCpu (as_parcels parcels) cpu
 all_of_cpu parcels cpu each k parcel at =

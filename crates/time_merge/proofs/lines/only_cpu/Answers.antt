@@ -1,4 +1,4 @@
-use Rattle.std.proofs.Common.{◌<◌, length, Some, arith}
+use Rattle.std.proofs.Common.{arith}
 use Rattle.std.proofs.lemmas.Option.{slice_get_within}
 use Rattle.time_merge.proofs.Counts.{all_of_cpu}
 use Rattle.time_merge.proofs.lines.only_cpu.Goals as goal

@@ -1,4 +1,4 @@
-use Rattle.std.proofs.Common.{◌≡◌, ◌<◌, List, length, take, get_or, Ok, sym, ap, ◌∙◌, subst, rules, arith}
+use Rattle.std.proofs.Common.{◌≡◌, ◌<◌, length, take, get_or, Ok, sym, ap, ◌∙◌, subst, rules, arith}
 use Rattle.trace_model.specs.Parcel.{Parcel}
 use Rattle.page_numbers.specs.Parcels.{as_parcel}
 use Rattle.page_numbers.proofs.AsParcels.{parcel_is, as_many}

@@ -1,4 +1,4 @@
-use Rattle.std.proofs.Common.{◌≡◌, List, take, sym, ap, ◌∙◌, subst}
+use Rattle.std.proofs.Common.{List, take, sym, ap, ◌∙◌, subst}
 use Rattle.std.proofs.lemmas.List.{take-map}
 use Rattle.trace_model.specs.Parcel.{Parcel}
 use Rattle.page_numbers.specs.Parcels.{as_parcel, as_parcels}

@@ -1,4 +1,4 @@
-use Rattle.std.proofs.Common.{⊎_elim, ℕ, ◌<◌, ◌≤◌, subst, arith}
+use Rattle.std.proofs.Common.{⊎_elim, ◌<◌, ◌≤◌, subst, arith}
 use Rattle.std.proofs.lemmas.Bool.{cases_lt}
 use Rattle.collector.specs.Beside.{IsBeside}
 use Rattle.collector.proofs.SideBySide.{own_within, clash_seen, fit_seen, odds_taken, alike_fit, one_fit, front_fits, fit_up_to}

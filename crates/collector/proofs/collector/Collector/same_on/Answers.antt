@@ -1,4 +1,4 @@
-use Rattle.std.proofs.Common.{⊎_elim, ℕ, ◌<◌, ◌≤◌, subst, arith}
+use Rattle.std.proofs.Common.{⊎_elim, ◌<◌, subst, arith}
 use Rattle.std.proofs.lemmas.Bool.{cases_lt}
 use Rattle.collector.specs.Beside.{IsBeside}
 use Rattle.collector.proofs.SideBySide.{own_within, same_seen, not_same_seen, alike_same, odds_not_same, one_not_same}
