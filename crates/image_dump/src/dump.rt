@@ -1,6 +1,6 @@
 //! The command `dump`: a page image in, its printing out.
 ghost use Rattle.std.specs.Prelude.{◌≡◌, false, IfOk};
-ghost use Rattle.command_io.specs.CommandRun.{IsCommandRun};
+ghost use Rattle.command_io.specs.CommandRun.{IsCommandRun, source_run, sink_run};
 ghost use Rattle.command_io.specs.Output.{bytes_of, status_of};
 ghost use Rattle.image_dump.specs.Dumps.{DumpGives};
 
@@ -38,8 +38,8 @@ pub fn dump_to<R: Source, W: Sink>(alloc: Global, reader: &mut R, writer: &mut W
     requires sound_reader { R.failed reader.old ≡ false }
     requires sound_writer { W.failed writer.old ≡ false }
     ensures { IsCommandRun DumpGives
-        (R.remaining reader.old) (R.remaining reader.new) (W.contents writer.old) (W.contents writer.new)
-        (R.count reader.old) (R.count reader.new) (R.failed reader.new) (W.failed writer.new) result }
+        (source_run R.remaining R.count R.failed reader.old reader.new)
+        (sink_run W.contents W.failed writer.old writer.new) result }
 {
     run_command(&DumpCommand, alloc, reader, writer)
 }

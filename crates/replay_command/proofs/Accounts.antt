@@ -1,6 +1,6 @@
 -- The printing of a script's world is an account of it.
 use Rattle.std.proofs.Common.{◌≡◌, ℕ, zero, suc, ◌++◌, ◌<◌, ◌≤◌, Bool, false, if◌then◌else◌, List, [], ◌∷◌, length, map, Some, None, refl, sym, ap, ◌∙◌, subst, inl, inr, ⊎_elim, arith}
-use Rattle.std.specs.Prelude.{Contains, flat_map, slice_index_or, ◌↔◌, ◌==◌}
+use Rattle.std.specs.Prelude.{Contains, filter, flat_map, slice_index_or, ◌↔◌, ◌==◌}
 use Rattle.std.specs.List.{slice_get, enumerate_from, AllZip}
 use Rattle.std.proofs.lemmas.List.{length-map}
 use Rattle.std.proofs.lemmas.Option.{slice_get_cases}
@@ -13,7 +13,7 @@ use Rattle.trace_model.specs.Parcel.{Parcel}
 use Rattle.trace_model.specs.Collection.{Has, Misses}
 use Rattle.trace_model.specs.Listing.{Line, line_for}
 use Rattle.link_marks.specs.ToldRuns.{fills_taken}
-use Rattle.text_model.specs.Script.{Script}
+use Rattle.text_model.specs.Script.{Command, deliver, Script}
 use Rattle.text_model.specs.ScriptLimits.{IsWithinLimits}
 use Rattle.text_model.specs.Printing.{printed_log_line}
 use Rattle.text_model.proofs.ParsedLimits.{ParsesScript-within}
@@ -27,11 +27,11 @@ use Rattle.world_model.specs.Headline.{StandsIn, IsOverwrittenBefore, parcels_fr
 use Rattle.world_model.specs.Printing.{Shown, printed_collector}
 use Rattle.world_model.proofs.Lookups.{element_at, contains_at, get_map, get_from_map, kept_by}
 use Rattle.world_model.proofs.DeliveredLines.{delivered_by_lines}
-use Rattle.line_model.specs.Lines.{writer_lines}
+use Rattle.line_model.specs.Lines.{writer_line, IsBegunByLines}
 use Rattle.line_model.specs.ReplayedLines.{commands_of}
-use Rattle.line_model.specs.Accounts.{AddAll, IsAccount, IsInRuns, IsShownOf, IsDelivered, IsAccounted}
+use Rattle.line_model.specs.Accounts.{AddAll, IsAccount, IsShownOf, IsAccounted}
 use Rattle.line_model.proofs.ReplayedLines.{worlds_make_lines}
-use Rattle.line_model.proofs.AccountsMade.{lines_add}
+use Rattle.line_model.proofs.AccountsMade.{lines_add, lines_filtered}
 use Rattle.replay_command.specs.Commands.{AccountGives, IsPrinting, ReplayGives}
 
 -- a parcel's CPU and fill
@@ -40,6 +40,10 @@ key_of parcel = (parcel.cpu, parcel.fill)
 
 abbrev keys_of : List Parcel → List (ℕ × ℕ)
 keys_of parcels = map key_of parcels
+
+-- the runs have the number
+abbrev IsInRuns : List (ℕ × ℕ) → ℕ → Type 0
+IsInRuns runs number = (run : ℕ × ℕ) × Contains runs run × (run.0 ≤ number) × (number ≤ run.1)
 
 runs_are : (runs : List (List (ℕ × ℕ))) (cpu : ℕ) → runs_of runs cpu ≡ slice_index_or runs cpu []
 runs_are [] cpu = refl
@@ -63,14 +67,16 @@ module _ (script : Script) (w : World) (limits : IsWithinLimits script) (of : Wo
   abbrev events : ℕ → List RingEvent
   events cpu = events_of cpu (known_at cpu)
 
-  account : (cpu : ℕ) (k : Known cpu) → cpu < script.cpus → IsAccount script.pages script.size script.start (writer_lines cpu (commands_of script.commands)) (events_of cpu k)
+  account : (cpu : ℕ) (k : Known cpu) → cpu < script.cpus → IsAccount script cpu (events_of cpu k)
   account cpu (known lane at) low =
       let cut = genuine.cut cpu lane at in
-      let (stack, written) = lines_add script.pages script.size script.start (writer_lines cpu (commands_of script.commands)) lane.core.history
-          (worlds_make_lines script w cpu lane limits of at).0 in
+      let lines : List Command = filter (writer_line cpu) (commands_of script.commands) in
+      let begun = subst (λ (l : List Command). IsBegunByLines script.pages script.size script.start l lane.core.history) (lines_filtered cpu (commands_of script.commands))
+      (worlds_make_lines script w cpu lane limits of at).0 in
+      let (stack, written) = lines_add script.pages script.size script.start lines lane.core.history begun in
       record {
         stack = stack;
-        written = subst (λ (l : List HistoryEvent). AddAll script.size (writer_lines cpu (commands_of script.commands)) [] l stack) (sym cut.told.history_events) written;
+        written = subst (λ (l : List HistoryEvent). AddAll script.size lines [] l stack) (sym cut.told.history_events) written;
         leaves = λ front behind payload split. cut.is_history front behind (leave payload) (sym cut.told.history_events ∙ split);
         window = window_of lane.core;
         run = cut.told.window;
@@ -88,13 +94,17 @@ module _ (script : Script) (w : World) (limits : IsWithinLimits script) (of : Wo
       (contains_at (map (λ p. p.fill) (parcels_from cpu w.taken)) j parcel.fill (get_map (λ (p : Parcel). p.fill) (parcels_from cpu w.taken) j parcel place))
   was_taken cpu (unknown past) parcel is has = absurd (let low = genuine.of_a_cpu parcel has in let no : ⊥ = omega (arith, past, low, is) in no)
 
-  is_delivered : (collector : ℕ) (own : List (ℕ × ℕ)) (fill : ℕ × ℕ) → slice_get (map keys_of w.delivered) collector ≡ Some own → Contains own fill → IsDelivered script events collector fill
+  -- a line delivers the fill, which was taken
+  abbrev IsDelivered : (collector : ℕ) → ℕ × ℕ → Type 0
+  IsDelivered collector fill = ((line : ℕ) × Contains script.commands (line, deliver collector fill.0 fill.1)) × Contains (fills_taken script.start (events fill.0)) fill.1
+
+  is_delivered : (collector : ℕ) (own : List (ℕ × ℕ)) (fill : ℕ × ℕ) → slice_get (map keys_of w.delivered) collector ≡ Some own → Contains own fill → IsDelivered collector fill
   is_delivered collector own fill own_at has =
       let (parcels, at, is) = get_from_map keys_of w.delivered collector own own_at in
       let (k, there) = element_at own fill has in
       let (parcel, parcel_at, same) = get_from_map key_of parcels k fill (subst (λ (l : List (ℕ × ℕ)). slice_get l k ≡ Some fill) (sym is) there) in
       let here = contains_at parcels k parcel parcel_at in
-      subst (IsDelivered script events collector) same
+      subst (IsDelivered collector) same
       (delivered_by_lines script w collector parcels parcel of at here, was_taken parcel.cpu (known_at parcel.cpu) parcel refl (genuine.delivered collector parcels parcel at here))
 
   -- ---- what is shown
@@ -193,7 +203,7 @@ accounted script asked bytes limits p =
       accounts = λ cpu low. account script w limits p.of_script p.genuine cpu (known_at script w limits p.of_script p.genuine cpu) low;
       fills = map keys_of w.delivered;
       collectors = length-map w.delivered keys_of ∙ p.genuine.collectors;
-      delivered = is_delivered script w limits p.of_script p.genuine;
+      delivered = λ collector cpu fill own at has. is_delivered script w limits p.of_script p.genuine collector own (cpu, fill) at has;
       shown = p.shown;
       each = all_shown script w limits p.of_script p.genuine w.delivered p.shown (λ k parcels at. (k, at)) p.told;
       log = if asked then flat_map printed_log_line w.log else [];

@@ -1,22 +1,20 @@
 -- Where a command ends with the status 4 and neither end failed.
-use Rattle.std.proofs.Common.{◌≡◌, ◌⊎◌, inl, inr, ◌<◌, ◌≤◌, ℕ, Bool, true, false, List, Option, refl, subst, arith}
+use Rattle.std.proofs.Common.{◌≡◌, ◌⊎◌, inl, inr, ◌<◌, ◌≤◌, ℕ, Bool, true, List, refl, subst, arith}
 use Rattle.std.specs.Io.KnownBytes.{Appends}
 use Rattle.trace_model.specs.declared.limits.TheConstants.{MAX_INPUT}
-use Rattle.command_io.specs.CommandRun.{IsCommandRun, TakesMoreThan, WritesNothing, WritesOutput}
+use Rattle.command_io.specs.CommandRun.{SourceRun, SinkRun, IsTooLong, IsCommandRun, WritesOutput}
 use Rattle.command_io.specs.declared.output.TheConstants.{THREAD_LINE}
 use Rattle.command_io.specs.declared.status.TheConstants.{END_FAILED}
 use Rattle.image_dump.specs.Dumps.{DumpGives}
 use Rattle.replay_command.specs.Commands.{ReplayGives}
 use Rattle.text_model.specs.Script.{Script}
+use Rattle.trace_cli.specs.Answers.{AreSound}
 use Rattle.trace_cli.specs.Runs.{IsRunOutput, RunGives}
 
 -- what it may be then
-abbrev Causes : (gives : List ℕ → List ℕ → ℕ → Type 0) (unread left contents contents_after : Option (List ℕ))
-    (count : ℕ) → Type 0
-Causes gives unread left contents contents_after count =
-    (false ≡ true) ⊎ (false ≡ true)
-    ⊎ (TakesMoreThan MAX_INPUT unread left count × WritesNothing contents contents_after false)
-    ⊎ WritesOutput gives unread left contents contents_after END_FAILED
+abbrev Causes : (gives : List ℕ → List ℕ → ℕ → Type 0) → SourceRun → SinkRun → Type 0
+Causes gives source sink = (source.failed ≡ true) ⊎ (sink.failed ≡ true) ⊎ IsTooLong source sink
+    ⊎ WritesOutput gives source.unread source.left sink.contents sink.contents_after END_FAILED
 
 -- no output of `replay` has it
 no_replay : (asked : Bool) (text bytes : List ℕ) → ReplayGives asked text bytes END_FAILED → ⊥
@@ -37,39 +35,25 @@ thread_line : (text bytes : List ℕ) → RunGives text bytes END_FAILED → byt
 thread_line text bytes (inl a) = of_run a.script bytes a.output
 thread_line text bytes (inr a) = absurd (let is = a.refused in cc)
 
-too_long : (unread left contents contents_after : Option (List ℕ)) (gives : List ℕ → List ℕ → ℕ → Type 0) (count : ℕ)
-    → ((text bytes : List ℕ) → gives text bytes END_FAILED → ⊥)
-    → Causes gives unread left contents contents_after count → MAX_INPUT < count
-too_long unread left contents contents_after gives count none (inl h) = absurd (cc)
-too_long unread left contents contents_after gives count none (inr (inl h)) = absurd (cc)
-too_long unread left contents contents_after gives count none (inr (inr (inl h))) = h.0.counted
-too_long unread left contents contents_after gives count none (inr (inr (inr h))) =
-    absurd (none h.output.text h.bytes h.output.given)
+module _ (source : SourceRun) (sink : SinkRun) (sound : AreSound source sink) where
+  too_long : (gives : List ℕ → List ℕ → ℕ → Type 0) → ((text bytes : List ℕ) → gives text bytes END_FAILED → ⊥) → Causes gives source sink → MAX_INPUT < source.count_after
+  too_long gives none (inl h) = absurd (let is = sound.source_sound in cc)
+  too_long gives none (inr (inl h)) = absurd (let is = sound.sink_sound in cc)
+  too_long gives none (inr (inr (inl h))) = h.0.counted
+  too_long gives none (inr (inr (inr h))) = absurd (none h.output.text h.bytes h.output.given)
 
-pub replay_told : (asked : Bool) (unread left contents contents_after : Option (List ℕ)) (count : ℕ)
-    → IsCommandRun (ReplayGives asked) unread left contents contents_after 0 count false false END_FAILED
-    → MAX_INPUT < count
-replay_told asked unread left contents contents_after count h =
-    too_long unread left contents contents_after (ReplayGives asked) count (no_replay asked) (h.end_fault refl)
+  pub replay_told : (asked : Bool) → IsCommandRun (ReplayGives asked) source sink END_FAILED → MAX_INPUT < source.count_after
+  replay_told asked h = too_long (ReplayGives asked) (no_replay asked) (h.end_fault refl)
 
-pub dump_told : (unread left contents contents_after : Option (List ℕ)) (count : ℕ)
-    → IsCommandRun DumpGives unread left contents contents_after 0 count false false END_FAILED
-    → MAX_INPUT < count
-dump_told unread left contents contents_after count h =
-    too_long unread left contents contents_after DumpGives count no_dump (h.end_fault refl)
+  pub dump_told : IsCommandRun DumpGives source sink END_FAILED → MAX_INPUT < source.count_after
+  dump_told h = too_long DumpGives no_dump (h.end_fault refl)
 
-line_written : (unread left contents contents_after : Option (List ℕ)) (count : ℕ) → count ≤ MAX_INPUT
-    → Causes RunGives unread left contents contents_after count → Appends contents contents_after THREAD_LINE.now
-line_written unread left contents contents_after count short (inl h) = absurd (cc)
-line_written unread left contents contents_after count short (inr (inl h)) = absurd (cc)
-line_written unread left contents contents_after count short (inr (inr (inl h))) =
-    absurd (let long = h.0.counted in omega arith)
-line_written unread left contents contents_after count short (inr (inr (inr h))) =
-    subst (λ (bytes : List ℕ). Appends contents contents_after bytes)
-    (thread_line h.output.text h.bytes h.output.given) h.written
+  line_written : source.count_after ≤ MAX_INPUT → Causes RunGives source sink → Appends sink.contents sink.contents_after THREAD_LINE.now
+  line_written short (inl h) = absurd (let is = sound.source_sound in cc)
+  line_written short (inr (inl h)) = absurd (let is = sound.sink_sound in cc)
+  line_written short (inr (inr (inl h))) = absurd (let long = h.0.counted in omega arith)
+  line_written short (inr (inr (inr h))) =
+      subst (λ (bytes : List ℕ). Appends sink.contents sink.contents_after bytes) (thread_line h.output.text h.bytes h.output.given) h.written
 
-pub run_told : (unread left contents contents_after : Option (List ℕ)) (count : ℕ)
-    → IsCommandRun RunGives unread left contents contents_after 0 count false false END_FAILED
-    → count ≤ MAX_INPUT → Appends contents contents_after THREAD_LINE.now
-run_told unread left contents contents_after count h short =
-    line_written unread left contents contents_after count short (h.end_fault refl)
+  pub run_told : IsCommandRun RunGives source sink END_FAILED → source.count_after ≤ MAX_INPUT → Appends sink.contents sink.contents_after THREAD_LINE.now
+  run_told h short = line_written short (h.end_fault refl)

@@ -1,5 +1,6 @@
 -- What the program gives for what its command line asks for.
-use Rattle.std.specs.Prelude.{ℕ, List}
+use Rattle.std.specs.Prelude.{◌≡◌, ℕ, false, List}
+use Rattle.command_io.specs.CommandRun.{SourceRun, SinkRun}
 use Rattle.command_line.specs.declared.call.Call.{Call}
 use Rattle.command_line.specs.declared.call.Call.TheVariants.{Replay, Run, Dump}
 use Rattle.image_dump.specs.Dumps.{DumpGives}
@@ -11,3 +12,8 @@ abbrev pub CallGives : Call → List ℕ → List ℕ → ℕ → Type 0
 CallGives (Replay log) = ReplayGives log
 CallGives Run = RunGives
 CallGives Dump = DumpGives
+
+-- neither a read nor a write has failed
+pub record AreSound (source : SourceRun) (sink : SinkRun) : Type 0 where
+  pub source_sound : source.failed ≡ false
+  pub sink_sound : sink.failed ≡ false

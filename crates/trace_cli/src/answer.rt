@@ -1,12 +1,11 @@
 //! What the program does for its command line.
-ghost use Rattle.std.specs.Prelude.{◌≡◌, false, true, Err, Ok};
-ghost use Rattle.std.specs.Io.KnownBytes.{Appends};
-ghost use Rattle.command_io.specs.CommandRun.{AppendsPrefix, IsCommandRun, OnlyUsage};
+ghost use Rattle.std.specs.Prelude.{◌≡◌, false, Err, Ok};
+ghost use Rattle.command_io.specs.CommandRun.{IsCommandRun, IsRefusedCall, source_run, sink_run};
 ghost use Rattle.command_line.specs.declared.call.Call.{Call as CallSeen};
 ghost use Rattle.trace_cli.specs.Answers.{CallGives};
 
 use crate::running::run_to;
-use command_io::{END_FAILED, MEMORY_LINE, NO_MEMORY, Sink, Source, USAGE, print_memory_line};
+use command_io::{Sink, Source, USAGE, print_memory_line};
 use command_line::{Call, CallFault};
 use image_dump::dump_to;
 use replay_command::replay_to;
@@ -26,15 +25,11 @@ pub fn answer_to<Rt: Threads + Wait + Sync, R: Source, W: Sink>(
     requires sound_reader { R.failed reader.old ≡ false }
     requires sound_writer { W.failed writer.old ≡ false }
     ensures called { (asked : CallSeen) → call ≡ Ok asked → IsCommandRun (CallGives asked)
-        (R.remaining reader.old) (R.remaining reader.new) (W.contents writer.old) (W.contents writer.new)
-        (R.count reader.old) (R.count reader.new) (R.failed reader.new) (W.failed writer.new) result }
-    ensures usage { call ≡ Err CallFault.Usage → OnlyUsage
-        (R.remaining reader.old) (R.remaining reader.new) (W.contents writer.old) (W.contents writer.new)
-        (R.count reader.old) (R.count reader.new) (R.failed reader.new) (W.failed writer.new) result }
-    ensures memory { call ≡ Err CallFault.NoMemory → W.failed writer.new ≡ false
-        → (result ≡ NO_MEMORY) × Appends (W.contents writer.old) (W.contents writer.new) MEMORY_LINE }
-    ensures memory_fault { call ≡ Err CallFault.NoMemory → W.failed writer.new ≡ true
-        → (result ≡ END_FAILED) × AppendsPrefix (W.contents writer.old) (W.contents writer.new) MEMORY_LINE }
+        (source_run R.remaining R.count R.failed reader.old reader.new)
+        (sink_run W.contents W.failed writer.old writer.new) result }
+    ensures refused { IsRefusedCall (call ≡ Err CallFault.Usage) (call ≡ Err CallFault.NoMemory)
+        (source_run R.remaining R.count R.failed reader.old reader.new)
+        (sink_run W.contents W.failed writer.old writer.new) result }
 {
     match call {
         Ok(Call::Replay { log }) => replay_to(alloc, reader, writer, log),

@@ -2,7 +2,7 @@
 ghost use Rattle.std.specs.Prelude.{◌≡◌, List, false, IfOk, IfSome};
 ghost use Rattle.std.specs.List.{AllZip};
 ghost use Rattle.std.specs.Thread.{IsSync};
-ghost use Rattle.command_io.specs.CommandRun.{IsCommandRun};
+ghost use Rattle.command_io.specs.CommandRun.{IsCommandRun, source_run, sink_run};
 ghost use Rattle.command_io.specs.Output.{bytes_of, status_of};
 ghost use Rattle.run_audit.specs.Audit.{taken_in};
 ghost use Rattle.run_text.specs.Printing.{AuditedShown, IsAuditedPrintOf, printed_run};
@@ -112,8 +112,8 @@ pub fn run_to<Rt: Threads + Wait + Sync, R: Source, W: Sink>(
     requires sound_reader { R.failed reader.old ≡ false }
     requires sound_writer { W.failed writer.old ≡ false }
     ensures { IsCommandRun RunGives
-        (R.remaining reader.old) (R.remaining reader.new) (W.contents writer.old) (W.contents writer.new)
-        (R.count reader.old) (R.count reader.new) (R.failed reader.new) (W.failed writer.new) result }
+        (source_run R.remaining R.count R.failed reader.old reader.new)
+        (sink_run W.contents W.failed writer.old writer.new) result }
 {
     run_command(&RunCommand { rt }, alloc, reader, writer)
 }
