@@ -1,5 +1,5 @@
 -- What a writer's fields state of each state with its part; and what they are after a step of the frame on top.
-use Rattle.std.proofs.Common.{◌≡◌, ◌≢◌, List, [], refl, sym, ap, ◌∙◌, subst}
+use Rattle.std.proofs.Common.{◌≡◌, ◌≢◌, List, [], sym, ap, ◌∙◌, subst}
 use Rattle.trace_model.specs.Frames.{Phase, Frame}
 use Rattle.trace_model.specs.Ring.{Core}
 use Rattle.trace_model.specs.Steps as model
@@ -8,7 +8,7 @@ use Rattle.link_marks.specs.RingKept.{IsRingKept}
 use Rattle.link_marks.proofs.RingsKept.{reached_kept, reached_further}
 use Rattle.ring_steps.specs.declared.rule.Shape.{Shape}
 use Rattle.ring_steps.specs.Views.{Writing, writing_of}
-use Rattle.ring_steps.specs.Seats.{Leads, IsWriterStep}
+use Rattle.ring_steps.specs.Seats.{IsWriterStep}
 use Rattle.ring_steps.specs.Paging.{IsTopIn}
 use Rattle.ring_frames.specs.declared.answer.Answer.{Answer}
 use Rattle.ring_frames.specs.Value.{FramesValue, phase_of}
@@ -18,10 +18,6 @@ use Rattle.ring_frames.proofs.Same.{same_frames}
 use Rattle.ring_frames.proofs.Tops.{IsTopped, topped}
 use Rattle.ring_shared.specs.Value.{WriterValue}
 use Rattle.ring_shared.specs.Calls.{IsWriter, AreWriterFields, MakesSome}
-
--- if nothing was done in private, no step is pending
-pub leads_nowhere : (shape : Shape) (part : Writing) → Leads shape part part
-leads_nowhere shape part = λ c reached is. ([], c, refl, is)
 
 abbrev pub FramesIn : Shape → FramesValue → Core → Type 0
 FramesIn shape frames c = AreFrames shape.pages shape.size shape.start frames c

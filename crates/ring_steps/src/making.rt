@@ -55,7 +55,7 @@ fn take_tail(board: &Board, shape: Shape, seat: &mut Place)
     ensures seated { seat.new.table_id ≡ seat.old.table_id }
     ensures seat { IsWholeSeat shape seat.new.me }
 {
-    load::<Brand>(board, shape, seat, 0);
+    load::<Brand, _>(board, shape, seat, 0, &());
 }
 
 /// The seats of a new ring of `pages` pages and a spare, of `size` bytes of data each, whose first fill has the number

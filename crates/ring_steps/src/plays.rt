@@ -35,9 +35,15 @@ impl<J: Telling> Play<Option<Page>, View> for Told<J> {
     ghost then = { λ _ before found after. J.tells before found after };
 }
 
-/// Loads a word.
+/// Loads a word. `given` is what the caller states to the proof; no code reads it.
 #[inline(always)]
-pub(crate) fn load<J: Telling>(board: &Board, shape: Shape, seat: &mut Place, word: usize) -> u64
+pub(crate) fn load<J: Telling, G>(
+    board: &Board,
+    shape: Shape,
+    seat: &mut Place,
+    word: usize,
+    given: &G,
+) -> u64
     requires at { SitsAt shape board.now.shared.key board.now.shared.table_id seat.old.table_id }
     requires word { word < board.now.shared.table_id.words }
     requires allowed { Allows (Shows shape.pages shape.size shape.start)
@@ -46,17 +52,19 @@ pub(crate) fn load<J: Telling>(board: &Board, shape: Shape, seat: &mut Place, wo
     ensures told { J.tells seat.old.me result seat.new.me }
 {
     let _shape = shape;
+    let _given = given;
     board.shared.load::<Told<J>>(seat, word)
 }
 
-/// Stores a word.
+/// Stores a word. `given` is as for `load`.
 #[inline(always)]
-pub(crate) fn store<J: Telling>(
+pub(crate) fn store<J: Telling, G>(
     board: &Board,
     shape: Shape,
     seat: &mut Place,
     word: usize,
     new: u64,
+    given: &G,
 )
     requires at { SitsAt shape board.now.shared.key board.now.shared.table_id seat.old.table_id }
     requires word { word < board.now.shared.table_id.words }
@@ -66,18 +74,20 @@ pub(crate) fn store<J: Telling>(
     ensures told { J.tells seat.old.me new seat.new.me }
 {
     let _shape = shape;
+    let _given = given;
     board.shared.store::<Told<J>>(seat, word, new);
 }
 
-/// Makes a word `to` if it is `from`, and answers what it was.
+/// Makes a word `to` if it is `from`, and answers what it was. `given` is as for `load`.
 #[inline(always)]
-pub(crate) fn exchange<J: Telling>(
+pub(crate) fn exchange<J: Telling, G>(
     board: &Board,
     shape: Shape,
     seat: &mut Place,
     word: usize,
     from: u64,
     to: u64,
+    given: &G,
 ) -> u64
     requires at { SitsAt shape board.now.shared.key board.now.shared.table_id seat.old.table_id }
     requires word { word < board.now.shared.table_id.words }
@@ -88,6 +98,7 @@ pub(crate) fn exchange<J: Telling>(
     ensures told { J.tells seat.old.me result seat.new.me }
 {
     let _shape = shape;
+    let _given = given;
     board
         .shared
         .compare_exchange::<Told<J>>(seat, word, from, to)

@@ -26,7 +26,14 @@ impl ReaderSeat {
             (reading_in self.new) }
         ensures spare { (reading_in self.new).keeps_spare ≡ (reading_in self.old).keeps_spare }
     {
-        store::<Brand>(&self.board, self.shape, &mut self.seat, WISH, fill.0 + 1);
+        store::<Brand, _>(
+            &self.board,
+            self.shape,
+            &mut self.seat,
+            WISH,
+            fill.0 + 1,
+            &(),
+        );
     }
 
     /// A load of the number of closed fills: the fill that the reader found is closed, or it finds none.
@@ -37,7 +44,7 @@ impl ReaderSeat {
             (reading_in self.new) }
         ensures spare { (reading_in self.new).keeps_spare ≡ (reading_in self.old).keeps_spare }
     {
-        load::<Brand>(&self.board, self.shape, &mut self.seat, DONE)
+        load::<Brand, _>(&self.board, self.shape, &mut self.seat, DONE, &())
     }
 
     /// A load of the link into the position of the reader's hint, from the word of the page before that position. A
@@ -54,7 +61,7 @@ impl ReaderSeat {
         ensures spare { (reading_in self.new).keeps_spare ≡ false }
     {
         let word = page as usize + LINKS;
-        link_in(load::<Brand>(&self.board, self.shape, &mut self.seat, word))
+        link_in(load::<Brand, _>(&self.board, self.shape, &mut self.seat, word, &()))
     }
 
     /// A store of the link of the spare, which will lead to the fill after the one that is taken. The reader takes
@@ -71,12 +78,13 @@ impl ReaderSeat {
         ensures spare { (reading_in self.new).keeps_spare ≡ true }
     {
         let word = link.pack();
-        store::<Brand>(
+        store::<Brand, _>(
             &self.board,
             self.shape,
             &mut self.seat,
             spare as usize + LINKS,
             word,
+            &(),
         );
     }
 }

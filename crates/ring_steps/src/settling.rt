@@ -31,7 +31,7 @@ fn load_done_joined(board: &Board, shape: Shape, seat: &mut Place)
     requires seat { seat.old.me.0 ≡ joined (writing seat.old.me.0) (reading seat.old.me.0) }
     ensures { AreParts shape (writing seat.old.me.0) (reading seat.old.me.0) }
 {
-    load::<Brand>(board, shape, seat, DONE);
+    load::<Brand, _>(board, shape, seat, DONE, &());
 }
 
 /// Joins the two seats of a ring, and loads once how many fills are closed. So what both know are the parts of one

@@ -45,89 +45,110 @@ impl WriterSeat {
 
     /// A load of the link into the position of the fill to open, which is in the word of the tail page. What the
     /// seat knew to be passed is at most the head of the state that is seen.
-    pub fn load_link<J: ChosenPart>(&mut self, tail: u16) -> Link
-        requires due { Leads self.old.shape (writing_in self.old) J.now }
-        requires phase { IsTopIn J.now.frames (looking J.now.opened) }
-        requires tail { tail ≡ tail_in J.now }
+    pub fn load_link(&mut self, tail: u16) -> Link
+        requires phase { IsTopIn (writing_in self.old).frames (looking (writing_in self.old).opened) }
+        requires tail { tail ≡ tail_in (writing_in self.old) }
         ensures same { SameSeat self.old self.new }
         ensures fits { FitsWord (link_of result) }
-        ensures step { IsWriterStep self.old.shape J.now
+        ensures step { IsWriterStep self.old.shape (writing_in self.old)
             (λ core. (passed_in self.old ≤ core.head)
-            × (link_into self.old.shape.pages core.links J.now.opened ≡ link_of result)) going
+            × (link_into self.old.shape.pages core.links (writing_in self.old).opened ≡ link_of result)) going
             (writing_in self.new) }
     {
         self.recall();
         let word = tail as usize + LINKS;
-        let found = load::<Brand>(&self.board, self.shape, &mut self.seat, word);
+        let found = load::<Brand, _>(
+            &self.board,
+            self.shape,
+            &mut self.seat,
+            word,
+            &self.ghost_part,
+        );
         self.ghost_part = ghost_part_at_rest(&self.seat);
         link_in(found)
     }
 
     /// A load of the next link, which is in the word of this page: that into the position of the fill after the
     /// lost one.
-    pub fn load_next<J: ChosenPart>(&mut self, page: u16, behind: FillNo) -> Link
-        requires due { Leads self.old.shape (writing_in self.old) J.now }
-        requires phase { LooksBehind self.old.shape.pages J.now page behind.0 }
+    pub fn load_next(&mut self, page: u16, behind: FillNo) -> Link
+        requires phase { LooksBehind self.old.shape.pages (writing_in self.old) page behind.0 }
         ensures same { SameSeat self.old self.new }
         ensures fits { FitsWord (link_of result) }
-        ensures step { IsWriterStep self.old.shape J.now
+        ensures step { IsWriterStep self.old.shape (writing_in self.old)
             (λ core. link_into self.old.shape.pages core.links behind.0 ≡ link_of result) going
             (writing_in self.new) }
     {
         let _behind = behind;
         self.recall();
         let word = page as usize + LINKS;
-        let found = load::<Brand>(&self.board, self.shape, &mut self.seat, word);
+        let found = load::<Brand, _>(
+            &self.board,
+            self.shape,
+            &mut self.seat,
+            word,
+            &self.ghost_part,
+        );
         self.ghost_part = ghost_part_at_rest(&self.seat);
         link_in(found)
     }
 
-    /// A load of the reader's wish, when no fill is left to close. `given` is what a caller states to the proof of what
-    /// was done in private before; no code reads it.
-    pub fn load_wish<J: ChosenPart, G>(&mut self, given: &G) -> u64
-        requires due { Leads self.old.shape (writing_in self.old) J.now }
-        requires phase { IsTopIn J.now.frames wishing }
+    /// A load of the reader's wish, when no fill is left to close.
+    pub fn load_wish(&mut self) -> u64
+        requires phase { IsTopIn (writing_in self.old).frames wishing }
         ensures same { SameSeat self.old self.new }
-        ensures step { (answer : Answer) × IsWriterStep self.old.shape J.now (λ core. core.wish ≡ result) answer
+        ensures step { (answer : Answer)
+            × IsWriterStep self.old.shape (writing_in self.old) (λ core. core.wish ≡ result) answer
             (writing_in self.new) }
     {
-        let _given = given;
         self.recall();
-        let wish = load::<Brand>(&self.board, self.shape, &mut self.seat, WISH);
+        let wish = load::<Brand, _>(
+            &self.board,
+            self.shape,
+            &mut self.seat,
+            WISH,
+            &self.ghost_part,
+        );
         self.ghost_part = ghost_part_at_rest(&self.seat);
         wish
     }
 
     /// A compare and exchange of the link in the tail page's word from HEADER to UPDATE, by which the head, this page
     /// as this fill, is lost; whether it was done. If not, the head was moved on before: the fill is passed either way.
-    pub fn claim_head<J: ChosenPart>(&mut self, tail: u16, page: u16, lost: FillNo) -> bool
-        requires due { Leads self.old.shape (writing_in self.old) J.now }
-        requires phase { IsTopIn J.now.frames (claiming J.now.opened page) }
-        requires tail { tail ≡ tail_in J.now }
-        requires lost { lost.0 + self.old.shape.pages ≡ J.now.opened }
+    pub fn claim_head(&mut self, tail: u16, page: u16, lost: FillNo) -> bool
+        requires phase { IsTopIn (writing_in self.old).frames (claiming (writing_in self.old).opened page) }
+        requires tail { tail ≡ tail_in (writing_in self.old) }
+        requires lost { lost.0 + self.old.shape.pages ≡ (writing_in self.old).opened }
         requires fits { page < LINK_PAGES }
         ensures same { SameSeat self.old self.new }
         ensures passed { lost.0 < passed_in self.new }
-        ensures step { IsWriterStep self.old.shape J.now
-            (λ core. result ≡ true ↔ link_into self.old.shape.pages core.links J.now.opened ≡ header_link page lost.0)
+        ensures step { IsWriterStep self.old.shape (writing_in self.old)
+            (λ core. result ≡ true
+            ↔ link_into self.old.shape.pages core.links (writing_in self.old).opened ≡ header_link page lost.0)
             going (writing_in self.new) }
     {
         self.recall();
         let word = tail as usize + LINKS;
         let from = header_word(page, lost);
         let to = update_word(page, lost);
-        let found = exchange::<Brand>(&self.board, self.shape, &mut self.seat, word, from, to);
+        let found = exchange::<Brand, _>(
+            &self.board,
+            self.shape,
+            &mut self.seat,
+            word,
+            from,
+            to,
+            &self.ghost_part,
+        );
         self.ghost_part = ghost_part_at_rest(&self.seat);
         found == from
     }
 
     /// A compare and exchange of the next link, in the word of this page, from NORMAL to HEADER; whether it was done.
-    pub fn mark_head<J: ChosenPart>(&mut self, page: u16, next: u16, behind: FillNo) -> bool
-        requires due { Leads self.old.shape (writing_in self.old) J.now }
-        requires phase { MarksBehind self.old.shape.pages J.now page next behind.0 }
+    pub fn mark_head(&mut self, page: u16, next: u16, behind: FillNo) -> bool
+        requires phase { MarksBehind self.old.shape.pages (writing_in self.old) page next behind.0 }
         requires fits { next < LINK_PAGES }
         ensures same { SameSeat self.old self.new }
-        ensures step { IsWriterStep self.old.shape J.now
+        ensures step { IsWriterStep self.old.shape (writing_in self.old)
             (λ core. result ≡ true ↔ link_into self.old.shape.pages core.links behind.0 ≡ normal_link next behind.0)
             going (writing_in self.new) }
     {
@@ -135,20 +156,28 @@ impl WriterSeat {
         let word = page as usize + LINKS;
         let from = normal_word(next, behind);
         let to = header_word(next, behind);
-        let found = exchange::<Brand>(&self.board, self.shape, &mut self.seat, word, from, to);
+        let found = exchange::<Brand, _>(
+            &self.board,
+            self.shape,
+            &mut self.seat,
+            word,
+            from,
+            to,
+            &self.ghost_part,
+        );
         self.ghost_part = ghost_part_at_rest(&self.seat);
         found == from
     }
 
     /// A compare and exchange of the link in the word of the page before from the frame's own UPDATE to NORMAL with
     /// the fill that it noted; whether it was done. It always is: only the frame that set an UPDATE replaces it.
-    pub fn clear_update<J: ChosenPart>(&mut self, front: u16, page: u16, noted: FillNo) -> bool
-        requires due { Leads self.old.shape (writing_in self.old) J.now }
-        requires phase { IsTopIn J.now.frames (clearing noted.0 page) }
-        requires front { front ≡ slice_index_or J.now.open_pages (noted.0 - 1 - J.now.done) 0 }
+    pub fn clear_update(&mut self, front: u16, page: u16, noted: FillNo) -> bool
+        requires phase { IsTopIn (writing_in self.old).frames (clearing noted.0 page) }
+        requires front { front
+            ≡ slice_index_or (writing_in self.old).open_pages (noted.0 - 1 - (writing_in self.old).done) 0 }
         ensures same { SameSeat self.old self.new }
         ensures done { result ≡ true }
-        ensures step { IsWriterStep self.old.shape J.now
+        ensures step { IsWriterStep self.old.shape (writing_in self.old)
             (λ core. result ≡ true ↔ link_into self.old.shape.pages core.links noted.0
             ≡ update_link page (noted.0 - self.old.shape.pages)) going (writing_in self.new) }
     {
@@ -156,24 +185,38 @@ impl WriterSeat {
         let word = front as usize + LINKS;
         let from = update_word(page, FillNo(noted.0 - self.shape.pages as u64));
         let to = normal_word(page, noted);
-        let found = exchange::<Brand>(&self.board, self.shape, &mut self.seat, word, from, to);
+        let found = exchange::<Brand, _>(
+            &self.board,
+            self.shape,
+            &mut self.seat,
+            word,
+            from,
+            to,
+            &self.ghost_part,
+        );
         self.ghost_part = ghost_part_at_rest(&self.seat);
         found == from
     }
 
     /// A store of the number of begun fills: the next fill, which the frame on top noted, is begun on the page of this
     /// number, whose body is answered.
-    pub fn open_fill<J: ChosenPart>(&mut self, number: u16, fill: FillNo) -> Body
-        requires due { Leads self.old.shape (writing_in self.old) J.now }
-        requires phase { IsTopIn J.now.frames (opening fill.0 number) }
-        requires next { fill.0 ≡ J.now.opened }
+    pub fn open_fill(&mut self, number: u16, fill: FillNo) -> Body
+        requires phase { IsTopIn (writing_in self.old).frames (opening fill.0 number) }
+        requires next { fill.0 ≡ (writing_in self.old).opened }
         ensures same { SameSeat self.old self.new }
-        ensures step { IsWriterStep self.old.shape J.now (λ _. ⊤) (begun_answer J.now.frames)
-            (writing_in self.new) }
+        ensures step { IsWriterStep self.old.shape (writing_in self.old) (λ _. ⊤)
+            (begun_answer (writing_in self.old).frames) (writing_in self.new) }
         ensures body { length result ≡ self.old.shape.size }
     {
         self.recall();
-        store::<Brand>(&self.board, self.shape, &mut self.seat, OPENED, fill.0 + 1);
+        store::<Brand, _>(
+            &self.board,
+            self.shape,
+            &mut self.seat,
+            OPENED,
+            fill.0 + 1,
+            &self.ghost_part,
+        );
         let slot = number as usize;
         let Some(page) = self.board.shared.exchange(&mut self.seat, slot, None) else {
             unreachable!()
@@ -185,20 +228,27 @@ impl WriterSeat {
 
     /// A store of the number of closed fills: the oldest fill that isn't closed is, and its page, of this number, is
     /// put home.
-    pub fn release_fill<J: ChosenPart>(&mut self, number: u16, page: Page)
-        requires due { Leads self.old.shape (writing_in self.old) J.now }
-        requires phase { IsTopIn J.now.frames releasing }
-        requires oldest { number ≡ slice_index_or J.now.open_pages 0 0 }
-        requires written { IsWrittenPage self.old.shape.size J.now.done
-            (fill_of J.now.history self.old.shape.start J.now.done) page }
+    pub fn release_fill(&mut self, number: u16, page: Page)
+        requires phase { IsTopIn (writing_in self.old).frames releasing }
+        requires oldest { number ≡ slice_index_or (writing_in self.old).open_pages 0 0 }
+        requires written { IsWrittenPage self.old.shape.size (writing_in self.old).done
+            (fill_of (writing_in self.old).history self.old.shape.start (writing_in self.old).done) page }
         ensures same { SameSeat self.old self.new }
-        ensures step { IsWriterStep self.old.shape J.now (λ _. ⊤) going (writing_in self.new) }
+        ensures step { IsWriterStep self.old.shape (writing_in self.old) (λ _. ⊤) going (writing_in self.new) }
     {
         self.recall();
         let fill = page.fill();
         let slot = number as usize;
         self.board.shared.exchange(&mut self.seat, slot, Some(page));
-        store::<Brand>(&self.board, self.shape, &mut self.seat, DONE, fill.0 + 1);
+        let done = fill.0 + 1;
+        store::<Brand, _>(
+            &self.board,
+            self.shape,
+            &mut self.seat,
+            DONE,
+            done,
+            &self.ghost_part,
+        );
         self.ghost_part = ghost_part_at_rest(&self.seat);
     }
 }

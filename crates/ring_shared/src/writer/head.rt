@@ -3,7 +3,6 @@
 use crate::writer::Writer;
 use link_marks::Mark;
 use ring_frames::{Phase, Role, Turned};
-use std::marker::Brand;
 use trace_model::FillNo;
 
 impl Writer {
@@ -42,7 +41,7 @@ impl Writer {
             return self.begin_again();
         }
         let tail = self.tail();
-        let link = self.seat.load_link::<Brand>(tail);
+        let link = self.seat.load_link(tail);
         let page = link.page;
         let phase = match link.mark {
             Mark::Normal => Phase::Opening { noted, page },
@@ -70,7 +69,7 @@ impl Writer {
         }
         let tail = self.tail();
         let lost = FillNo(noted - self.frames.pages() as u64);
-        let phase = if self.seat.claim_head::<Brand>(tail, page, lost) {
+        let phase = if self.seat.claim_head(tail, page, lost) {
             Phase::LookingNext {
                 role: Role::Owner,
                 noted,
@@ -95,7 +94,7 @@ impl Writer {
             return self.begin_again();
         }
         let behind = noted + 1 - self.frames.pages() as u64;
-        let link = self.seat.load_next::<Brand>(page, FillNo(behind));
+        let link = self.seat.load_next(page, FillNo(behind));
         let phase = match link.mark {
             Mark::Normal if link.fill == behind => Phase::Marking {
                 role,
@@ -121,7 +120,7 @@ impl Writer {
             return self.begin_again();
         }
         let behind = noted + 1 - self.frames.pages() as u64;
-        let _marked = self.seat.mark_head::<Brand>(page, next, FillNo(behind));
+        let _marked = self.seat.mark_head(page, next, FillNo(behind));
         self.frames.go_on(role.after_next(noted, page))
     }
 
@@ -135,7 +134,7 @@ impl Writer {
         ensures payloads { KeepsPayloads self.old.frames.stack self.new.frames.stack }
     {
         let front = self.pages[(noted - 1 - self.frames.done()) as usize];
-        let _cleared = self.seat.clear_update::<Brand>(front, page, FillNo(noted));
+        let _cleared = self.seat.clear_update(front, page, FillNo(noted));
         self.frames.go_on(Phase::Opening { noted, page })
     }
 }

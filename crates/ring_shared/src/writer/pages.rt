@@ -2,7 +2,6 @@
 //! looked for.
 use crate::writer::Writer;
 use ring_frames::Turned;
-use std::marker::Brand;
 use trace_model::FillNo;
 
 impl Writer {
@@ -27,7 +26,7 @@ impl Writer {
         if noted != self.frames.opened() {
             return self.begin_again();
         }
-        let body = self.seat.open_fill::<Brand>(page, FillNo(noted));
+        let body = self.seat.open_fill(page, FillNo(noted));
         self.pages.push_back_reserved(page);
         self.frames.open_fill(body)
     }
@@ -43,7 +42,7 @@ impl Writer {
     {
         let page = self.frames.release_fill();
         match self.pages.pop_front() {
-            Some(number) => self.seat.release_fill::<Brand>(number, page),
+            Some(number) => self.seat.release_fill(number, page),
             None => unreachable!(),
         }
         Turned::Going
@@ -59,7 +58,7 @@ impl Writer {
         ensures nearer { IsNearer self.old self.new }
         ensures payloads { KeepsPayloads self.old.frames.stack self.new.frames.stack }
     {
-        let wish = self.seat.load_wish::<Brand, _>(&());
+        let wish = self.seat.load_wish();
         self.frames.load_wish(wish)
     }
 }

@@ -32,7 +32,8 @@ impl Writer {
         let Wrote::Record = self.frames.write(moment, payload) else {
             return self.write_by_steps(moment, payload);
         };
-        let wish = self.seat.load_wish::<Brand, _>(&(moment, payload));
+        self.seat.note::<Brand, _>(&(moment, payload));
+        let wish = self.seat.load_wish();
         if !self.frames.is_wished(wish) {
             return Ok(());
         }

@@ -14,7 +14,7 @@ use Rattle.ring_steps.specs.Linking.{tail_in}
 use Rattle.ring_shared.specs.Value.{WriterValue}
 use Rattle.ring_shared.specs.Calls.{IsWriter, MakesSome}
 use Rattle.ring_shared.specs.contracts.writer.Writer.{the_view}
-use Rattle.ring_shared.proofs.Standing.{leads_nowhere, phase_shown}
+use Rattle.ring_shared.proofs.Standing.{phase_shown}
 use Rattle.ring_shared.proofs.Called.{writer_seen, top_seen, phase_seen}
 use Rattle.ring_shared.proofs.Bounds.{opened_now, fits}
 use Rattle.ring_shared.proofs.GoingOn.{Moves, goes_on, as_called}
@@ -33,9 +33,6 @@ overflow_sub-lost c =
     let most = c.pages.ensures.most in let few : v.shape.pages ≤ MAX_PAGES = omega arith in
     let (round, low, seen) = fits v w (claiming c.args.noted c.args.page) (top_seen c.self.view_is c.requires.framed.top)
     (phase_seen c.self.view_is c.requires.phase) few in omega arith
-
-pub claim_head-requires-clause-due : goal.claim_head-requires-clause-due
-claim_head-requires-clause-due c = let v : WriterValue = the_view c.self.inside in leads_nowhere v.shape v.part
 
 pub claim_head-requires-clause-phase : goal.claim_head-requires-clause-phase
 unfolding IsWriter

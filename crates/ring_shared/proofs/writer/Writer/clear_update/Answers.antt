@@ -8,7 +8,7 @@ use Rattle.ring_frames.specs.Phases.{told}
 use Rattle.ring_shared.specs.Value.{WriterValue}
 use Rattle.ring_shared.specs.Calls.{IsWriter}
 use Rattle.ring_shared.specs.contracts.writer.Writer.{the_view}
-use Rattle.ring_shared.proofs.Standing.{leads_nowhere, phase_shown}
+use Rattle.ring_shared.proofs.Standing.{phase_shown}
 use Rattle.ring_shared.proofs.Called.{writer_seen, top_seen, phase_seen}
 use Rattle.ring_shared.proofs.Bounds.{done_now, count_now, noted_bounds}
 use Rattle.ring_shared.proofs.GoingOn.{goes_on, as_called}
@@ -45,9 +45,6 @@ index-front-requires c =
     (top_seen c.self.view_is c.requires.framed.top)
     (phase_seen c.self.view_is c.requires.phase) c.args.noted refl in
     let done = c.done.ensures ∙ done_now v w in let count = count_now v w in let wide = c.self.inside.pages.ok.0 in omega arith
-
-pub clear_update-cleared-requires-clause-due : goal.clear_update-cleared-requires-clause-due
-clear_update-cleared-requires-clause-due c = let v : WriterValue = the_view c.self.inside in leads_nowhere v.shape v.part
 
 pub clear_update-cleared-requires-clause-phase : goal.clear_update-cleared-requires-clause-phase
 unfolding IsWriter

@@ -16,7 +16,7 @@ use Rattle.ring_steps.specs.Linking.{tail_in}
 use Rattle.ring_shared.specs.Value.{WriterValue}
 use Rattle.ring_shared.specs.Calls.{IsWriter, MakesSome}
 use Rattle.ring_shared.specs.contracts.writer.Writer.{the_view}
-use Rattle.ring_shared.proofs.Standing.{leads_nowhere, phase_shown}
+use Rattle.ring_shared.proofs.Standing.{phase_shown}
 use Rattle.ring_shared.proofs.Called.{writer_seen, top_seen, phase_seen}
 use Rattle.ring_shared.proofs.Bounds.{opened_now}
 use Rattle.ring_shared.proofs.GoingOn.{Moves, goes_on, as_called}
@@ -25,9 +25,6 @@ use Rattle.ring_shared.specs.Nearer.{IsNearer}
 use Rattle.ring_shared.proofs.Nearing.{nearer_looking}
 use Rattle.ring_shared.proofs.writer.Writer.load_link.Goals.{in-Normal, in-Header, in-Update}
 use Rattle.ring_shared.proofs.writer.Writer.load_link.Goals as goal
-
-pub load_link-link-requires-clause-due : goal.load_link-link-requires-clause-due
-load_link-link-requires-clause-due c = let v : WriterValue = the_view c.self.inside in leads_nowhere v.shape v.part
 
 pub load_link-link-requires-clause-phase : goal.load_link-link-requires-clause-phase
 unfolding IsWriter

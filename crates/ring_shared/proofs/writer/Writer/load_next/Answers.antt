@@ -14,7 +14,7 @@ use Rattle.ring_frames.specs.Value.{phase_of, role_of}
 use Rattle.ring_shared.specs.Value.{WriterValue}
 use Rattle.ring_shared.specs.Calls.{IsWriter, MakesSome}
 use Rattle.ring_shared.specs.contracts.writer.Writer.{the_view}
-use Rattle.ring_shared.proofs.Standing.{leads_nowhere, phase_shown}
+use Rattle.ring_shared.proofs.Standing.{phase_shown}
 use Rattle.ring_shared.proofs.Called.{writer_seen, top_seen, phase_seen}
 use Rattle.ring_shared.proofs.Bounds.{opened_now, noted_bounds, advances}
 use Rattle.ring_shared.proofs.GoingOn.{Moves, goes_on, as_called}
@@ -41,23 +41,22 @@ overflow_sub-behind c =
     let round : v.shape.pages ≤ c.args.noted = advances v w (looking_next (role_of c.args.role) c.args.noted c.args.page) (top_seen c.self.view_is c.requires.framed.top)
     (phase_seen c.self.view_is c.requires.phase) in omega arith
 
-pub load_next-link-requires-clause-due : goal.load_next-link-requires-clause-due
-load_next-link-requires-clause-due c = let v : WriterValue = the_view c.self.inside in leads_nowhere v.shape v.part
-
-pub load_next-link-requires-clause-phase : goal.load_next-link-requires-clause-phase
+pub load_next-link-requires : goal.load_next-link-requires
 unfolding IsWriter
-load_next-link-requires-clause-phase c =
+load_next-link-requires c =
     let v : WriterValue = the_view c.self.inside in
     let w : IsWriter v = writer_seen c.self.view_is c.requires.framed.writer in
     let some = top_seen c.self.view_is c.requires.framed.top in
     let at : phase_of v.frames.phase ≡ looking_next (role_of c.args.role) c.args.noted c.args.page = phase_seen c.self.view_is c.requires.phase in
     let pages : c.pages.result ≡ v.shape.pages = c.pages.ensures.pages ∙ w.frames_are.pages_is in
     let round : v.shape.pages ≤ c.args.noted = advances v w (looking_next (role_of c.args.role) c.args.noted c.args.page) some at in record {
-      role = role_of c.args.role;
-      noted = c.args.noted;
-      phase = phase_shown v w (looking_next (role_of c.args.role) c.args.noted c.args.page) some at;
-      goes_on = subst (MayOpen (role_of c.args.role) c.args.noted) (opened_now v w) (c.stops.ensures.goes_on c.if-stops.false);
-      behind_is = omega arith;
+      phase = record {
+        role = role_of c.args.role;
+        noted = c.args.noted;
+        phase = phase_shown v w (looking_next (role_of c.args.role) c.args.noted c.args.page) some at;
+        goes_on = subst (MayOpen (role_of c.args.role) c.args.noted) (opened_now v w) (c.stops.ensures.goes_on c.if-stops.false);
+        behind_is = omega arith;
+      };
     }
 
 pub returns-clause-makes : goal.returns-clause-makes

@@ -4,7 +4,7 @@ use Rattle.trace_model.specs.Steps as model
 use Rattle.ring_shared.specs.Value.{WriterValue}
 use Rattle.ring_shared.specs.Calls.{IsWriter, MakesSome}
 use Rattle.ring_shared.specs.contracts.writer.Writer.{the_view}
-use Rattle.ring_shared.proofs.Standing.{leads_nowhere, phase_shown}
+use Rattle.ring_shared.proofs.Standing.{phase_shown}
 use Rattle.ring_shared.proofs.Called.{writer_seen, top_seen, phase_seen}
 use Rattle.ring_shared.proofs.PageMoves.{looks_for_wish}
 use Rattle.std.specs.Prelude.{◌≤◌}
@@ -14,15 +14,12 @@ use Rattle.ring_steps.specs.Ends.{passed_in}
 use Rattle.ring_shared.proofs.Nearing.{nearer_quietly}
 use Rattle.ring_shared.proofs.writer.Writer.load_wish.Goals as goal
 
-pub load_wish-wish-requires-clause-due : goal.load_wish-wish-requires-clause-due
-load_wish-wish-requires-clause-due c = let v : WriterValue = the_view c.self.inside in leads_nowhere v.shape v.part
-
-pub load_wish-wish-requires-clause-phase : goal.load_wish-wish-requires-clause-phase
+pub load_wish-wish-requires : goal.load_wish-wish-requires
 unfolding IsWriter
-load_wish-wish-requires-clause-phase c =
+load_wish-wish-requires c =
     let v : WriterValue = the_view c.self.inside in
-    phase_shown v (writer_seen c.self.view_is c.requires.framed.writer) wishing (top_seen c.self.view_is c.requires.framed.top)
-    (phase_seen c.self.view_is c.requires.phase)
+    let at = phase_shown v (writer_seen c.self.view_is c.requires.framed.writer) wishing (top_seen c.self.view_is c.requires.framed.top)
+    (phase_seen c.self.view_is c.requires.phase) in record { phase = at }
 
 pub returns-clause-makes : goal.returns-clause-makes
 unfolding IsWriter

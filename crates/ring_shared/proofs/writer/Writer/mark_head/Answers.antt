@@ -9,7 +9,7 @@ use Rattle.ring_frames.specs.Value.{phase_of, role_of}
 use Rattle.ring_shared.specs.Value.{WriterValue}
 use Rattle.ring_shared.specs.Calls.{IsWriter}
 use Rattle.ring_shared.specs.contracts.writer.Writer.{the_view}
-use Rattle.ring_shared.proofs.Standing.{leads_nowhere, phase_shown}
+use Rattle.ring_shared.proofs.Standing.{phase_shown}
 use Rattle.ring_shared.proofs.Called.{writer_seen, top_seen, phase_seen}
 use Rattle.ring_shared.proofs.Bounds.{opened_now, noted_bounds, advances, fits}
 use Rattle.ring_shared.proofs.GoingOn.{goes_on, as_called}
@@ -34,9 +34,6 @@ overflow_sub-behind c =
     let pages : c.pages.result ≡ v.shape.pages = c.pages.ensures.pages ∙ w.frames_are.pages_is in
     let round : v.shape.pages ≤ c.args.noted = advances v w (marking (role_of c.args.role) c.args.noted c.args.page c.args.next) (top_seen c.self.view_is c.requires.framed.top)
     (phase_seen c.self.view_is c.requires.phase) in omega arith
-
-pub mark_head-marked-requires-clause-due : goal.mark_head-marked-requires-clause-due
-mark_head-marked-requires-clause-due c = let v : WriterValue = the_view c.self.inside in leads_nowhere v.shape v.part
 
 pub mark_head-marked-requires-clause-phase : goal.mark_head-marked-requires-clause-phase
 unfolding IsWriter

@@ -6,7 +6,7 @@ use Rattle.ring_frames.specs.Phases.{told}
 use Rattle.ring_shared.specs.Value.{WriterValue}
 use Rattle.ring_shared.specs.Calls.{IsWriter, MakesSome}
 use Rattle.ring_shared.specs.contracts.writer.Writer.{the_view}
-use Rattle.ring_shared.proofs.Standing.{leads_nowhere, phase_shown}
+use Rattle.ring_shared.proofs.Standing.{phase_shown}
 use Rattle.ring_shared.proofs.Called.{writer_seen, top_seen, phase_seen}
 use Rattle.ring_shared.proofs.Bounds.{opened_now, count_now, noted_bounds}
 use Rattle.ring_shared.proofs.PageMoves.{opens_fill}
@@ -15,9 +15,6 @@ use Rattle.ring_frames.specs.Value.{phase_of}
 use Rattle.ring_steps.specs.Ends.{passed_in}
 use Rattle.ring_shared.proofs.Nearing.{nearer_quietly}
 use Rattle.ring_shared.proofs.writer.Writer.open_fill.Goals as goal
-
-pub open_fill-body-requires-clause-due : goal.open_fill-body-requires-clause-due
-open_fill-body-requires-clause-due c = let v : WriterValue = the_view c.self.inside in leads_nowhere v.shape v.part
 
 pub open_fill-body-requires-clause-phase : goal.open_fill-body-requires-clause-phase
 unfolding IsWriter

@@ -2,5 +2,5 @@ use Rattle.ring_steps.specs.Ends.{writing_in}
 use Rattle.ring_shared.proofs.Behind.{behind_write}
 use Rattle.ring_shared.proofs.writer.Writer.write.Given as goal
 
-abbrev pub ghosts-load_wish : goal.ghosts-load_wish
-ghosts-load_wish a = record { now = behind_write a.self.now.shape (writing_in a.self.now) a.given.now.0 a.given.now.1.now }
+abbrev pub ghosts-note : goal.ghosts-note
+ghosts-note a = record { now = behind_write a.self.now.shape (writing_in a.self.now) a.given.now.0 a.given.now.1.now }

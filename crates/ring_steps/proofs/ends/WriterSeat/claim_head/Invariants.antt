@@ -3,4 +3,4 @@ use Rattle.ring_steps.specs.Linking.{ClaimTold}
 use Rattle.ring_steps.proofs.ends.WriterSeat.claim_head.Given as goal
 
 abbrev pub ghosts-exchange : goal.ghosts-exchange
-ghosts-exchange g a = record { tells = λ before found after. ClaimTold a.shape g.J.ChosenPart.now (passed before.0) found after }
+ghosts-exchange a = record { tells = λ before found after. ClaimTold a.shape a.given.now.now (passed before.0) found after }

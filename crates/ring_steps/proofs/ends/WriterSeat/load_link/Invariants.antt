@@ -3,4 +3,4 @@ use Rattle.ring_steps.specs.Linking.{LinkTold}
 use Rattle.ring_steps.proofs.ends.WriterSeat.load_link.Given as goal
 
 abbrev pub ghosts-load : goal.ghosts-load
-ghosts-load g a = record { tells = λ before found after. LinkTold a.shape g.J.ChosenPart.now (passed before.0) g.J.ChosenPart.now.opened found after }
+ghosts-load a = record { tells = λ before found after. LinkTold a.shape a.given.now.now (passed before.0) a.given.now.now.opened found after }

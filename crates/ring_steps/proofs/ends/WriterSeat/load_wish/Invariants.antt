@@ -3,4 +3,4 @@ use Rattle.ring_steps.specs.Linking.{WishTold}
 use Rattle.ring_steps.proofs.ends.WriterSeat.load_wish.Given as goal
 
 abbrev pub ghosts-load : goal.ghosts-load
-ghosts-load g a = record { tells = λ before found after. WishTold a.shape g.J.ChosenPart.now (passed before.0) found after }
+ghosts-load a = record { tells = λ before found after. WishTold a.shape a.given.now.now (passed before.0) found after }
