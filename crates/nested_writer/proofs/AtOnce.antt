@@ -1,5 +1,5 @@
 -- A record written at once: its frame is pushed, reserves, gets its payload and leaves.
-use Rattle.std.proofs.Common.{◌≡◌, ℕ, zero, suc, ◌+◌, ◌-◌, ◌<◌, ◌≤◌, max, cond, List, [], ◌∷◌, ◌++◌, length, replicate, Option, Some, None, refl, sym, ap, ◌∙◌, subst, arith, rules, inr, append_assoc}
+use Rattle.std.proofs.Common.{◌≡◌, ℕ, zero, suc, ◌+◌, ◌-◌, ◌<◌, ◌≤◌, max, cond, List, [], ◌∷◌, ◌++◌, length, replicate, Some, None, refl, sym, ap, ◌∙◌, subst, arith, rules, inr, append_assoc}
 use Rattle.std.specs.Prelude.{true}
 use Rattle.std.specs.List.{slice_get}
 use Rattle.std.proofs.lemmas.List.{same_lists, places, take_all, length-replicate}
@@ -33,7 +33,6 @@ use Rattle.nested_writer.specs.declared.frame.Progress.TheVariants.{Waiting, Res
 use Rattle.nested_writer.specs.declared.frame.Frame.{Frame}
 use Rattle.trace_model.specs.Frames.{pushed_onto, pushed_of}
 use Rattle.nested_writer.specs.Stack.{Stack, tail_fill, next_number, kind_of, state_of, model_frames}
-use Rattle.nested_writer.specs.Inside.{frames_from}
 use Rattle.nested_writer.specs.Calls.{after_leave}
 use Rattle.nested_writer.specs.AtOnce.{MayStand, with_left}
 use Rattle.nested_writer.specs.IsStack.{is_tail, IsStack}
@@ -260,8 +259,3 @@ module _ (start : ℕ) (h : List HistoryEvent) (s : Stack) (moment : ℕ) (paylo
       let after : Stack = record s { tail = tail'; frames = has_left ∷ []; last_moment = raised } in
       subst (λ (fs : List Frame). IsStack start (h ++ events) (record s { tail = tail'; frames = fs; last_moment = raised })) (sym none)
       (goes_again start (h ++ events) after has_left refl refl is_written)
-
--- if the stack is empty, no frame is below
-pub none_below : (top : Option Frame) (items : List Frame) → frames_from top items ≡ [] → items ≡ []
-none_below None items e = e
-none_below (Some top) items e = cc
