@@ -1,4 +1,4 @@
-//! What frames do in private. Each such call makes one load more, by which the writer's seat knows of it.
+//! What frames do in private. Each such call notes for proofs what it does to the frames, and touches no shared word.
 use crate::writer::Writer;
 use nested_writer::frame::Pushed;
 use ring_frames::{Answer, Turned};

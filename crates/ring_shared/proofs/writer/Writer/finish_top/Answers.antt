@@ -15,7 +15,7 @@ use Rattle.ring_shared.specs.contracts.writer.Writer.{the_view}
 use Rattle.ring_shared.proofs.Targets.{IsOnTop, reserving_on_top, finishes_reserving, finishes_leaving}
 use Rattle.ring_shared.proofs.Depths.{reserving_top}
 use Rattle.ring_shared.proofs.Finishes.{reserving_first, reserving_ends}
-use Rattle.ring_shared.proofs.Rooms.{finished_rooms, finished_gone}
+use Rattle.ring_shared.proofs.Rooms.{reserved_rooms, finished_rooms, finished_gone}
 use Rattle.ring_shared.proofs.TopAnswers.{wishing_on_top}
 use Rattle.ring_shared.proofs.writer.Writer.finish_top.Goals as goal
 use Rattle.ring_shared.proofs.writer.Writer.finish_top.Goals.{in-Wishing, in_default}
@@ -33,6 +33,14 @@ returns-in-Some-clause-finished c =
     finishes_reserving v.shape v.part (Reserved c.reserve_plain.result) new.part t
     (λ frame below top. reserving_ends v.shape frame.kind below v.part v.part new.part (Reserved c.reserve_plain.result)
     (reserving_first v.shape frame below v.part top (reserving_top v.part.frames t.frame frame t.below below t.top t.is top)) c.reserve_plain.ensures.makes.call (λ e. cc))
+
+pub returns-in-Some-clause-slots : goal.returns-in-Some-clause-slots
+returns-in-Some-clause-slots c = record {
+  payloads = c.reserve_plain.ensures.payloads;
+  zeros = c.reserve_plain.ensures.zeros;
+  room = λ number reserved. reserved_rooms _ _ (Reserved c.reserve_plain.result) _ c.reserve_plain.ensures.makes.call number reserved;
+  gone = λ gone. absurd (let no : Reserved c.reserve_plain.result ≡ Gone = gone in cc);
+}
 
 -- the frame on top looks for the reader's wish, so that it has left
 wishing : (v now : WriterValue) → IsWriter now → v ≡ now → v.frames.stack.frames ≢ [] → v.frames.phase ≡ Wishing → IsOnTop now.part.frames IsLeaving

@@ -1,7 +1,18 @@
 use Rattle.std.proofs.Common.{rules, sym, ◌∙◌}
 use Rattle.ring_frames.specs.Phases.{told}
-use Rattle.ring_shared.proofs.Rooms.{gone_rooms}
+use Rattle.ring_shared.proofs.Rooms.{going_rooms, reserved_rooms, gone_rooms}
 use Rattle.ring_shared.proofs.writer.Writer.step.Goals as goal
+
+pub returns-in-Idle-clause-slots : goal.returns-in-Idle-clause-slots
+returns-in-Idle-clause-slots c = record {
+  payloads = c.reserve.ensures.payloads;
+  zeros = c.reserve.ensures.zeros;
+  room = λ number reserved. reserved_rooms _ _ c.reserve.result _ c.reserve.ensures.makes.call number reserved;
+  gone = λ gone. gone_rooms _ _ c.reserve.result _ c.reserve.ensures.makes.call gone;
+}
+
+pub returns-in-Idle-clause-going : goal.returns-in-Idle-clause-going
+returns-in-Idle-clause-going c = λ going. going_rooms _ _ c.reserve.result _ c.reserve.ensures.makes.call going
 
 pub returns-in-Wishing-clause-slots : goal.returns-in-Wishing-clause-slots
 returns-in-Wishing-clause-slots c = record {
@@ -11,6 +22,9 @@ returns-in-Wishing-clause-slots c = record {
   gone = λ gone. gone_rooms _ _ (told c.load_wish.result) _ c.load_wish.ensures.makes.call (sym c.answer.ensures ∙ gone);
 }
 
+pub returns-in-Wishing-clause-going : goal.returns-in-Wishing-clause-going
+returns-in-Wishing-clause-going c = λ going. going_rooms _ _ (told c.load_wish.result) _ c.load_wish.ensures.makes.call (sym c.answer.ensures ∙ going)
+
 pub returns-in_default-clause-slots : goal.returns-in_default-clause-slots
 returns-in_default-clause-slots c = record {
   payloads = search rules;
@@ -18,3 +32,6 @@ returns-in_default-clause-slots c = record {
   room = search rules;
   gone = λ gone. gone_rooms _ _ (told c.turn.result) _ c.turn.ensures.makes.call (sym c.answer-in_default.ensures ∙ gone);
 }
+
+pub returns-in_default-clause-going : goal.returns-in_default-clause-going
+returns-in_default-clause-going c = λ going. going_rooms _ _ (told c.turn.result) _ c.turn.ensures.makes.call (sym c.answer-in_default.ensures ∙ going)
