@@ -66,9 +66,9 @@ reached_of : (script : Script) (cpu : ℕ) (ledger : Ledger) (core : Core) → I
 reached_of script cpu ledger core (run, is) =
     subst (λ (c : Core). IsReached script.pages script.size script.start c) (sym is) run.is_ledger.settled.parts.reached
 
-taken_of : (script : Script) (cpu : ℕ) (ledger : Ledger) (core : Core) → IsRunOf script cpu ledger core
+taken_is : (script : Script) (cpu : ℕ) (ledger : Ledger) (core : Core) → IsRunOf script cpu ledger core
     → taken_of ledger ≡ map (parcel_of cpu) core.reader.taken
-taken_of script cpu ledger core (run, is) =
+taken_is script cpu ledger core (run, is) =
     run.is_ledger.parcels_are
     ∙ ap (λ (r : Reader). map (parcel_of cpu) r.taken) run.is_ledger.settled.parts.reading_is.reader_is
     ∙ ap (λ (c : Core). map (parcel_of cpu) c.reader.taken) (sym is)
@@ -101,6 +101,6 @@ is_ran script ran collectors cpus are =
       rings = rings;
       each = each;
       are_of_rings = λ cpu ledger is.
-          (reached_of script cpu ledger (rings cpu) (each cpu ledger is), taken_of script cpu ledger (rings cpu) (each cpu ledger is));
+          (reached_of script cpu ledger (rings cpu) (each cpu ledger is), taken_is script cpu ledger (rings cpu) (each cpu ledger is));
       histories = λ cpu low. let (ledger, is) = known cpu low in history_of script cpu ledger (rings cpu) (each cpu ledger is);
     }
