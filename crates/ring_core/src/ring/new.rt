@@ -10,14 +10,15 @@ impl Core {
     ghost use Rattle.std.specs.Prelude.{◌+◌, ◌<◌, IfOk};
     ghost use Rattle.trace_model.specs.declared.limits.TheConstants.{LINK_FILLS, START_FILL};
     ghost use Rattle.trace_model.specs.Ring.{HasRingLimits};
-    ghost use Rattle.ring_core.specs.Steps.{IsNewRing};
+    ghost use Rattle.ring_core.specs.Steps.{IsNewRing, IsReachedCore};
 
     /// A new ring of `pages` pages and a spare, of `size` bytes of data each, whose first fill has the number `start`.
     /// All room is made here: no other call takes memory.
     pub fn new_at(alloc: Global, pages: usize, size: usize, start: u64) -> Result<Core, NoMemory>
         requires limits { HasRingLimits pages size }
         requires start { start + pages < LINK_FILLS }
-        ensures { IfOk result (λ core. IsNewRing pages size start core) }
+        ensures fresh { IfOk result (λ core. IsNewRing pages size start core) }
+        ensures ring { IfOk result (λ core. IsReachedCore core) }
     {
         let frames = Frames::new_at(alloc, pages, size, start)?;
         let links = first_links(alloc, pages, start)?;
@@ -43,7 +44,8 @@ impl Core {
     /// A new ring whose first fill has the number `START_FILL`.
     pub fn new(alloc: Global, pages: usize, size: usize) -> Result<Core, NoMemory>
         requires limits { HasRingLimits pages size }
-        ensures { IfOk result (λ core. IsNewRing pages size START_FILL core) }
+        ensures fresh { IfOk result (λ core. IsNewRing pages size START_FILL core) }
+        ensures ring { IfOk result (λ core. IsReachedCore core) }
     {
         Core::new_at(alloc, pages, size, START_FILL)
     }

@@ -1,9 +1,10 @@
 use Rattle.std.proofs.Common.{refl}
+use Rattle.ring_core.specs.Steps.{IsReachedCore}
 use Rattle.ring_core.proofs.NewCores.{new_core}
 use Rattle.ring_core.proofs.ring.Core.new_at.Goals as goal
 
-pub returns : goal.returns
-returns c = new_core c.args.pages c.args.size c.args.start c.in_ok-links.links.items _ c.requires.limits.some_pages c.requires.start record {
+pub returns-clause-fresh : goal.returns-clause-fresh
+returns-clause-fresh c = new_core c.args.pages c.args.size c.args.start c.in_ok-links.links.items _ c.requires.limits.some_pages c.requires.start record {
   frames = c.in_ok-frames.ensures;
   links_are = refl;
   positions = c.in_ok-links.ensures.pages;
@@ -17,3 +18,9 @@ returns c = new_core c.args.pages c.args.size c.args.start c.in_ok-links.links.i
   wish = refl;
   reader = refl;
 }
+
+pub returns-clause-ring : goal.returns-clause-ring
+unfolding IsReachedCore
+returns-clause-ring c =
+    let (core, starts, is) = returns-clause-fresh c in
+    (c.args.pages, c.args.size, c.args.start, core, is)

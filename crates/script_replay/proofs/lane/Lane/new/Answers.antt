@@ -6,6 +6,6 @@ pub returns : goal.returns
 returns c =
     let limits = c.requires.limits in
     new_lane c.args.pages c.args.size c.args.start _ limits.most_pages limits.small limits.large limits.words
-    c.in_ok-new_at.ensures
+    c.in_ok-new_at.ensures.fresh
     (ap (λ (l : List (Bor (List ℕ))). reverse (map (λ payload. payload.now) l)) c.in_ok-with_capacity.ensures.items)
     refl c.new.ensures.items
